@@ -1,0 +1,4 @@
+pub mod Serial
+pub mod Told
+pub mod Trace
+pub mod Answers
