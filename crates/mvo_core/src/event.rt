@@ -1,0 +1,43 @@
+ghost use Rattle.std.specs.Prelude.{◌≡◌, IfOk};
+
+use mvo_types::{Row, RowKey, TxId};
+use std::alloc::AllocError;
+
+/// A step that is asked for.
+#[derive(Debug, Drop)]
+pub enum Event {
+    /// A transaction is to begin.
+    Begin,
+    /// A transaction asks for the row at a key.
+    Read(TxId, RowKey),
+    /// A transaction puts a row where none stands.
+    Insert(TxId, Row),
+    /// A transaction draws its end timestamp.
+    Precommit(TxId),
+    /// The next entry of a transaction is checked.
+    Validate(TxId),
+    /// A validated transaction becomes Committed.
+    Settle(TxId),
+    /// A transaction becomes Aborted.
+    Rollback(TxId),
+    /// A transaction that is Committed or Aborted leaves.
+    Finish(TxId),
+}
+
+impl Event {
+    /// A copy of the event.
+    pub fn copy(&self) -> Result<Event, AllocError>
+        ensures { IfOk result (λ e. e ≡ self.now) }
+    {
+        match self {
+            Event::Begin => Ok(Event::Begin),
+            Event::Read(tx, key) => Ok(Event::Read(*tx, *key)),
+            Event::Insert(tx, row) => Ok(Event::Insert(*tx, row.copy()?)),
+            Event::Precommit(tx) => Ok(Event::Precommit(*tx)),
+            Event::Validate(tx) => Ok(Event::Validate(*tx)),
+            Event::Settle(tx) => Ok(Event::Settle(*tx)),
+            Event::Rollback(tx) => Ok(Event::Rollback(*tx)),
+            Event::Finish(tx) => Ok(Event::Finish(*tx)),
+        }
+    }
+}

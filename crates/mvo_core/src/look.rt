@@ -1,0 +1,161 @@
+ghost use Rattle.std.specs.Prelude.{◌≡◌, ◌&&◌, [], nat_lt, if◌then◌else◌, IfOk, slice_get, option_and_then};
+ghost use Rattle.std.specs.Option.{option_map, unwrap_or, is_some};
+ghost use Rattle.std.specs.FinMap as map;
+ghost use Rattle.mvo_types.specs.Line.{held_of, line_at};
+ghost use Rattle.mvo_types.specs.Keys.{row_at};
+ghost use Rattle.mvo_model.specs.Told.{net_write, later, left_by};
+ghost use Rattle.mvo_state.specs.Entries.{entries};
+ghost use Rattle.mvo_state.specs.Line.{told_below, seen_by, is_writer};
+ghost use Rattle.mvo_state.specs.Causes.{is_changer, change_of};
+ghost use Rattle.mvo_core.specs.View.{told_view, held_view};
+
+use crate::preparing::PreparingTx;
+use crate::tale::TaleEntry;
+use crate::told::last_write;
+use mvo_types::{Answer, Op, Row, RowKey, Rows, copy_bytes};
+use std::alloc::AllocError;
+
+/// The later of two writes.
+fn later_of<'a>(
+    write: Option<Option<&'a Row>>,
+    before: Option<Option<&'a Row>>,
+) -> Option<Option<&'a Row>>
+    ensures { option_map held_view result ≡ later (option_map held_view write.entry) (option_map held_view before.entry) }
+{
+    match write {
+        Some(row) => Some(row),
+        None => before,
+    }
+}
+
+/// What the transaction wrote at a key, if it ends below the begin.
+fn write_if_below<'a>(tx: &'a TaleEntry, begin: u64, key: RowKey) -> Option<Option<&'a Row>>
+    ensures { option_map held_view result ≡ net_write key (if nat_lt tx.now.stop begin then tx.now.told else []) }
+{
+    if tx.end.0 < begin {
+        last_write(&tx.ops, key)
+    } else {
+        None
+    }
+}
+
+/// The last write of a key by those that end below the begin.
+fn write_below<'a>(tale: &'a [TaleEntry], begin: u64, key: RowKey) -> Option<Option<&'a Row>>
+    ensures { option_map held_view result ≡ net_write key (told_below begin tale.now) }
+{
+    let mut last = None;
+    for tx in tale {
+        last = later_of(write_if_below(tx, begin, key), last);
+    }
+    last
+}
+
+/// Whether the Preparing transaction wrote the key, and ends below the begin.
+pub fn is_written_below(tx: &PreparingTx, begin: u64, key: RowKey) -> bool
+    ensures { result ≡ is_writer key begin tx.now }
+{
+    tx.end < begin && last_write(&tx.ops, key).is_some()
+}
+
+/// The row that the write leaves at a key.
+fn left_at(base: &Rows, write: Option<Option<&Row>>, key: RowKey) -> Result<Option<Row>, AllocError>
+    ensures { IfOk result (λ r. r ≡ option_map (line_at key) (unwrap_or (option_map held_view write.entry) (map.get base.now key))) }
+{
+    match write {
+        Some(Some(row)) => Ok(Some(row_of(row, key)?)),
+        Some(None) => Ok(None),
+        None => base.get(key),
+    }
+}
+
+/// Whether the write leaves a row at a key.
+fn is_left_at(base: &Rows, write: Option<Option<&Row>>, key: RowKey) -> bool
+    ensures { result ≡ is_some (unwrap_or (option_map held_view write.entry) (map.get base.now key)) }
+{
+    match write {
+        Some(row) => row.is_some(),
+        None => base.contains(key),
+    }
+}
+
+/// The row that is shown at a key.
+pub fn shown(
+    base: &Rows,
+    tale: &[TaleEntry],
+    own: &[(Op, Answer)],
+    begin: u64,
+    key: RowKey,
+) -> Result<Option<Row>, AllocError>
+    ensures { IfOk result (λ r. r ≡ row_at (left_by (told_view own.now) (seen_by base.now tale.now begin)) key) }
+{
+    let write = later_of(last_write(own, key), write_below(tale, begin, key));
+    let row = left_at(base, write, key)?;
+    Ok(row)
+}
+
+/// Whether a row is shown at a key.
+pub fn is_shown(
+    base: &Rows,
+    tale: &[TaleEntry],
+    own: &[(Op, Answer)],
+    begin: u64,
+    key: RowKey,
+) -> bool
+    ensures { result ≡ map.contains_key (left_by (told_view own.now) (seen_by base.now tale.now begin)) key }
+{
+    is_left_at(
+        base,
+        later_of(last_write(own, key), write_below(tale, begin, key)),
+        key,
+    )
+}
+
+fn row_of(row: &Row, key: RowKey) -> Result<Row, AllocError>
+    ensures { IfOk result (λ r. r ≡ line_at key (held_of row.now)) }
+{
+    Ok(Row {
+        key,
+        sort: row.sort,
+        bytes: copy_bytes(&row.bytes)?,
+    })
+}
+
+/// Whether the other changed the key between the begin and the end.
+fn changes_between(other: &TaleEntry, begin: u64, end: u64, key: RowKey) -> bool
+    ensures { result ≡ is_changer begin end key other.now }
+{
+    begin < other.end.0 && other.end.0 < end && last_write(&other.ops, key).is_some()
+}
+
+/// The end of the last one that changed the key between the begin and the end.
+pub fn change_between(tale: &[TaleEntry], begin: u64, end: u64, key: RowKey) -> Option<u64>
+    ensures { result ≡ change_of begin end key tale.now }
+{
+    let mut last = None;
+    for other in tale {
+        if changes_between(other, begin, end, key) {
+            last = Some(other.end.0);
+        }
+    }
+    last
+}
+
+/// The end of the last one that changed the next entry's key, if there is an entry and a change.
+pub fn next_change(tale: &[TaleEntry], tx: &PreparingTx) -> Option<u64>
+    ensures { result ≡ option_and_then (λ k. change_of tx.now.id tx.now.stop k tale.now) (slice_get (entries tx.now.told) tx.now.checked) }
+{
+    match tx.entries.get(tx.checked) {
+        Some(key) => change_between(tale, tx.id, tx.end, *key),
+        None => None,
+    }
+}
+
+/// A copy of the row, if there is one.
+pub fn copy_of(row: &Option<Row>) -> Result<Option<Row>, AllocError>
+    ensures { IfOk result (λ r. r ≡ row.now) }
+{
+    match row {
+        Some(row) => Ok(Some(row.copy()?)),
+        None => Ok(None),
+    }
+}

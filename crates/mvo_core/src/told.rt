@@ -1,0 +1,121 @@
+ghost use Rattle.std.specs.Prelude.{◌≡◌, ◌++◌, ◌∷◌, [], OnOk, OnErr, vec_len, vec_capacity, ◌<◌};
+ghost use Rattle.std.specs.Option.{option_map};
+ghost use Rattle.std.specs.Ordering.{eq_by_cmp};
+ghost use Rattle.mvo_types.specs.Keys.{key_cmp};
+ghost use Rattle.mvo_types.specs.Said.{said};
+ghost use Rattle.mvo_model.specs.Told.{write_of, net_write, write_at, later};
+ghost use Rattle.mvo_state.specs.Entries.{noted, noted_key, is_noted, key_of};
+ghost use Rattle.mvo_core.specs.View.{told_view, held_view};
+
+use crate::active::ActiveTx;
+use mvo_types::{Answer, Op, Row, RowKey};
+use std::alloc::AllocError;
+use std::cmp::Ordering;
+
+/// What the operation wrote: the key, and the row that it put there, or none after a delete.
+pub fn write_by<'a>(op: &'a Op, answer: &Answer) -> Option<(RowKey, Option<&'a Row>)>
+    ensures { option_map (λ w. (w.0, held_view w.1)) result ≡ write_of op.now (said answer.now) }
+{
+    match (op, answer) {
+        (Op::Insert(row), Answer::Inserted) => Some((row.row_key(), Some(row))),
+        (Op::Update(row), Answer::Updated) => Some((row.row_key(), Some(row))),
+        (Op::Delete(key), Answer::Deleted) => Some((*key, None)),
+        _ => None,
+    }
+}
+
+/// Whether the keys are the same.
+fn is_key(key: RowKey, other: RowKey) -> bool
+    ensures { result ≡ eq_by_cmp key_cmp key other }
+{
+    key.cmp(&other) == Ordering::Equal
+}
+
+/// The write, if it is of the key, and else the one before.
+fn newer<'a>(
+    last: Option<Option<&'a Row>>,
+    write: Option<(RowKey, Option<&'a Row>)>,
+    key: RowKey,
+) -> Option<Option<&'a Row>>
+    ensures { option_map held_view result ≡ later (write_at key (option_map (λ w. (w.0, held_view w.1)) write.entry)) (option_map held_view last.entry) }
+{
+    match write {
+        Some((at, row)) if is_key(key, at) => Some(row),
+        _ => last,
+    }
+}
+
+/// The last write of a key, if there is one.
+pub fn last_write<'a>(ops: &'a [(Op, Answer)], key: RowKey) -> Option<Option<&'a Row>>
+    ensures { option_map held_view result ≡ net_write key (told_view ops.now) }
+{
+    let mut last = None;
+    for told in ops {
+        let (op, answer) = told;
+        last = newer(last, write_by(op, answer), key);
+    }
+    last
+}
+
+/// Whether a key is among these.
+pub fn is_among(keys: &[RowKey], key: RowKey) -> bool
+    ensures { result ≡ is_noted keys.now key }
+{
+    keys.contains(&key)
+}
+
+/// Adds a key that isn't there, where there is room.
+fn note(keys: &mut Vec<RowKey>, key: RowKey)
+    requires { vec_len keys.old < vec_capacity keys.old }
+    ensures { keys.new.items ≡ noted keys.old.items key }
+{
+    if !is_among(keys, key) {
+        push_reserved(keys, key);
+    }
+}
+
+/// Adds the key of a write, where there is room.
+fn note_write(keys: &mut Vec<RowKey>, write: Option<RowKey>)
+    requires { vec_len keys.old < vec_capacity keys.old }
+    ensures { keys.new.items ≡ noted_key keys.old.items write }
+{
+    if let Some(key) = write {
+        note(keys, key);
+    }
+}
+
+/// The key that the operation wrote, if it wrote.
+fn key_written(op: &Op, answer: &Answer) -> Option<RowKey>
+    ensures { result ≡ option_map (λ w. w.0) (write_of op.now (said answer.now)) }
+{
+    match (op, answer) {
+        (Op::Insert(row), Answer::Inserted) => Some(row.row_key()),
+        (Op::Update(row), Answer::Updated) => Some(row.row_key()),
+        (Op::Delete(key), Answer::Deleted) => Some(*key),
+        _ => None,
+    }
+}
+
+/// Adds an operation with its answer. Refused, it changes nothing.
+pub fn tell(tx: &mut ActiveTx, key: RowKey, op: Op, answer: Answer) -> Result<(), AllocError>
+    requires { key ≡ key_of op }
+    ensures ok { OnOk result (tx.new ≡ record tx.old { told = tx.old.told ++ (op, said answer) ∷ [] }) }
+    ensures err { OnErr result (tx.new ≡ tx.old) }
+{
+    tx.ops.reserve(1)?;
+    tx.entries.reserve(1)?;
+    tx.written.reserve(1)?;
+    note(&mut tx.entries, key);
+    note_write(&mut tx.written, key_written(&op, &answer));
+    push_reserved(&mut tx.ops, (op, answer));
+    Ok(())
+}
+
+/// Adds an item where there is room.
+pub fn push_reserved<T: Drop>(items: &mut Vec<T>, item: T)
+    requires { vec_len items.old < vec_capacity items.old }
+    ensures items { items.new.items ≡ items.old.items ++ item ∷ [] }
+    ensures room { vec_capacity items.new ≡ vec_capacity items.old }
+{
+    items.push(item).unwrap();
+}

@@ -1,0 +1,9 @@
+pub mod Each
+pub mod Keyed
+pub mod Inserted
+pub mod Lines
+pub mod Settle
+pub mod Sound
+pub mod Causes
+pub mod Tales
+pub mod Calls

@@ -1,0 +1,6 @@
+pub mod Entries
+pub mod Line
+pub mod Sound
+pub mod Causes
+pub mod Steps
+pub mod Stands
