@@ -1,14 +1,15 @@
 -- What the fields of the core's parts stand for.
-use Rattle.std.specs.Prelude.{ℕ, ◌==◌, Bool, ◌&&◌, nat_lt, is_some, List, [], ◌∷◌, ◌++◌, map, Option, None, Some}
+use Rattle.std.specs.Prelude.{ℕ, Bool, false, List, ◌++◌, map, Option, None, Some}
 use Rattle.std.specs.Option.{option_map, option_to_list}
 use Rattle.std.specs.Borrow.{Bor}
 use Rattle.mvo_types.specs.declared.op.Op.{Op}
 use Rattle.mvo_types.specs.declared.answer.Answer.{Answer}
-use Rattle.mvo_types.specs.declared.row.RowKey.{RowKey}
 use Rattle.mvo_types.specs.Line.{Line, Held, held_of}
 use Rattle.mvo_types.specs.Said.{said}
-use Rattle.mvo_model.specs.Told.{Told, net_write}
-use Rattle.mvo_state.specs.Line.{Slot}
+use Rattle.mvo_model.specs.Told.{Told}
+use Rattle.mvo_types.specs.Keys.{Map}
+use Rattle.mvo_state.specs.declared.over.OverTx.{OverTx}
+use Rattle.mvo_state.specs.Line.{State, Slot, Running}
 
 -- operations with their answers, apart from where they lie in memory
 abbrev pub told_view : List (Op × Answer) → Told
@@ -21,3 +22,12 @@ held_view r = option_map (λ b. held_of b.now) r
 -- the stored commits, and behind them the one that is Preparing
 abbrev pub line_of : List Slot → Option Slot → List Slot
 line_of tale one = tale ++ option_to_list one
+
+-- what the core's fields stand for
+abbrev pub state_of : Map → ℕ → ℕ → List Running → List Slot → Option Slot → List OverTx → State
+state_of base start clock running tale one over = record { base = base; start = start; clock = clock; running = running; line = line_of tale one; over = over }
+
+-- whether one is there that passes
+abbrev pub one_is : (Slot → Bool) → Option Slot → Bool
+one_is p None = false
+one_is p (Some x) = p x

@@ -10,7 +10,7 @@ pub struct ActiveTx {
     pub id: u64,
     pub ops: Vec<(Op, Answer)>,
     /// The keys that it looked at, each once.
-    pub entries: Vec<RowKey>,
+    pub looked_at: Vec<RowKey>,
     /// The keys that it wrote, each once.
     pub written: Vec<RowKey>,
 }
@@ -25,7 +25,7 @@ impl Model for ActiveTx {
 
     ghost view = { λ t. record { id = t.id; told = told_view t.ops.items; rests = []; doom = None } };
 
-    ghost invariant = { λ t. (t.entries.items ≡ entries (told_view t.ops.items)) × (t.written.items ≡ written_keys (told_view t.ops.items)) };
+    ghost invariant = { λ t. (t.looked_at.items ≡ entries (told_view t.ops.items)) × (t.written.items ≡ written_keys (told_view t.ops.items)) };
 }
 
 impl ActiveTx {
@@ -36,7 +36,7 @@ impl ActiveTx {
         ActiveTx {
             id,
             ops: Vec::new(alloc),
-            entries: Vec::new(alloc),
+            looked_at: Vec::new(alloc),
             written: Vec::new(alloc),
         }
     }

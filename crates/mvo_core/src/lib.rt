@@ -2,24 +2,24 @@
 #![tactic(auto)]
 
 mod active;
-mod core;
+mod engine;
 mod event;
 mod look;
 mod preparing;
 mod refuse;
 mod reply;
-mod run;
 mod step;
 mod tale;
 mod told;
+mod whole;
 
 pub use active::ActiveTx;
-pub use core::Core;
+pub use engine::Core;
 pub use event::Event;
 pub use preparing::PreparingTx;
 pub use reply::{Finishing, Reply, Settlement, Validation};
-pub use run::run;
 pub use tale::{Tale, TaleEntry};
+pub use whole::run;
 
 #[cfg(test)]
 mod tests;

@@ -144,7 +144,7 @@ pub fn change_between(tale: &[TaleEntry], begin: u64, end: u64, key: RowKey) -> 
 pub fn next_change(tale: &[TaleEntry], tx: &PreparingTx) -> Option<u64>
     ensures { result ≡ option_and_then (λ k. change_of tx.now.id tx.now.stop k tale.now) (slice_get (entries tx.now.told) tx.now.checked) }
 {
-    match tx.entries.get(tx.checked) {
+    match tx.looked_at.get(tx.checked) {
         Some(key) => change_between(tale, tx.id, tx.end, *key),
         None => None,
     }

@@ -14,7 +14,7 @@ pub struct PreparingTx {
     pub end: u64,
     pub ops: Vec<(Op, Answer)>,
     /// The keys that it looked at, each once.
-    pub entries: Vec<RowKey>,
+    pub looked_at: Vec<RowKey>,
     /// How many of them are checked.
     pub checked: usize,
     /// Whether Valid was answered.
@@ -31,7 +31,7 @@ impl Model for PreparingTx {
 
     ghost view = { λ t. record { id = t.id; stop = t.end; told = told_view t.ops.items; settled = false; checked = t.checked; valid = t.valid; rests = []; doom = None } };
 
-    ghost invariant = { λ t. (t.entries.items ≡ entries (told_view t.ops.items)) × (t.valid ≡ false → t.checked ≤ length (entries (told_view t.ops.items))) };
+    ghost invariant = { λ t. (t.looked_at.items ≡ entries (told_view t.ops.items)) × (t.valid ≡ false → t.checked ≤ length (entries (told_view t.ops.items))) };
 }
 
 impl PreparingTx {
@@ -42,14 +42,14 @@ impl PreparingTx {
         let ActiveTx {
             id,
             ops,
-            entries,
+            looked_at,
             ..
         } = own;
         PreparingTx {
             id,
             end,
             ops,
-            entries,
+            looked_at,
             checked: 0,
             valid: false,
         }
@@ -83,7 +83,7 @@ impl PreparingTx {
         ensures last { result ≡ nat_le (length (entries self.old.told)) (self.old.checked + 1) }
     {
         self.checked += 1;
-        self.valid = self.checked >= self.entries.len();
+        self.valid = self.checked >= self.looked_at.len();
         self.valid
     }
 

@@ -1,8 +1,9 @@
-ghost use Rattle.std.specs.Prelude.{◌≡◌, ◌+◌, ◌≤◌, ◌==◌, false, None, length, nat_lt, position, if◌then◌else◌};
-ghost use Rattle.std.specs.Option.{is_some, option_map_or};
+ghost use Rattle.std.specs.Prelude.{◌≡◌, ◌+◌, ◌≤◌, ◌==◌, None, length, nat_lt, position, if◌then◌else◌};
+ghost use Rattle.std.specs.Option.{is_some};
 ghost use Rattle.std.specs.List.{list_any};
 ghost use Rattle.mvo_state.specs.Line.{is_writer};
 ghost use Rattle.mvo_state.specs.Causes.{if_stands, is_read_too_many, is_write_too_many};
+ghost use Rattle.mvo_core.specs.View.{one_is};
 
 use crate::active::ActiveTx;
 use crate::look::is_written_below;
@@ -41,7 +42,7 @@ pub fn is_over(over: &[OverTx], id: u64) -> bool
 
 /// Whether a transaction is Preparing.
 pub fn is_preparing(preparing: &Option<PreparingTx>, id: u64) -> bool
-    ensures { result ≡ option_map_or (λ p. p.id == id) false preparing.now }
+    ensures { result ≡ one_is (λ p. p.id == id) preparing.now }
 {
     match preparing {
         Some(tx) => tx.is(id),
@@ -62,7 +63,7 @@ fn not_there(over: &[OverTx], id: u64) -> Refusal
 
 /// Why a transaction that is not Active is refused.
 pub fn not_active(preparing: &Option<PreparingTx>, over: &[OverTx], id: u64) -> Refusal
-    ensures { result ≡ (if option_map_or (λ p. p.id == id) false preparing.now then Refusal.NotActive else (if list_any (λ u. u.id.0 == id) over.now then Refusal.Ended else Refusal.NoSuchTransaction)) }
+    ensures { result ≡ (if one_is (λ p. p.id == id) preparing.now then Refusal.NotActive else (if list_any (λ u. u.id.0 == id) over.now then Refusal.Ended else Refusal.NoSuchTransaction)) }
 {
     if is_preparing(preparing, id) {
         Refusal::NotActive
@@ -84,7 +85,7 @@ pub fn not_preparing(running: &[ActiveTx], over: &[OverTx], id: u64) -> Refusal
 
 /// Whether what the transaction sees at the key is decided by the one that is Preparing.
 pub fn is_busy(preparing: &Option<PreparingTx>, begin: u64, key: RowKey) -> bool
-    ensures { result ≡ option_map_or (is_writer key begin) false preparing.now }
+    ensures { result ≡ one_is (is_writer key begin) preparing.now }
 {
     match preparing {
         Some(tx) => is_written_below(tx, begin, key),
@@ -96,7 +97,7 @@ pub fn is_busy(preparing: &Option<PreparingTx>, begin: u64, key: RowKey) -> bool
 pub fn is_entry_too_many(tx: &ActiveTx, key: RowKey) -> bool
     ensures { result ≡ is_read_too_many tx.now.told key }
 {
-    !is_among(&tx.entries, key) && tx.entries.len() >= MAX_ENTRIES
+    !is_among(&tx.looked_at, key) && tx.looked_at.len() >= MAX_ENTRIES
 }
 
 /// Whether the key is one more than the transaction may write.
@@ -120,7 +121,7 @@ pub fn count_unfinished(
 
 /// Why a transaction that is neither Committed nor Aborted is refused.
 pub fn not_ended(running: &[ActiveTx], preparing: &Option<PreparingTx>, id: u64) -> Refusal
-    ensures { result ≡ (if list_any (λ r. r.id == id) running.now then Refusal.NotEnded else (if option_map_or (λ p. p.id == id) false preparing.now then Refusal.NotEnded else Refusal.NoSuchTransaction)) }
+    ensures { result ≡ (if list_any (λ r. r.id == id) running.now then Refusal.NotEnded else (if one_is (λ p. p.id == id) preparing.now then Refusal.NotEnded else Refusal.NoSuchTransaction)) }
 {
     if is_active(running, id) || is_preparing(preparing, id) {
         Refusal::NotEnded
@@ -131,7 +132,7 @@ pub fn not_ended(running: &[ActiveTx], preparing: &Option<PreparingTx>, id: u64)
 
 /// Why a read of an Active transaction is refused, if it is.
 pub fn read_refusal(own: &ActiveTx, preparing: &Option<PreparingTx>, key: RowKey) -> Option<Refusal>
-    ensures { result ≡ if_stands (nat_lt MAX_TABLE key.table) Refusal.BadTable (if_stands (is_read_too_many own.now.told key) Refusal.TooManyReads (if_stands (option_map_or (is_writer key own.now.id) false preparing.now) Refusal.Busy None)) }
+    ensures { result ≡ if_stands (nat_lt MAX_TABLE key.table) Refusal.BadTable (if_stands (is_read_too_many own.now.told key) Refusal.TooManyReads (if_stands (one_is (is_writer key own.now.id) preparing.now) Refusal.Busy None)) }
 {
     if key.table > MAX_TABLE {
         Some(Refusal::BadTable)
@@ -146,7 +147,7 @@ pub fn read_refusal(own: &ActiveTx, preparing: &Option<PreparingTx>, key: RowKey
 
 /// Why an insertion of an Active transaction is refused, if it is.
 pub fn insert_refusal(own: &ActiveTx, preparing: &Option<PreparingTx>, row: &Row) -> Option<Refusal>
-    ensures { result ≡ if_stands (nat_lt MAX_TABLE row.now.key.table) Refusal.BadTable (if_stands (nat_lt MAX_DATA_LEN (length row.now.bytes)) Refusal.DataTooLong (if_stands (is_read_too_many own.now.told row.now.key) Refusal.TooManyReads (if_stands (is_write_too_many own.now.told row.now.key) Refusal.TooManyWrites (if_stands (option_map_or (is_writer row.now.key own.now.id) false preparing.now) Refusal.Busy None)))) }
+    ensures { result ≡ if_stands (nat_lt MAX_TABLE row.now.key.table) Refusal.BadTable (if_stands (nat_lt MAX_DATA_LEN (length row.now.bytes)) Refusal.DataTooLong (if_stands (is_read_too_many own.now.told row.now.key) Refusal.TooManyReads (if_stands (is_write_too_many own.now.told row.now.key) Refusal.TooManyWrites (if_stands (one_is (is_writer row.now.key own.now.id) preparing.now) Refusal.Busy None)))) }
 {
     let key = row.row_key();
     if key.table > MAX_TABLE {

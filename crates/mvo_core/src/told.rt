@@ -1,4 +1,4 @@
-ghost use Rattle.std.specs.Prelude.{◌≡◌, ◌++◌, ◌∷◌, [], OnOk, OnErr, vec_len, vec_capacity, ◌<◌};
+ghost use Rattle.std.specs.Prelude.{◌≡◌, ◌++◌, ◌∷◌, [], OnOk, OnErr, vec_len, vec_capacity, ◌<◌, ◌≤◌};
 ghost use Rattle.std.specs.Option.{option_map};
 ghost use Rattle.std.specs.Ordering.{eq_by_cmp};
 ghost use Rattle.mvo_types.specs.Keys.{key_cmp};
@@ -103,9 +103,9 @@ pub fn tell(tx: &mut ActiveTx, key: RowKey, op: Op, answer: Answer) -> Result<()
     ensures err { OnErr result (tx.new ≡ tx.old) }
 {
     tx.ops.reserve(1)?;
-    tx.entries.reserve(1)?;
+    tx.looked_at.reserve(1)?;
     tx.written.reserve(1)?;
-    note(&mut tx.entries, key);
+    note(&mut tx.looked_at, key);
     note_write(&mut tx.written, key_written(&op, &answer));
     push_reserved(&mut tx.ops, (op, answer));
     Ok(())
@@ -115,7 +115,7 @@ pub fn tell(tx: &mut ActiveTx, key: RowKey, op: Op, answer: Answer) -> Result<()
 pub fn push_reserved<T: Drop>(items: &mut Vec<T>, item: T)
     requires { vec_len items.old < vec_capacity items.old }
     ensures items { items.new.items ≡ items.old.items ++ item ∷ [] }
-    ensures room { vec_capacity items.new ≡ vec_capacity items.old }
+    ensures room { vec_capacity items.old ≤ vec_capacity items.new }
 {
     items.push(item).unwrap();
 }

@@ -7,3 +7,4 @@ pub mod Sound
 pub mod Causes
 pub mod Tales
 pub mod Calls
+pub mod Numbered

@@ -1,4 +1,4 @@
-use crate::core::Core;
+use crate::engine::Core;
 use crate::event::Event;
 use crate::reply::Reply;
 use mvo_types::{Refusal, Rows, Stamp};

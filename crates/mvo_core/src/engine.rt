@@ -37,16 +37,16 @@ impl Model for Core {
     ghost use Rattle.std.specs.Coded.{codes};
     ghost use Rattle.mvo_types.specs.Keys.{coded_map};
     ghost use Rattle.mvo_state.specs.Line.{State};
-    ghost use Rattle.mvo_core.specs.View.{line_of};
+    ghost use Rattle.mvo_core.specs.View.{state_of};
     ghost use Rattle.mvo_core.specs.Kept.{IsKept};
 
     ghost Value = { State };
 
     ghost coded = { Prim.hlevel (codes, coded_map) };
 
-    ghost view = { λ c. record { base = c.base; start = c.start; clock = c.clock; running = c.running.items; line = line_of c.tale.items c.preparing; over = c.over.items } };
+    ghost view = { λ c. state_of c.base c.start c.clock c.running.items c.tale.items c.preparing c.over.items };
 
-    ghost invariant = { λ c. IsKept (record { base = c.base; start = c.start; clock = c.clock; running = c.running.items; line = line_of c.tale.items c.preparing; over = c.over.items }) c.tale.items c.preparing (vec_capacity c.tale) (vec_capacity c.over) };
+    ghost invariant = { λ c. IsKept (state_of c.base c.start c.clock c.running.items c.tale.items c.preparing c.over.items) c.tale.items c.preparing (vec_capacity c.tale) (vec_capacity c.over) };
 }
 
 impl Core {

@@ -1,0 +1,4 @@
+pub mod Writes
+pub mod Lined
+pub mod Places
+pub mod Calls

@@ -1,0 +1,81 @@
+-- The last write of a key, as a loop finds it.
+use Rattle.std.proofs.Common.{◌≡◌, ℕ, ◌+◌, ◌<◌, suc, Bool, true, false, cond, List, [], ◌∷◌, ◌++◌, map, take, length, get_or, Option, None, Some, refl, sym, ap, ◌∙◌, subst}
+use Rattle.std.proofs.lemmas.List.{take_more, map-append}
+use Rattle.std.specs.Ordering.{eq_by_cmp}
+use Rattle.mvo_types.specs.declared.row.RowKey.{RowKey}
+use Rattle.mvo_types.specs.declared.op.Op.{Op}
+use Rattle.mvo_types.specs.declared.answer.Answer.{Answer}
+use Rattle.mvo_types.specs.Keys.{key_cmp}
+use Rattle.mvo_types.specs.Said.{said, Said}
+use Rattle.std.specs.Prelude.{nat_lt}
+use Rattle.mvo_state.specs.Entries.{noted, noted_key, entries, entries_from, written_keys, written_from, key_of}
+use Rattle.mvo_state.specs.Line.{Slot, told_below, seen_by}
+use Rattle.mvo_state.specs.Causes.{is_changer, or_first, change_of}
+use Rattle.mvo_state.proofs.Lines.{told_below-append, append-nil}
+use Rattle.mvo_model.specs.Told.{Told, Write, write_of, write_at, later, net_write}
+use Rattle.mvo_model.proofs.Serials.{net_write-append, get-left_by, later_later}
+use Rattle.std.specs.FinMap as fin
+use Rattle.std.specs.Option.{unwrap_or, option_map}
+use Rattle.mvo_types.specs.Line.{Held}
+use Rattle.mvo_types.specs.Keys.{Map}
+use Rattle.mvo_model.specs.Told.{left_by}
+use Rattle.mvo_core.specs.View.{told_view}
+
+pub told_more : (ops : List (Op × Answer)) (i : ℕ) (x : Op × Answer) → i < length ops → x ≡ get_or ops i x → told_view (take (i + 1) ops) ≡ told_view (take i ops) ++ (x.0, said x.1) ∷ []
+told_more ops i x lt e =
+    ap told_view (take_more ops i x lt ∙ ap (λ y. take i ops ++ y ∷ []) (sym e)) ∙ map-append (λ y. (y.0, said y.1)) (take i ops) (x ∷ [])
+
+pub last_step : (k : RowKey) (ops : List (Op × Answer)) (i : ℕ) (x : Op × Answer) (w : Option Write) → i < length ops → x ≡ get_or ops i x → w ≡ write_of x.0 (said x.1) → net_write k (told_view (take (i + 1) ops)) ≡ later (write_at k w) (net_write k (told_view (take i ops)))
+last_step k ops i x w lt e is =
+    ap (net_write k) (told_more ops i x lt e)
+    ∙ net_write-append k (told_view (take i ops)) ((x.0, said x.1) ∷ [])
+    ∙ ap (λ v. later (write_at k v) (net_write k (told_view (take i ops)))) (sym is)
+
+entries_from-push : (ks : List RowKey) (ts : Told) (x : Op × Said) → entries_from ks (ts ++ x ∷ []) ≡ noted (entries_from ks ts) (key_of x.0)
+entries_from-push ks [] x = refl
+entries_from-push ks (t ∷ ts) x = entries_from-push (noted ks (key_of t.0)) ts x
+
+-- the entries after one more operation
+pub entries_told : (ops new : List (Op × Answer)) (op : Op) (a : Answer) → new ≡ ops ++ (op, a) ∷ [] → entries (told_view new) ≡ noted (entries (told_view ops)) (key_of op)
+entries_told ops new op a e = ap (λ xs. entries (told_view xs)) e ∙ ap entries (map-append (λ y. (y.0, said y.1)) ops ((op, a) ∷ [])) ∙ entries_from-push [] (told_view ops) (op, said a)
+
+-- what one more of the tale writes
+pub below_step : (b : ℕ) (k : RowKey) (es : List Slot) (i : ℕ) (e : Slot) → i < length es → e ≡ get_or es i e → net_write k (told_below b (take (i + 1) es)) ≡ later (net_write k (cond (nat_lt e.stop b) e.told [])) (net_write k (told_below b (take i es)))
+below_step b k es i e lt is =
+    ap (λ xs. net_write k (told_below b xs)) (take_more es i e lt ∙ ap (λ y. take i es ++ y ∷ []) (sym is))
+    ∙ ap (net_write k) (told_below-append b (take i es) (e ∷ []))
+    ∙ net_write-append k (told_below b (take i es)) (cond (nat_lt e.stop b) e.told [] ++ [])
+    ∙ ap (λ ts. later (net_write k ts) (net_write k (told_below b (take i es)))) (append-nil (cond (nat_lt e.stop b) e.told []))
+
+-- what a transaction sees at a key
+pub get-seen : (k : RowKey) (own : Told) (base : Map) (tale : List Slot) (b : ℕ) (w x : Option (Option Held)) → w ≡ net_write k own → x ≡ net_write k (told_below b tale) → unwrap_or (later w x) (fin.get base k) ≡ fin.get (left_by own (seen_by base tale b)) k
+get-seen k own base tale b w x e f =
+    later_later w x (fin.get base k)
+    ∙ ap (λ v. unwrap_or v (unwrap_or x (fin.get base k))) e
+    ∙ ap (λ v. unwrap_or (net_write k own) (unwrap_or v (fin.get base k))) f
+    ∙ ap (unwrap_or (net_write k own)) (sym (get-left_by k (told_below b tale) base))
+    ∙ sym (get-left_by k own (seen_by base tale b))
+
+written_from-push : (ks : List RowKey) (ts : Told) (x : Op × Said) → written_from ks (ts ++ x ∷ []) ≡ noted_key (written_from ks ts) (option_map (λ w. w.0) (write_of x.0 x.1))
+written_from-push ks [] x = refl
+written_from-push ks (t ∷ ts) x = written_from-push (noted_key ks (option_map (λ w. w.0) (write_of t.0 t.1))) ts x
+
+-- the keys written after one more operation
+pub written_told : (ops new : List (Op × Answer)) (op : Op) (a : Answer) → new ≡ ops ++ (op, a) ∷ [] → written_keys (told_view new) ≡ noted_key (written_keys (told_view ops)) (option_map (λ w. w.0) (write_of op (said a)))
+written_told ops new op a e = ap (λ xs. written_keys (told_view xs)) e ∙ ap written_keys (map-append (λ y. (y.0, said y.1)) ops ((op, a) ∷ [])) ∙ written_from-push [] (told_view ops) (op, said a)
+
+-- the last change, with one more
+pub change_push : (b e : ℕ) (k : RowKey) (xs : List Slot) (y : Slot) → change_of b e k (xs ++ y ∷ []) ≡ or_first (change_of b e k xs) (cond (is_changer b e k y) (Some y.stop) None)
+change_push b e k [] y = or_first_none (cond (is_changer b e k y) (Some y.stop) None)
+  where
+    or_first_none : (a : Option ℕ) → or_first a None ≡ or_first None a
+    or_first_none None = refl
+    or_first_none (Some n) = refl
+change_push b e k (x ∷ xs) y = ap (or_first (cond (is_changer b e k x) (Some x.stop) None)) (change_push b e k xs y) ∙ assoc (cond (is_changer b e k x) (Some x.stop) None) (change_of b e k xs) (cond (is_changer b e k y) (Some y.stop) None)
+  where
+    assoc : (p q r : Option ℕ) → or_first p (or_first q r) ≡ or_first (or_first p q) r
+    assoc p q None = refl
+    assoc p q (Some n) = refl
+
+pub change_more : (b e : ℕ) (k : RowKey) (es : List Slot) (i : ℕ) (x : Slot) → i < length es → x ≡ get_or es i x → change_of b e k (take (i + 1) es) ≡ or_first (change_of b e k (take i es)) (cond (is_changer b e k x) (Some x.stop) None)
+change_more b e k es i x lt is = ap (change_of b e k) (take_more es i x lt ∙ ap (λ y. take i es ++ y ∷ []) (sym is)) ∙ change_push b e k (take i es) x
