@@ -1,9 +1,8 @@
 -- What the serial steps answer depends on the rows at the operations' keys alone.
-use Rattle.std.proofs.Common.{◌≡◌, ℕ, Bool, true, false, cond, List, [], ◌∷◌, ◌++◌, Option, None, Some, map, refl, sym, ap, ◌∙◌, subst, arith, append_assoc}
+use Rattle.std.proofs.Common.{◌≡◌, Bool, true, false, cond, List, [], ◌∷◌, ◌++◌, Option, None, Some, map, refl, sym, ap, ◌∙◌, subst}
 use Rattle.std.specs.Prelude.{⊤}
 use Rattle.std.specs.Option.{unwrap_or, option_map, is_some}
 use Rattle.std.specs.Ordering.{eq_by_cmp}
-use Rattle.std.specs.Cmp.{IsTotalOrder}
 use Rattle.std.specs.FinMap as fin
 use Rattle.mvo_types.specs.declared.row.RowKey.{RowKey}
 use Rattle.mvo_types.specs.declared.op.Op.{Op}
@@ -12,9 +11,8 @@ use Rattle.mvo_types.specs.Line.{Line, Held, held_of, line_at}
 use Rattle.mvo_types.specs.Keys.{Map, key_cmp}
 use Rattle.mvo_model.specs.Serial.{answer_to, rows_after}
 use Rattle.mvo_types.specs.Said.{Said}
-use Rattle.mvo_types.specs.Keys.{row_at}
-use Rattle.mvo_types.specs.Said.Said.{Row, Lines, Inserts, Exist, Updates, Deletes, Lacks}
-use Rattle.mvo_types.proofs.Maps.{keys_total, exact_keys}
+use Rattle.mvo_types.specs.Said.Said.{Row, Inserts, Exist, Updates, Deletes, Lacks}
+use Rattle.mvo_types.proofs.Maps.{keys_total}
 use Rattle.mvo_model.specs.Told.{Told, Write, write_of, put_at, written, left_by, write_at, later, net_write, AreSerial, all_after, Legal}
 
 -- ---- the net write at a key

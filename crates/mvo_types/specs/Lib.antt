@@ -1,4 +1,5 @@
 pub mod Line
 pub mod Keys
+pub mod Lines
 pub mod Said
 pub mod Codes
