@@ -8,3 +8,4 @@ pub mod Causes
 pub mod Tales
 pub mod Calls
 pub mod Numbered
+pub mod Stood

@@ -5,14 +5,17 @@ use Rattle.mvo_types.specs.Keys.{Map}
 use Rattle.mvo_model.specs.Trace.{Step, told_to, committed}
 use Rattle.mvo_state.specs.Line.{State, Slot}
 
--- the settled ones, by end timestamp
+-- the settled ones, by end timestamp: their ends and ids
 abbrev pub pairs : List Slot → List (ℕ × ℕ)
 pairs [] = []
 pairs (x ∷ xs) = cond x.settled ((x.stop, x.id) ∷ pairs xs) (pairs xs)
 
+-- the state stands for the steps
 pub record Stands (opening : Map) (steps : List Step) (s : State) : Type 0 where
   pub base : s.base ≡ opening
+  -- the settled ones are the committed transactions, in commit order
   pub tale : committed steps ≡ pairs s.line
+  -- each was told what the steps say
   pub ended : AllByRecursion (λ x. told_to x.id steps ≡ x.told) s.line
   pub running : AllByRecursion (λ r. told_to r.id steps ≡ r.told) s.running
   pub fresh : (t : ℕ) → s.clock < t → told_to t steps ≡ []
