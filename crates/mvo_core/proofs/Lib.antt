@@ -2,3 +2,4 @@ pub mod Writes
 pub mod Lined
 pub mod Places
 pub mod Calls
+pub mod Traced

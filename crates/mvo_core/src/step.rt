@@ -1,10 +1,23 @@
+ghost use Rattle.std.specs.Prelude.{◌≡◌, ◌++◌, List};
+ghost use Rattle.mvo_types.specs.Keys.{Map};
+ghost use Rattle.mvo_model.specs.Trace.{Step};
+ghost use Rattle.mvo_state.specs.Stands.{Stands};
+ghost use Rattle.mvo_state.specs.Marks.{StaysBelow};
+ghost use Rattle.mvo_core.specs.Events.{happened};
+
 use crate::engine::Core;
 use crate::event::Event;
 use crate::reply::{Finishing, Reply, Settlement, Validation};
+use mvo_types::Refusal;
 
 impl Core {
-    /// One step.
-    pub fn step(&mut self, event: Event) -> Reply {
+    /// One step. It leads from a state that stands for a trace to one that stands for the trace with
+    /// this event and reply.
+    pub fn step(&mut self, event: Event) -> Reply
+        ensures stands { (opening : Map) (xs : List Step) → Stands opening xs self.old → Stands opening (xs ++ happened event result) self.new }
+        ensures stays { StaysBelow self.old self.new }
+    {
+        let _clock = self.clock();
         match event {
             Event::Begin => match self.begin_tx() {
                 Ok(tx) => Reply::Began(tx),
@@ -41,6 +54,17 @@ impl Core {
                 Ok(Finishing::More) => Reply::More,
                 Err(refusal) => Reply::Refused(refusal),
             },
+        }
+    }
+
+    /// One step, of an event that is kept: an event whose copy is refused replies 90 and does nothing.
+    pub fn step_copy(&mut self, event: &Event) -> Reply
+        ensures stands { (opening : Map) (xs : List Step) → Stands opening xs self.old → Stands opening (xs ++ happened event.now result) self.new }
+        ensures stays { StaysBelow self.old self.new }
+    {
+        match event.copy() {
+            Ok(event) => self.step(event),
+            Err(_) => Reply::Refused(Refusal::OutOfMemory),
         }
     }
 }

@@ -9,3 +9,4 @@ pub mod Tales
 pub mod Calls
 pub mod Numbered
 pub mod Stood
+pub mod Below

@@ -147,6 +147,7 @@ stands_checked opening xs s t h = stands_silent opening xs (Checks t) (now_check
     now_valid : (x : Slot) (v b : Bool) → Stands opening xs (cond b s (checked s x.stop v))
     now_valid x v true = h
     now_valid x v false = stands_check opening xs s x.stop v h
+
     go : (w : Option Slot) → Stands opening xs (checked_at s w)
     go None = h
     go (Some x) = now_valid x _ x.valid

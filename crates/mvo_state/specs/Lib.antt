@@ -4,3 +4,4 @@ pub mod Sound
 pub mod Causes
 pub mod Steps
 pub mod Stands
+pub mod Marks

@@ -1,0 +1,10 @@
+use Rattle.std.proofs.Common.{◌≡◌, take, length, List}
+use Rattle.mvo_state.specs.Stands.{Stands}
+use Rattle.mvo_core.specs.Events.{trace_of}
+use Rattle.mvo_core.proofs.whole.run.Given as goal
+
+abbrev pub invariant-loop-event : goal.invariant-loop-event
+invariant-loop-event l = record {
+  as_many : length l.replies.items ≡ l.event-index;
+  stands : Stands l.fn.rows (trace_of (take l.event-index l.events) l.replies.items) l.core;
+}

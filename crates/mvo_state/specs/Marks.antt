@@ -1,0 +1,19 @@
+-- What is committed up to a mark.
+use Rattle.std.specs.Prelude.{ℕ, ◌≡◌, ◌<◌, ◌≤◌, nat_le, Bool, false, ◌&&◌, if◌then◌else◌, List, [], ◌∷◌}
+use Rattle.std.specs.List.{AllByRecursion}
+use Rattle.mvo_model.specs.Told.{Told}
+use Rattle.mvo_state.specs.Line.{State, Slot}
+
+-- the settled ones with an end at most m: their ends, and what they were told
+abbrev pub settled_to : ℕ → List Slot → List (ℕ × Told)
+settled_to m [] = []
+settled_to m (x ∷ xs) = if x.settled && nat_le x.stop m then (x.stop, x.told) ∷ settled_to m xs else settled_to m xs
+
+-- no transaction that isn't settled ends at or below m, nor will one
+pub record IsClosedAt (m : ℕ) (s : State) : Type 0 where
+  pub drawn : m ≤ s.clock
+  pub above : AllByRecursion (λ x. x.settled ≡ false → m < x.stop) s.line
+
+-- what is committed up to such a mark stays
+abbrev pub StaysBelow : State → State → Type 0
+StaysBelow s s' = (m : ℕ) → IsClosedAt m s → IsClosedAt m s' × (settled_to m s'.line ≡ settled_to m s.line)
