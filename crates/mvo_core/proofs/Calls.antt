@@ -28,8 +28,10 @@ use Rattle.mvo_state.proofs.Sound.{IsAnswer, IsCheck, sound_began, sound_told, s
 use Rattle.mvo_state.proofs.Causes.{change_none}
 use Rattle.mvo_state.proofs.Numbered.{numbered_began, numbered_told, numbered_prepared, numbered_checked, numbered_committed, numbered_dropped, numbered_undone}
 use Rattle.mvo_core.specs.View.{line_of, one_is, state_of}
+use Rattle.mvo_core.specs.Writers.{is_writing, at_places}
 use Rattle.mvo_core.specs.Kept.{IsStored, IsOpen, IsOneOpen, IsAlone, IsKept, count_one}
 use Rattle.mvo_core.proofs.Lined.{pick, preparing_line, unsettled_line, any_open_line, writer_line, seen_line, change_line, settled_line, checked_line, undone_line, running_doomed, before_last}
+use Rattle.mvo_core.proofs.Indexed.{seen_writers, change_writers}
 use Rattle.mvo_core.proofs.Places.{IsFound, found_at, told_at, at_one, any_running, not_found}
 
 -- ---- refusals
@@ -232,9 +234,9 @@ pub why_checked : (s : State) (t : ℕ) (x : Slot) → preparing_of t s.line ≡
 why_checked s t x f d = ap (not_checked_at s t) f ∙ undoomed x.doom _ d
 
 -- the next entry's change, in the code's reckoning
-pub change_is : (tale : List Slot) (x : Slot) (w : Option RowKey) → entry_differs (line_of tale (Some x)) x w ≡ differs (option_and_then (λ k. change_of x.id x.stop k tale) w)
-change_is tale x None = refl
-change_is tale x (Some k) = ap differs (change_line x.id x.stop k tale x (omega arith))
+pub change_is : (tale : List Slot) (ws : List ℕ) (x : Slot) (w : Option RowKey) → at_places tale ws ≡ filter is_writing tale → entry_differs (line_of tale (Some x)) x w ≡ differs (option_and_then (λ k. change_of x.id x.stop k (at_places tale ws)) w)
+change_is tale ws x None i = refl
+change_is tale ws x (Some k) i = ap differs (change_line x.id x.stop k tale x (omega arith) ∙ sym (change_writers x.id x.stop k tale ws i))
 
 pub record IsCommit (base : Map) (start clock : ℕ) (running : List Running) (tale : List Slot) (over : List OverTx) (tc oc t : ℕ) (x : Slot) : Type 0 where
   pub state : state_of base start clock running (tale ++ with_settled x.stop x ∷ []) None (over ++ committed_tx t x.stop ∷ []) ≡ committed (state_of base start clock running tale (Some x) over) t x.stop
@@ -384,9 +386,9 @@ mine_at base start clock running tale one over tc oc t at mine p is k =
     }
 
 -- what is shown at a key, where nobody is Preparing who wrote it
-pub shown_at : (base : Map) (start clock : ℕ) (running : List Running) (tale : List Slot) (one : Option Slot) (over : List OverTx) (t : ℕ) (k : RowKey) (own : Told) → own ≡ told_of t running → one_is (is_writer k t) one ≡ false →
-    fin.get (left_by own (seen_by base tale t)) k ≡ fin.get (snapshot (state_of base start clock running tale one over) t) k
-shown_at base start clock running tale one over t k own e f = seen_line k t own base tale one f ∙ ap (λ ts. fin.get (left_by ts (seen_by base (line_of tale one) t)) k) e
+pub shown_at : (base : Map) (start clock : ℕ) (running : List Running) (tale : List Slot) (ws : List ℕ) (one : Option Slot) (over : List OverTx) (t : ℕ) (k : RowKey) (own : Told) → own ≡ told_of t running → at_places tale ws ≡ filter is_writing tale → one_is (is_writer k t) one ≡ false →
+    fin.get (left_by own (seen_by base (at_places tale ws) t)) k ≡ fin.get (snapshot (state_of base start clock running tale one over) t) k
+shown_at base start clock running tale ws one over t k own e i f = seen_writers t k own base tale ws i ∙ seen_line k t own base tale one f ∙ ap (λ ts. fin.get (left_by ts (seen_by base (line_of tale one) t)) k) e
 
 -- the refusals of a read, as the code finds them
 abbrev pub read_refusal_by : Running → Option Slot → RowKey → Option Refusal

@@ -18,7 +18,7 @@ use Rattle.mvo_state.proofs.Lines.{told_below-append, append-nil}
 use Rattle.mvo_state.proofs.Settle.{rising_before}
 use Rattle.mvo_core.specs.View.{line_of, one_is}
 use Rattle.mvo_core.specs.Kept.{IsStored, IsOpen, IsOneOpen, IsAlone, count_one}
-use Rattle.mvo_core.proofs.Writes.{change_push}
+use Rattle.mvo_core.proofs.Indexed.{change_push}
 
 -- the Preparing transaction, if it is t
 abbrev pub pick : ℕ → Option Slot → Option Slot

@@ -76,6 +76,3 @@ change_push b e k (x ∷ xs) y = ap (or_first (cond (is_changer b e k x) (Some x
     assoc : (p q r : Option ℕ) → or_first p (or_first q r) ≡ or_first (or_first p q) r
     assoc p q None = refl
     assoc p q (Some n) = refl
-
-pub change_more : (b e : ℕ) (k : RowKey) (es : List Slot) (i : ℕ) (x : Slot) → i < length es → x ≡ get_or es i x → change_of b e k (take (i + 1) es) ≡ or_first (change_of b e k (take i es)) (cond (is_changer b e k x) (Some x.stop) None)
-change_more b e k es i x lt is = ap (change_of b e k) (take_more es i x lt ∙ ap (λ y. take i es ++ y ∷ []) (sym is)) ∙ change_push b e k (take i es) x

@@ -1,8 +1,9 @@
 -- What each core keeps.
 use Rattle.std.specs.Prelude.{ℕ, ◌≡◌, ◌+◌, ◌<◌, ◌≤◌, Bool, true, false, if◌then◌else◌, is_some, List, [], length, Option, None, Some, ⊤}
-use Rattle.std.specs.List.{AllByRecursion}
+use Rattle.std.specs.List.{AllByRecursion, filter}
 use Rattle.mvo_state.specs.Line.{State, Slot, Running}
 use Rattle.mvo_state.specs.Sound.{IsSound, IsNumbered}
+use Rattle.mvo_core.specs.Writers.{is_writing, at_places}
 
 -- how many are Preparing
 abbrev pub count_one : Option Slot → ℕ
@@ -38,3 +39,13 @@ pub record IsKept (s : State) (tale : List Slot) (one : Option Slot) (tale_capac
   pub few : length s.running + (count_one one + length s.over) ≤ 1024
   pub over_room : 1024 ≤ over_capacity
   pub tale_room : is_some one ≡ true → length tale < tale_capacity
+
+-- the places are those of the stored commits that wrote
+pub record IsIndexed (tale : List Slot) (writers : List ℕ) (one : Option Slot) (capacity : ℕ) : Type 0 where
+  pub places : at_places tale writers ≡ filter is_writing tale
+  pub inside : AllByRecursion (λ i. i < length tale) writers
+  pub room : is_some one ≡ true → length writers < capacity
+
+pub record IsCore (s : State) (tale : List Slot) (writers : List ℕ) (one : Option Slot) (tale_capacity writers_capacity over_capacity : ℕ) : Type 0 where
+  pub kept : IsKept s tale one tale_capacity over_capacity
+  pub indexed : IsIndexed tale writers one writers_capacity

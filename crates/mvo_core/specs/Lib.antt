@@ -1,3 +1,4 @@
 pub mod View
+pub mod Writers
 pub mod Kept
 pub mod Events

@@ -15,7 +15,7 @@ use crate::refuse::{
 };
 use crate::reply::{Finishing, Settlement, Validation, checked_answer, insert_answer};
 use crate::tale::Tale;
-use crate::told::{push_reserved, tell};
+use crate::told::{note_writer, push_reserved, tell};
 use mvo_state::OverTx;
 use mvo_types::{Answer, MAX_STAMP, MAX_UNFINISHED, Op, Refusal, Row, RowKey, Rows, Stamp, TxId};
 use std::alloc::Global;
@@ -30,6 +30,8 @@ pub struct Core {
     running: Vec<ActiveTx>,
     preparing: Option<PreparingTx>,
     tale: Tale,
+    /// The places in the tale of those that wrote.
+    writers: Vec<usize>,
     over: Vec<OverTx>,
 }
 
@@ -39,7 +41,7 @@ impl Model for Core {
     ghost use Rattle.mvo_types.specs.Keys.{coded_map};
     ghost use Rattle.mvo_state.specs.Line.{State};
     ghost use Rattle.mvo_core.specs.View.{state_of};
-    ghost use Rattle.mvo_core.specs.Kept.{IsKept};
+    ghost use Rattle.mvo_core.specs.Kept.{IsCore};
 
     ghost Value = { State };
 
@@ -47,7 +49,7 @@ impl Model for Core {
 
     ghost view = { λ c. state_of c.base c.start c.clock c.running.items c.tale.items c.preparing c.over.items };
 
-    ghost invariant = { λ c. IsKept (state_of c.base c.start c.clock c.running.items c.tale.items c.preparing c.over.items) c.tale.items c.preparing (vec_capacity c.tale) (vec_capacity c.over) };
+    ghost invariant = { λ c. IsCore (state_of c.base c.start c.clock c.running.items c.tale.items c.preparing c.over.items) c.tale.items c.writers.items c.preparing (vec_capacity c.tale) (vec_capacity c.writers) (vec_capacity c.over) };
 }
 
 impl Core {
@@ -65,6 +67,7 @@ impl Core {
             running: Vec::new(alloc),
             preparing: None,
             tale: Vec::new(alloc),
+            writers: Vec::new(alloc),
             over,
         })
     }
@@ -103,7 +106,7 @@ impl Core {
         if let Some(refusal) = read_refusal(own, &self.preparing, key) {
             return Err(refusal);
         }
-        let row = shown(&self.base, &self.tale, &own.ops, tx.0, key)?;
+        let row = shown(&self.base, &self.tale, &self.writers, &own.ops, tx.0, key)?;
         let kept = copy_of(&row)?;
         let own = &mut self.running[at];
         tell(own, key, Op::Read(key), Answer::Found(kept))?;
@@ -126,7 +129,7 @@ impl Core {
         if let Some(refusal) = insert_refusal(own, &self.preparing, &row) {
             return Err(refusal);
         }
-        let there = is_shown(&self.base, &self.tale, &own.ops, tx.0, key);
+        let there = is_shown(&self.base, &self.tale, &self.writers, &own.ops, tx.0, key);
         let own = &mut self.running[at];
         tell(own, key, Op::Insert(row), insert_answer(there))?;
         Ok(insert_answer(there))
@@ -150,6 +153,7 @@ impl Core {
             return Err(Refusal::Busy);
         }
         self.tale.reserve(1)?;
+        self.writers.reserve(1)?;
         let end = self.clock + 1;
         let own = self.running.remove(at);
         self.preparing = Some(PreparingTx::of(own, end));
@@ -176,7 +180,7 @@ impl Core {
             self.preparing = Some(own);
             return Ok(Validation::Valid);
         }
-        if let Some(stamp) = next_change(&self.tale, &own) {
+        if let Some(stamp) = next_change(&self.tale, &self.writers, &own) {
             push_reserved(&mut self.over, OverTx::aborted(tx));
             return Err(Refusal::ValidationFailed(Stamp(stamp)));
         }
@@ -204,7 +208,10 @@ impl Core {
             return Err(Refusal::NotValidated);
         }
         let end = Stamp(own.end());
+        let place = self.tale.len();
+        let is_writer = own.is_writer();
         push_reserved(&mut self.tale, own.settled());
+        note_writer(&mut self.writers, place, is_writer);
         push_reserved(&mut self.over, OverTx::committed(tx, end));
         Ok(Settlement::Committed(end))
     }

@@ -6,8 +6,9 @@ ghost use Rattle.mvo_types.specs.Keys.{row_at};
 ghost use Rattle.mvo_model.specs.Told.{net_write, later, left_by};
 ghost use Rattle.mvo_state.specs.Entries.{entries};
 ghost use Rattle.mvo_state.specs.Line.{told_below, seen_by, is_writer};
-ghost use Rattle.mvo_state.specs.Causes.{is_changer, change_of};
+ghost use Rattle.mvo_state.specs.Causes.{is_changer, or_first, change_of};
 ghost use Rattle.mvo_core.specs.View.{told_view, held_view};
+ghost use Rattle.mvo_core.specs.Writers.{at_place, at_places};
 
 use crate::preparing::PreparingTx;
 use crate::tale::TaleEntry;
@@ -39,13 +40,33 @@ fn write_if_below<'a>(tx: &'a TaleEntry, begin: u64, key: RowKey) -> Option<Opti
     }
 }
 
-/// The last write of a key by those that end below the begin.
-fn write_below<'a>(tale: &'a [TaleEntry], begin: u64, key: RowKey) -> Option<Option<&'a Row>>
-    ensures { option_map held_view result ≡ net_write key (told_below begin tale.now) }
+/// What the one at a place wrote at a key, if it ends below the begin.
+fn write_at_place<'a>(
+    tale: &'a [TaleEntry],
+    place: usize,
+    begin: u64,
+    key: RowKey,
+) -> Option<Option<&'a Row>>
+    ensures { option_map held_view result ≡ net_write key (told_below begin (at_place tale.now place)) }
+{
+    match tale.get(place) {
+        Some(tx) => write_if_below(tx, begin, key),
+        None => None,
+    }
+}
+
+/// The last write of a key by the writers that end below the begin.
+fn write_below<'a>(
+    tale: &'a [TaleEntry],
+    writers: &[usize],
+    begin: u64,
+    key: RowKey,
+) -> Option<Option<&'a Row>>
+    ensures { option_map held_view result ≡ net_write key (told_below begin (at_places tale.now writers.now)) }
 {
     let mut last = None;
-    for tx in tale {
-        last = later_of(write_if_below(tx, begin, key), last);
+    for place in writers {
+        last = later_of(write_at_place(tale, *place, begin, key), last);
     }
     last
 }
@@ -82,13 +103,14 @@ fn is_left_at(base: &Rows, write: Option<Option<&Row>>, key: RowKey) -> bool
 pub fn shown(
     base: &Rows,
     tale: &[TaleEntry],
+    writers: &[usize],
     own: &[(Op, Answer)],
     begin: u64,
     key: RowKey,
 ) -> Result<Option<Row>, AllocError>
-    ensures { IfOk result (λ r. r ≡ row_at (left_by (told_view own.now) (seen_by base.now tale.now begin)) key) }
+    ensures { IfOk result (λ r. r ≡ row_at (left_by (told_view own.now) (seen_by base.now (at_places tale.now writers.now) begin)) key) }
 {
-    let write = later_of(last_write(own, key), write_below(tale, begin, key));
+    let write = later_of(last_write(own, key), write_below(tale, writers, begin, key));
     let row = left_at(base, write, key)?;
     Ok(row)
 }
@@ -97,15 +119,16 @@ pub fn shown(
 pub fn is_shown(
     base: &Rows,
     tale: &[TaleEntry],
+    writers: &[usize],
     own: &[(Op, Answer)],
     begin: u64,
     key: RowKey,
 ) -> bool
-    ensures { result ≡ map.contains_key (left_by (told_view own.now) (seen_by base.now tale.now begin)) key }
+    ensures { result ≡ map.contains_key (left_by (told_view own.now) (seen_by base.now (at_places tale.now writers.now) begin)) key }
 {
     is_left_at(
         base,
-        later_of(last_write(own, key), write_below(tale, begin, key)),
+        later_of(last_write(own, key), write_below(tale, writers, begin, key)),
         key,
     )
 }
@@ -127,25 +150,55 @@ fn changes_between(other: &TaleEntry, begin: u64, end: u64, key: RowKey) -> bool
     begin < other.end.0 && other.end.0 < end && last_write(&other.ops, key).is_some()
 }
 
-/// The end of the last one that changed the key between the begin and the end.
-pub fn change_between(tale: &[TaleEntry], begin: u64, end: u64, key: RowKey) -> Option<u64>
-    ensures { result ≡ change_of begin end key tale.now }
+/// The end of the one at a place, if it changed the key between the begin and the end.
+fn change_at_place(
+    tale: &[TaleEntry],
+    place: usize,
+    begin: u64,
+    end: u64,
+    key: RowKey,
+) -> Option<u64>
+    ensures { result ≡ change_of begin end key (at_place tale.now place) }
+{
+    match tale.get(place) {
+        Some(other) if changes_between(other, begin, end, key) => Some(other.end.0),
+        _ => None,
+    }
+}
+
+/// The second end, if there is one, and else the first.
+fn later_end(first: Option<u64>, second: Option<u64>) -> Option<u64>
+    ensures { result ≡ or_first first second }
+{
+    match second {
+        Some(end) => Some(end),
+        None => first,
+    }
+}
+
+/// The end of the last writer that changed the key between the begin and the end.
+fn change_between(
+    tale: &[TaleEntry],
+    writers: &[usize],
+    begin: u64,
+    end: u64,
+    key: RowKey,
+) -> Option<u64>
+    ensures { result ≡ change_of begin end key (at_places tale.now writers.now) }
 {
     let mut last = None;
-    for other in tale {
-        if changes_between(other, begin, end, key) {
-            last = Some(other.end.0);
-        }
+    for place in writers {
+        last = later_end(last, change_at_place(tale, *place, begin, end, key));
     }
     last
 }
 
-/// The end of the last one that changed the next entry's key, if there is an entry and a change.
-pub fn next_change(tale: &[TaleEntry], tx: &PreparingTx) -> Option<u64>
-    ensures { result ≡ option_and_then (λ k. change_of tx.now.id tx.now.stop k tale.now) (slice_get (entries tx.now.told) tx.now.checked) }
+/// The end of the last writer that changed the next entry's key, if there is an entry and a change.
+pub fn next_change(tale: &[TaleEntry], writers: &[usize], tx: &PreparingTx) -> Option<u64>
+    ensures { result ≡ option_and_then (λ k. change_of tx.now.id tx.now.stop k (at_places tale.now writers.now)) (slice_get (entries tx.now.told) tx.now.checked) }
 {
     match tx.looked_at.get(tx.checked) {
-        Some(key) => change_between(tale, tx.id, tx.end, *key),
+        Some(key) => change_between(tale, writers, tx.id, tx.end, *key),
         None => None,
     }
 }

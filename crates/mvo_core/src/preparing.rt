@@ -1,6 +1,7 @@
 ghost use Rattle.std.specs.Prelude.{◌≡◌, ◌+◌, ◌==◌, true, false, length, nat_le};
 ghost use Rattle.mvo_state.specs.Entries.{entries};
 ghost use Rattle.mvo_state.specs.Line.{to_slot, with_settled};
+ghost use Rattle.mvo_core.specs.Writers.{is_writing};
 
 use crate::active::ActiveTx;
 use crate::tale::TaleEntry;
@@ -15,7 +16,9 @@ pub struct PreparingTx {
     pub ops: Vec<(Op, Answer)>,
     /// The keys that it looked at, each once.
     pub looked_at: Vec<RowKey>,
-    /// How many of them are checked.
+    /// The keys that it wrote, each once.
+    pub written: Vec<RowKey>,
+    /// How many entries are checked.
     pub checked: usize,
     /// Whether Valid was answered.
     pub valid: bool,
@@ -23,7 +26,7 @@ pub struct PreparingTx {
 
 impl Model for PreparingTx {
     ghost use Rattle.std.specs.Prelude.{◌≡◌, ◌≤◌, [], None, false, length};
-    ghost use Rattle.mvo_state.specs.Entries.{entries};
+    ghost use Rattle.mvo_state.specs.Entries.{entries, written_keys};
     ghost use Rattle.mvo_state.specs.Line.{Slot};
     ghost use Rattle.mvo_core.specs.View.{told_view};
 
@@ -31,7 +34,7 @@ impl Model for PreparingTx {
 
     ghost view = { λ t. record { id = t.id; stop = t.end; told = told_view t.ops.items; settled = false; checked = t.checked; valid = t.valid; rests = []; doom = None } };
 
-    ghost invariant = { λ t. (t.looked_at.items ≡ entries (told_view t.ops.items)) × (t.valid ≡ false → t.checked ≤ length (entries (told_view t.ops.items))) };
+    ghost invariant = { λ t. (t.looked_at.items ≡ entries (told_view t.ops.items)) × (t.written.items ≡ written_keys (told_view t.ops.items)) × (t.valid ≡ false → t.checked ≤ length (entries (told_view t.ops.items))) };
 }
 
 impl PreparingTx {
@@ -43,13 +46,14 @@ impl PreparingTx {
             id,
             ops,
             looked_at,
-            ..
+            written,
         } = own;
         PreparingTx {
             id,
             end,
             ops,
             looked_at,
+            written,
             checked: 0,
             valid: false,
         }
@@ -67,6 +71,13 @@ impl PreparingTx {
         ensures { result ≡ self.now.valid }
     {
         self.valid
+    }
+
+    /// Whether it wrote a key.
+    pub fn is_writer(&self) -> bool
+        ensures { result ≡ is_writing self.now }
+    {
+        !self.written.is_empty()
     }
 
     /// Its end timestamp.

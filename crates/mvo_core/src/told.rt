@@ -1,4 +1,4 @@
-ghost use Rattle.std.specs.Prelude.{◌≡◌, ◌++◌, ◌∷◌, [], OnOk, OnErr, vec_len, vec_capacity, ◌<◌, ◌≤◌};
+ghost use Rattle.std.specs.Prelude.{◌≡◌, ◌++◌, ◌∷◌, [], OnOk, OnErr, vec_len, vec_capacity, ◌<◌, ◌≤◌, if◌then◌else◌};
 ghost use Rattle.std.specs.Option.{option_map};
 ghost use Rattle.std.specs.Ordering.{eq_by_cmp};
 ghost use Rattle.mvo_types.specs.Keys.{key_cmp};
@@ -109,6 +109,17 @@ pub fn tell(tx: &mut ActiveTx, key: RowKey, op: Op, answer: Answer) -> Result<()
     note_write(&mut tx.written, key_written(&op, &answer));
     push_reserved(&mut tx.ops, (op, answer));
     Ok(())
+}
+
+/// Adds the place of one that wrote, where there is room.
+pub fn note_writer(writers: &mut Vec<usize>, place: usize, is_writer: bool)
+    requires { vec_len writers.old < vec_capacity writers.old }
+    ensures items { writers.new.items ≡ (if is_writer then writers.old.items ++ place ∷ [] else writers.old.items) }
+    ensures room { vec_capacity writers.old ≤ vec_capacity writers.new }
+{
+    if is_writer {
+        push_reserved(writers, place);
+    }
 }
 
 /// Adds an item where there is room.

@@ -29,7 +29,7 @@ returns-in_default-clause-refused c =
     let f = c.self.inside in
     let over : list_any (λ u. u.id.0 == c.args.tx.0) f.over.items ≡ false = none_any (λ u. u.id.0 == c.args.tx.0) f.over.items (sym (c.in_default.ensures ∙ ap (λ (us : List OverTx). position (λ u. u.id.0 == c.args.tx.0) us) c.deref.ensures.value)) in
     ap (λ (s : State). why_not_finished s c.args.tx.0) (sym c.self.view_is)
-    ∙ unfinished (state_of f.base f.start f.clock f.running.items f.tale.items f.preparing f.over.items) c.args.tx.0 _ _ over (any_running c.args.tx.0 f.running.items) (any_preparing c.args.tx.0 f.tale.items f.preparing c.self.invariant.stored c.self.invariant.open')
+    ∙ unfinished (state_of f.base f.start f.clock f.running.items f.tale.items f.preparing f.over.items) c.args.tx.0 _ _ over (any_running c.args.tx.0 f.running.items) (any_preparing c.args.tx.0 f.tale.items f.preparing c.self.invariant.kept.stored c.self.invariant.kept.open')
     ∙ ap (λ (rs : List Running). Some (cond (list_any (λ r. r.id == c.args.tx.0) rs) NotEnded (cond (one_is (λ p. p.id == c.args.tx.0) f.preparing) NotEnded NoSuchTransaction))) (sym c.deref-in_default.ensures.value)
     ∙ ap (λ (r : Refusal). Some r) (sym c.not_ended.ensures)
 

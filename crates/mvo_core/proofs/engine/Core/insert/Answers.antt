@@ -10,6 +10,7 @@ use Rattle.mvo_model.specs.Told.{Told, left_by}
 use Rattle.mvo_state.specs.declared.over.OverTx.{OverTx}
 use Rattle.mvo_state.specs.Line.{State, Running, Slot, told, snapshot, seen_by, is_writer}
 use Rattle.mvo_state.specs.Causes.{why_not_inserted}
+use Rattle.mvo_core.specs.Writers.{at_places}
 use Rattle.mvo_core.specs.View.{state_of, one_is, told_view}
 use Rattle.mvo_core.proofs.Calls.{refuse, no_memory, not_active_by, IsMine, mine_at, shown_at, insert_refusal_by, insert_here, insert_quiet, insert_absent, IsTold, kept_told}
 use Rattle.mvo_core.proofs.engine.Core.insert.Goals as goal
@@ -20,14 +21,14 @@ returns-in_default-clause-refused c =
     let f = c.self.inside in
     refuse (why_not_inserted c.args.self.now c.args.tx.0 c.args.row) c.not_active.result
     (ap (λ (s : State). why_not_inserted s c.args.tx.0 c.args.row) (sym c.self.view_is)
-    ∙ insert_absent f.base f.start f.clock f.running.items f.tale.items f.preparing f.over.items c.args.tx.0 c.args.row (sym (c.in_default.ensures ∙ ap (λ (rs : List Running). position (λ r. r.id == c.args.tx.0) rs) c.deref.ensures.value)) c.self.invariant.stored c.self.invariant.open'
+    ∙ insert_absent f.base f.start f.clock f.running.items f.tale.items f.preparing f.over.items c.args.tx.0 c.args.row (sym (c.in_default.ensures ∙ ap (λ (rs : List Running). position (λ r. r.id == c.args.tx.0) rs) c.deref.ensures.value)) c.self.invariant.kept.stored c.self.invariant.kept.open'
     ∙ ap (λ (us : List OverTx). Some (not_active_by f.preparing us c.args.tx.0)) (sym c.deref-in_default.ensures.value)
     ∙ ap (λ (r : Refusal). Some r) (sym c.not_active.ensures))
 
 pub returns-in-Some-insert_refusal-clause-refused : goal.returns-in-Some-insert_refusal-clause-refused
 returns-in-Some-insert_refusal-clause-refused c =
     let f = c.self.inside in
-    let m = mine_at f.base f.start f.clock f.running.items f.tale.items f.preparing f.over.items (vec_capacity f.tale) (vec_capacity f.over) c.args.tx.0 c.in-Some.at c.index-own.result.now (sym (c.in-Some.ensures ∙ ap (λ (rs : List Running). position (λ r. r.id == c.args.tx.0) rs) c.deref.ensures.value)) c.index-own.ensures c.self.invariant in
+    let m = mine_at f.base f.start f.clock f.running.items f.tale.items f.preparing f.over.items (vec_capacity f.tale) (vec_capacity f.over) c.args.tx.0 c.in-Some.at c.index-own.result.now (sym (c.in-Some.ensures ∙ ap (λ (rs : List Running). position (λ r. r.id == c.args.tx.0) rs) c.deref.ensures.value)) c.index-own.ensures c.self.invariant.kept in
     refuse (why_not_inserted c.args.self.now c.args.tx.0 c.args.row) c.in-Some-insert_refusal.refusal
     (ap (λ (s : State). why_not_inserted s c.args.tx.0 c.args.row) (sym c.self.view_is)
     ∙ insert_here (state_of f.base f.start f.clock f.running.items f.tale.items f.preparing f.over.items) f.preparing c.args.tx.0 c.in-Some.at c.args.row c.index-own.result.now m
@@ -36,7 +37,7 @@ returns-in-Some-insert_refusal-clause-refused c =
 pub returns-in_err-tell-clause-refused : goal.returns-in_err-tell-clause-refused
 returns-in_err-tell-clause-refused c =
     let f = c.self.inside in
-    let m = mine_at f.base f.start f.clock f.running.items f.tale.items f.preparing f.over.items (vec_capacity f.tale) (vec_capacity f.over) c.args.tx.0 c.in-Some.at c.index-own.result.now (sym (c.in-Some.ensures ∙ ap (λ (rs : List Running). position (λ r. r.id == c.args.tx.0) rs) c.deref.ensures.value)) c.index-own.ensures c.self.invariant in
+    let m = mine_at f.base f.start f.clock f.running.items f.tale.items f.preparing f.over.items (vec_capacity f.tale) (vec_capacity f.over) c.args.tx.0 c.in-Some.at c.index-own.result.now (sym (c.in-Some.ensures ∙ ap (λ (rs : List Running). position (λ r. r.id == c.args.tx.0) rs) c.deref.ensures.value)) c.index-own.ensures c.self.invariant.kept in
     no_memory (why_not_inserted c.args.self.now c.args.tx.0 c.args.row) c.from_residual.result
     (ap (λ (s : State). why_not_inserted s c.args.tx.0 c.args.row) (sym c.self.view_is)
     ∙ insert_here (state_of f.base f.start f.clock f.running.items f.tale.items f.preparing f.over.items) f.preparing c.args.tx.0 c.in-Some.at c.args.row c.index-own.result.now m
@@ -53,7 +54,7 @@ mine : (c : After-insert_answer-2) → IsMine (old c) c.self.inside.preparing c.
 unfolding old
 mine c =
     let f = c.self.inside in
-    mine_at f.base f.start f.clock f.running.items f.tale.items f.preparing f.over.items (vec_capacity f.tale) (vec_capacity f.over) c.args.tx.0 c.in-Some.at c.index-own.result.now (place c) c.index-own.ensures c.self.invariant
+    mine_at f.base f.start f.clock f.running.items f.tale.items f.preparing f.over.items (vec_capacity f.tale) (vec_capacity f.over) c.args.tx.0 c.in-Some.at c.index-own.result.now (place c) c.index-own.ensures c.self.invariant.kept
 
 none : (c : After-insert_answer-2) → insert_refusal_by c.index-own.result.now c.self.inside.preparing c.args.row ≡ None
 none c = sym c.insert_refusal.ensures ∙ c.in_default-insert_refusal.is
@@ -66,14 +67,15 @@ there : (c : After-insert_answer-2) → c.is_shown-there.result ≡ map.contains
 unfolding old
 there c =
     let f = c.self.inside in
-    let own : c.deref-3.result.now ≡ c.own.inside.ops.items = c.deref-3.ensures.value in
+    let own : c.deref-4.result.now ≡ c.own.inside.ops.items = c.deref-4.ensures.value in
     let told' : told_view c.own.inside.ops.items ≡ c.index-own.result.now.told = ap (λ (r : Running). r.told) c.own.view_is in
     let key : c.row_key-key.result ≡ c.args.row.key = c.row_key-key.ensures in
     c.is_shown-there.ensures
-    ∙ ap (λ k. map.contains_key (left_by (told_view c.deref-3.result.now) (seen_by f.base c.deref-2.result.now c.args.tx.0)) k) key
-    ∙ ap (λ (tale : List Slot). map.contains_key (left_by (told_view c.deref-3.result.now) (seen_by f.base tale c.args.tx.0)) c.args.row.key) c.deref-2.ensures.value
-    ∙ ap (λ ops. map.contains_key (left_by (told_view ops) (seen_by f.base f.tale.items c.args.tx.0)) c.args.row.key) own
-    ∙ ap is_some (shown_at f.base f.start f.clock f.running.items f.tale.items f.preparing f.over.items c.args.tx.0 c.args.row.key (told_view c.own.inside.ops.items) (told' ∙ sym (mine c).found.told) (quiet c))
+    ∙ ap (λ k. map.contains_key (left_by (told_view c.deref-4.result.now) (seen_by f.base (at_places c.deref-2.result.now c.deref-3.result.now) c.args.tx.0)) k) key
+    ∙ ap (λ (tale : List Slot). map.contains_key (left_by (told_view c.deref-4.result.now) (seen_by f.base (at_places tale c.deref-3.result.now) c.args.tx.0)) c.args.row.key) c.deref-2.ensures.value
+    ∙ ap (λ (ws : List ℕ). map.contains_key (left_by (told_view c.deref-4.result.now) (seen_by f.base (at_places f.tale.items ws) c.args.tx.0)) c.args.row.key) c.deref-3.ensures.value
+    ∙ ap (λ ops. map.contains_key (left_by (told_view ops) (seen_by f.base (at_places f.tale.items f.writers.items) c.args.tx.0)) c.args.row.key) own
+    ∙ ap is_some (shown_at f.base f.start f.clock f.running.items f.tale.items f.writers.items f.preparing f.over.items c.args.tx.0 c.args.row.key (told_view c.own.inside.ops.items) (told' ∙ sym (mine c).found.told) c.self.invariant.indexed.places (quiet c))
 
 answer : (c : After-insert_answer-2) → said c.insert_answer-2.result ≡ cond (map.contains_key (snapshot (old c) c.args.tx.0) c.args.row.key) Exist Inserts
 answer c = c.insert_answer-2.ensures ∙ ap (λ (b : Bool). cond b Exist Inserts) (there c)
@@ -86,10 +88,10 @@ now c =
     (place c) c.index_mut-own.ensures.value
     (c.in_ok-tell.ensures.ok
     ∙ ap (λ (a : Said). record c.index_mut-own.result.now { told = c.index_mut-own.result.now.told ++ (op.Insert c.args.row, a) ∷ [] }) (c.insert_answer.ensures ∙ sym c.insert_answer-2.ensures))
-    (quiet c) tt (answer c) c.self.invariant
+    (quiet c) tt (answer c) c.self.invariant.kept
 
 pub invariant_of-self-2 : goal.invariant_of-self-2
-invariant_of-self-2 c = (now c).kept
+invariant_of-self-2 c = record { kept = (now c).kept; indexed = c.self.invariant.indexed }
 
 pub returns-clause-refused : goal.returns-clause-refused
 unfolding old

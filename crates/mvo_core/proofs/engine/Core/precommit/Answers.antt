@@ -9,7 +9,8 @@ use Rattle.mvo_state.specs.Line.{State, Running, Slot}
 use Rattle.mvo_state.specs.Causes.{if_stands, why_not_prepared}
 use Rattle.mvo_state.specs.Steps.{now_prepared}
 use Rattle.mvo_core.specs.View.{state_of}
-use Rattle.mvo_core.specs.Kept.{IsKept}
+use Rattle.mvo_core.specs.Kept.{IsKept, IsIndexed}
+use Rattle.mvo_core.proofs.Indexed.{indexed_with}
 use Rattle.mvo_core.proofs.Calls.{refuse, no_memory, stands_now, stands_not, not_active_by, precommit_absent, precommit_at, IsPrecommitted, kept_prepared}
 use Rattle.mvo_core.proofs.engine.Core.precommit.Goals as goal
 use Rattle.mvo_core.proofs.engine.Core.precommit.Goals.{After-self-2-1}
@@ -19,7 +20,7 @@ returns-in_default-clause-refused c =
     let f = c.self.inside in
     refuse (why_not_prepared c.args.self.now c.args.tx.0) c.not_active.result
     (ap (λ (s : State). why_not_prepared s c.args.tx.0) (sym c.self.view_is)
-    ∙ precommit_absent f.base f.start f.clock f.running.items f.tale.items f.preparing f.over.items c.args.tx.0 (sym (c.in_default.ensures ∙ ap (λ (rs : List Running). position (λ r. r.id == c.args.tx.0) rs) c.deref.ensures.value)) c.self.invariant.stored c.self.invariant.open'
+    ∙ precommit_absent f.base f.start f.clock f.running.items f.tale.items f.preparing f.over.items c.args.tx.0 (sym (c.in_default.ensures ∙ ap (λ (rs : List Running). position (λ r. r.id == c.args.tx.0) rs) c.deref.ensures.value)) c.self.invariant.kept.stored c.self.invariant.kept.open'
     ∙ ap (λ (us : List OverTx). Some (not_active_by f.preparing us c.args.tx.0)) (sym c.deref-in_default.ensures.value)
     ∙ ap (λ (r : Refusal). Some r) (sym c.not_active.ensures))
 
@@ -28,7 +29,7 @@ returns-then-self-ge-MAX_STAMP-clause-refused c =
     let f = c.self.inside in
     refuse (why_not_prepared c.args.self.now c.args.tx.0) ClockSpent
     (ap (λ (s : State). why_not_prepared s c.args.tx.0) (sym c.self.view_is)
-    ∙ precommit_at f.base f.start f.clock f.running.items f.tale.items f.preparing f.over.items (vec_capacity f.tale) (vec_capacity f.over) c.args.tx.0 c.in-Some.at (sym (c.in-Some.ensures ∙ ap (λ (rs : List Running). position (λ r. r.id == c.args.tx.0) rs) c.deref.ensures.value)) c.self.invariant
+    ∙ precommit_at f.base f.start f.clock f.running.items f.tale.items f.preparing f.over.items (vec_capacity f.tale) (vec_capacity f.over) c.args.tx.0 c.in-Some.at (sym (c.in-Some.ensures ∙ ap (λ (rs : List Running). position (λ r. r.id == c.args.tx.0) rs) c.deref.ensures.value)) c.self.invariant.kept
     ∙ stands_now (nat_le MAX_STAMP f.clock) ClockSpent _ (le-leb MAX_STAMP f.clock c.if-self-ge-MAX_STAMP.true))
 
 pub returns-then-is_some-clause-refused : goal.returns-then-is_some-clause-refused
@@ -36,7 +37,7 @@ returns-then-is_some-clause-refused c =
     let f = c.self.inside in
     refuse (why_not_prepared c.args.self.now c.args.tx.0) Busy
     (ap (λ (s : State). why_not_prepared s c.args.tx.0) (sym c.self.view_is)
-    ∙ precommit_at f.base f.start f.clock f.running.items f.tale.items f.preparing f.over.items (vec_capacity f.tale) (vec_capacity f.over) c.args.tx.0 c.in-Some.at (sym (c.in-Some.ensures ∙ ap (λ (rs : List Running). position (λ r. r.id == c.args.tx.0) rs) c.deref.ensures.value)) c.self.invariant
+    ∙ precommit_at f.base f.start f.clock f.running.items f.tale.items f.preparing f.over.items (vec_capacity f.tale) (vec_capacity f.over) c.args.tx.0 c.in-Some.at (sym (c.in-Some.ensures ∙ ap (λ (rs : List Running). position (λ r. r.id == c.args.tx.0) rs) c.deref.ensures.value)) c.self.invariant.kept
     ∙ stands_not (nat_le MAX_STAMP f.clock) ClockSpent _ (lt-leb MAX_STAMP f.clock c.if-self-ge-MAX_STAMP.false)
     ∙ stands_now (is_some f.preparing) Busy None (sym c.if-is_some.ensures))
 
@@ -45,9 +46,18 @@ returns-in_err-reserve-clause-refused c =
     let f = c.self.inside in
     no_memory (why_not_prepared c.args.self.now c.args.tx.0) c.from_residual.result
     (ap (λ (s : State). why_not_prepared s c.args.tx.0) (sym c.self.view_is)
-    ∙ precommit_at f.base f.start f.clock f.running.items f.tale.items f.preparing f.over.items (vec_capacity f.tale) (vec_capacity f.over) c.args.tx.0 c.in-Some.at (sym (c.in-Some.ensures ∙ ap (λ (rs : List Running). position (λ r. r.id == c.args.tx.0) rs) c.deref.ensures.value)) c.self.invariant
+    ∙ precommit_at f.base f.start f.clock f.running.items f.tale.items f.preparing f.over.items (vec_capacity f.tale) (vec_capacity f.over) c.args.tx.0 c.in-Some.at (sym (c.in-Some.ensures ∙ ap (λ (rs : List Running). position (λ r. r.id == c.args.tx.0) rs) c.deref.ensures.value)) c.self.invariant.kept
     ∙ stands_not (nat_le MAX_STAMP f.clock) ClockSpent _ (lt-leb MAX_STAMP f.clock c.if-self-ge-MAX_STAMP.false)
     ∙ stands_not (is_some f.preparing) Busy None (sym c.if-is_some.ensures)) c.from_residual.ensures.1
+
+pub returns-in_err-reserve-2-clause-refused : goal.returns-in_err-reserve-2-clause-refused
+returns-in_err-reserve-2-clause-refused c =
+    let f = c.self.inside in
+    no_memory (why_not_prepared c.args.self.now c.args.tx.0) c.from_residual-in_err-reserve-2.result
+    (ap (λ (s : State). why_not_prepared s c.args.tx.0) (sym c.self.view_is)
+    ∙ precommit_at f.base f.start f.clock f.running.items f.tale.items f.preparing f.over.items (vec_capacity f.tale) (vec_capacity f.over) c.args.tx.0 c.in-Some.at (sym (c.in-Some.ensures ∙ ap (λ (rs : List Running). position (λ r. r.id == c.args.tx.0) rs) c.deref.ensures.value)) c.self.invariant.kept
+    ∙ stands_not (nat_le MAX_STAMP f.clock) ClockSpent _ (lt-leb MAX_STAMP f.clock c.if-self-ge-MAX_STAMP.false)
+    ∙ stands_not (is_some f.preparing) Busy None (sym c.if-is_some.ensures)) c.from_residual-in_err-reserve-2.ensures.1
 
 is_none : {X : Type 0} (o : Option X) → is_some o ≡ false → o ≡ None
 is_none None e = refl
@@ -62,7 +72,7 @@ now c =
     kept_prepared f.base f.start f.clock f.running.items f.tale.items f.over.items (vec_capacity f.tale) (vec_capacity c.reserve.new.self) (vec_capacity f.over) c.args.tx.0 c.in-Some.at c.remove-own.result c.of.result
     (sym (c.in-Some.ensures ∙ ap (λ (rs : List Running). position (λ r. r.id == c.args.tx.0) rs) c.deref.ensures.value)) c.remove-own.ensures.value c.of.ensures
     (let room = c.in_ok-reserve.ensures.ok in omega arith)
-    (subst (λ (o : Option Slot). IsKept (state_of f.base f.start f.clock f.running.items f.tale.items o f.over.items) f.tale.items o (vec_capacity f.tale) (vec_capacity f.over)) (empty c) c.self.invariant)
+    (subst (λ (o : Option Slot). IsKept (state_of f.base f.start f.clock f.running.items f.tale.items o f.over.items) f.tale.items o (vec_capacity f.tale) (vec_capacity f.over)) (empty c) c.self.invariant.kept)
 
 -- the fields as they are after the call
 fields : (c : After-self-2-1) → state_of c.self.inside.base c.self.inside.start (c.self.inside.clock + 1) c.remove-own.new.self.items c.reserve.new.self.items (Some c.of.result) c.self.inside.over.items ≡ state_of c.self.inside.base c.self.inside.start (c.self.inside.clock + 1) (remove c.self.inside.running.items c.in-Some.at) c.self.inside.tale.items (Some c.of.result) c.self.inside.over.items
@@ -74,14 +84,19 @@ fields c =
 pub invariant_of-self-2 : goal.invariant_of-self-2
 invariant_of-self-2 c =
     let f = c.self.inside in
-    subst (λ (tale : List Slot). IsKept (state_of f.base f.start (f.clock + 1) c.remove-own.new.self.items tale (Some c.of.result) f.over.items) tale (Some c.of.result) (vec_capacity c.reserve.new.self) (vec_capacity f.over)) (sym c.in_ok-reserve.ensures.items)
-    (subst (λ (rs : List Running). IsKept (state_of f.base f.start (f.clock + 1) rs f.tale.items (Some c.of.result) f.over.items) f.tale.items (Some c.of.result) (vec_capacity c.reserve.new.self) (vec_capacity f.over)) (sym c.remove-own.ensures.items) (now c).kept)
+    record {
+      kept = subst (λ (tale : List Slot). IsKept (state_of f.base f.start (f.clock + 1) c.remove-own.new.self.items tale (Some c.of.result) f.over.items) tale (Some c.of.result) (vec_capacity c.reserve.new.self) (vec_capacity f.over)) (sym c.in_ok-reserve.ensures.items)
+          (subst (λ (rs : List Running). IsKept (state_of f.base f.start (f.clock + 1) rs f.tale.items (Some c.of.result) f.over.items) f.tale.items (Some c.of.result) (vec_capacity c.reserve.new.self) (vec_capacity f.over)) (sym c.remove-own.ensures.items) (now c).kept);
+      indexed = subst (λ (tale : List Slot). IsIndexed tale c.reserve-2.new.self.items (Some c.of.result) (vec_capacity c.reserve-2.new.self)) (sym c.in_ok-reserve.ensures.items)
+          (subst (λ (ws : List ℕ). IsIndexed f.tale.items ws (Some c.of.result) (vec_capacity c.reserve-2.new.self)) (sym c.in_ok-reserve-2.ensures.items)
+          (indexed_with f.tale.items f.writers.items f.preparing (Some c.of.result) (vec_capacity f.writers) (vec_capacity c.reserve-2.new.self) (let room = c.in_ok-reserve-2.ensures.ok in omega arith) c.self.invariant.indexed));
+    }
 
 pub returns-clause-refused : goal.returns-clause-refused
 returns-clause-refused c =
     let f = c.self.inside in
     ap (λ (s : State). why_not_prepared s c.args.tx.0) (sym c.self.view_is)
-    ∙ precommit_at f.base f.start f.clock f.running.items f.tale.items f.preparing f.over.items (vec_capacity f.tale) (vec_capacity f.over) c.args.tx.0 c.in-Some.at (sym (c.in-Some.ensures ∙ ap (λ (rs : List Running). position (λ r. r.id == c.args.tx.0) rs) c.deref.ensures.value)) c.self.invariant
+    ∙ precommit_at f.base f.start f.clock f.running.items f.tale.items f.preparing f.over.items (vec_capacity f.tale) (vec_capacity f.over) c.args.tx.0 c.in-Some.at (sym (c.in-Some.ensures ∙ ap (λ (rs : List Running). position (λ r. r.id == c.args.tx.0) rs) c.deref.ensures.value)) c.self.invariant.kept
     ∙ stands_not (nat_le MAX_STAMP f.clock) ClockSpent _ (lt-leb MAX_STAMP f.clock c.if-self-ge-MAX_STAMP.false)
     ∙ stands_not (is_some f.preparing) Busy None (sym c.if-is_some.ensures)
 

@@ -8,8 +8,10 @@ use Rattle.mvo_state.specs.Line.{State, Running, Slot, with_settled, committed, 
 use Rattle.mvo_state.specs.Causes.{if_stands, preparing_of, why_not_settled, end_of, end_at}
 use Rattle.mvo_state.specs.Steps.{now_committed, committed_at}
 use Rattle.mvo_core.specs.View.{state_of}
-use Rattle.mvo_core.specs.Kept.{IsKept}
+use Rattle.mvo_core.specs.Writers.{is_writing}
+use Rattle.mvo_core.specs.Kept.{IsKept, IsIndexed}
 use Rattle.mvo_core.specs.declared.reply.Settlement.TheVariants.{Committed}
+use Rattle.mvo_core.proofs.Indexed.{indexed_push}
 use Rattle.mvo_core.proofs.Calls.{stands_now, stands_not, not_preparing_by, settle_other, not_one, no_one, why_settled, prepared_one, kept_with, IsCommit, kept_committed}
 use Rattle.mvo_core.proofs.engine.Core.settle.Goals as goal
 use Rattle.mvo_core.proofs.engine.Core.settle.Goals.{After-push_reserved-2, Joined-self-2}
@@ -18,7 +20,7 @@ pub returns-in_default-clause-refused : goal.returns-in_default-clause-refused
 returns-in_default-clause-refused c =
     let f = c.self.inside in
     ap (λ (s : State). why_not_settled s c.args.tx.0) (sym c.self.view_is)
-    ∙ settle_other f.base f.start f.clock f.running.items f.tale.items f.preparing f.over.items c.args.tx.0 (no_one c.args.tx.0 f.preparing (sym c.in_default.ensures.value)) c.self.invariant.stored c.self.invariant.open'
+    ∙ settle_other f.base f.start f.clock f.running.items f.tale.items f.preparing f.over.items c.args.tx.0 (no_one c.args.tx.0 f.preparing (sym c.in_default.ensures.value)) c.self.invariant.kept.stored c.self.invariant.kept.open'
     ∙ ap (λ (rs : List Running). Some (not_preparing_by rs f.over.items c.args.tx.0)) (sym c.deref.ensures.value)
     ∙ ap (λ (us : List OverTx). Some (not_preparing_by c.deref.result.now us c.args.tx.0)) (sym c.deref-in_default.ensures.value)
     ∙ ap (λ (r : Refusal). Some r) (sym c.not_preparing.ensures)
@@ -27,7 +29,7 @@ pub returns-then-not-is-clause-refused : goal.returns-then-not-is-clause-refused
 returns-then-not-is-clause-refused c =
     let f = c.self.inside in
     ap (λ (s : State). why_not_settled s c.args.tx.0) (sym c.self.view_is)
-    ∙ settle_other f.base f.start f.clock f.running.items f.tale.items f.preparing f.over.items c.args.tx.0 (not_one c.args.tx.0 c.in-Some.own f.preparing (sym c.in-Some.ensures.value) (sym c.if-not-is.ensures)) c.self.invariant.stored c.self.invariant.open'
+    ∙ settle_other f.base f.start f.clock f.running.items f.tale.items f.preparing f.over.items c.args.tx.0 (not_one c.args.tx.0 c.in-Some.own f.preparing (sym c.in-Some.ensures.value) (sym c.if-not-is.ensures)) c.self.invariant.kept.stored c.self.invariant.kept.open'
     ∙ ap (λ (rs : List Running). Some (not_preparing_by rs f.over.items c.args.tx.0)) (sym c.deref-then-not-is.ensures.value)
     ∙ ap (λ (us : List OverTx). Some (not_preparing_by c.deref-then-not-is.result.now us c.args.tx.0)) (sym c.deref-then-not-is-2.ensures.value)
     ∙ ap (λ (r : Refusal). Some r) (sym c.not_preparing-then-not-is.ensures)
@@ -36,7 +38,7 @@ pub returns-then-not-is_valid-clause-refused : goal.returns-then-not-is_valid-cl
 returns-then-not-is_valid-clause-refused c =
     let f = c.self.inside in
     let x = c.in-Some.own in
-    let k = kept_with f.base f.start f.clock f.running.items f.tale.items f.preparing (Some x) f.over.items (vec_capacity f.tale) (vec_capacity f.over) (sym c.in-Some.ensures.value) c.self.invariant in
+    let k = kept_with f.base f.start f.clock f.running.items f.tale.items f.preparing (Some x) f.over.items (vec_capacity f.tale) (vec_capacity f.over) (sym c.in-Some.ensures.value) c.self.invariant.kept in
     ap (λ (s : State). why_not_settled s c.args.tx.0) (sym c.self.view_is)
     ∙ ap (λ (o : Option Slot). why_not_settled (state_of f.base f.start f.clock f.running.items f.tale.items o f.over.items) c.args.tx.0) (sym c.in-Some.ensures.value)
     ∙ why_settled (state_of f.base f.start f.clock f.running.items f.tale.items (Some x) f.over.items) c.args.tx.0 x (prepared_one c.args.tx.0 f.tale.items x (sym c.if-not-is.ensures) k.stored k.open') k.open'.doom
@@ -46,7 +48,7 @@ returns-then-not-is_valid-clause-refused c =
 kept : (c : After-push_reserved-2) → IsKept (state_of c.self.inside.base c.self.inside.start c.self.inside.clock c.self.inside.running.items c.self.inside.tale.items (Some c.in-Some.own) c.self.inside.over.items) c.self.inside.tale.items (Some c.in-Some.own) (vec_capacity c.self.inside.tale) (vec_capacity c.self.inside.over)
 kept c =
     let f = c.self.inside in
-    kept_with f.base f.start f.clock f.running.items f.tale.items f.preparing (Some c.in-Some.own) f.over.items (vec_capacity f.tale) (vec_capacity f.over) (sym c.in-Some.ensures.value) c.self.invariant
+    kept_with f.base f.start f.clock f.running.items f.tale.items f.preparing (Some c.in-Some.own) f.over.items (vec_capacity f.tale) (vec_capacity f.over) (sym c.in-Some.ensures.value) c.self.invariant.kept
 
 found : (c : After-push_reserved-2) → preparing_of c.args.tx.0 (state_of c.self.inside.base c.self.inside.start c.self.inside.clock c.self.inside.running.items c.self.inside.tale.items (Some c.in-Some.own) c.self.inside.over.items).line ≡ Some c.in-Some.own
 found c = prepared_one c.args.tx.0 c.self.inside.tale.items c.in-Some.own (sym c.if-not-is.ensures) (kept c).stored (kept c).open'
@@ -79,12 +81,26 @@ tale_now c = c.push_reserved.ensures.items ∙ ap (λ (x : Slot). c.self.inside.
 over_now : (c : After-push_reserved-2) → c.push_reserved-2.new.items.items ≡ c.self.inside.over.items ++ committed_tx c.args.tx.0 c.in-Some.own.stop ∷ []
 over_now c = c.push_reserved-2.ensures.items ∙ ap (λ (u : OverTx). c.self.inside.over.items ++ u ∷ []) (c.committed.ensures ∙ ap (committed_tx c.args.tx.0) c.end.ensures)
 
-pub invariant_of-self-2 : goal.invariant_of-self-2
-invariant_of-self-2 c =
+kept_now : (c : After-push_reserved-2) → IsKept (state_of c.self.inside.base c.self.inside.start c.self.inside.clock c.self.inside.running.items c.push_reserved.new.items.items c.take.new.self c.push_reserved-2.new.items.items) c.push_reserved.new.items.items c.take.new.self (vec_capacity c.push_reserved.new.items) (vec_capacity c.push_reserved-2.new.items)
+kept_now c =
     let f = c.self.inside in
     subst (λ (o : Option Slot). IsKept (state_of f.base f.start f.clock f.running.items c.push_reserved.new.items.items o c.push_reserved-2.new.items.items) c.push_reserved.new.items.items o (vec_capacity c.push_reserved.new.items) (vec_capacity c.push_reserved-2.new.items)) (sym c.take.ensures.after)
     (subst (λ (us : List OverTx). IsKept (state_of f.base f.start f.clock f.running.items c.push_reserved.new.items.items None us) c.push_reserved.new.items.items None (vec_capacity c.push_reserved.new.items) (vec_capacity c.push_reserved-2.new.items)) (sym (over_now c))
     (subst (λ (tale : List Slot). IsKept (state_of f.base f.start f.clock f.running.items tale None (f.over.items ++ committed_tx c.args.tx.0 c.in-Some.own.stop ∷ [])) tale None (vec_capacity c.push_reserved.new.items) (vec_capacity c.push_reserved-2.new.items)) (sym (tale_now c)) (now c).kept))
+
+indexed_now : (c : After-push_reserved-2) → IsIndexed c.push_reserved.new.items.items c.note_writer.new.writers.items c.take.new.self (vec_capacity c.note_writer.new.writers)
+indexed_now c =
+    let f = c.self.inside in
+    let x = c.in-Some.own in
+    let place : c.len-place.result ≡ length f.tale.items = search rules in
+    let places : c.note_writer.new.writers.items ≡ cond (is_writing x) (f.writers.items ++ length f.tale.items ∷ []) f.writers.items = c.note_writer.ensures.items ∙ ap (λ (b : Bool). cond b (f.writers.items ++ c.len-place.result ∷ []) f.writers.items) c.is_writer-is_writer.ensures ∙ ap (λ (n : ℕ). cond (is_writing x) (f.writers.items ++ n ∷ []) f.writers.items) place in
+    subst (λ (o : Option Slot). IsIndexed c.push_reserved.new.items.items c.note_writer.new.writers.items o (vec_capacity c.note_writer.new.writers)) (sym c.take.ensures.after)
+    (subst (λ (ws : List ℕ). IsIndexed c.push_reserved.new.items.items ws None (vec_capacity c.note_writer.new.writers)) (sym places)
+    (subst (λ (tale : List Slot). IsIndexed tale (cond (is_writing x) (f.writers.items ++ length f.tale.items ∷ []) f.writers.items) None (vec_capacity c.note_writer.new.writers)) (sym (tale_now c))
+    (indexed_push f.tale.items (with_settled x.stop x) f.writers.items f.preparing (vec_capacity f.writers) (vec_capacity c.note_writer.new.writers) (is_writing x) refl c.self.invariant.indexed)))
+
+pub invariant_of-self-2 : goal.invariant_of-self-2
+invariant_of-self-2 c = record { kept = kept_now c; indexed = indexed_now c }
 
 pub returns-clause-refused : goal.returns-clause-refused
 returns-clause-refused c =

@@ -5,4 +5,4 @@ use Rattle.mvo_core.proofs.Calls.{tale_settled}
 use Rattle.mvo_core.proofs.engine.Core.tale.Goals as goal
 
 pub returns : goal.returns
-returns c = sym (tale_settled c.self.inside.tale.items c.self.inside.preparing c.self.invariant.stored c.self.invariant.open') ∙ ap (λ (s : State). filter (λ x. x.settled) s.line) c.self.view_is
+returns c = sym (tale_settled c.self.inside.tale.items c.self.inside.preparing c.self.invariant.kept.stored c.self.invariant.kept.open') ∙ ap (λ (s : State). filter (λ x. x.settled) s.line) c.self.view_is
