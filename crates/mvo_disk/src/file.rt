@@ -73,7 +73,8 @@ impl File {
     /// Writes over what is there, and past the end. Refused, it changes nothing.
     pub fn write(&mut self, at: usize, bytes: &[u8]) -> Result<(), AllocError>
         requires { at ≤ length self.old.bytes.items }
-        ensures ok { OnOk result (state_of self.new ≡ after_write (state_of self.old) at (length bytes.now) bytes.now) }
+        ensures ok { OnOk result (state_of self.new ≡ after_write (state_of self.old) at
+            (length bytes.now) bytes.now) }
         ensures err { OnErr result (state_of self.new ≡ state_of self.old) }
     {
         reserve_range(&mut self.ranges)?;

@@ -26,7 +26,8 @@ pub fn write_in(files: &mut Vec<File>, file: u16, at: usize, bytes: &[u8]) -> Re
     requires full { file < length files.old.items }
     requires start { at ≤ length (state_at files.old.items file).content }
     ensures full { length files.new.items ≡ length files.old.items }
-    ensures here { OnOk result (state_at files.new.items file ≡ after_write (state_at files.old.items file) at (length bytes.now) bytes.now) }
+    ensures here { OnOk result (state_at files.new.items file ≡ after_write
+        (state_at files.old.items file) at (length bytes.now) bytes.now) }
     ensures others { (n : ℕ) → n ≢ file → state_at files.new.items n ≡ state_at files.old.items n }
     ensures err { OnErr result ((n : ℕ) → state_at files.new.items n ≡ state_at files.old.items n) }
 {
@@ -57,7 +58,8 @@ pub fn sync_in(files: &mut Vec<File>, file: u16)
 /// Files that hold these bytes, synced.
 pub fn synced_files(alloc: Global, contents: &Vec<Vec<u8>>) -> Result<Vec<File>, AllocError>
     ensures full { IfOk result (λ v. length v.items ≡ length contents.now.items) }
-    ensures synced { IfOk result (λ v. (n : ℕ) → state_at v.items n ≡ whole (bytes_at contents.now.items n)) }
+    ensures synced { IfOk result (λ v. (n : ℕ) → state_at v.items n ≡ whole
+        (bytes_at contents.now.items n)) }
 {
     let mut files = Vec::new(alloc);
     for bytes in contents {

@@ -1,8 +1,10 @@
 //! A disk in memory, which keeps a record of its calls.
-ghost use Rattle.std.specs.Prelude.{◌≡◌, ◌≢◌, ◌≤◌, ◌<◌, ◌+◌, ◌^◌, ◌∷◌, [], ◌++◌, List, ℕ, length, take, drop, vec_len, vec_capacity, IfOk, OnOk, OnErr, IsErr, IsErrOf};
+ghost use Rattle.std.specs.Prelude.{◌≡◌, ◌≢◌, ◌≤◌, ◌<◌, ◌+◌, ◌^◌, ◌∷◌, [], ◌++◌, List, ℕ};
+ghost use Rattle.std.specs.Prelude.{length, take, drop, vec_len, vec_capacity, IfOk, OnOk, OnErr, IsErr, IsErrOf};
 ghost use Rattle.mvo_disk.specs.Disk.{AllOf, Only};
 ghost use Rattle.mvo_disk.specs.Held.{whole, after_write, after_cut};
-ghost use Rattle.mvo_disk.specs.Memory.{bytes_at, state_of, state_at, held_at, MayLeave, LeftSince, counts_now, only_now, counts_later};
+ghost use Rattle.mvo_disk.specs.Memory.{state_at, held_at, MayLeave, LeftSince};
+ghost use Rattle.mvo_disk.specs.Memory.{counts_now, only_now, counts_later};
 ghost use Rattle.mvo_disk.specs.Stop.{AreImages, left_of};
 
 use crate::file::File;
@@ -38,7 +40,8 @@ impl MemDisk {
     /// A disk whose files are empty.
     pub fn new(alloc: Global) -> Result<MemDisk, AllocError>
         ensures content { IfOk result (λ disk. (n : ℕ) → ⟦<MemDisk as Disk>⟧.content disk n ≡ []) }
-        ensures synced { IfOk result (λ disk. (n : ℕ) → Only [] (⟦<MemDisk as Disk>⟧.may_leave disk n)) }
+        ensures synced { IfOk result (λ disk. (n : ℕ) → Only []
+            (⟦<MemDisk as Disk>⟧.may_leave disk n)) }
         ensures count { IfOk result (λ disk. ⟦<MemDisk as Disk>⟧.fault_count disk ≡ 0) }
     {
         let start = empty_files(alloc)?;
@@ -52,7 +55,7 @@ impl MemDisk {
         })
     }
 
-    /// The calls since the record began, failed ones too. One that was refused memory is not among them.
+    /// The calls since the record began, in order. One that was refused memory is not among them.
     pub fn calls(&self) -> &[Call]
         ensures { length result.now ≡ ⟦<MemDisk as Disk>⟧.moment self.now }
     {
@@ -63,14 +66,19 @@ impl MemDisk {
     /// are several, and each other file with its content. That is then the content, synced, the
     /// counter is 0, and the record begins anew.
     pub fn stop(&mut self, chosen: &[Left]) -> Result<(), StopRefusal>
-        ensures left { OnOk result ((n : ℕ) → n < 1024 → ⟦<MemDisk as Disk>⟧.content self.new n ≡ left_of (⟦<MemDisk as Disk>⟧.content self.old) chosen.now n) }
-        ensures image { OnOk result (AllOf (⟦<MemDisk as Disk>⟧.may_leave self.old) (⟦<MemDisk as Disk>⟧.content self.new)) }
-        ensures durable { OnOk result ((n : ℕ) → Only (⟦<MemDisk as Disk>⟧.content self.new n) (⟦<MemDisk as Disk>⟧.may_leave self.new n)) }
+        ensures left { OnOk result ((n : ℕ) → n < 1024 → ⟦<MemDisk as Disk>⟧.content self.new n ≡
+            left_of (⟦<MemDisk as Disk>⟧.content self.old) chosen.now n) }
+        ensures image { OnOk result (AllOf (⟦<MemDisk as Disk>⟧.may_leave self.old)
+            (⟦<MemDisk as Disk>⟧.content self.new)) }
+        ensures durable { OnOk result ((n : ℕ) → Only (⟦<MemDisk as Disk>⟧.content self.new n)
+            (⟦<MemDisk as Disk>⟧.may_leave self.new n)) }
         ensures count { OnOk result (⟦<MemDisk as Disk>⟧.fault_count self.new ≡ 0) }
 
         // Every image can be chosen, and nothing else.
-        ensures allowed { OnOk result (AreImages (⟦<MemDisk as Disk>⟧.may_leave self.old) chosen.now) }
-        ensures refused { IsErrOf result StopRefusal.NotAnImage → ¬ AreImages (⟦<MemDisk as Disk>⟧.may_leave self.old) chosen.now }
+        ensures allowed { OnOk result (AreImages (⟦<MemDisk as Disk>⟧.may_leave self.old)
+            chosen.now) }
+        ensures refused { IsErrOf result StopRefusal.NotAnImage → ¬ AreImages
+            (⟦<MemDisk as Disk>⟧.may_leave self.old) chosen.now }
         ensures err { OnErr result (self.new ≡ self.old) }
     {
         if !allows_all(&self.files, chosen) {
@@ -101,7 +109,8 @@ impl MemDisk {
         requires { self.old.fault_count + 1 < 2 ^ 64 }
         ensures err { IsErr result }
         ensures count { self.new.fault_count ≡ self.old.fault_count + 1 }
-        ensures same { (self.new.files ≡ self.old.files) × (self.new.start ≡ self.old.start) × (self.new.calls ≡ self.old.calls) }
+        ensures same { (self.new.files ≡ self.old.files) × (self.new.start ≡ self.old.start) ×
+            (self.new.calls ≡ self.old.calls) }
     {
         self.fault_count += 1;
         Err(DiskFault)

@@ -11,8 +11,10 @@ use std::alloc::{AllocError, Global};
 
 fn allows(files: &Vec<File>, left: &Left) -> bool
     requires { (n : ℕ) → IsRoomy (state_at files.now.items n) }
-    ensures yes { OnTrue result (Allows (state_at files.now.items left.now.file) left.now.bytes.items) }
-    ensures no { OnFalse result (¬ Allows (state_at files.now.items left.now.file) left.now.bytes.items) }
+    ensures yes { OnTrue result (Allows (state_at files.now.items left.now.file)
+        left.now.bytes.items) }
+    ensures no { OnFalse result (¬ Allows (state_at files.now.items left.now.file)
+        left.now.bytes.items) }
 {
     if (left.file as usize) < files.len() {
         file_at(files, left.file).allows(&left.bytes)
@@ -37,7 +39,8 @@ pub fn allows_all(files: &Vec<File>, chosen: &[Left]) -> bool
 
 fn contents_of(alloc: Global, files: &Vec<File>) -> Result<Vec<Vec<u8>>, AllocError>
     ensures full { IfOk result (λ v. length v.items ≡ length files.now.items) }
-    ensures same { IfOk result (λ v. (n : ℕ) → bytes_at v.items n ≡ (state_at files.now.items n).content) }
+    ensures same { IfOk result (λ v. (n : ℕ) → bytes_at v.items n ≡
+        (state_at files.now.items n).content) }
 {
     let mut contents = Vec::new(alloc);
     for file in files {
@@ -49,7 +52,8 @@ fn contents_of(alloc: Global, files: &Vec<File>) -> Result<Vec<Vec<u8>>, AllocEr
 // Puts the chosen bytes in the place of a file's. There are no files past the last.
 fn choose(alloc: Global, contents: &mut Vec<Vec<u8>>, left: &Left) -> Result<(), AllocError>
     ensures full { length contents.new.items ≡ length contents.old.items }
-    ensures ok { OnOk result ((n : ℕ) → n < length contents.old.items → bytes_at contents.new.items n ≡ (if left.now.file == n then left.now.bytes.items else bytes_at contents.old.items n)) }
+    ensures ok { OnOk result ((n : ℕ) → n < length contents.old.items → bytes_at contents.new.items
+        n ≡ (if left.now.file == n then left.now.bytes.items else bytes_at contents.old.items n)) }
 {
     let bytes = copied(alloc, &left.bytes)?;
     let file = left.file as usize;
@@ -66,7 +70,8 @@ pub fn images_after(
     chosen: &[Left],
 ) -> Result<Vec<Vec<u8>>, AllocError>
     ensures full { IfOk result (λ v. length v.items ≡ length files.now.items) }
-    ensures left { IfOk result (λ v. (n : ℕ) → n < length files.now.items → bytes_at v.items n ≡ left_of (λ m. (state_at files.now.items m).content) chosen.now n) }
+    ensures left { IfOk result (λ v. (n : ℕ) → n < length files.now.items → bytes_at v.items n ≡
+        left_of (λ m. (state_at files.now.items m).content) chosen.now n) }
 {
     let mut contents = contents_of(alloc, files)?;
     for left in chosen {
