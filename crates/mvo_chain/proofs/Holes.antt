@@ -191,3 +191,9 @@ pushed slots slots' seen i version is full at grown =
     ∙ ap (λ (s : Slots). set (seen ++ None ∷ []) (length s) (Some version)) (sym is)
     ∙ ap (λ (k : ℕ). set (seen ++ None ∷ []) k (Some version)) (sym at)
     ∙ ap (λ (n : ℕ). set (cond (eqb n 0) (seen ++ None ∷ []) seen) i (Some version)) (sym full)
+
+-- an empty slot at the end is one
+pub last_empty : (slots slots' : Slots) → slots' ≡ slots ++ None ∷ [] → 0 < hole_count slots'
+last_empty slots slots' is =
+    let counts : hole_count slots' ≡ hole_count slots + 1 = ap (λ (s : Slots). hole_count s) is ∙ sum_by-append emptiness slots (None ∷ []) in
+    omega (arith, counts)

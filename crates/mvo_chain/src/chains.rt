@@ -12,8 +12,8 @@ const MAX_SLOTS: usize = 1 << 32;
 
 /// Versions by number. Contracts see the list of slots, each with a version or empty.
 ///
-/// Every call takes constant time, but for the growth of `make_room`. There are at most 2^32
-/// numbers; past them, room is refused as where memory is.
+/// Every call takes constant time, but for the growth in `make_room` and `add`, which alone take
+/// memory. There are 2^32 numbers; once all are taken, room is refused as for want of memory.
 #[derive(Drop)]
 pub struct Chains {
     slots: Vec<Option<Version>>,
@@ -64,6 +64,7 @@ impl Chains {
     /// Sees to it that a slot is empty. It takes memory where none is.
     pub fn make_room(&mut self) -> Result<(), AllocError>
         ensures ok { OnOk result (self.new ≡ with_room self.old) }
+        ensures room { OnOk result (0 < hole_count self.new) }
         ensures err { OnErr result (self.new ≡ self.old) }
         ensures only_where_full { OnErr result (hole_count self.old ≡ 0) }
     {
@@ -91,7 +92,7 @@ impl Chains {
         number
     }
 
-    /// Adds a version that nobody has ended, without neighbours.
+    /// Adds a version that nobody has ended, without neighbours: `make_room`, and then `fill`.
     pub fn add(&mut self, row: Row, begin: Word) -> Result<VersionNo, AllocError>
         ensures hole { IfOk result (λ number. IsHole (with_room self.old) number) }
         ensures ok { IfOk result (λ number. self.new ≡ with_slot (with_room self.old) number (Some (added row begin))) }

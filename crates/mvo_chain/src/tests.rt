@@ -63,6 +63,15 @@ fn plain_of(version: &Version) -> Plain {
     }
 }
 
+/// Adds in one call or in two.
+fn add_in_chains(chains: &mut Chains, row: Row, begin: Word) -> Result<VersionNo, AllocError> {
+    if row.sort % 2 == 0 {
+        return chains.add(row, begin);
+    }
+    chains.make_room()?;
+    Ok(chains.fill(row, begin))
+}
+
 /// Adds to both, and looks whether the number is that of a hole, where there is one.
 fn add(
     rt: &impl Abort,
@@ -72,7 +81,7 @@ fn add(
     key: u64,
 ) -> Result<(), AllocError> {
     let begin = Stamp(key % 1000);
-    let number = chains.add(row(alloc, key)?, Word::stamp(begin))?;
+    let number = add_in_chains(chains, row(alloc, key)?, Word::stamp(begin))?;
     let plain = Plain {
         key,
         begin: Held::At(begin),

@@ -1,7 +1,7 @@
 use Rattle.std.proofs.Common.{◌≡◌, ◌≤◌, ◌+◌, ◌++◌, ◌∷◌, [], List, length, ap, ◌∙◌, arith}
 use Rattle.std.specs.Vec.{vec_capacity, vec_len}
 use Rattle.mvo_chain.specs.declared.version.VersionNo.{VersionNo}
-use Rattle.mvo_chain.proofs.Holes.{grown}
+use Rattle.mvo_chain.proofs.Holes.{grown, last_empty}
 use Rattle.mvo_chain.proofs.chains.Chains.make_room.Goals as goal
 
 pub invariant_of-self-2 : goal.invariant_of-self-2
@@ -15,3 +15,6 @@ invariant_of-self-2 c =
     c.in_ok-push.ensures.items
     (c.in_ok-push-2.ensures.items ∙ ap (λ (h : List VersionNo). h ++ record { 0 = c.len-count.result } ∷ []) c.in_ok-reserve.ensures.items)
     c.self.invariant
+
+pub returns-clause-room : goal.returns-clause-room
+returns-clause-room c = last_empty c.self.inside.slots.items c.push.new.self.items c.in_ok-push.ensures.items
