@@ -1,0 +1,180 @@
+ghost use Rattle.std.specs.Prelude.{◌≡◌, ◌<◌, ◌^◌, [], length, IsSome, IfOk, OnOk, OnErr, IfSome, Some, None, option_copied};
+ghost use Rattle.mvo_chain.specs.Slots.{version_at, IsHole, hole_count, with_room, with_slot, with_change, added};
+
+use crate::version::{Version, VersionNo};
+use mvo_types::{Row, TxId};
+use mvo_word::{Held, Word};
+use std::alloc::{AllocError, Global};
+use std::marker::Model;
+
+/// As many slots as there are numbers.
+const MAX_SLOTS: usize = 1 << 32;
+
+/// Versions by number. Contracts see the list of slots, each with a version or empty.
+///
+/// Every call takes constant time, but for the growth in `make_room` and `add`, which alone take
+/// memory. There are 2^32 numbers; once all are taken, room is refused as for want of memory.
+#[derive(Drop)]
+pub struct Chains {
+    slots: Vec<Option<Version>>,
+    // The empty slots, with room for all numbers, so that taking out needs no memory.
+    holes: Vec<VersionNo>,
+}
+
+impl Model for Chains {
+    ghost use Rattle.std.specs.Prelude.{vec_capacity};
+    ghost use Rattle.mvo_chain.specs.Slots.{Slots};
+    ghost use Rattle.mvo_chain.specs.Sound.{IsSound};
+
+    ghost Value = { Slots };
+
+    ghost view = { λ c. c.slots.items };
+
+    ghost invariant = { λ c. IsSound c.slots.items c.holes.items (vec_capacity c.holes) };
+}
+
+impl Chains {
+    /// No versions.
+    pub fn new(alloc: Global) -> Chains
+        ensures { result ≡ [] }
+    {
+        Chains {
+            slots: Vec::new(alloc),
+            holes: Vec::new(alloc),
+        }
+    }
+
+    /// How many slots there are, the empty ones included.
+    pub fn slot_count(&self) -> usize
+        ensures { result ≡ length self.now }
+    {
+        self.slots.len()
+    }
+
+    /// The version with the number, if there is one.
+    pub fn get(&self, number: VersionNo) -> Option<&Version>
+        ensures { option_copied result ≡ version_at self.now number }
+    {
+        match self.slots.get(number.index()) {
+            Some(slot) => slot.as_ref(),
+            None => None,
+        }
+    }
+
+    /// Sees to it that a slot is empty. It takes memory where none is.
+    pub fn make_room(&mut self) -> Result<(), AllocError>
+        ensures ok { OnOk result (self.new ≡ with_room self.old) }
+        ensures room { OnOk result (0 < hole_count self.new) }
+        ensures err { OnErr result (self.new ≡ self.old) }
+        ensures only_where_full { OnErr result (hole_count self.old ≡ 0) }
+    {
+        if !self.holes.is_empty() {
+            return Ok(());
+        }
+        let count = self.slots.len();
+        if count >= MAX_SLOTS {
+            return Err(AllocError);
+        }
+        self.holes.reserve(count + 1)?;
+        self.slots.push(None)?;
+        self.holes.push(VersionNo(count as u32))?;
+        Ok(())
+    }
+
+    /// Puts a version that nobody has ended, without neighbours, into an empty slot.
+    pub fn fill(&mut self, row: Row, begin: Word) -> VersionNo
+        requires { 0 < hole_count self.old }
+        ensures hole { IsHole self.old result }
+        ensures filled { self.new ≡ with_slot self.old result (Some (added row begin)) }
+    {
+        let number = self.holes.pop().unwrap();
+        self.slots[number.index()] = Some(Version::added(row, begin));
+        number
+    }
+
+    /// Adds a version that nobody has ended, without neighbours: `make_room`, and then `fill`.
+    pub fn add(&mut self, row: Row, begin: Word) -> Result<VersionNo, AllocError>
+        ensures hole { IfOk result (λ number. IsHole (with_room self.old) number) }
+        ensures ok { IfOk result (λ number. self.new ≡ with_slot (with_room self.old) number (Some (added row begin))) }
+        ensures err { OnErr result (self.new ≡ self.old) }
+        ensures only_where_full { OnErr result (hole_count self.old ≡ 0) }
+    {
+        if !self.holes.is_empty() {
+            return Ok(self.fill(row, begin));
+        }
+        let count = self.slots.len();
+        if count >= MAX_SLOTS {
+            return Err(AllocError);
+        }
+        self.holes.reserve(count + 1)?;
+        self.slots.push(Some(Version::added(row, begin)))?;
+        Ok(VersionNo(count as u32))
+    }
+
+    /// Lets a transaction end the version.
+    pub fn claim_end(&mut self, number: VersionNo, by: TxId)
+        requires live { IsSome (version_at self.old number) }
+        requires id { by.0 < 2 ^ 63 }
+        ensures { self.new ≡ with_change self.old number (λ version. record version { end = Held.By by }) }
+    {
+        match &mut self.slots[number.index()] {
+            Some(version) => version.end = Word::id(by),
+            None => unreachable!(),
+        }
+    }
+
+    /// Replaces the version's Begin.
+    pub fn set_begin(&mut self, number: VersionNo, begin: Word)
+        requires { IsSome (version_at self.old number) }
+        ensures { self.new ≡ with_change self.old number (λ version. record version { begin = begin }) }
+    {
+        match &mut self.slots[number.index()] {
+            Some(version) => version.begin = begin,
+            None => unreachable!(),
+        }
+    }
+
+    /// Replaces the version's End.
+    pub fn set_end(&mut self, number: VersionNo, end: Word)
+        requires { IsSome (version_at self.old number) }
+        ensures { self.new ≡ with_change self.old number (λ version. record version { end = end }) }
+    {
+        match &mut self.slots[number.index()] {
+            Some(version) => version.end = end,
+            None => unreachable!(),
+        }
+    }
+
+    /// Says which version of the key is the next newer one, or that there is none.
+    pub fn set_newer(&mut self, number: VersionNo, newer: Option<VersionNo>)
+        requires { IsSome (version_at self.old number) }
+        ensures { self.new ≡ with_change self.old number (λ version. record version { newer = newer }) }
+    {
+        match &mut self.slots[number.index()] {
+            Some(version) => version.newer = newer,
+            None => unreachable!(),
+        }
+    }
+
+    /// Says which version of the key is the next older one, or that there is none.
+    pub fn set_older(&mut self, number: VersionNo, older: Option<VersionNo>)
+        requires { IsSome (version_at self.old number) }
+        ensures { self.new ≡ with_change self.old number (λ version. record version { older = older }) }
+    {
+        match &mut self.slots[number.index()] {
+            Some(version) => version.older = older,
+            None => unreachable!(),
+        }
+    }
+
+    /// Takes the version out, and gives its row back.
+    pub fn take_out(&mut self, number: VersionNo) -> Row
+        requires { IsSome (version_at self.old number) }
+        ensures row { IfSome (version_at self.old number) (λ version. result ≡ version.row) }
+        ensures emptied { self.new ≡ with_slot self.old number None }
+    {
+        let version = self.slots[number.index()].take().unwrap();
+        let _ = self.holes.push(number);
+        version.row
+    }
+}

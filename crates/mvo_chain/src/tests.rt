@@ -1,0 +1,207 @@
+use crate::{Chains, Version, VersionNo};
+use mvo_types::{Row, RowKey, Stamp, TxId};
+use mvo_word::{Held, Word};
+use std::alloc::{AllocError, Global};
+use std::process::Abort;
+use std::test::Fail;
+
+/// What the plain list has of a version.
+#[derive(Clone, Copy, Debug, PartialEq)]
+struct Plain {
+    key: u64,
+    begin: Held,
+    end: Held,
+    newer: Option<VersionNo>,
+    older: Option<VersionNo>,
+}
+
+/// A generator of numbers, by a seed.
+#[derive(Drop)]
+struct Draws(u64);
+
+impl Draws {
+    fn below(&mut self, bound: u64) -> u64 {
+        self.0 = self
+            .0
+            .wrapping_mul(6_364_136_223_846_793_005)
+            .wrapping_add(1_442_695_040_888_963_407);
+        if bound == 0 {
+            0
+        } else {
+            (self.0 >> 33) % bound
+        }
+    }
+
+    fn number(&mut self) -> VersionNo {
+        VersionNo(self.below(40).min(39) as u32)
+    }
+
+    fn neighbour(&mut self) -> Option<VersionNo> {
+        if self.below(3) == 0 {
+            None
+        } else {
+            Some(self.number())
+        }
+    }
+}
+
+fn row(alloc: Global, key: u64) -> Result<Row, AllocError> {
+    Ok(Row {
+        key: RowKey { table: 3, key },
+        sort: key / 2,
+        bytes: [7, 8].to_vec(alloc)?,
+    })
+}
+
+fn plain_of(version: &Version) -> Plain {
+    Plain {
+        key: version.row.key.key,
+        begin: version.begin.read(),
+        end: version.end.read(),
+        newer: version.newer,
+        older: version.older,
+    }
+}
+
+/// Adds in one call or in two.
+fn add_in_chains(chains: &mut Chains, row: Row, begin: Word) -> Result<VersionNo, AllocError> {
+    if row.sort % 2 == 0 {
+        return chains.add(row, begin);
+    }
+    chains.make_room()?;
+    Ok(chains.fill(row, begin))
+}
+
+/// Adds to both, and looks whether the number is that of a hole, where there is one.
+fn add(
+    rt: &impl Abort,
+    alloc: Global,
+    chains: &mut Chains,
+    list: &mut Vec<Option<Plain>>,
+    key: u64,
+) -> Result<(), AllocError> {
+    let begin = Stamp(key % 1000);
+    let number = add_in_chains(chains, row(alloc, key)?, Word::stamp(begin))?;
+    let plain = Plain {
+        key,
+        begin: Held::At(begin),
+        end: Held::Infinity,
+        newer: None,
+        older: None,
+    };
+    if list.iter().any(|slot| slot.is_none()) {
+        assert!(rt; list.get(number.index()).is_some_and(|slot| slot.is_none()));
+        if let Some(slot) = list.get_mut(number.index()) {
+            *slot = Some(plain);
+        }
+    } else {
+        assert_eq!(rt; number.index(), list.len());
+        list.push(Some(plain))?;
+    }
+    Ok(())
+}
+
+/// One of the calls that change a version, on both.
+fn change(
+    rt: &impl Abort,
+    draws: &mut Draws,
+    chains: &mut Chains,
+    list: &mut Vec<Option<Plain>>,
+    number: VersionNo,
+) {
+    if chains.get(number).is_none() {
+        assert!(rt; list.get(number.index()).is_none_or(|slot| slot.is_none()));
+        return;
+    }
+    let Some(Some(plain)) = list.get_mut(number.index()) else {
+        assert!(rt; false, "the list lacks {number:?}");
+        return;
+    };
+    match draws.below(5) {
+        0 => {
+            let by = TxId(draws.below(1000).min(1000));
+            chains.claim_end(number, by);
+            plain.end = Held::By(by);
+        }
+        1 => {
+            chains.set_begin(number, Word::INFINITY);
+            plain.begin = Held::Infinity;
+        }
+        2 => {
+            let stamp = Stamp(draws.below(1000).min(1000));
+            chains.set_end(number, Word::stamp(stamp));
+            plain.end = Held::At(stamp);
+        }
+        3 => {
+            let newer = draws.neighbour();
+            chains.set_newer(number, newer);
+            plain.newer = newer;
+        }
+        _ => {
+            let older = draws.neighbour();
+            chains.set_older(number, older);
+            plain.older = older;
+        }
+    }
+}
+
+fn take_out(
+    rt: &impl Abort,
+    chains: &mut Chains,
+    list: &mut Vec<Option<Plain>>,
+    number: VersionNo,
+) {
+    if chains.get(number).is_none() {
+        return;
+    }
+    let row = chains.take_out(number);
+    let Some(slot) = list.get_mut(number.index()) else {
+        assert!(rt; false, "the list lacks {number:?}");
+        return;
+    };
+    assert_eq!(rt; slot.map(|plain| plain.key), Some(row.key.key));
+    assert_eq!(rt; row.bytes.as_slice(), [7, 8].as_slice());
+    *slot = None;
+}
+
+#[test]
+fn random_calls_do_what_they_do_to_a_plain_list(rt: HostRuntime) -> Result<(), Fail> {
+    let alloc = rt.alloc();
+    for seed in 1..6 {
+        let mut draws = Draws(seed);
+        let mut chains = Chains::new(alloc);
+        let mut list = Vec::new(alloc);
+        for step in 0..3000 {
+            let number = draws.number();
+            match draws.below(4) {
+                0 if list.len() < 30 || list.iter().any(|slot: &Option<Plain>| slot.is_none()) => {
+                    add(&rt, alloc, &mut chains, &mut list, step)?;
+                }
+                1 => take_out(&rt, &mut chains, &mut list, number),
+                _ => change(&rt, &mut draws, &mut chains, &mut list, number),
+            }
+            assert_eq!(rt; chains.slot_count(), list.len());
+            for number in 0..42 {
+                let version = chains.get(VersionNo(number)).map(plain_of);
+                let plain = list.get(number as usize).copied().flatten();
+                assert_eq!(rt; version, plain, "at {number}, seed {seed}, step {step}");
+            }
+        }
+    }
+    Ok(())
+}
+
+#[test]
+fn a_version_takes_at_most_96_bytes(rt: HostRuntime) {
+    assert!(rt; size_of::<Option<Version>>() + size_of::<VersionNo>() <= 96);
+}
+
+fn shared<T: Send + Sync>(value: T) -> T {
+    value
+}
+
+#[test]
+fn versions_may_be_shared_between_threads(rt: HostRuntime) {
+    let chains = shared(Chains::new(rt.alloc()));
+    assert_eq!(rt; chains.slot_count(), 0);
+}

@@ -1,0 +1,11 @@
+//! The Begin and End words of a version.
+#![tactic(auto)]
+
+mod held;
+mod word;
+
+pub use held::Held;
+pub use word::Word;
+
+#[cfg(test)]
+mod tests;
