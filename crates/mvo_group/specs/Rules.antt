@@ -30,16 +30,19 @@ body_len g = 18 + sum_by record_len g.records
 
 -- ---- rules
 
+-- the limits of a row
 pub record KeepsLimits (w : NetWrite) : Type 0 where
   pub table : w.0.table ≤ 15
   pub size : length (data_of w.1) ≤ 1024
 
+-- (table, key) rises strictly
 pub record IsRecord (r : RecordData) : Type 0 where
   pub some : 1 ≤ length r.writes
   pub few : length r.writes ≤ 256
   pub rise : IsStrictlySortedBy key_cmp (map (λ w. w.0) r.writes)
   pub each : All KeepsLimits r.writes
 
+-- the ends rise strictly in (prev, mark]
 pub record KeepsRules (g : GroupData) : Type 0 where
   pub above : g.prev < g.mark
   pub mark : g.mark ≤ 2 ^ 62

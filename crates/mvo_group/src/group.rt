@@ -110,17 +110,18 @@ impl Group {
         Ok(())
     }
 
-    /// The group's body: its one spelling, in the memory that its records came from.
+    /// The group's body, which no other group has. Its allocator is that of the records.
     pub fn encode(&self) -> Result<Vec<u8>, AllocError>
-        ensures { IfOk result (λ body. body.items ≡ body_of self.now) }
+        ensures body { IfOk result (λ body. body.items ≡ body_of self.now) }
+        ensures one { (g : GroupData) → IsGroup g → body_of g ≡ body_of self.now → g ≡ self.now }
     {
         let mut body = Vec::new(*self.records.allocator());
         self.encode_into(&mut body)?;
         Ok(body)
     }
 
-    /// The group with this body, or none where the bytes aren't all of one group's body. No two
-    /// groups have one body.
+    /// The group with this body, or none where the bytes aren't a group's body from the first to the
+    /// last.
     pub fn decode(alloc: Global, body: &[u8]) -> Result<Option<Group>, AllocError>
         ensures found { IfOk result (λ found. IfSome found (λ g. IsGroup g × (body.now ≡ body_of g))) }
         ensures only { IfOk result (λ found. (g : GroupData) → IsGroup g → body.now ≡ body_of g → found ≡ Some g) }
