@@ -120,8 +120,7 @@ impl Group {
         Ok(body)
     }
 
-    /// The group with this body, or none where the bytes aren't a group's body from the first to the
-    /// last.
+    /// The group with this body, or none where the bytes aren't all of one group's body.
     pub fn decode(alloc: Global, body: &[u8]) -> Result<Option<Group>, AllocError>
         ensures found { IfOk result (λ found. IfSome found (λ g. IsGroup g × (body.now ≡ body_of g))) }
         ensures only { IfOk result (λ found. (g : GroupData) → IsGroup g → body.now ≡ body_of g → found ≡ Some g) }
