@@ -1,0 +1,20 @@
+//! Times of the key index and the ordered index beside std's maps. Checksums go to standard output,
+//! times to standard error.
+#![tactic(auto)]
+
+mod keys;
+mod ranges;
+mod stalls;
+mod watch;
+
+use anyhow::Result;
+
+const SIZES: [u64; 3] = [10_000, 100_000, 1_000_000];
+
+fn main(rt: HostRuntime) -> Result<()> {
+    for count in SIZES {
+        keys::run(&rt, count)?;
+        ranges::run(&rt, count)?;
+    }
+    stalls::run(&rt, 1_000_000)
+}

@@ -1,0 +1,63 @@
+-- The slots of an open table.
+use Rattle.std.specs.Prelude.{◌≡◌, ◌≢◌, ℕ, ◌<◌, ◌≤◌, Option, None, Some, List, length, slice_index_or}
+use Rattle.std.specs.List.{filter_map}
+use Rattle.mvo_types.specs.declared.row.RowKey.{RowKey}
+use Rattle.mvo_hash.specs.declared.slot.Slot.{Slot}
+use Rattle.mvo_hash.specs.declared.slot.State.{State}
+use Rattle.mvo_hash.specs.declared.slot.State.TheVariants.{Empty, Left, Live}
+
+abbrev pub empty_slot : Slot
+empty_slot = record { key = 0; number = 0; table = 0; state = Empty }
+
+abbrev pub left_slot : Slot
+left_slot = record { key = 0; number = 0; table = 0; state = Left }
+
+abbrev pub live_slot : RowKey → ℕ → Slot
+live_slot k n = record { key = k.key; number = n; table = k.table; state = Live }
+
+abbrev pub slot_key : Slot → RowKey
+slot_key s = record { table = s.table; key = s.key }
+
+abbrev pub IsLive : Slot → Type 0
+IsLive s = s.state ≡ Live
+
+-- the slot at a place, which is empty past the end
+abbrev pub slot : List Slot → ℕ → Slot
+slot ss i = slice_index_or ss i empty_slot
+
+abbrev pub held_by : State → RowKey × ℕ → Option (RowKey × ℕ)
+held_by Empty e = None
+held_by Left e = None
+held_by Live e = Some e
+
+-- the entry that a slot holds
+abbrev pub entry_of : Slot → Option (RowKey × ℕ)
+entry_of s = held_by s.state (slot_key s, s.number)
+
+-- the keys with their numbers
+abbrev pub entries_of : List Slot → List (RowKey × ℕ)
+entries_of ss = filter_map entry_of ss
+
+-- no slot from one place up to another is empty
+pub record IsFilled (ss : List Slot) (from to : ℕ) : Type 0 where
+  pub at : (i : ℕ) → from ≤ i → i < to → (slot ss i).state ≢ Empty
+
+-- a search for the key from its home meets it before an empty slot
+pub record IsReached (ss : List Slot) (home : ℕ) (key : RowKey) : Type 0 where
+  pub ahead : (i : ℕ) → IsLive (slot ss i) → slot_key (slot ss i) ≡ key → home ≤ i
+  pub filled : (i : ℕ) → IsLive (slot ss i) → slot_key (slot ss i) ≡ key → IsFilled ss home i
+
+pub record IsFoundAt (ss : List Slot) (key : RowKey) (i : ℕ) : Type 0 where
+  pub within : i < length ss
+  pub live : IsLive (slot ss i)
+  pub same : slot_key (slot ss i) ≡ key
+
+pub record IsNowhere (ss : List Slot) (key : RowKey) : Type 0 where
+  pub at : (i : ℕ) → IsLive (slot ss i) → slot_key (slot ss i) ≢ key
+
+-- the first place from the home on that holds no key
+pub record IsFreeFrom (ss : List Slot) (home i : ℕ) : Type 0 where
+  pub ahead : home ≤ i
+  pub within : i ≤ length ss
+  pub free : (slot ss i).state ≢ Live
+  pub filled : IsFilled ss home i

@@ -1,0 +1,128 @@
+use crate::Heads;
+use mvo_types::RowKey;
+use std::test::Fail;
+
+// A generator of pseudo-random numbers with a fixed start.
+#[derive(Drop)]
+struct Numbers {
+    state: u64,
+}
+
+impl Numbers {
+    fn next(&mut self) -> u64 {
+        self.state ^= self.state << 13;
+        self.state ^= self.state >> 7;
+        self.state ^= self.state << 17;
+        self.state
+    }
+
+    fn below(&mut self, end: u64) -> u64 {
+        if end == 0 { 0 } else { self.next() % end }
+    }
+
+    fn key(&mut self) -> RowKey {
+        let table = if self.below(2) == 0 { 0 } else { 15 };
+        let key = self.below(300);
+        RowKey { table, key }
+    }
+}
+
+fn listed(list: &[(RowKey, u32)], key: RowKey) -> Option<u32> {
+    for entry in list {
+        if entry.0 == key {
+            return Some(entry.1);
+        }
+    }
+    None
+}
+
+fn taken(list: &mut Vec<(RowKey, u32)>, key: RowKey) -> Option<u32> {
+    match list.iter().position(|entry| entry.0 == key) {
+        Some(at) if at < list.len() => Some(list.remove(at).1),
+        _ => None,
+    }
+}
+
+#[test]
+fn agrees_with_a_plain_list(rt: HostRuntime) -> Result<(), Fail> {
+    let alloc = rt.alloc();
+    for seed in 0u64..4 {
+        let mut numbers = Numbers {
+            state: 88172645463325252,
+        };
+        let mut heads = Heads::new(alloc, seed);
+        let mut list: Vec<(RowKey, u32)> = Vec::new(alloc);
+        if seed == 3 {
+            heads.reserve(600)?;
+        }
+        for step in 0u32..6000 {
+            let key = numbers.key();
+            let other = numbers.key();
+            match numbers.below(5) {
+                0 | 1 => {
+                    let want = taken(&mut list, key);
+                    assert_eq!(rt; heads.remove(key), want, "at step {step}");
+                }
+                2 => {
+                    let want = taken(&mut list, key);
+                    if want.is_some() {
+                        list.push((key, step))?;
+                    }
+                    assert_eq!(rt; heads.set(key, step), want, "at step {step}");
+                }
+                _ => {
+                    let want = taken(&mut list, key);
+                    list.push((key, step))?;
+                    assert_eq!(rt; heads.put(key, step)?, want, "at step {step}");
+                }
+            }
+            assert_eq!(rt;
+                heads.get(key),
+                listed(list.as_slice(), key),
+                "at step {step}"
+            );
+            assert_eq!(rt;
+                heads.get(other),
+                listed(list.as_slice(), other),
+                "at step {step}"
+            );
+        }
+        for entry in &list {
+            assert_eq!(rt; heads.get(entry.0), Some(entry.1));
+        }
+    }
+    Ok(())
+}
+
+#[test]
+fn keys_of_one_pattern_stay_apart(rt: HostRuntime) -> Result<(), Fail> {
+    let mut heads = Heads::new(rt.alloc(), 7);
+    for step in 0u32..3000 {
+        let key = RowKey {
+            table: 1,
+            key: (step as u64) << 40,
+        };
+        assert_eq!(rt; heads.put(key, step)?, None);
+    }
+    for step in 0u32..3000 {
+        let key = RowKey {
+            table: 1,
+            key: (step as u64) << 40,
+        };
+        assert_eq!(rt; heads.get(key), Some(step));
+        assert_eq!(rt;
+            heads.get(RowKey {
+                table: 2,
+                key: key.key
+            }),
+            None
+        );
+    }
+    let last = RowKey {
+        table: 255,
+        key: u64::MAX,
+    };
+    assert_eq!(rt; heads.put(last, u32::MAX)?, None);
+    assert_eq!(rt; heads.get(last), Some(u32::MAX));
+    Ok(())
+}
