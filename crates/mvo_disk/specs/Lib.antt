@@ -1,0 +1,5 @@
+pub mod Disk
+pub mod Held
+pub mod Memory
+pub mod Moments
+pub mod Torn

@@ -1,0 +1,105 @@
+//! A disk as the layers above see it.
+ghost use Rattle.std.specs.Prelude.{◌≡◌, ◌⊎◌, ◌≤◌, ◌<◌, ◌+◌, ◌^◌, List, ℕ, length, take, drop, IfOk, OnOk, OnErr, MatchResult};
+ghost use Rattle.mvo_disk.specs.Disk.{Holds, Torn, PartlyHolds, Cut, Follows, Reaches, Keeps, Only, OthersStay, AllStay, Settles, AllOf, Elapses, Counts};
+
+/// A call of the device failed, and the fault counter rose by one.
+#[derive(Clone, Copy, Debug, PartialEq, Eq)]
+pub struct DiskFault;
+
+/// A device of 1,024 files, numbered from 0, each a list of bytes.
+///
+/// The clauses about images hold on success and on failure alike. No clause says when a call
+/// succeeds.
+pub trait Disk {
+    /// The bytes of each file, as a read gives them.
+    ghost content: { Self → ℕ → List ℕ };
+
+    /// What a stop at this moment may leave of each file. Files fail independently.
+    ghost may_leave: { Self → ℕ → List ℕ → Type 0 };
+
+    /// The moment, as a number that doesn't fall.
+    ghost moment: { Self → ℕ };
+
+    /// The images of the whole disk that a stop at some moment since that one may have left.
+    ghost left_since: { Self → ℕ → (ℕ → List ℕ) → Type 0 };
+
+    /// How many calls have failed.
+    ghost fault_count: { Self → ℕ };
+
+    /// The length of a file.
+    fn len(&mut self, file: u16) -> Result<usize, DiskFault>
+        requires file { file < 1024 }
+        requires room { fault_count self.old + 1 < 2 ^ 64 }
+        ensures len { IfOk result (λ n. n ≡ length (content self.old file)) }
+        ensures rest { AllStay (content self.old) (content self.new) (may_leave self.old) (may_leave self.new) }
+        ensures time { Elapses (moment self.old) (moment self.new) (left_since self.old) (left_since self.new) (AllOf (may_leave self.new)) }
+        ensures count { Counts (fault_count self.old) (fault_count self.new) result };
+
+    /// Fills the slice from the bytes at an offset.
+    fn read_at(&mut self, file: u16, at: usize, into: &mut [u8]) -> Result<(), DiskFault>
+        requires file { file < 1024 }
+        requires range { at + length into.old ≤ length (content self.old file) }
+        requires room { fault_count self.old + 1 < 2 ^ 64 }
+        ensures bytes { OnOk result (into.new ≡ take (length into.old) (drop at (content self.old file))) }
+        ensures rest { AllStay (content self.old) (content self.new) (may_leave self.old) (may_leave self.new) }
+        ensures time { Elapses (moment self.old) (moment self.new) (left_since self.old) (left_since self.new) (AllOf (may_leave self.new)) }
+        ensures count { Counts (fault_count self.old) (fault_count self.new) result };
+
+    /// Writes over what is there, and past the end. A write that fails may leave any bytes in its
+    /// range, and any length from the old one to the one that success would give.
+    fn write_at(&mut self, file: u16, at: usize, bytes: &[u8]) -> Result<(), DiskFault>
+        requires file { file < 1024 }
+        requires start { at ≤ length (content self.old file) }
+        requires room { fault_count self.old + 1 < 2 ^ 64 }
+        ensures written { OnOk result (Holds (content self.old file) at bytes.now (content self.new file)) }
+        ensures failed { OnErr result (PartlyHolds at (length bytes.now) (content self.old file) (content self.new file)) }
+
+        // The images are exactly the old ones after a write of which any part is missing. A write that
+        // failed may have begun or not.
+        ensures images { Follows (Torn at (length bytes.now)) (may_leave self.old file) (may_leave self.new file) }
+        ensures no_fewer { MatchResult result (λ _. Reaches (Torn at (length bytes.now)) (may_leave self.old file) (may_leave self.new file)) (λ _. Keeps (may_leave self.old file) (may_leave self.new file)) }
+        ensures rest { OthersStay file (content self.old) (content self.new) (may_leave self.old) (may_leave self.new) }
+        ensures time { Elapses (moment self.old) (moment self.new) (left_since self.old) (left_since self.new) (AllOf (may_leave self.new)) }
+        ensures count { Counts (fault_count self.old) (fault_count self.new) result };
+
+    /// Cuts a file to a length. A cut that fails leaves the old length or the new one.
+    fn cut(&mut self, file: u16, len: usize) -> Result<(), DiskFault>
+        requires file { file < 1024 }
+        requires shorter { len ≤ length (content self.old file) }
+        requires room { fault_count self.old + 1 < 2 ^ 64 }
+        ensures cut { OnOk result (content self.new file ≡ take len (content self.old file)) }
+        ensures failed { OnErr result ((content self.new file ≡ content self.old file) ⊎ (content self.new file ≡ take len (content self.old file))) }
+
+        // Until a sync the old bytes may come back, and any others behind the cut.
+        ensures images { Follows (Cut len) (may_leave self.old file) (may_leave self.new file) }
+        ensures no_fewer { MatchResult result (λ _. Reaches (Cut len) (may_leave self.old file) (may_leave self.new file)) (λ _. Keeps (may_leave self.old file) (may_leave self.new file)) }
+        ensures rest { OthersStay file (content self.old) (content self.new) (may_leave self.old) (may_leave self.new) }
+        ensures time { Elapses (moment self.old) (moment self.new) (left_since self.old) (left_since self.new) (AllOf (may_leave self.new)) }
+        ensures count { Counts (fault_count self.old) (fault_count self.new) result };
+
+    /// After it succeeds, a stop leaves what a read gives. One that fails closes nothing.
+    fn sync(&mut self, file: u16) -> Result<(), DiskFault>
+        requires file { file < 1024 }
+        requires room { fault_count self.old + 1 < 2 ^ 64 }
+        ensures durable { OnOk result (Only (content self.old file) (may_leave self.new file)) }
+        ensures failed { OnErr result (Keeps (may_leave self.old file) (may_leave self.new file)) }
+        ensures rest { Settles file (content self.old) (content self.new) (may_leave self.old) (may_leave self.new) }
+        ensures time { Elapses (moment self.old) (moment self.new) (left_since self.old) (left_since self.new) (AllOf (may_leave self.new)) }
+        ensures count { Counts (fault_count self.old) (fault_count self.new) result };
+
+    /// How many calls have failed.
+    fn faults(&self) -> u64
+        ensures { result ≡ fault_count self.now };
+
+    /// The content is one of the images of now.
+    ghost content_may_stay: { (disk : Self) (file : ℕ) → may_leave disk file (content disk file) };
+
+    /// This moment is one of those since an earlier one.
+    ghost counts_now: { (disk : Self) (t : ℕ) (image : ℕ → List ℕ) → t ≤ moment disk → AllOf (may_leave disk) image → left_since disk t image };
+
+    /// Since this moment there is no other.
+    ghost only_now: { (disk : Self) (image : ℕ → List ℕ) → left_since disk (moment disk) image → AllOf (may_leave disk) image };
+
+    /// The moments since a later one are among those since an earlier one.
+    ghost counts_later: { (disk : Self) (t u : ℕ) (image : ℕ → List ℕ) → t ≤ u → left_since disk u image → left_since disk t image };
+}

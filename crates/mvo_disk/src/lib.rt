@@ -1,0 +1,17 @@
+//! A disk of 1,024 files: what a read gives, and what a stop may leave.
+#![tactic(auto)]
+
+mod call;
+mod disk;
+mod memory;
+mod read;
+mod steps;
+
+pub use call::{Call, Work};
+pub use disk::{Disk, DiskFault};
+pub use memory::MemDisk;
+pub use read::{ReadFailure, read_whole};
+pub use steps::{rewrite_synced, write_synced};
+
+#[cfg(test)]
+mod tests;
