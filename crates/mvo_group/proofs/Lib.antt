@@ -1,0 +1,6 @@
+pub mod Fields
+pub mod Loop
+pub mod Orders
+pub mod Sizes
+pub mod Kept
+pub mod Bodies

@@ -1,0 +1,7 @@
+use Rattle.std.proofs.Common.{◌≡◌, ◌-◌}
+use Rattle.mvo_group.specs.Reading.{times, record_at}
+use Rattle.mvo_group.proofs.Loop.{with_front}
+use Rattle.mvo_group.proofs.decode.records_of.Given as goal
+
+abbrev pub invariant-loop : goal.invariant-loop
+invariant-loop l = with_front l.records.items (times record_at (l.count - l.counter) l.rest) ≡ times record_at l.count l.bytes

@@ -1,0 +1,25 @@
+-- The bytes of a group.
+use Rattle.std.specs.Prelude.{ℕ, List, ◌∷◌, ◌++◌, length, Option, Some, None}
+use Rattle.std.specs.List.{flat_map}
+use Rattle.byteorder.specs.Endian.{little_bytes}
+use Rattle.mvo_types.specs.declared.row.RowKey.{RowKey}
+use Rattle.mvo_types.specs.Line.{Held}
+use Rattle.mvo_group.specs.Data.{NetWrite, RecordData, GroupData}
+
+-- the number x in n bytes, the lowest first
+unfoldable pub field : ℕ → ℕ → List ℕ
+field n x = little_bytes n x
+
+-- tag 1 and the row of a put, tag 2 and the key of a delete
+abbrev pub bytes_at : RowKey → Option Held → List ℕ
+bytes_at k (Some h) = 1 ∷ k.table ∷ field 8 k.key ++ field 8 h.sort ++ field 2 (length h.bytes) ++ h.bytes
+bytes_at k None = 2 ∷ k.table ∷ field 8 k.key
+
+abbrev pub write_bytes : NetWrite → List ℕ
+write_bytes w = bytes_at w.0 w.1
+
+abbrev pub record_bytes : RecordData → List ℕ
+record_bytes r = field 8 r.end ++ field 2 (length r.writes) ++ flat_map write_bytes r.writes
+
+abbrev pub body_of : GroupData → List ℕ
+body_of g = field 8 g.prev ++ field 8 g.mark ++ field 2 (length g.records) ++ flat_map record_bytes g.records

@@ -1,0 +1,59 @@
+-- The rules that a group keeps, and how long its body is.
+use Rattle.std.specs.Prelude.{ℕ, ◌+◌, ◌<◌, ◌≤◌, ◌^◌, List, [], length, map, Option, Some, None, All, sum_by}
+use Rattle.std.specs.List.Sorted.{IsStrictlyIncreasing, IsStrictlySortedBy}
+use Rattle.mvo_types.specs.Line.{Held}
+use Rattle.mvo_types.specs.Keys.{key_cmp}
+use Rattle.mvo_group.specs.Data.{NetWrite, RecordData, GroupData}
+
+abbrev pub sort_of : Option Held → ℕ
+sort_of None = 0
+sort_of (Some h) = h.sort
+
+abbrev pub data_of : Option Held → List ℕ
+data_of None = []
+data_of (Some h) = h.bytes
+
+-- ---- lengths, in bytes
+
+abbrev pub held_len : Option Held → ℕ
+held_len None = 10
+held_len (Some h) = 20 + length h.bytes
+
+abbrev pub write_len : NetWrite → ℕ
+write_len w = held_len w.1
+
+abbrev pub record_len : RecordData → ℕ
+record_len r = 10 + sum_by write_len r.writes
+
+abbrev pub body_len : GroupData → ℕ
+body_len g = 18 + sum_by record_len g.records
+
+-- ---- rules
+
+pub record KeepsLimits (w : NetWrite) : Type 0 where
+  pub table : w.0.table ≤ 15
+  pub size : length (data_of w.1) ≤ 1024
+
+pub record IsRecord (r : RecordData) : Type 0 where
+  pub some : 1 ≤ length r.writes
+  pub few : length r.writes ≤ 256
+  pub rise : IsStrictlySortedBy key_cmp (map (λ w. w.0) r.writes)
+  pub each : All KeepsLimits r.writes
+
+pub record KeepsRules (g : GroupData) : Type 0 where
+  pub above : g.prev < g.mark
+  pub mark : g.mark ≤ 2 ^ 62
+  pub few : length g.records ≤ 1024
+  pub rise : IsStrictlyIncreasing (map (λ r. r.end) g.records)
+  pub within : All (λ r. (g.prev < r.end) × (r.end ≤ g.mark)) g.records
+  pub each : All IsRecord g.records
+  pub size : body_len g ≤ 4194304
+
+-- the numbers of a write have 64 bits, as each value of the program has it
+pub record HasWords (w : NetWrite) : Type 0 where
+  pub key : w.0.key < 2 ^ 64
+  pub sort : sort_of w.1 < 2 ^ 64
+
+pub record IsGroup (g : GroupData) : Type 0 where
+  pub rules : KeepsRules g
+  pub words : All (λ r. All HasWords r.writes) g.records

@@ -1,0 +1,175 @@
+ghost use Rattle.std.specs.Prelude.{◌≡◌, List, length, map, IfOk, IfSome, Ok, Option, Some, None};
+ghost use Rattle.mvo_group.specs.Data.{net_write, group_of};
+ghost use Rattle.mvo_group.specs.Reading.{Gives, number_at, data_at, put_at, held_at, write_at, times, record_at, group_at};
+
+use crate::record::Record;
+use crate::write::{DELETE, PUT, Write};
+use byteorder::{ByteOrder, LittleEndian};
+use mvo_types::{MAX_RECORDS, MAX_WRITES, Row, RowKey, Stamp};
+use std::alloc::{AllocError, Global};
+
+#[tactic(auto, unfolding(crate::specs::Reading::number_at))]
+fn u8_at(bytes: &[u8]) -> Option<(u8, &[u8])>
+    ensures { Gives (λ x. (x.0, x.1.now)) result (number_at 1 bytes.now) }
+{
+    if bytes.len() < 1 {
+        return None;
+    }
+    let (front, rest) = bytes.split_at(1);
+    Some((front[0], rest))
+}
+
+#[tactic(auto, unfolding(crate::specs::Reading::number_at))]
+fn u16_at(bytes: &[u8]) -> Option<(u16, &[u8])>
+    ensures { Gives (λ x. (x.0, x.1.now)) result (number_at 2 bytes.now) }
+{
+    if bytes.len() < 2 {
+        return None;
+    }
+    Some((LittleEndian::read_u16(bytes), &bytes[2..]))
+}
+
+#[tactic(auto, unfolding(crate::specs::Reading::number_at))]
+fn u64_at(bytes: &[u8]) -> Option<(u64, &[u8])>
+    ensures { Gives (λ x. (x.0, x.1.now)) result (number_at 8 bytes.now) }
+{
+    if bytes.len() < 8 {
+        return None;
+    }
+    Some((LittleEndian::read_u64(bytes), &bytes[8..]))
+}
+
+#[tactic(auto, unfolding(crate::specs::Reading::data_at))]
+fn data_of(alloc: Global, len: u16, bytes: &[u8]) -> Result<Option<(Vec<u8>, &[u8])>, AllocError>
+    ensures { IfOk result (λ found. Gives (λ x. (x.0.items, x.1.now)) found (data_at len bytes.now)) }
+{
+    let len = len as usize;
+    if bytes.len() < len {
+        return Ok(None);
+    }
+    let (text, rest) = bytes.split_at(len);
+    Ok(Some((Vec::from_slice(alloc, text)?, rest)))
+}
+
+#[tactic(auto, unfolding(crate::specs::Reading::put_at))]
+fn put_of(alloc: Global, bytes: &[u8]) -> Result<Option<((u64, Vec<u8>), &[u8])>, AllocError>
+    ensures { IfOk result (λ found. Gives (λ x. (record { sort = x.0.0; bytes = x.0.1.items }, x.1.now)) found (put_at bytes.now)) }
+{
+    let Some((sort, rest)) = u64_at(bytes) else {
+        return Ok(None);
+    };
+    let Some((len, rest)) = u16_at(rest) else {
+        return Ok(None);
+    };
+    let Some((data, rest)) = data_of(alloc, len, rest)? else {
+        return Ok(None);
+    };
+    Ok(Some(((sort, data), rest)))
+}
+
+#[tactic(auto, unfolding(crate::specs::Reading::write_at, crate::specs::Reading::held_at))]
+fn write_of(alloc: Global, bytes: &[u8]) -> Result<Option<(Write, &[u8])>, AllocError>
+    ensures { IfOk result (λ found. Gives (λ x. (net_write x.0, x.1.now)) found (write_at bytes.now)) }
+{
+    let Some((tag, rest)) = u8_at(bytes) else {
+        return Ok(None);
+    };
+    let Some((table, rest)) = u8_at(rest) else {
+        return Ok(None);
+    };
+    let Some((key, rest)) = u64_at(rest) else {
+        return Ok(None);
+    };
+    let key = RowKey { table, key };
+    if tag == DELETE {
+        return Ok(Some((Write::Delete(key), rest)));
+    }
+    if tag != PUT {
+        return Ok(None);
+    }
+    let Some(((sort, bytes), rest)) = put_of(alloc, rest)? else {
+        return Ok(None);
+    };
+    Ok(Some((Write::Put(Row { key, sort, bytes }), rest)))
+}
+
+fn writes_of(
+    alloc: Global,
+    count: u16,
+    bytes: &[u8],
+) -> Result<Option<(Vec<Write>, &[u8])>, AllocError>
+    ensures { IfOk result (λ found. Gives (λ x. (map net_write x.0.items, x.1.now)) found (times write_at count bytes.now)) }
+{
+    let mut writes = Vec::with_capacity(alloc, MAX_WRITES.min(count as usize))?;
+    let mut rest = bytes;
+    for _ in 0..count {
+        let Some((write, after)) = write_of(alloc, rest)? else {
+            return Ok(None);
+        };
+        writes.push(write)?;
+        rest = after;
+    }
+    Ok(Some((writes, rest)))
+}
+
+#[tactic(auto, unfolding(crate::specs::Reading::record_at))]
+fn record_of(alloc: Global, bytes: &[u8]) -> Result<Option<(Record, &[u8])>, AllocError>
+    ensures { IfOk result (λ found. Gives (λ x. (x.0, x.1.now)) found (record_at bytes.now)) }
+{
+    let Some((end, rest)) = u64_at(bytes) else {
+        return Ok(None);
+    };
+    let Some((count, rest)) = u16_at(rest) else {
+        return Ok(None);
+    };
+    let Some((writes, rest)) = writes_of(alloc, count, rest)? else {
+        return Ok(None);
+    };
+    let end = Stamp(end);
+    Ok(Some((Record { end, writes }, rest)))
+}
+
+fn records_of(
+    alloc: Global,
+    count: u16,
+    bytes: &[u8],
+) -> Result<Option<(Vec<Record>, &[u8])>, AllocError>
+    ensures { IfOk result (λ found. Gives (λ x. (x.0.items, x.1.now)) found (times record_at count bytes.now)) }
+{
+    let mut records = Vec::with_capacity(alloc, MAX_RECORDS.min(count as usize))?;
+    let mut rest = bytes;
+    for _ in 0..count {
+        let Some((next, after)) = record_of(alloc, rest)? else {
+            return Ok(None);
+        };
+        records.push(next)?;
+        rest = after;
+    }
+    Ok(Some((records, rest)))
+}
+
+/// The prev, the mark and the records that the bytes spell, all of the bytes.
+#[tactic(auto, unfolding(crate::specs::Reading::group_at))]
+pub fn parts_of(
+    alloc: Global,
+    bytes: &[u8],
+) -> Result<Option<(Stamp, Stamp, Vec<Record>)>, AllocError>
+    ensures { IfOk result (λ found. Gives (λ x. group_of x.0.0 x.1.0 x.2.items) found (group_at bytes.now)) }
+{
+    let Some((prev, rest)) = u64_at(bytes) else {
+        return Ok(None);
+    };
+    let Some((mark, rest)) = u64_at(rest) else {
+        return Ok(None);
+    };
+    let Some((count, rest)) = u16_at(rest) else {
+        return Ok(None);
+    };
+    let Some((records, rest)) = records_of(alloc, count, rest)? else {
+        return Ok(None);
+    };
+    if !rest.is_empty() {
+        return Ok(None);
+    }
+    Ok(Some((Stamp(prev), Stamp(mark), records)))
+}

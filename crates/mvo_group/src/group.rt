@@ -1,0 +1,120 @@
+use crate::decode::parts_of;
+use crate::encode::append_body;
+use crate::record::Record;
+use crate::rules::{keeps_rules, len_of_body};
+use mvo_types::{MAX_BODY_LEN, Stamp};
+use std::alloc::{AllocError, Global};
+use std::marker::Model;
+
+/// The committed transactions with an end above prev and at most mark, in the order of their ends.
+#[derive(Debug, Drop)]
+pub struct Group {
+    prev: Stamp,
+    mark: Stamp,
+    records: Vec<Record>,
+}
+
+impl Model for Group {
+    ghost use Rattle.mvo_group.specs.Data.{GroupData, group_of};
+    ghost use Rattle.mvo_group.specs.Rules.{IsGroup};
+
+    ghost Value = { GroupData };
+
+    ghost view = { λ g. group_of g.prev.0 g.mark.0 g.records.items };
+
+    ghost invariant = { λ g. IsGroup (group_of g.prev.0 g.mark.0 g.records.items) };
+}
+
+impl Group {
+    ghost use Rattle.std.specs.Prelude.{◌≡◌, ◌++◌, length, OnOk, OnErr, IfOk, IfSome, Some};
+    ghost use Rattle.std.specs.Option.{SomeIff};
+    ghost use Rattle.mvo_group.specs.Data.{GroupData, group_of};
+    ghost use Rattle.mvo_group.specs.Rules.{KeepsRules, IsGroup, body_len};
+    ghost use Rattle.mvo_group.specs.Body.{body_of};
+
+    /// The group of these parts, where they keep the rules.
+    pub fn new(prev: Stamp, mark: Stamp, records: Vec<Record>) -> Option<Group>
+        ensures { SomeIff result (KeepsRules (group_of prev.0 mark.0 records.items)) (group_of prev.0 mark.0 records.items) }
+    {
+        if !keeps_rules(prev, mark, &records) {
+            return None;
+        }
+        Some(Group {
+            prev,
+            mark,
+            records,
+        })
+    }
+
+    /// The mark of the group before it. Its own records end above that.
+    pub fn prev(&self) -> Stamp
+        ensures value { result.0 ≡ self.now.prev }
+        ensures group { IsGroup self.now }
+    {
+        self.prev
+    }
+
+    /// The mark that holds after it: no later record ends at or below it.
+    pub fn mark(&self) -> Stamp
+        ensures value { result.0 ≡ self.now.mark }
+        ensures group { IsGroup self.now }
+    {
+        self.mark
+    }
+
+    pub fn records(&self) -> &[Record]
+        ensures value { result.now ≡ self.now.records }
+        ensures group { IsGroup self.now }
+    {
+        &self.records
+    }
+
+    pub fn into_records(self) -> Vec<Record>
+        ensures value { result.items ≡ self.records }
+        ensures group { IsGroup self }
+    {
+        let Group { records, .. } = self;
+        records
+    }
+
+    /// How many bytes its body has.
+    pub fn encoded_len(&self) -> usize
+        ensures value { result ≡ body_len self.now }
+        ensures group { IsGroup self.now }
+    {
+        len_of_body(&self.records)
+    }
+
+    /// Appends the group's body to the bytes.
+    pub fn encode_into(&self, out: &mut Vec<u8>) -> Result<(), AllocError>
+        ensures ok { OnOk result (out.new.items ≡ out.old.items ++ body_of self.now) }
+        ensures err { OnErr result (out.new.items ≡ out.old.items) }
+    {
+        out.reserve(self.encoded_len())?;
+        append_body(out, self.prev, self.mark, &self.records);
+        Ok(())
+    }
+
+    /// The group's body.
+    pub fn encode(&self) -> Result<Vec<u8>, AllocError>
+        ensures { IfOk result (λ body. body.items ≡ body_of self.now) }
+    {
+        let mut body = Vec::new(*self.records.allocator());
+        self.encode_into(&mut body)?;
+        Ok(body)
+    }
+
+    /// The group with this body. No two groups have one body.
+    pub fn decode(alloc: Global, body: &[u8]) -> Result<Option<Group>, AllocError>
+        ensures found { IfOk result (λ found. IfSome found (λ g. IsGroup g × (body.now ≡ body_of g))) }
+        ensures only { IfOk result (λ found. (g : GroupData) → IsGroup g → body.now ≡ body_of g → found ≡ Some g) }
+    {
+        if body.len() > MAX_BODY_LEN {
+            return Ok(None);
+        }
+        let Some((prev, mark, records)) = parts_of(alloc, body)? else {
+            return Ok(None);
+        };
+        Ok(Group::new(prev, mark, records))
+    }
+}
