@@ -1,7 +1,9 @@
+pub mod Chosen
 pub mod Contents
-pub mod Files
 pub mod Images
+pub mod Numbered
 pub mod Past
 pub mod Results
 pub mod Sound
+pub mod Stopped
 pub mod Synced

@@ -5,7 +5,7 @@ use Rattle.std.proofs.lemmas.Bool.{cases_lt, cases_eq, ne_eqb}
 use Rattle.std.specs.declared.alloc.Global.{Global}
 use Rattle.mvo_disk.specs.declared.call.Call.{Call}
 use Rattle.mvo_disk.specs.Disk.{Elapses, OthersStay, AllStay}
-use Rattle.mvo_disk.specs.Held.{Held, IsImage, after_work, after_call, after_calls}
+use Rattle.mvo_disk.specs.Held.{State, Held, IsImage, state_after, after_work, after_call, after_calls}
 use Rattle.mvo_disk.specs.Memory.{held_at, MayLeave, LeftSince}
 
 after_calls-push : (n : ℕ) (h : Held) (calls : List Call) (call : Call) → after_calls n h (calls ++ call ∷ []) ≡ after_call n (after_calls n h calls) call
@@ -60,22 +60,22 @@ module _ (start : List (Vec ℕ Global)) (calls later : List Call) (call : Call)
   pub others_stay : (old new : ℕ → List ℕ) → ((n : ℕ) → n ≢ call.file → new n ≡ old n) → OthersStay call.file old new (MayLeave start calls) (MayLeave start later)
   others_stay old new others = record {
     content = others;
-    images = λ n c ne image. subst (λ (h : Held). IsImage h.kept c) (held_other n ne) image;
-    keeps = λ n c ne image. subst (λ (h : Held). IsImage h.kept c) (sym (held_other n ne)) image;
+    images = λ n c ne image. subst (λ (h : Held). IsImage h c) (held_other n ne) image;
+    keeps = λ n c ne image. subst (λ (h : Held). IsImage h c) (sym (held_other n ne)) image;
   }
 
   pub all_stay : (content : ℕ → List ℕ) → ((h : Held) → after_work h call.work call.failed ≡ h) → AllStay content content (MayLeave start calls) (MayLeave start later)
   all_stay content looks = record {
     content = λ n. refl;
-    images = λ n c image. subst (λ (h : Held). IsImage h.kept c) (held_same looks n) image;
-    keeps = λ n c image. subst (λ (h : Held). IsImage h.kept c) (sym (held_same looks n)) image;
+    images = λ n c image. subst (λ (h : Held). IsImage h c) (held_same looks n) image;
+    keeps = λ n c image. subst (λ (h : Held). IsImage h c) (sym (held_same looks n)) image;
   }
 
-  -- the content of each file, from that of the file of the call
-  pub content_now : (old new : ℕ → List ℕ) → ((n : ℕ) → old n ≡ (held_at start calls n).content) → ((n : ℕ) → n ≢ call.file → new n ≡ old n)
-      → new call.file ≡ (after_work (held_at start calls call.file) call.work call.failed).content → (n : ℕ) → new n ≡ (held_at start later n).content
-  content_now old new was others here n = split_on (cases_eq n call.file)
+  -- the state of each file, from that of the file of the call
+  pub state_now : (old new : ℕ → State) → ((n : ℕ) → old n ≡ (held_at start calls n).state) → ((n : ℕ) → n ≢ call.file → new n ≡ old n)
+      → new call.file ≡ state_after (held_at start calls call.file).state call.work call.failed → (n : ℕ) → new n ≡ (held_at start later n).state
+  state_now old new was others here n = split_on (cases_eq n call.file)
     where
-      split_on : (n ≡ call.file) ⊎ (n ≢ call.file) → new n ≡ (held_at start later n).content
-      split_on (inl e) = subst (λ m. new m ≡ (held_at start later m).content) (sym e) (here ∙ sym (ap (λ (h : Held). h.content) held_here))
-      split_on (inr ne) = others n ne ∙ was n ∙ sym (ap (λ (h : Held). h.content) (held_other n ne))
+      split_on : (n ≡ call.file) ⊎ (n ≢ call.file) → new n ≡ (held_at start later n).state
+      split_on (inl e) = subst (λ m. new m ≡ (held_at start later m).state) (sym e) (here ∙ sym (ap (λ (h : Held). h.state) held_here))
+      split_on (inr ne) = others n ne ∙ was n ∙ sym (ap (λ (h : Held). h.state) (held_other n ne))

@@ -1,49 +1,72 @@
--- One file of a disk in memory: what a read gives, and what is kept over a stop, from the calls since it was whole.
-use Rattle.std.specs.Prelude.{◌≡◌, ℕ, zero, suc, ◌≤◌, max, Bool, true, false, List, [], ◌∷◌, length, take, map, get_or, slice_index, Option, Some, None, if◌then◌else◌, ◌==◌}
+-- One file of a disk in memory: what a read gives, and what a stop may leave of it.
+use Rattle.std.specs.Prelude.{◌≡◌, ℕ, ◌<◌, ◌≤◌, max, min, Bool, true, false, List, [], ◌∷◌, ◌++◌, length, take, slice_index, if◌then◌else◌, ◌==◌}
 use Rattle.mvo_disk.specs.declared.call.Call.{Call}
 use Rattle.mvo_disk.specs.declared.call.Work.{Work}
 use Rattle.mvo_disk.specs.declared.call.Work.TheVariants.{Length, Read, Write, Cut, Sync}
-use Rattle.mvo_disk.specs.Disk.{overwritten}
+use Rattle.mvo_disk.specs.Disk.{IsOutside, overwritten}
 
--- The kept places in order, each with the byte that a stop leaves there; none where it may leave any.
--- Where nothing was written or cut since the sync, the file is exactly that long.
-pub record Kept : Type 0 where
-  pub places : List (Option ℕ)
+-- a place in none of these ranges, each given as its start and its length
+abbrev pub IsOutsideAll : List (ℕ × ℕ) → ℕ → Type 0
+IsOutsideAll [] i = Unit {0}
+IsOutsideAll (r ∷ ranges) i = IsOutside r.0 r.1 i × IsOutsideAll ranges i
+
+pub record State : Type 0 where
+  -- as a read gives it
+  pub content : List ℕ
+  -- the kept length: the least of the length at the last sync and those that it was cut to since
+  pub kept : ℕ
+  -- what was written since that sync, each range as its start and its length
+  pub ranges : List (ℕ × ℕ)
+  -- nothing was written or cut since
   pub exact : Bool
 
--- a list of bytes that a stop may leave
-pub record IsImage (k : Kept) (c : List ℕ) : Type 0 where
-  pub no_shorter : length k.places ≤ length c
-  pub same : (i b : ℕ) → get_or k.places i None ≡ Some b → slice_index c i ≡ b
-  pub exact : k.exact ≡ true → length c ≤ length k.places
+pub record Held : Type 0 where
+  pub state : State
+  -- the bytes of the last sync
+  pub synced : List ℕ
+
+-- What a stop may leave: any length of at least the kept length, any bytes past it and in the ranges
+-- written since the last sync, elsewhere the bytes of that sync.
+pub record IsImage (h : Held) (c : List ℕ) : Type 0 where
+  pub no_shorter : h.state.kept ≤ length c
+  pub same : (i : ℕ) → i < h.state.kept → IsOutsideAll h.state.ranges i → slice_index c i ≡ slice_index h.synced i
+  pub exact : h.state.exact ≡ true → length c ≤ h.state.kept
 
 -- after a sync that succeeded
-abbrev pub synced : List ℕ → Kept
-synced bytes = record { places = map (λ b. Some b) bytes; exact = true }
-
--- a stop may leave any byte in the n places from at on
-abbrev pub opened : ℕ → ℕ → List (Option ℕ) → List (Option ℕ)
-opened at n [] = []
-opened zero zero (x ∷ xs) = x ∷ xs
-opened zero (suc n) (x ∷ xs) = None ∷ opened zero n xs
-opened (suc at) n (x ∷ xs) = x ∷ opened at n xs
-
-pub record Held : Type 0 where
-  pub content : List ℕ
-  pub kept : Kept
+abbrev pub whole : List ℕ → State
+whole bytes = record { content = bytes; kept = length bytes; ranges = []; exact = true }
 
 -- a file that holds these bytes, synced
 abbrev pub held : List ℕ → Held
-held bytes = record { content = bytes; kept = synced bytes }
+held bytes = record { state = whole bytes; synced = bytes }
+
+-- after a write of n bytes that put these
+abbrev pub after_write : State → ℕ → ℕ → List ℕ → State
+after_write s at n bytes = record { content = overwritten s.content at bytes; kept = s.kept; ranges = s.ranges ++ (at, n) ∷ []; exact = false }
+
+-- after a cut to n that left another length
+abbrev pub after_cut : State → ℕ → ℕ → State
+after_cut s n left = record { content = take left s.content; kept = min n s.kept; ranges = s.ranges; exact = false }
 
 -- What a call does to the file. A failed write may have put some of its bytes, and a failed cut may have cut.
+abbrev pub state_after : State → Work → Bool → State
+state_after s (Write at len bytes) failed = after_write s at len (take len bytes.items)
+state_after s (Cut len left) failed = after_cut s len (max len left)
+state_after s Sync false = whole s.content
+state_after s Sync true = s
+state_after s (Read at len) failed = s
+state_after s Length failed = s
+
+abbrev pub synced_after : Held → Work → Bool → List ℕ
+synced_after h Sync false = h.state.content
+synced_after h Sync true = h.synced
+synced_after h (Write at len bytes) failed = h.synced
+synced_after h (Cut len left) failed = h.synced
+synced_after h (Read at len) failed = h.synced
+synced_after h Length failed = h.synced
+
 abbrev pub after_work : Held → Work → Bool → Held
-after_work h (Write at len bytes) failed = record { content = overwritten h.content at (take len bytes.items); kept = record { places = opened at len h.kept.places; exact = false } }
-after_work h (Cut len left) failed = record { content = take (max len left) h.content; kept = record { places = take len h.kept.places; exact = false } }
-after_work h Sync false = held h.content
-after_work h Sync true = h
-after_work h (Read at len) failed = h
-after_work h Length failed = h
+after_work h work failed = record { state = state_after h.state work failed; synced = synced_after h work failed }
 
 -- what a call does to file n
 abbrev pub after_call : ℕ → Held → Call → Held

@@ -2,4 +2,5 @@ pub mod Disk
 pub mod Held
 pub mod Memory
 pub mod Moments
+pub mod Stop
 pub mod Torn

@@ -3,13 +3,23 @@ use Rattle.std.proofs.Common.{ℕ, zero, suc, ◌≤◌, List, [], ◌∷◌, le
 use Rattle.std.proofs.lemmas.List.{take_all}
 use Rattle.std.specs.declared.alloc.Global.{Global}
 use Rattle.mvo_disk.specs.declared.call.Call.{Call}
-use Rattle.mvo_disk.specs.Held.{Held, IsImage, held, after_calls}
+use Rattle.mvo_disk.specs.declared.file.File.{File}
+use Rattle.mvo_disk.specs.Held.{State, Held, IsImage, whole, held, after_calls}
 
--- the bytes of a file
+-- the bytes of file n
 abbrev pub bytes_at : List (Vec ℕ Global) → ℕ → List ℕ
 bytes_at [] n = []
 bytes_at (v ∷ vs) zero = v.items
 bytes_at (v ∷ vs) (suc n) = bytes_at vs n
+
+abbrev pub state_of : File → State
+state_of f = record { content = f.bytes.items; kept = f.kept; ranges = f.ranges.items; exact = f.exact }
+
+-- the state of file n
+abbrev pub state_at : List File → ℕ → State
+state_at [] n = whole []
+state_at (f ∷ fs) zero = state_of f
+state_at (f ∷ fs) (suc n) = state_at fs n
 
 -- file n after these calls
 abbrev pub held_at : List (Vec ℕ Global) → List Call → ℕ → Held
@@ -17,7 +27,7 @@ held_at start calls n = after_calls n (held (bytes_at start n)) calls
 
 -- what a stop after these calls may leave of file n
 abbrev pub MayLeave : List (Vec ℕ Global) → List Call → ℕ → List ℕ → Type 0
-MayLeave start calls n c = IsImage (held_at start calls n).kept c
+MayLeave start calls n c = IsImage (held_at start calls n) c
 
 -- an image that a stop after the first k calls may have left, for some k from t on
 pub record LeftSince (start : List (Vec ℕ Global)) (calls : List Call) (t : ℕ) (image : ℕ → List ℕ) : Type 0 where

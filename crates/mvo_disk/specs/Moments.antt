@@ -1,5 +1,5 @@
 -- How a clause about every moment composes over a run of device calls.
-use Rattle.std.proofs.Common.{◌≢◌, inl, inr, ⊎_elim, ℕ, List, arith}
+use Rattle.std.proofs.Common.{◌≢◌, ◌≤◌, inl, inr, ⊎_elim, ℕ, List, arith}
 use Rattle.mvo_disk.specs.Disk.{AllOf, Elapses, LeavesOnly, Touched}
 
 module _ {D : Type 0} (moment : D → ℕ) (left_since : D → ℕ → (ℕ → List ℕ) → Type 0) where
@@ -33,3 +33,18 @@ weaker moment left_since old new P Q so only = record {
 pub reads_on : {D : Type 0} (moment : D → ℕ) (left_since : D → ℕ → (ℕ → List ℕ) → Type 0) (old mid new : D) (start mid_may new_may : ℕ → List ℕ → Type 0) → LeavesOnly moment left_since old mid (AllOf start)
     → Elapses (moment mid) (moment new) (left_since mid) (left_since new) (AllOf new_may) → ((n : ℕ) (c : List ℕ) → mid_may n c → start n c) → ((n : ℕ) (c : List ℕ) → new_may n c → mid_may n c) → LeavesOnly moment left_since old new (AllOf start)
 reads_on moment left_since old mid new start mid_may new_may so_far time was now = goes_on moment left_since old mid new (AllOf start) (AllOf new_may) so_far time (λ image all n. was n (image n) (now n (image n) (all n)))
+
+-- one run after another
+pub runs_on : {D : Type 0} (moment : D → ℕ) (left_since : D → ℕ → (ℕ → List ℕ) → Type 0) (old mid new : D) (P Q : (ℕ → List ℕ) → Type 0) → LeavesOnly moment left_since old mid P → LeavesOnly moment left_since mid new Q
+    → ((image : ℕ → List ℕ) → Q image → P image) → LeavesOnly moment left_since old new P
+runs_on moment left_since old mid new P Q first second so = record {
+  later = omega (arith, first.later, second.later);
+  each = λ image left. ⊎_elim (first.each image) (so image) (second.before (moment old) image first.later left);
+  before = λ t image le left. ⊎_elim (first.before t image le) (λ q. inr (so image q)) (second.before t image (omega (arith, le, first.later)) left);
+}
+
+-- a stop after a run leaves what one within it may leave
+pub at_end : {D : Type 0} (moment : D → ℕ) (may_leave : D → ℕ → List ℕ → Type 0) (left_since : D → ℕ → (ℕ → List ℕ) → Type 0)
+    → ((disk : D) (t : ℕ) (image : ℕ → List ℕ) → t ≤ moment disk → AllOf (may_leave disk) image → left_since disk t image)
+    → (old new : D) (P : (ℕ → List ℕ) → Type 0) → LeavesOnly moment left_since old new P → (image : ℕ → List ℕ) → AllOf (may_leave new) image → P image
+at_end moment may_leave left_since counts_now old new P only image now = only.each image (counts_now new (moment old) image only.later now)

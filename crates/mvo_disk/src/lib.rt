@@ -3,12 +3,17 @@
 
 mod call;
 mod disk;
+mod file;
+mod files;
+mod left;
 mod memory;
 mod read;
 mod steps;
+mod stop;
 
 pub use call::{Call, Work};
 pub use disk::{Disk, DiskFault};
+pub use left::{Left, StopRefusal};
 pub use memory::MemDisk;
 pub use read::{ReadFailure, read_whole};
 pub use steps::{rewrite_synced, write_synced};

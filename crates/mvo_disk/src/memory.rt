@@ -1,10 +1,14 @@
 //! A disk in memory, which keeps a record of its calls.
-ghost use Rattle.std.specs.Prelude.{◌≡◌, ◌≢◌, ◌≤◌, ◌<◌, ◌+◌, ◌^◌, ◌∷◌, [], ◌++◌, List, ℕ, length, take, drop, vec_len, vec_capacity, IfOk, OnOk, OnErr, IsErr};
-ghost use Rattle.mvo_disk.specs.Disk.{Holds, Only};
-ghost use Rattle.mvo_disk.specs.Held.{IsImage};
-ghost use Rattle.mvo_disk.specs.Memory.{bytes_at, held_at, MayLeave, LeftSince, counts_now, only_now, counts_later};
+ghost use Rattle.std.specs.Prelude.{◌≡◌, ◌≢◌, ◌≤◌, ◌<◌, ◌+◌, ◌^◌, ◌∷◌, [], ◌++◌, List, ℕ, length, take, drop, vec_len, vec_capacity, IfOk, OnOk, OnErr, IsErr, IsErrOf};
+ghost use Rattle.mvo_disk.specs.Disk.{AllOf, Only};
+ghost use Rattle.mvo_disk.specs.Held.{whole, after_write, after_cut};
+ghost use Rattle.mvo_disk.specs.Memory.{bytes_at, state_of, state_at, held_at, MayLeave, LeftSince, counts_now, only_now, counts_later};
+ghost use Rattle.mvo_disk.specs.Stop.{AreImages, left_of};
 
-use crate::{Call, Disk, DiskFault, Work};
+use crate::file::File;
+use crate::files::{copied, cut_in, empty_files, file_at, sync_in, synced_files, write_in};
+use crate::stop::{allows_all, images_after};
+use crate::{Call, Disk, DiskFault, Left, StopRefusal, Work};
 use std::alloc::{AllocError, Global};
 
 /// A disk in memory that can stop at any moment. It keeps a record of its calls.
@@ -12,73 +16,13 @@ use std::alloc::{AllocError, Global};
 pub struct MemDisk {
     alloc: Global,
     // The files as they are, and as they were when the record began.
-    files: Vec<Vec<u8>>,
+    files: Vec<File>,
     start: Vec<Vec<u8>>,
     calls: Vec<Call>,
     fault_count: u64,
     ghost full: { length files.items ≡ 1024 },
-    ghost current: { (n : ℕ) → bytes_at files.items n ≡ (held_at start.items calls.items n).content },
-    ghost sound: { (n : ℕ) → MayLeave start.items calls.items n (bytes_at files.items n) },
-}
-
-// Writes over what is there, and past the end. Refused, it changes nothing.
-fn put(into: &mut Vec<u8>, at: usize, bytes: &[u8]) -> Result<(), AllocError>
-    requires { at ≤ vec_len into.old }
-    ensures ok { OnOk result (Holds into.old.items at bytes.now into.new.items) }
-    ensures err { OnErr result (into.new.items ≡ into.old.items) }
-{
-    let len = bytes.len();
-    let inside = len.min(into.len() - at);
-    let (over, past) = bytes.split_at(inside);
-    into.extend_from_slice(past)?;
-    put_inside(into.as_mut_slice(), at, over);
-    Ok(())
-}
-
-// Writes over a part of a slice.
-fn put_inside(into: &mut [u8], at: usize, bytes: &[u8])
-    requires { at + length bytes.now ≤ length into.old }
-    ensures { Holds into.old at bytes.now into.new }
-{
-    let (_, from) = into.split_at_mut(at);
-    let (range, _) = from.split_at_mut(bytes.len());
-    range.copy_from_slice(bytes);
-}
-
-fn copied(alloc: Global, bytes: &[u8]) -> Result<Vec<u8>, AllocError>
-    ensures { IfOk result (λ v. v.items ≡ bytes.now) }
-{
-    bytes.to_vec(alloc)
-}
-
-fn bytes_of(files: &Vec<Vec<u8>>, file: u16) -> &[u8]
-    requires { file < length files.now.items }
-    ensures { result.now ≡ bytes_at files.now.items file }
-{
-    &files[file as usize]
-}
-
-// Writes into one of the files. Refused, it changes nothing.
-fn put_at(files: &mut Vec<Vec<u8>>, file: u16, at: usize, bytes: &[u8]) -> Result<(), AllocError>
-    requires full { file < length files.old.items }
-    requires start { at ≤ length (bytes_at files.old.items file) }
-    ensures full { length files.new.items ≡ length files.old.items }
-    ensures here { OnOk result (Holds (bytes_at files.old.items file) at bytes.now (bytes_at files.new.items file)) }
-    ensures others { (n : ℕ) → n ≢ file → bytes_at files.new.items n ≡ bytes_at files.old.items n }
-    ensures err { OnErr result ((n : ℕ) → bytes_at files.new.items n ≡ bytes_at files.old.items n) }
-{
-    put(&mut files[file as usize], at, bytes)?;
-    Ok(())
-}
-
-// Cuts one of the files.
-fn cut_at(files: &mut Vec<Vec<u8>>, file: u16, len: usize)
-    requires full { file < length files.old.items }
-    ensures full { length files.new.items ≡ length files.old.items }
-    ensures here { bytes_at files.new.items file ≡ take len (bytes_at files.old.items file) }
-    ensures others { (n : ℕ) → n ≢ file → bytes_at files.new.items n ≡ bytes_at files.old.items n }
-{
-    files[file as usize].truncate(len);
+    ghost current: { (n : ℕ) → state_at files.items n ≡ (held_at start.items calls.items n).state },
+    ghost sound: { (n : ℕ) → MayLeave start.items calls.items n (state_at files.items n).content },
 }
 
 // Room for one more call.
@@ -90,17 +34,6 @@ fn make_room(calls: &mut Vec<Call>) -> Result<(), AllocError>
     Ok(())
 }
 
-fn empty_files(alloc: Global) -> Result<Vec<Vec<u8>>, AllocError>
-    ensures full { IfOk result (λ v. length v.items ≡ 1024) }
-    ensures empty { IfOk result (λ v. (n : ℕ) → bytes_at v.items n ≡ []) }
-{
-    let mut files = Vec::new(alloc);
-    for _ in 0..1024usize {
-        files.push(Vec::new(alloc))?;
-    }
-    Ok(files)
-}
-
 impl MemDisk {
     /// A disk whose files are empty.
     pub fn new(alloc: Global) -> Result<MemDisk, AllocError>
@@ -108,8 +41,8 @@ impl MemDisk {
         ensures synced { IfOk result (λ disk. (n : ℕ) → Only [] (⟦<MemDisk as Disk>⟧.may_leave disk n)) }
         ensures count { IfOk result (λ disk. ⟦<MemDisk as Disk>⟧.fault_count disk ≡ 0) }
     {
-        let files = empty_files(alloc)?;
         let start = empty_files(alloc)?;
+        let files = synced_files(alloc, &start)?;
         Ok(MemDisk {
             alloc,
             files,
@@ -119,12 +52,48 @@ impl MemDisk {
         })
     }
 
+    /// The calls since the record began, failed ones too. One that was refused memory is not among them.
+    pub fn calls(&self) -> &[Call]
+        ensures { length result.now ≡ ⟦<MemDisk as Disk>⟧.moment self.now }
+    {
+        &self.calls
+    }
+
+    /// Stops the disk. Each chosen file is left with the chosen bytes, the last choice where there
+    /// are several, and each other file with its content. That is then the content, synced, the
+    /// counter is 0, and the record begins anew.
+    pub fn stop(&mut self, chosen: &[Left]) -> Result<(), StopRefusal>
+        ensures left { OnOk result ((n : ℕ) → n < 1024 → ⟦<MemDisk as Disk>⟧.content self.new n ≡ left_of (⟦<MemDisk as Disk>⟧.content self.old) chosen.now n) }
+        ensures image { OnOk result (AllOf (⟦<MemDisk as Disk>⟧.may_leave self.old) (⟦<MemDisk as Disk>⟧.content self.new)) }
+        ensures durable { OnOk result ((n : ℕ) → Only (⟦<MemDisk as Disk>⟧.content self.new n) (⟦<MemDisk as Disk>⟧.may_leave self.new n)) }
+        ensures count { OnOk result (⟦<MemDisk as Disk>⟧.fault_count self.new ≡ 0) }
+
+        // Every image can be chosen, and nothing else.
+        ensures allowed { OnOk result (AreImages (⟦<MemDisk as Disk>⟧.may_leave self.old) chosen.now) }
+        ensures refused { IsErrOf result StopRefusal.NotAnImage → ¬ AreImages (⟦<MemDisk as Disk>⟧.may_leave self.old) chosen.now }
+        ensures err { OnErr result (self.new ≡ self.old) }
+    {
+        if !allows_all(&self.files, chosen) {
+            return Err(StopRefusal::NotAnImage);
+        }
+        let start = images_after(self.alloc, &self.files, chosen)?;
+        let files = synced_files(self.alloc, &start)?;
+        *self = MemDisk {
+            alloc: self.alloc,
+            files,
+            start,
+            calls: Vec::new(self.alloc),
+            fault_count: 0,
+        };
+        Ok(())
+    }
+
     /// The bytes of a file, with no call of the device.
     pub fn bytes(&self, file: u16) -> &[u8]
         requires { file < 1024 }
         ensures { result.now ≡ ⟦<MemDisk as Disk>⟧.content self.now file }
     {
-        bytes_of(&self.files, file)
+        &file_at(&self.files, file).bytes
     }
 
     // A call that failed and changed nothing.
@@ -140,7 +109,7 @@ impl MemDisk {
 }
 
 impl Disk for MemDisk {
-    ghost content = { λ m n. bytes_at m.files.items n };
+    ghost content = { λ m n. (state_at m.files.items n).content };
 
     ghost may_leave = { λ m n c. MayLeave m.start.items m.calls.items n c };
 
@@ -162,7 +131,7 @@ impl Disk for MemDisk {
         let Ok(()) = make_room(&mut self.calls) else {
             return self.fail();
         };
-        let len = bytes_of(&self.files, file).len();
+        let len = file_at(&self.files, file).bytes.len();
         self.calls.push_reserved(Call {
             file,
             work: Work::Length,
@@ -175,7 +144,7 @@ impl Disk for MemDisk {
         let Ok(()) = make_room(&mut self.calls) else {
             return self.fail();
         };
-        let bytes = bytes_of(&self.files, file);
+        let bytes = file_at(&self.files, file).bytes.as_slice();
         let (_, from) = bytes.split_at(at);
         let (range, _) = from.split_at(into.len());
         into.copy_from_slice(range);
@@ -197,7 +166,7 @@ impl Disk for MemDisk {
         let Ok(copy) = copied(self.alloc, bytes) else {
             return self.fail();
         };
-        let Ok(()) = put_at(&mut self.files, file, at, bytes) else {
+        let Ok(()) = write_in(&mut self.files, file, at, bytes) else {
             return self.fail();
         };
         self.calls.push_reserved(Call {
@@ -216,7 +185,7 @@ impl Disk for MemDisk {
         let Ok(()) = make_room(&mut self.calls) else {
             return self.fail();
         };
-        cut_at(&mut self.files, file, len);
+        cut_in(&mut self.files, file, len);
         self.calls.push_reserved(Call {
             file,
             work: Work::Cut { len, left: len },
@@ -229,6 +198,7 @@ impl Disk for MemDisk {
         let Ok(()) = make_room(&mut self.calls) else {
             return self.fail();
         };
+        sync_in(&mut self.files, file);
         self.calls.push_reserved(Call {
             file,
             work: Work::Sync,
