@@ -6,7 +6,12 @@ use mvo_types::{MAX_BODY_LEN, Stamp};
 use std::alloc::{AllocError, Global};
 use std::marker::Model;
 
-/// The committed transactions with an end above prev and at most mark, in the order of their ends.
+/// The committed transactions with an end above prev and at most mark, in the order of their ends:
+/// what one frame of the log carries. Contracts see it as its prev, its mark and its records.
+///
+/// Each group keeps the rules of `KeepsRules`: prev < mark <= 2^62; at most 1,024 records, whose
+/// ends rise strictly and lie in (prev, mark]; in each record 1 to 256 writes, whose (table, key)
+/// rise strictly; tables 0 to 15; data of at most 1,024 bytes; a body of at most 4,194,304 bytes.
 #[derive(Debug, Drop)]
 pub struct Group {
     prev: Stamp,
@@ -32,7 +37,7 @@ impl Group {
     ghost use Rattle.mvo_group.specs.Rules.{KeepsRules, IsGroup, body_len};
     ghost use Rattle.mvo_group.specs.Body.{body_of};
 
-    /// The group of these parts, where they keep the rules.
+    /// The group of these parts, where they keep the rules. Parts that break one are dropped.
     pub fn new(prev: Stamp, mark: Stamp, records: Vec<Record>) -> Option<Group>
         ensures { SomeIff result (KeepsRules (group_of prev.0 mark.0 records.items)) (group_of prev.0 mark.0 records.items) }
     {
@@ -46,7 +51,7 @@ impl Group {
         })
     }
 
-    /// The mark of the group before it. Its own records end above that.
+    /// The mark that held before it: each record ends above that.
     pub fn prev(&self) -> Stamp
         ensures value { result.0 ≡ self.now.prev }
         ensures group { IsGroup self.now }
@@ -54,7 +59,8 @@ impl Group {
         self.prev
     }
 
-    /// The mark that holds after it: no later record ends at or below it.
+    /// The mark that holds after it: each record ends at or below that, and those of later groups
+    /// above.
     pub fn mark(&self) -> Stamp
         ensures value { result.0 ≡ self.now.mark }
         ensures group { IsGroup self.now }
@@ -62,13 +68,15 @@ impl Group {
         self.mark
     }
 
+    /// The records in the order of their ends.
     pub fn records(&self) -> &[Record]
         ensures value { result.now ≡ self.now.records }
         ensures group { IsGroup self.now }
     {
-        &self.records
+        self.records.as_slice()
     }
 
+    /// The records by value, in the order of their ends.
     pub fn into_records(self) -> Vec<Record>
         ensures value { result.items ≡ self.records }
         ensures group { IsGroup self }
@@ -77,25 +85,32 @@ impl Group {
         records
     }
 
-    /// How many bytes its body has.
+    /// How many bytes its body has, at most 4,194,304. Nothing is encoded for it: each write is
+    /// looked at once, and its data isn't read.
     pub fn encoded_len(&self) -> usize
         ensures value { result ≡ body_len self.now }
+        ensures bytes { result ≡ length (body_of self.now) }
         ensures group { IsGroup self.now }
     {
         len_of_body(&self.records)
     }
 
-    /// Appends the group's body to the bytes.
+    /// Appends the group's body to the bytes. Where memory is refused, they stay as they are.
     pub fn encode_into(&self, out: &mut Vec<u8>) -> Result<(), AllocError>
         ensures ok { OnOk result (out.new.items ≡ out.old.items ++ body_of self.now) }
         ensures err { OnErr result (out.new.items ≡ out.old.items) }
     {
         out.reserve(self.encoded_len())?;
-        append_body(out, self.prev, self.mark, &self.records);
+        let Group {
+            prev,
+            mark,
+            records,
+        } = self;
+        append_body(out, *prev, *mark, records);
         Ok(())
     }
 
-    /// The group's body.
+    /// The group's body: its one spelling, in the memory that its records came from.
     pub fn encode(&self) -> Result<Vec<u8>, AllocError>
         ensures { IfOk result (λ body. body.items ≡ body_of self.now) }
     {
@@ -104,7 +119,8 @@ impl Group {
         Ok(body)
     }
 
-    /// The group with this body. No two groups have one body.
+    /// The group with this body, or none where the bytes aren't all of one group's body. No two
+    /// groups have one body.
     pub fn decode(alloc: Global, body: &[u8]) -> Result<Option<Group>, AllocError>
         ensures found { IfOk result (λ found. IfSome found (λ g. IsGroup g × (body.now ≡ body_of g))) }
         ensures only { IfOk result (λ found. (g : GroupData) → IsGroup g → body.now ≡ body_of g → found ≡ Some g) }

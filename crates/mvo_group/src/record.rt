@@ -6,7 +6,8 @@ use crate::write::Write;
 use mvo_types::Stamp;
 use std::marker::Model;
 
-/// A committed transaction: its end timestamp, and its writes in the order of (table, key).
+/// A committed transaction: its end timestamp, and its last write to each key, in the order of
+/// (table, key). Contracts see each write as its key with what stands there afterwards.
 #[derive(Debug, Drop)]
 pub struct Record {
     pub end: Stamp,
