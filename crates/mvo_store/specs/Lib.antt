@@ -1,0 +1,4 @@
+pub mod Frames
+pub mod Recovery
+pub mod Standing
+pub mod Steps
