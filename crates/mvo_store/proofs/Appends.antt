@@ -1,7 +1,7 @@
 -- A log in each of the steps of an append.
 use Rattle.std.proofs.Common.{◌≡◌, ℕ, ◌+◌, ◌<◌, inl, true, false, List, [], ◌∷◌, ◌++◌, length, Option, Some, None, sym, ap, subst, ◌∙◌, arith, append_assoc, length-append, cond}
-use Rattle.mvo_disk.specs.Disk.{Holds, Torn, Only, Touched, AllOf, LeavesOnly}
-use Rattle.mvo_disk.specs.Moments.{started, weaker}
+use Rattle.mvo_disk.specs.Disk.{Holds, Torn, Only, Touched, LeavesOnly}
+use Rattle.mvo_disk.specs.Moments.{weaker}
 use Rattle.mvo_group.specs.Data.{GroupData}
 use Rattle.mvo_group.specs.Rules.{IsGroup}
 use Rattle.mvo_group.specs.Body.{body_of}
@@ -14,23 +14,12 @@ use Rattle.mvo_store.proofs.Crash.{torn_behind, torn_gate, opened_gate, chains_p
 pub opening_is : {D : Type 0} (log : Log D) → log.written ≡ true → opening log ≡ log.pending
 opening_is log written = ap (λ b. cond b log.pending None) written
 
-module _ {D : Type 0} (content : D → ℕ → List ℕ) (may_leave : D → ℕ → List ℕ → Type 0) (fault_count : D → ℕ) (moment : D → ℕ) (left_since : D → ℕ → (ℕ → List ℕ) → Type 0) (only_now : (d : D) (image : ℕ → List ℕ) → left_since d (moment d) image → AllOf (may_leave d) image) where
-  -- a stop before the first call leaves the groups
-  pub groups_now : (log : Log D) (gs : List GroupData) → Stands content may_leave fault_count log gs → (c : List ℕ) → may_leave log.disk 2 c → HasGroups 0 gs c
-  groups_now log gs s c may = record { gate = s.gate; rest = s.rest; whole = s.durable c may ∙ s.whole; closed = s.closed; chain = s.chain; few = omega (arith, s.place, s.few) }
-
-  -- where no call was made
-  pub unmoved : (log : Log D) (gs : List GroupData) → Stands content may_leave fault_count log gs → LeavesOnly moment left_since log.disk log.disk (λ image. HasGroups 0 gs (image 2))
-  unmoved log gs s = started moment left_since log.disk (λ image. HasGroups 0 gs (image 2)) (λ image left. groups_now log gs s (image 2) (only_now log.disk image left 2))
-
+module _ {D : Type 0} (content : D → ℕ → List ℕ) (may_leave : D → ℕ → List ℕ → Type 0) (fault_count : D → ℕ) (moment : D → ℕ) (left_since : D → ℕ → (ℕ → List ℕ) → Type 0) where
   pub body_moments : (log : Log D) (gs : List GroupData) (n : ℕ) (new : D) → Stands content may_leave fault_count log gs
       → LeavesOnly moment left_since log.disk new (Touched 2 (may_leave log.disk) (Torn (log.gate + 1) n (content log.disk 2)))
       → LeavesOnly moment left_since log.disk new (λ image. HasGroups 0 gs (image 2))
   body_moments log gs n new s only = weaker moment left_since log.disk new _ (λ image. HasGroups 0 gs (image 2))
       (λ image t. torn_behind gs s.gate s.rest log.gate n (content log.disk 2) (image 2) s.place s.whole s.closed s.chain s.few t.here) only
-
-  pub unmoved_open : (log : Log D) (gs : List GroupData) → Stands content may_leave fault_count log gs → LeavesOnly moment left_since log.disk log.disk (λ image. HasWithOrWithout gs (opening log) (image 2))
-  unmoved_open log gs s = weaker moment left_since log.disk log.disk _ (λ image. HasWithOrWithout gs (opening log) (image 2)) (λ image has. inl has) (unmoved log gs s)
 
   torn_taken : (gs : List GroupData) (gate : ℕ) (rest : List ℕ) (at next mark : ℕ) (o : Option GroupData) (old c : List ℕ) → at ≡ length (front gs) → old ≡ front gs ++ gate ∷ rest → IsWritten at next rest o → Chains 0 gs
       → mark ≡ mark_after 0 gs → FollowsMark mark o → Torn at 1 old c → HasWithOrWithout gs o c

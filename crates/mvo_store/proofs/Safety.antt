@@ -8,8 +8,9 @@ use Rattle.mvo_disk.specs.Moments.{weaker}
 use Rattle.mvo_group.specs.Data.{GroupData}
 use Rattle.mvo_store.specs.Frames.{Chains, mark_after, HasGroups}
 use Rattle.mvo_store.specs.Recovery.{Recovers, rows_of, mark_of}
-use Rattle.mvo_store.specs.Standing.{Stands, IsDown, IsSafe, HasWithOrWithout, opening, with_taken}
+use Rattle.mvo_store.specs.Standing.{Stands, IsDown, IsSafe, HasWithOrWithout, opening, with_taken, groups_after}
 use Rattle.mvo_store.specs.Steps.{RefusedFor, LeftBy}
+use Rattle.mvo_store.specs.Images.{groups_now, safe_unmoved}
 use Rattle.mvo_store.specs.declared.log.Log.{Log}
 use Rattle.mvo_store.proofs.Crash.{mark_after-push}
 
@@ -46,13 +47,9 @@ gives_either gs o bytes mark is (inl has) = gives gs bytes mark has (omega (arit
 gives_either gs o bytes mark is (inr has) = gives (with_taken gs o) bytes mark has (omega (arith, is, mark_with_taken gs o bytes has))
 
 module _ {D : Type 0} (content : D → ℕ → List ℕ) (may_leave : D → ℕ → List ℕ → Type 0) (fault_count : D → ℕ) (moment : D → ℕ) (left_since : D → ℕ → (ℕ → List ℕ) → Type 0) where
-  -- a log that stands has its groups alone
-  groups_at : (log : Log D) (gs : List GroupData) → Stands content may_leave fault_count log gs → (c : List ℕ) → may_leave log.disk 2 c → HasGroups 0 gs c
-  groups_at log gs s c may = record { gate = s.gate; rest = s.rest; whole = s.durable c may ∙ s.whole; closed = s.closed; chain = s.chain; few = omega (arith, s.place, s.few) }
-
   -- each image of now is well formed, and recovered at least up to the mark
   pub safe_images : (log : Log D) (gs : List GroupData) → IsSafe content may_leave fault_count log gs → (image : ℕ → List ℕ) → AllOf (may_leave log.disk) image → GivesUpTo log.mark.0 (image 2)
-  safe_images log gs (inl s) image now = gives gs (image 2) log.mark.0 (groups_at log gs s (image 2) (now 2)) (omega (arith, s.mark))
+  safe_images log gs (inl s) image now = gives gs (image 2) log.mark.0 (groups_now content may_leave fault_count log gs s (image 2) (now 2)) (omega (arith, s.mark))
   safe_images log gs (inr d) image now = gives_either gs (opening log) (image 2) log.mark.0 d.mark (d.images image now)
 
   -- a fault in a step of a log that stood
@@ -93,22 +90,27 @@ module _ {D : Type 0} (content : D → ℕ → List ℕ) (may_leave : D → ℕ 
     body_safe {T} (Err e) other old new gs safe refused ok left moments = refused_safe T e other old new gs safe refused left
         (λ s. weaker moment left_since old.disk new.disk _ (λ image. HasWithOrWithout gs (opening old) (image 2)) (λ image has. inl has) (moments gs s))
 
-    -- `append_open` that is refused, and in any case
-    pub open_refused_safe : {T : Type 0} (r : Result T Refusal) (other : Option Refusal) (old new : Log D)
-        → RefusedFor (cond old.down (Some Down) other) r
-        → IfErr r (λ e. LeftBy fault_count e old new)
-        → ((hs : List GroupData) → Stands content may_leave fault_count old hs → LeavesOnly moment left_since old.disk new.disk (λ image. HasWithOrWithout hs (opening old) (image 2)))
-        → OnErr r ((gs : List GroupData) → IsSafe content may_leave fault_count old gs → IsSafe content may_leave fault_count new gs)
-    open_refused_safe (Ok x) other old new refused left moments = tt
-    open_refused_safe {T} (Err e) other old new refused left moments = λ gs safe. refused_safe T e other old new gs safe refused left (moments gs)
-
+    -- `append_open`
     pub open_safe : {T : Type 0} (r : Result T Refusal) (other : Option Refusal) (old new : Log D) (gs : List GroupData)
         → IsSafe content may_leave fault_count old gs
         → RefusedFor (cond old.down (Some Down) other) r
         → OnOk r ((hs : List GroupData) → Stands content may_leave fault_count old hs → Stands content may_leave fault_count new (with_taken hs old.pending))
         → IfErr r (λ e. LeftBy fault_count e old new)
         → ((hs : List GroupData) → Stands content may_leave fault_count old hs → LeavesOnly moment left_since old.disk new.disk (λ image. HasWithOrWithout hs (opening old) (image 2)))
-        → (hs : List GroupData) × IsSafe content may_leave fault_count new hs
-    open_safe (Ok x) other old new gs (inl s) refused ok left moments = (with_taken gs old.pending, inl (ok gs s))
+        → IsSafe content may_leave fault_count new (groups_after r gs old.pending)
+    open_safe (Ok x) other old new gs (inl s) refused ok left moments = inl (ok gs s)
     open_safe (Ok x) other old new gs (inr d) refused ok left moments = absurd (no_ok x old.down other d.down refused)
-    open_safe {T} (Err e) other old new gs safe refused ok left moments = (gs, refused_safe T e other old new gs safe refused left (moments gs))
+    open_safe {T} (Err e) other old new gs safe refused ok left moments = refused_safe T e other old new gs safe refused left (moments gs)
+
+  -- at each moment of a step: that of a log that stands, and none of one that is down
+  pub at_each_moment : (only_now : (d : D) (image : ℕ → List ℕ) → left_since d (moment d) image → AllOf (may_leave d) image) {T : Type 0} (r : Result T Refusal) (other : Option Refusal) (old new : Log D) (gs : List GroupData)
+      → IsSafe content may_leave fault_count old gs
+      → RefusedFor (cond old.down (Some Down) other) r
+      → IfErr r (λ e. LeftBy fault_count e old new)
+      → (Stands content may_leave fault_count old gs → LeavesOnly moment left_since old.disk new.disk (λ image. HasWithOrWithout gs (opening old) (image 2)))
+      → LeavesOnly moment left_since old.disk new.disk (λ image. HasWithOrWithout gs (opening old) (image 2))
+  at_each_moment only_now r other old new gs (inl s) refused left moments = moments s
+  at_each_moment only_now (Ok x) other old new gs (inr d) refused left moments = absurd (no_ok x old.down other d.down refused)
+  at_each_moment only_now {T} (Err e) other old new gs (inr d) refused left moments =
+      subst (λ (x : Log D). LeavesOnly moment left_since old.disk x.disk (λ image. HasWithOrWithout gs (opening old) (image 2))) (sym (left.other (down_is T e old.down other d.down refused)))
+      (safe_unmoved content may_leave fault_count moment left_since only_now old gs (inr d))

@@ -1,5 +1,5 @@
 -- How a store stands over its disk.
-use Rattle.std.specs.Prelude.{◌≡◌, ◌≢◌, ◌⊎◌, ℕ, ◌<◌, ◌+◌, ◌^◌, Bool, true, false, List, [], ◌∷◌, ◌++◌, length, Option, Some, None, if◌then◌else◌}
+use Rattle.std.specs.Prelude.{◌≡◌, ◌≢◌, ◌⊎◌, ℕ, ◌<◌, ◌+◌, ◌^◌, Bool, true, false, List, [], ◌∷◌, ◌++◌, length, Option, Some, None, Result, Ok, Err, if◌then◌else◌}
 use Rattle.mvo_disk.specs.Disk.{Only, AllOf}
 use Rattle.mvo_group.specs.Data.{GroupData}
 use Rattle.mvo_group.specs.Rules.{IsGroup}
@@ -38,6 +38,11 @@ pub record Stands {D : Type 0} (content : D → ℕ → List ℕ) (may_leave : D
 abbrev pub with_taken : List GroupData → Option GroupData → List GroupData
 with_taken gs None = gs
 with_taken gs (Some g) = gs ++ g ∷ []
+
+-- the groups after a step that opens the taken one's gate
+abbrev pub groups_after : {T E : Type 0} → Result T E → List GroupData → Option GroupData → List GroupData
+groups_after (Ok x) gs taken = with_taken gs taken
+groups_after (Err e) gs taken = gs
 
 -- the groups, or those and the taken one
 abbrev pub HasWithOrWithout : List GroupData → Option GroupData → List ℕ → Type 0

@@ -37,7 +37,7 @@ impl<D: Disk> Store<D> {
     ghost use Rattle.mvo_group.specs.Data.{GroupData};
     ghost use Rattle.mvo_store.specs.Frames.{HasGroups};
     ghost use Rattle.mvo_store.specs.Recovery.{Recovers, rows_of, mark_of};
-    ghost use Rattle.mvo_store.specs.Standing.{Stands, IsSafe, HasWithOrWithout, opening, with_taken};
+    ghost use Rattle.mvo_store.specs.Standing.{Stands, IsSafe, HasWithOrWithout, opening, with_taken, groups_after};
     ghost use Rattle.mvo_store.specs.Steps.{why_not_take, why_not_append_body, why_not_append_open, RefusedFor, GivenBackFor, LeftBy, IsMarkOf, IsOpenRefusal};
 
     /// Opens what is on the disk, and answers its rows and mark. It writes and cuts nothing, and
@@ -130,6 +130,8 @@ impl<D: Disk> Store<D> {
         ensures stands { OnOk result ((gs : List GroupData) → Stands D.content D.may_leave D.fault_count self.old gs → Stands D.content D.may_leave D.fault_count self.new gs) }
         ensures any_moment { (gs : List GroupData) → Stands D.content D.may_leave D.fault_count self.old gs →
             LeavesOnly D.moment D.left_since self.old.disk self.new.disk (λ image. HasGroups 0 gs (image 2)) }
+        ensures any_moment_safe { (gs : List GroupData) → IsSafe D.content D.may_leave D.fault_count self.old gs →
+            LeavesOnly D.moment D.left_since self.old.disk self.new.disk (λ image. HasWithOrWithout gs (opening self.old) (image 2)) }
         ensures safe { (gs : List GroupData) → IsSafe D.content D.may_leave D.fault_count self.old gs → IsSafe D.content D.may_leave D.fault_count self.new gs }
     {
         self.log.append_body(self.alloc)
@@ -148,9 +150,10 @@ impl<D: Disk> Store<D> {
         ensures err { IfErr result (λ e. LeftBy D.fault_count e self.old self.new) }
         ensures stands { OnOk result ((gs : List GroupData) → Stands D.content D.may_leave D.fault_count self.old gs →
             Stands D.content D.may_leave D.fault_count self.new (with_taken gs self.old.pending)) }
-        ensures any_moment { (gs : List GroupData) → Stands D.content D.may_leave D.fault_count self.old gs →
+        ensures any_moment { (gs : List GroupData) → IsSafe D.content D.may_leave D.fault_count self.old gs →
             LeavesOnly D.moment D.left_since self.old.disk self.new.disk (λ image. HasWithOrWithout gs (opening self.old) (image 2)) }
-        ensures safe { OnErr result ((gs : List GroupData) → IsSafe D.content D.may_leave D.fault_count self.old gs → IsSafe D.content D.may_leave D.fault_count self.new gs) }
+        ensures safe { (gs : List GroupData) → IsSafe D.content D.may_leave D.fault_count self.old gs →
+            IsSafe D.content D.may_leave D.fault_count self.new (groups_after result gs self.old.pending) }
     {
         self.log.append_open()
     }

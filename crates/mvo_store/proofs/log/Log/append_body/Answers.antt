@@ -1,17 +1,18 @@
 use Rattle.std.proofs.Common.{◌+◌, ◌++◌, List, ℕ, length, drop, sym, subst, arith}
 use Rattle.mvo_store.specs.Standing.{IsBodyOf}
+use Rattle.mvo_store.specs.Images.{unmoved}
 use Rattle.mvo_store.proofs.Crash.{written_behind}
-use Rattle.mvo_store.proofs.Appends.{unmoved, body_moments, is_written}
+use Rattle.mvo_store.proofs.Appends.{body_moments, is_written}
 use Rattle.mvo_store.proofs.log.Log.append_body.Goals as goal
 
 pub returns-in_err-bytes-clause-any_moment : goal.returns-in_err-bytes-clause-any_moment
 returns-in_err-bytes-clause-any_moment g c = λ gs s. unmoved g.D.Disk.content g.D.Disk.may_leave g.D.Disk.fault_count g.D.Disk.moment g.D.Disk.left_since g.met.D.Disk.only_now c.args.self.now gs s
 
 pub returns-in_default-clause-any_moment : goal.returns-in_default-clause-any_moment
-returns-in_default-clause-any_moment g c = λ gs s. body_moments g.D.Disk.content g.D.Disk.may_leave g.D.Disk.fault_count g.D.Disk.moment g.D.Disk.left_since g.met.D.Disk.only_now c.args.self.now gs (length c.deref.result.now) c.write_synced.new.disk s c.write_synced.ensures.any_moment
+returns-in_default-clause-any_moment g c = λ gs s. body_moments g.D.Disk.content g.D.Disk.may_leave g.D.Disk.fault_count g.D.Disk.moment g.D.Disk.left_since c.args.self.now gs (length c.deref.result.now) c.write_synced.new.disk s c.write_synced.ensures.any_moment
 
 pub returns-clause-any_moment : goal.returns-clause-any_moment
-returns-clause-any_moment g c = λ gs s. body_moments g.D.Disk.content g.D.Disk.may_leave g.D.Disk.fault_count g.D.Disk.moment g.D.Disk.left_since g.met.D.Disk.only_now c.args.self.now gs (length c.deref.result.now) c.write_synced.new.disk s c.write_synced.ensures.any_moment
+returns-clause-any_moment g c = λ gs s. body_moments g.D.Disk.content g.D.Disk.may_leave g.D.Disk.fault_count g.D.Disk.moment g.D.Disk.left_since c.args.self.now gs (length c.deref.result.now) c.write_synced.new.disk s c.write_synced.ensures.any_moment
 
 pub returns-clause-stands : goal.returns-clause-stands
 returns-clause-stands g c = λ gs s.
