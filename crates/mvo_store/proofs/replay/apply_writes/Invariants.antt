@@ -1,0 +1,7 @@
+use Rattle.std.proofs.Common.{◌≡◌, map}
+use Rattle.mvo_group.specs.Data.{net_write}
+use Rattle.mvo_store.specs.Recovery.{after_writes}
+use Rattle.mvo_store.proofs.replay.apply_writes.Given as goal
+
+abbrev pub invariant-loop-write : goal.invariant-loop-write
+invariant-loop-write l = l.rows ≡ after_writes (map net_write l.yielded) l.initial.rows

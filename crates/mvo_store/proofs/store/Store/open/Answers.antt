@@ -1,0 +1,14 @@
+use Rattle.std.proofs.Common.{sym, ◌∙◌, arith}
+use Rattle.mvo_store.proofs.Opens.{opens}
+use Rattle.mvo_store.proofs.store.Store.open.Goals as goal
+
+pub returns-clause-stands : goal.returns-clause-stands
+returns-clause-stands g c =
+    let s = c.in-Ok.segment in
+    let e = c.in-Ok.ensures in
+    opens g.D.Disk.content g.D.Disk.may_leave g.D.Disk.fault_count c.read_disk.new.disk (g.D.Disk.content c.args.disk 2) s.rows s.gate s.mark e.found (e.content 2) e.durable (omega (arith, e.count.0, e.count.1))
+
+pub returns-clause-exactly : goal.returns-clause-exactly
+returns-clause-exactly g c = λ rows mark r.
+    let s = returns-clause-stands g c r.groups r.has in
+    (r.rows_are ∙ sym s.1, r.mark_is ∙ sym s.2)

@@ -1,0 +1,18 @@
+//! A store of groups over one log segment.
+#![tactic(auto)]
+
+mod durable;
+mod formatting;
+mod framed;
+mod log;
+mod opening;
+mod reading;
+mod replay;
+mod store;
+
+pub use durable::Durable;
+pub use formatting::format;
+pub use store::Store;
+
+#[cfg(test)]
+mod tests;
