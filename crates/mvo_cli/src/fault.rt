@@ -1,0 +1,56 @@
+ghost use Rattle.std.specs.Prelude.{◌≡◌, ◌↔◌, IsTrue};
+ghost use Rattle.mvo_cli.specs.Status.{status_of};
+
+use crate::script::ScriptError;
+use clap::error::ErrorKind;
+use std::alloc::AllocError;
+use std::io;
+use thiserror::Error;
+
+/// Why the program ends before it has done a command.
+#[derive(Debug, Drop, Error)]
+pub enum Fault {
+    /// The command line is none of the program's, or asks for help.
+    #[error("{0}")]
+    CommandLine(clap::Error),
+    /// The words of the command line can't be read.
+    #[error("error: can't read the command line: {0}\n")]
+    Words(io::Error),
+    /// The script isn't run to its end.
+    #[error("error: {0}\n")]
+    Script(ScriptError),
+    /// Memory was refused before the command was known.
+    #[error("error: out of memory\n")]
+    OutOfMemory,
+}
+
+impl Fault {
+    /// Whether it is help, which goes to standard output.
+    pub fn is_help(&self) -> bool
+        ensures { IsTrue result ↔ (status_of self.now ≡ 0) }
+    {
+        self.status() == 0
+    }
+
+    /// The exit status: 0 after help, 2 for a bad command line, 3 where reading or writing failed
+    /// or memory was refused.
+    pub fn status(&self) -> u8
+        ensures { result ≡ status_of self.now }
+    {
+        match self {
+            Fault::CommandLine(error) => match error.kind() {
+                ErrorKind::DisplayHelp | ErrorKind::DisplayVersion => 0,
+                ErrorKind::OutOfMemory => 3,
+                _ => 2,
+            },
+            Fault::Words(_) => 2,
+            Fault::Script(_) | Fault::OutOfMemory => 3,
+        }
+    }
+}
+
+impl From<AllocError> for Fault {
+    fn from(_e: AllocError) -> Fault {
+        Fault::OutOfMemory
+    }
+}
