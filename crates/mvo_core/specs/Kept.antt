@@ -2,7 +2,7 @@
 use Rattle.std.specs.Prelude.{ℕ, ◌≡◌, ◌+◌, ◌<◌, ◌≤◌, Bool, true, false, if◌then◌else◌, is_some, List, [], length, Option, None, Some, ⊤}
 use Rattle.std.specs.List.{AllByRecursion}
 use Rattle.mvo_state.specs.Line.{State, Slot, Running}
-use Rattle.mvo_state.specs.Sound.{IsSound, IsNumbered}
+use Rattle.mvo_state.specs.Sound.{IsSound, IsNumbered, IsSingle}
 
 -- how many are Preparing
 abbrev pub count_one : Option Slot → ℕ
@@ -31,6 +31,7 @@ pub record IsAlone (r : Running) : Type 0 where
 pub record IsKept (s : State) (tale : List Slot) (one : Option Slot) (tale_capacity over_capacity : ℕ) : Type 0 where
   pub sound : IsSound s
   pub numbered : IsNumbered s
+  pub single : IsSingle s
   pub stored : AllByRecursion IsStored tale
   pub open' : IsOneOpen one
   pub alone : AllByRecursion IsAlone s.running
