@@ -19,7 +19,7 @@ use Rattle.mvo_model.specs.Told.{Told, left_by, net_write}
 use Rattle.mvo_state.specs.declared.over.OverTx.{OverTx}
 use Rattle.mvo_state.specs.Entries.{IsKeyed, key_of, entries}
 use Rattle.mvo_state.specs.Line.{State, Slot, Running, opened, began, told, with_told, prepared, to_slot, without, checked, with_check, committed, with_settled, dropped, undone, told_of, snapshot, seen_by, is_writer, last_writer, committed_tx, aborted_tx, has}
-use Rattle.mvo_state.specs.Sound.{IsSound, IsNumbered, IsActive, IsPreparing, IsUnchanged, IsRising, AreDistinct}
+use Rattle.mvo_state.specs.Sound.{IsSound, IsNumbered, IsSingle, IsActive, IsPreparing, IsUnchanged, IsRising, AreDistinct}
 use Rattle.mvo_state.specs.Causes.{IsRefusal, if_stands, or_doomed, running_of, preparing_of, not_there, not_preparing, not_active, is_over, unfinished, why_not_begun, is_open, is_read_too_many, is_write_too_many, not_read_at, why_not_read, not_inserted_at, why_not_inserted, not_prepared_at, why_not_prepared, not_settled_at, why_not_settled, not_checked_at, why_not_checked, why_not_rolled_back, why_not_finished, change_of, differs, entry_differs, end_of, end_at}
 use Rattle.mvo_state.specs.Steps.{prepared_at, now_prepared, is_last_check, is_valid_at, is_valid_now, checked_at, now_checked, committed_at, now_committed, aborted_at, now_aborted}
 use Rattle.mvo_state.proofs.Each.{each_weaker, each_both, each_append, each_map, each_filter}
@@ -27,12 +27,13 @@ use Rattle.mvo_state.proofs.Lines.{append-nil}
 use Rattle.mvo_state.proofs.Sound.{IsAnswer, IsCheck, sound_began, sound_told, sound_prepared, sound_checked, sound_dropped, sound_undone, settled_in}
 use Rattle.mvo_state.proofs.Causes.{change_none}
 use Rattle.mvo_state.proofs.Numbered.{numbered_began, numbered_told, numbered_prepared, numbered_checked, numbered_committed, numbered_dropped, numbered_undone}
+use Rattle.mvo_state.proofs.Single.{single_began, single_told, single_prepared, single_checked, single_committed, single_dropped, single_undone, single_left}
 use Rattle.mvo_core.specs.View.{line_of, one_is, state_of}
 use Rattle.mvo_core.specs.Writers.{is_writing, at_places}
 use Rattle.mvo_core.specs.Kept.{IsStored, IsOpen, IsOneOpen, IsAlone, IsKept, count_one}
 use Rattle.mvo_core.proofs.Lined.{pick, preparing_line, unsettled_line, any_open_line, writer_line, seen_line, change_line, settled_line, checked_line, undone_line, running_doomed, before_last}
 use Rattle.mvo_core.proofs.Indexed.{seen_writers, change_writers}
-use Rattle.mvo_core.proofs.Places.{IsFound, found_at, told_at, at_one, any_running, not_found}
+use Rattle.mvo_core.proofs.Places.{IsFound, found_at, told_at, at_one, any_running, not_found, over_at}
 
 -- ---- refusals
 pub refuse : (w : Option Refusal) (r : Refusal) → w ≡ Some r → IsRefusal w r
@@ -107,6 +108,7 @@ kept_began base start clock running tale one over tc oc lt k =
     record {
       sound = sound_began s (clock + 1) (omega arith) k.sound;
       numbered = numbered_began s (clock + 1) (omega arith) k.sound k.numbered;
+      single = single_began s (clock + 1) (omega arith) k.sound k.single;
       stored = k.stored;
       open' = k.open';
       alone = each_append IsAlone running _ k.alone (record { rests = refl; doom = refl }, tt);
@@ -176,6 +178,7 @@ kept_told base start clock running tale one over tc oc t at op a mine new p is e
       kept = record {
         sound = subst (λ (rs : List Running). IsSound (state_of base start clock rs tale one over)) (sym same) (sound_answer s t op a key ans k.numbered k.sound);
         numbered = subst (λ (rs : List Running). IsNumbered (state_of base start clock rs tale one over)) (sym same) (numbered_told s t op a k.numbered);
+        single = subst (λ (rs : List Running). IsSingle (state_of base start clock rs tale one over)) (sym same) (single_told s t op a k.single);
         stored = k.stored;
         open' = k.open';
         alone = alone_told s.line t op a running at new (subst IsAlone (sym e) (record { rests = mine_alone.rests; doom = mine_alone.doom })) k.alone;
@@ -217,6 +220,7 @@ kept_prepared base start clock running tale over tc tc' oc t at mine x p is e ro
       kept = record {
         sound = subst IsSound same (sound_prepared s mine (clock + 1) (omega arith) active k.sound);
         numbered = subst IsNumbered same (numbered_prepared s mine (clock + 1) k.numbered);
+        single = subst IsSingle same (single_prepared s mine (clock + 1) (subst (λ (n : ℕ). running_of n running ≡ Some mine) (sym found.id) found.found) (omega arith) k.single);
         stored = k.stored;
         open' = subst IsOpen (sym e) (record { settled = refl; rests = mine_alone.rests; doom = mine_alone.doom });
         alone = subst (AllByRecursion IsAlone) rs (each_without IsAlone mine.id running k.alone);
@@ -261,6 +265,7 @@ kept_committed base start clock running tale over tc oc t x id v k =
       kept = record {
         sound = subst IsSound same (subst (λ (n : ℕ). IsSound (committed s n x.stop)) id (settled_in base start clock running tale [] x over k.open'.settled v k.open'.doom (none_rest x (tale ++ x ∷ []) k.open'.rests) k.sound));
         numbered = subst IsNumbered same (numbered_committed s t x.stop k.numbered);
+        single = subst IsSingle same (single_committed s t x (preparing_line t tale (Some x) k.stored k.open' ∙ picked t x (eq-eqb x.id t id)) k.sound k.single);
         stored = each_append IsStored tale (with_settled x.stop x ∷ []) k.stored (record { settled = or_same x.settled (x.stop == x.stop) (eq-eqb x.stop x.stop refl); rests = k.open'.rests }, tt);
         open' = tt;
         alone = k.alone;
@@ -277,9 +282,9 @@ pub record IsUndone (base : Map) (start clock : ℕ) (running : List Running) (t
 open_at : (tale : List Slot) (x : Slot) → IsOpen x → IsRising (line_of tale (Some x)) → AllByRecursion (λ y. y.stop ≡ x.stop → y.settled ≡ false) (line_of tale (Some x))
 open_at tale x o r = each_append (λ y. y.stop ≡ x.stop → y.settled ≡ false) tale (x ∷ []) (each_weaker (λ y. y.stop < x.stop) (λ y. y.stop ≡ x.stop → y.settled ≡ false) (λ y lt e. absurd (omega arith)) tale (before_last tale x r)) (λ _. o.settled, tt)
 
-pub kept_undone : (base : Map) (start clock : ℕ) (running : List Running) (tale : List Slot) (over : List OverTx) (tc oc t : ℕ) (x : Slot) →
+pub kept_undone : (base : Map) (start clock : ℕ) (running : List Running) (tale : List Slot) (over : List OverTx) (tc oc t : ℕ) (x : Slot) → x.id ≡ t →
     IsKept (state_of base start clock running tale (Some x) over) tale (Some x) tc oc → IsUndone base start clock running tale over tc oc t x
-kept_undone base start clock running tale over tc oc t x k =
+kept_undone base start clock running tale over tc oc t x id k =
     let s = state_of base start clock running tale (Some x) over in
     let line = undone_line t tale x k.stored k.sound.rising in
     let rs = running_doomed t x.stop running k.alone in
@@ -289,6 +294,7 @@ kept_undone base start clock running tale over tc oc t x k =
       kept = record {
         sound = subst IsSound same (sound_undone s t x.stop (open_at tale x k.open' k.sound.rising) k.sound);
         numbered = subst IsNumbered same (numbered_undone s t x.stop k.numbered);
+        single = subst IsSingle same (single_undone s t x (preparing_line t tale (Some x) k.stored k.open' ∙ picked t x (eq-eqb x.id t id)) k.sound k.single);
         stored = k.stored;
         open' = tt;
         alone = k.alone;
@@ -314,6 +320,7 @@ kept_dropped base start clock running tale one over tc oc t at mine p is k =
       kept = record {
         sound = subst IsSound same (sound_dropped s t k.sound);
         numbered = subst IsNumbered same (numbered_dropped s t k.numbered);
+        single = subst IsSingle same (single_dropped s t mine found.found k.sound k.single);
         stored = k.stored;
         open' = k.open';
         alone = subst (AllByRecursion IsAlone) found.without (each_without IsAlone t running k.alone);
@@ -321,6 +328,24 @@ kept_dropped base start clock running tale one over tc oc t at mine p is k =
         over_room = k.over_room;
         tale_room = k.tale_room;
       };
+    }
+
+-- ---- finish
+pub kept_left : (base : Map) (start clock : ℕ) (running : List Running) (tale : List Slot) (one : Option Slot) (over : List OverTx) (tc oc oc' t at : ℕ) (mine : OverTx) →
+    position (λ u. u.id.0 == t) over ≡ Some at → 1024 ≤ oc' →
+    IsKept (state_of base start clock running tale one over) tale one tc oc → IsKept (state_of base start clock running tale one (remove over at)) tale one tc oc'
+kept_left base start clock running tale one over tc oc oc' t at mine p room k =
+    let s = state_of base start clock running tale one over in
+    record {
+      sound = record { legal = k.sound.legal; rising = k.sound.rising; clear = k.sound.clear; placed = k.sound.placed; preparing = k.sound.preparing; running = k.sound.running };
+      numbered = record { distinct = k.numbered.distinct; apart = k.numbered.apart };
+      single = subst (λ (us : List OverTx). IsSingle (state_of base start clock running tale one us)) (sym (over_at t over at mine p)) (single_left s t k.single);
+      stored = k.stored;
+      open' = k.open';
+      alone = k.alone;
+      few = let f = k.few in omega (arith, length-remove over at (position-Some (λ u. u.id.0 == t) over at mine p).0);
+      over_room = room;
+      tale_room = k.tale_room;
     }
 
 -- an Active transaction is not Preparing
@@ -353,6 +378,7 @@ kept_checked base start clock running tale over tc oc x new v e last none k =
       kept = record {
         sound = subst IsSound same (sound_checked s x.stop v (one_check tale x v k.sound.rising (λ key is. unchanged key (sym (ap (entry_differs (line_of tale (Some x)) x) is) ∙ none)) (λ t. leb-true (length (entries x.told)) (x.checked + 1) (sym last ∙ t))) k.sound);
         numbered = subst IsNumbered same (numbered_checked s x.stop v k.numbered);
+        single = subst IsSingle same (single_checked s x.stop v k.single);
         stored = k.stored;
         open' = subst IsOpen (sym e) (record { settled = k.open'.settled; rests = k.open'.rests; doom = k.open'.doom });
         alone = k.alone;

@@ -2,7 +2,7 @@
 use Rattle.std.specs.Prelude.{ℕ, ◌≡◌, ◌+◌, ◌<◌, ◌≤◌, Bool, true, false, if◌then◌else◌, is_some, List, [], length, Option, None, Some, ⊤}
 use Rattle.std.specs.List.{AllByRecursion, filter}
 use Rattle.mvo_state.specs.Line.{State, Slot, Running}
-use Rattle.mvo_state.specs.Sound.{IsSound, IsNumbered}
+use Rattle.mvo_state.specs.Sound.{IsSound, IsNumbered, IsSingle}
 use Rattle.mvo_core.specs.Writers.{is_writing, at_places}
 
 -- how many are Preparing
@@ -32,6 +32,7 @@ pub record IsAlone (r : Running) : Type 0 where
 pub record IsKept (s : State) (tale : List Slot) (one : Option Slot) (tale_capacity over_capacity : ℕ) : Type 0 where
   pub sound : IsSound s
   pub numbered : IsNumbered s
+  pub single : IsSingle s
   pub stored : AllByRecursion IsStored tale
   pub open' : IsOneOpen one
   pub alone : AllByRecursion IsAlone s.running

@@ -3,7 +3,7 @@ ghost use Rattle.mvo_types.specs.Said.{said};
 ghost use Rattle.mvo_model.specs.Serial.{answer_to};
 ghost use Rattle.mvo_state.specs.Line.{opened, began, told, left, snapshot};
 ghost use Rattle.mvo_state.specs.Causes.{IsRefusal, why_not_begun, why_not_read, why_not_inserted, why_not_prepared, why_not_checked, why_not_settled, why_not_rolled_back, why_not_finished, end_of};
-ghost use Rattle.mvo_state.specs.Sound.{IsSound, IsNumbered};
+ghost use Rattle.mvo_state.specs.Sound.{IsSound, IsNumbered, IsSingle};
 ghost use Rattle.mvo_state.specs.Steps.{now_prepared, now_checked, now_committed, now_aborted, is_valid_now, after_refusal};
 
 use crate::active::ActiveTx;
@@ -254,6 +254,7 @@ impl Core {
         ensures value { result.0 ≡ self.now.clock }
         ensures sound { IsSound self.now }
         ensures numbered { IsNumbered self.now }
+        ensures single { IsSingle self.now }
     {
         Stamp(self.clock)
     }

@@ -8,5 +8,8 @@ pub mod Causes
 pub mod Tales
 pub mod Calls
 pub mod Numbered
+pub mod Finds
+pub mod Single
+pub mod Phases
 pub mod Stood
 pub mod Below

@@ -1,9 +1,10 @@
 -- What each core keeps, with several Preparing transactions.
-use Rattle.std.specs.Prelude.{ℕ, ◌≡◌, ◌≢◌, ◌<◌, ◌≤◌, ◌⊎◌, Bool, true, false, List, [], ◌∷◌, take, Option, None, Some, ⊤}
+use Rattle.std.specs.Prelude.{ℕ, ◌≡◌, ◌≢◌, ◌+◌, ◌<◌, ◌≤◌, ◌⊎◌, ◌==◌, ◌&&◌, Bool, true, false, not, List, [], ◌∷◌, cond, take, None, ⊤}
 use Rattle.std.specs.List.{AllByRecursion}
 use Rattle.mvo_types.specs.declared.row.RowKey.{RowKey}
 use Rattle.mvo_types.specs.Keys.{Map}
 use Rattle.mvo_model.specs.Told.{Told, AreSerial, net_write, Legal}
+use Rattle.mvo_state.specs.declared.over.OverTx.{OverTx}
 use Rattle.mvo_state.specs.Entries.{key_of, entries}
 use Rattle.mvo_state.specs.Entries.{IsKeyed, IsApart}
 use Rattle.mvo_state.specs.Line.{State, Slot, Running, tale, seen_by, is_writer, has}
@@ -71,3 +72,23 @@ AreDistinct (r ∷ rs) = AllByRecursion (λ q. q.id ≢ r.id) rs × AreDistinct 
 pub record IsNumbered (s : State) : Type 0 where
   pub distinct : AreDistinct s.running
   pub apart : AllByRecursion (λ r. AllByRecursion (λ x. x.id ≢ r.id) s.line) s.running
+
+-- whether this one is the transaction t: Active, Preparing, or Committed or Aborted
+abbrev pub is_active_as : ℕ → Running → Bool
+is_active_as t r = r.id == t
+
+abbrev pub is_preparing_as : ℕ → Slot → Bool
+is_preparing_as t x = (x.id == t) && not x.settled
+
+abbrev pub is_over_as : ℕ → OverTx → Bool
+is_over_as t u = u.id.0 == t
+
+-- how many pass the test
+abbrev pub how_many : {X : Type 0} → (X → Bool) → List X → ℕ
+how_many p [] = 0
+how_many p (x ∷ xs) = cond (p x) 1 0 + how_many p xs
+
+-- an unfinished transaction stands at one place
+pub record IsSingle (s : State) : Type 0 where
+  pub once : (t : ℕ) → how_many (is_active_as t) s.running + (how_many (is_preparing_as t) s.line + how_many (is_over_as t) s.over) ≤ 1
+  pub drawn : AllByRecursion (λ u. u.id.0 ≤ s.clock) s.over

@@ -2,8 +2,9 @@
 use Rattle.std.specs.Prelude.{ℕ, ◌≡◌, ◌<◌, cond, List, [], ◌∷◌}
 use Rattle.std.specs.List.{AllByRecursion}
 use Rattle.mvo_types.specs.Keys.{Map}
-use Rattle.mvo_model.specs.Trace.{Step, told_to, committed}
+use Rattle.mvo_model.specs.Trace.{Step, told_to, committed, phase_of}
 use Rattle.mvo_state.specs.Line.{State, Slot}
+use Rattle.mvo_state.specs.Phases.{phase_in}
 
 -- the settled ones, by end timestamp: their ends and ids
 abbrev pub pairs : List Slot → List (ℕ × ℕ)
@@ -19,3 +20,5 @@ pub record Stands (opening : Map) (steps : List Step) (s : State) : Type 0 where
   pub ended : AllByRecursion (λ x. told_to x.id steps ≡ x.told) s.line
   pub running : AllByRecursion (λ r. told_to r.id steps ≡ r.told) s.running
   pub fresh : (t : ℕ) → s.clock < t → told_to t steps ≡ []
+  -- each transaction stands where its steps led it
+  pub phases : (t : ℕ) → phase_of t steps ≡ phase_in s t

@@ -1,5 +1,5 @@
-use Rattle.std.proofs.Common.{rules, ◌≡◌, ℕ, Bool, true, false, cond, List, Option, None, Some, refl, ap, ◌∙◌, sym, subst}
-use Rattle.std.specs.Prelude.{◌==◌, position, is_some}
+use Rattle.std.proofs.Common.{rules, arith, ◌≡◌, ℕ, Bool, true, false, cond, List, Option, None, Some, refl, ap, ◌∙◌, sym, subst}
+use Rattle.std.specs.Prelude.{◌==◌, position, is_some, vec_capacity}
 use Rattle.std.specs.List.{list_any}
 use Rattle.mvo_types.specs.declared.refusal.Refusal.{Refusal}
 use Rattle.mvo_types.specs.declared.refusal.Refusal.TheVariants.{NotEnded, NoSuchTransaction}
@@ -7,8 +7,9 @@ use Rattle.mvo_state.specs.declared.over.OverTx.{OverTx}
 use Rattle.mvo_state.specs.Line.{State, Slot, Running, left}
 use Rattle.mvo_state.specs.Causes.{running_of, preparing_of, why_not_finished}
 use Rattle.mvo_core.specs.View.{line_of, state_of, one_is}
+use Rattle.mvo_core.specs.Kept.{IsKept}
 use Rattle.mvo_core.proofs.Places.{none_any, any_at, any_running, over_at}
-use Rattle.mvo_core.proofs.Calls.{any_preparing}
+use Rattle.mvo_core.proofs.Calls.{any_preparing, kept_left}
 use Rattle.mvo_core.proofs.engine.Core.finish_one.Goals as goal
 
 -- why one that isn't over is refused
@@ -46,3 +47,12 @@ returns-clause-ok c =
     ap (λ (us : List OverTx). state_of f.base f.start f.clock f.running.items f.tale.items f.preparing us)
     (c.remove.ensures.items ∙ over_at c.args.tx.0 f.over.items c.in-Some.at c.remove.result (sym (c.in-Some.ensures ∙ ap (λ (us : List OverTx). position (λ u. u.id.0 == c.args.tx.0) us) c.deref.ensures.value)))
     ∙ ap (λ (s : State). left s c.args.tx.0) c.self.view_is
+
+pub invariant_of-self : goal.invariant_of-self
+invariant_of-self c =
+    let f = c.self.inside in
+    let kept = subst (λ (us : List OverTx). IsKept (state_of f.base f.start f.clock f.running.items f.tale.items f.preparing us) f.tale.items f.preparing (vec_capacity f.tale) (vec_capacity c.remove.new.self)) (sym c.remove.ensures.items)
+    (kept_left f.base f.start f.clock f.running.items f.tale.items f.preparing f.over.items (vec_capacity f.tale) (vec_capacity f.over) (vec_capacity c.remove.new.self) c.args.tx.0 c.in-Some.at c.remove.result
+    (sym (c.in-Some.ensures ∙ ap (λ (us : List OverTx). position (λ u. u.id.0 == c.args.tx.0) us) c.deref.ensures.value))
+    (let a = c.self.invariant.kept.over_room in let b = c.remove.ensures.capacity in omega arith) c.self.invariant.kept) in
+    record { kept = kept; indexed = c.self.invariant.indexed }

@@ -1,7 +1,7 @@
 use Rattle.std.proofs.Common.{rules, arith, ◌≡◌, ◌+◌, ◌<◌, ◌≤◌, ◌++◌, ◌∷◌, [], not, ℕ, Bool, true, false, cond, List, Option, None, Some, length, refl, ap, ◌∙◌, sym, subst}
 use Rattle.std.specs.Prelude.{◌==◌, position, is_some, remove, vec_capacity}
 use Rattle.std.specs.List.{list_any}
-use Rattle.std.proofs.lemmas.Bool.{false≢true}
+use Rattle.std.proofs.lemmas.Bool.{false≢true, eqb-true}
 use Rattle.mvo_types.specs.declared.refusal.Refusal.{Refusal}
 use Rattle.mvo_types.specs.declared.refusal.Refusal.TheVariants.{Ended, NoSuchTransaction, NotPreparing}
 use Rattle.mvo_state.specs.declared.over.OverTx.{OverTx}
@@ -24,7 +24,7 @@ dropped c =
     let f = c.self.inside in
     let k = c.self.invariant.kept in
     kept_dropped f.base f.start f.clock f.running.items f.tale.items f.preparing f.over.items (vec_capacity f.tale) (vec_capacity c.push_reserved.new.items) c.args.tx.0 c.in-Some.at c.remove.result (place c) c.remove.ensures.value
-    (record { sound = k.sound; numbered = k.numbered; stored = k.stored; open' = k.open'; alone = k.alone; few = k.few; over_room = let a = k.over_room in let b = c.push_reserved.ensures.room in omega arith; tale_room = k.tale_room })
+    (record { sound = k.sound; numbered = k.numbered; single = k.single; stored = k.stored; open' = k.open'; alone = k.alone; few = k.few; over_room = let a = k.over_room in let b = c.push_reserved.ensures.room in omega arith; tale_room = k.tale_room })
 
 over_now : (c : After-push_reserved) → c.push_reserved.new.items.items ≡ c.self.inside.over.items ++ aborted_tx c.args.tx.0 ∷ []
 over_now c = c.push_reserved.ensures.items ∙ ap (λ (u : OverTx). c.self.inside.over.items ++ u ∷ []) c.aborted.ensures
@@ -71,8 +71,8 @@ undone : (c : After-push_reserved-2) → IsUndone c.self.inside.base c.self.insi
 undone c =
     let f = c.self.inside in
     let k = kept_with f.base f.start f.clock f.running.items f.tale.items f.preparing (Some (there c).0) f.over.items (vec_capacity f.tale) (vec_capacity f.over) (there c).1 c.self.invariant.kept in
-    kept_undone f.base f.start f.clock f.running.items f.tale.items f.over.items (vec_capacity f.tale) (vec_capacity c.push_reserved-2.new.items) c.args.tx.0 (there c).0
-    (record { sound = k.sound; numbered = k.numbered; stored = k.stored; open' = k.open'; alone = k.alone; few = k.few; over_room = let a = k.over_room in let b = c.push_reserved-2.ensures.room in omega arith; tale_room = k.tale_room })
+    kept_undone f.base f.start f.clock f.running.items f.tale.items f.over.items (vec_capacity f.tale) (vec_capacity c.push_reserved-2.new.items) c.args.tx.0 (there c).0 (eqb-true (there c).0.id c.args.tx.0 (there c).2)
+    (record { sound = k.sound; numbered = k.numbered; single = k.single; stored = k.stored; open' = k.open'; alone = k.alone; few = k.few; over_room = let a = k.over_room in let b = c.push_reserved-2.ensures.room in omega arith; tale_room = k.tale_room })
 
 over_then : (c : After-push_reserved-2) → c.push_reserved-2.new.items.items ≡ c.self.inside.over.items ++ aborted_tx c.args.tx.0 ∷ []
 over_then c = c.push_reserved-2.ensures.items ∙ ap (λ (u : OverTx). c.self.inside.over.items ++ u ∷ []) c.aborted-2.ensures

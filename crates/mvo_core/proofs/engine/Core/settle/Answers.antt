@@ -67,6 +67,7 @@ now c =
     (record {
       sound = k.sound;
       numbered = k.numbered;
+      single = k.single;
       stored = k.stored;
       open' = k.open';
       alone = k.alone;

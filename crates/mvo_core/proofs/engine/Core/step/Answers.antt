@@ -8,10 +8,11 @@ use Rattle.mvo_model.specs.Trace.Step.{Begins, Tells, Prepares, Checks, Commits,
 use Rattle.mvo_state.specs.Line.{State, Slot, began, told, left}
 use Rattle.mvo_state.specs.Causes.{is_failure, preparing_of, end_of, end_at}
 use Rattle.mvo_state.specs.Steps.{now_prepared, now_checked, now_committed, now_aborted, after_refusal}
-use Rattle.mvo_state.specs.Sound.{IsSound}
+use Rattle.mvo_state.specs.Sound.{IsSound, IsSingle}
 use Rattle.mvo_state.specs.Stands.{Stands}
 use Rattle.mvo_state.specs.Marks.{IsClosedAt, settled_to, StaysBelow}
-use Rattle.mvo_state.proofs.Stood.{stands_began, stands_told, active_read, active_inserted, active_prepared, preparing_settled, stands_prepared, stands_checked, stands_committed, stands_aborted, stands_left}
+use Rattle.mvo_state.proofs.Stood.{stands_began, stands_told, active_read, active_inserted, active_prepared, preparing_settled, unended_rolled_back, unended_checked, over_finished, stands_prepared, stands_checked, stands_committed, stands_aborted, stands_left}
+use Rattle.mvo_state.proofs.Phases.{IsUnended}
 use Rattle.mvo_state.proofs.Below.{stays_same, stays_prepared, stays_checked, stays_committed, stays_aborted}
 use Rattle.mvo_core.specs.declared.event.Event.{Event}
 use Rattle.mvo_core.specs.declared.reply.Reply.TheVariants as reply
@@ -28,7 +29,7 @@ pub returns-in-Ok-clause-stands : goal.returns-in-Ok-clause-stands
 returns-in-Ok-clause-stands c opening xs h =
     subst (λ (e : Event). Stands opening (xs ++ happened e (reply.Began c.in-Ok.tx)) c.begin_tx.new.self) (sym c.in-Begin.is)
     (subst (λ (n : ℕ). Stands opening (xs ++ Begins n ∷ []) c.begin_tx.new.self) (sym c.in-Ok.ensures.drawn)
-    (subst (Stands opening (xs ++ Begins (c.args.self.now.clock + 1) ∷ [])) (sym c.in-Ok.ensures.ok) (stands_began opening xs c.args.self.now (c.args.self.now.clock + 1) (omega arith) h)))
+    (subst (Stands opening (xs ++ Begins (c.args.self.now.clock + 1) ∷ [])) (sym c.in-Ok.ensures.ok) (stands_began opening xs c.args.self.now (c.args.self.now.clock + 1) (omega arith) c.clock-clock.ensures.sound c.clock-clock.ensures.single h)))
 
 pub returns-in-Ok-read-clause-stands : goal.returns-in-Ok-read-clause-stands
 returns-in-Ok-read-clause-stands c opening xs h =
@@ -55,7 +56,7 @@ returns-in-Ok-precommit-clause-stands c opening xs h =
     let mine = active_prepared s t c.in-Ok-precommit.ensures.refused in
     subst (λ (e : Event). Stands opening (xs ++ happened e (reply.Preparing c.in-Ok-precommit.end)) c.precommit.new.self) (sym c.in-Precommit.is)
     (subst (λ (n : ℕ). Stands opening (xs ++ Prepares t n ∷ []) c.precommit.new.self) (sym c.in-Ok-precommit.ensures.drawn)
-    (subst (Stands opening (xs ++ Prepares t (s.clock + 1) ∷ [])) (sym c.in-Ok-precommit.ensures.ok) (stands_prepared opening xs s t mine.0 mine.1 h)))
+    (subst (Stands opening (xs ++ Prepares t (s.clock + 1) ∷ [])) (sym c.in-Ok-precommit.ensures.ok) (stands_prepared opening xs s t mine.0 mine.1 c.clock-clock.ensures.single h)))
 
 pub returns-in-Ok-precommit-clause-stays : goal.returns-in-Ok-precommit-clause-stays
 returns-in-Ok-precommit-clause-stays c = stays_at c.args.self.now c.precommit.new.self (now_prepared c.args.self.now c.in-Precommit.tx.0) c.in-Ok-precommit.ensures.ok (stays_prepared c.args.self.now c.in-Precommit.tx.0)
@@ -81,11 +82,11 @@ returns-in-Err-validate_one-clause-stands c opening xs h =
     let s = c.args.self.now in
     let t = c.in-Validate.tx.0 in
     subst (λ (e : Event). Stands opening (xs ++ happened e (reply.Refused c.in-Err-validate_one.refusal)) c.validate_one.new.self) (sym c.in-Validate.is)
-    (subst (Stands opening (xs ++ cond (is_failure c.in-Err-validate_one.refusal) (Aborts t ∷ []) [])) (sym c.in-Err-validate_one.ensures.err) (go s t (is_failure c.in-Err-validate_one.refusal) c.clock-clock.ensures.sound h))
+    (subst (Stands opening (xs ++ cond (is_failure c.in-Err-validate_one.refusal) (Aborts t ∷ []) [])) (sym c.in-Err-validate_one.ensures.err) (go s t (is_failure c.in-Err-validate_one.refusal) (unended_checked s t c.in-Err-validate_one.refusal c.in-Err-validate_one.ensures.refused) c.clock-clock.ensures.sound c.clock-clock.ensures.single h))
   where
-    go : (s : State) (t : ℕ) (b : Bool) → IsSound s → Stands opening xs s → Stands opening (xs ++ cond b (Aborts t ∷ []) []) (cond b (now_aborted s t) s)
-    go s t true k g = stands_aborted opening xs s t k g
-    go s t false k g = subst (λ (ys : List Step). Stands opening ys s) (sym (append-nil xs)) g
+    go : (s : State) (t : ℕ) (b : Bool) → (b ≡ true → IsUnended s t) → IsSound s → IsSingle s → Stands opening xs s → Stands opening (xs ++ cond b (Aborts t ∷ []) []) (cond b (now_aborted s t) s)
+    go s t true u k n g = stands_aborted opening xs s t (u refl) k n g
+    go s t false u k n g = subst (λ (ys : List Step). Stands opening ys s) (sym (append-nil xs)) g
 
 pub returns-in-Err-validate_one-clause-stays : goal.returns-in-Err-validate_one-clause-stays
 returns-in-Err-validate_one-clause-stays c =
@@ -109,7 +110,7 @@ returns-in-Ok-Committed-clause-stands c opening xs h =
     let e : c.in-Ok-Committed.end.0 ≡ x.0.stop = ap end_in (sym c.in-Ok-Committed.field-0-is ∙ c.in-Ok-Committed.ensures.answer) ∙ ap end_at x.1 in
     subst (λ (ev : Event). Stands opening (xs ++ happened ev (reply.Committed c.in-Ok-Committed.end)) c.settle.new.self) (sym c.in-Settle.is)
     (subst (λ (n : ℕ). Stands opening (xs ++ Commits t n ∷ []) c.settle.new.self) (sym e)
-    (subst (Stands opening (xs ++ Commits t x.0.stop ∷ [])) (sym c.in-Ok-Committed.ensures.ok) (stands_committed opening xs s t x.0 x.1 c.clock-clock.ensures.sound h)))
+    (subst (Stands opening (xs ++ Commits t x.0.stop ∷ [])) (sym c.in-Ok-Committed.ensures.ok) (stands_committed opening xs s t x.0 x.1 c.clock-clock.ensures.sound c.clock-clock.ensures.single h)))
 
 pub returns-in-Ok-Committed-clause-stays : goal.returns-in-Ok-Committed-clause-stays
 returns-in-Ok-Committed-clause-stays c = stays_at c.args.self.now c.settle.new.self (now_committed c.args.self.now c.in-Settle.tx.0) c.in-Ok-Committed.ensures.ok (stays_committed c.args.self.now c.in-Settle.tx.0)
@@ -117,7 +118,7 @@ returns-in-Ok-Committed-clause-stays c = stays_at c.args.self.now c.settle.new.s
 pub returns-in-Ok-rollback_tx-clause-stands : goal.returns-in-Ok-rollback_tx-clause-stands
 returns-in-Ok-rollback_tx-clause-stands c opening xs h =
     subst (λ (e : Event). Stands opening (xs ++ happened e reply.RolledBack) c.rollback_tx.new.self) (sym c.in-Rollback.is)
-    (subst (Stands opening (xs ++ Aborts c.in-Rollback.tx.0 ∷ [])) (sym c.in-Ok-rollback_tx.ensures.ok) (stands_aborted opening xs c.args.self.now c.in-Rollback.tx.0 c.clock-clock.ensures.sound h))
+    (subst (Stands opening (xs ++ Aborts c.in-Rollback.tx.0 ∷ [])) (sym c.in-Ok-rollback_tx.ensures.ok) (stands_aborted opening xs c.args.self.now c.in-Rollback.tx.0 (unended_rolled_back c.args.self.now c.in-Rollback.tx.0 c.in-Ok-rollback_tx.ensures.refused) c.clock-clock.ensures.sound c.clock-clock.ensures.single h))
 
 pub returns-in-Ok-rollback_tx-clause-stays : goal.returns-in-Ok-rollback_tx-clause-stays
 returns-in-Ok-rollback_tx-clause-stays c = stays_at c.args.self.now c.rollback_tx.new.self (now_aborted c.args.self.now c.in-Rollback.tx.0) c.in-Ok-rollback_tx.ensures.ok (stays_aborted c.args.self.now c.in-Rollback.tx.0)
@@ -125,4 +126,4 @@ returns-in-Ok-rollback_tx-clause-stays c = stays_at c.args.self.now c.rollback_t
 pub returns-in-Ok-Done-clause-stands : goal.returns-in-Ok-Done-clause-stands
 returns-in-Ok-Done-clause-stands c opening xs h =
     subst (λ (e : Event). Stands opening (xs ++ happened e reply.Done) c.finish_one.new.self) (sym c.in-Finish.is)
-    (subst (Stands opening (xs ++ Leaves c.in-Finish.tx.0 ∷ [])) (sym c.in-Ok-Done.ensures.ok) (stands_left opening xs c.args.self.now c.in-Finish.tx.0 h))
+    (subst (Stands opening (xs ++ Leaves c.in-Finish.tx.0 ∷ [])) (sym c.in-Ok-Done.ensures.ok) (stands_left opening xs c.args.self.now c.in-Finish.tx.0 (over_finished c.args.self.now c.in-Finish.tx.0 c.in-Ok-Done.ensures.refused) c.clock-clock.ensures.single h))

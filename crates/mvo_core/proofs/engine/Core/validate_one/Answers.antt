@@ -92,8 +92,8 @@ undone : (c : After-drop-own-inside-in-Some-next_change-2) → IsUndone c.self.i
 undone c =
     let f = c.self.inside in
     let k = kept2 c in
-    kept_undone f.base f.start f.clock f.running.items f.tale.items f.over.items (vec_capacity f.tale) (vec_capacity c.push_reserved.new.items) c.args.tx.0 c.in-Some.own
-    (record { sound = k.sound; numbered = k.numbered; stored = k.stored; open' = k.open'; alone = k.alone; few = k.few; over_room = let a = k.over_room in let b = c.push_reserved.ensures.room in omega arith; tale_room = k.tale_room })
+    kept_undone f.base f.start f.clock f.running.items f.tale.items f.over.items (vec_capacity f.tale) (vec_capacity c.push_reserved.new.items) c.args.tx.0 c.in-Some.own (eqb-true c.in-Some.own.id c.args.tx.0 (sym c.if-not-is.ensures))
+    (record { sound = k.sound; numbered = k.numbered; single = k.single; stored = k.stored; open' = k.open'; alone = k.alone; few = k.few; over_room = let a = k.over_room in let b = c.push_reserved.ensures.room in omega arith; tale_room = k.tale_room })
 
 over_now : (c : After-drop-own-inside-in-Some-next_change-2) → c.push_reserved.new.items.items ≡ c.self.inside.over.items ++ aborted_tx c.args.tx.0 ∷ []
 over_now c = c.push_reserved.ensures.items ∙ ap (λ (u : OverTx). c.self.inside.over.items ++ u ∷ []) c.aborted.ensures
