@@ -31,7 +31,9 @@ pub fn command<'a>(alloc: Global, words: &'a [&'a str]) -> Result<Task, Error>
 fn command_line<'a>(alloc: Global) -> Result<Command<'a>, AllocError>
     ensures { IfOk result (λ c. app_of c ≡ commands) }
 {
-    let run = Command::new(alloc, "run").about("Runs a script from standard input");
+    let run = Command::new(alloc, "run").about(
+        "Runs a script from standard input over a fresh store in memory, one reply a line",
+    );
     Command::new(alloc, "mvo")
         .about("A main-memory multiversion row store with serializable transactions")
         .subcommand_required(true)

@@ -1,4 +1,4 @@
-ghost use Rattle.std.specs.Prelude.{◌≡◌, OnErr};
+ghost use Rattle.std.specs.Prelude.{◌≡◌, ℕ, List, OnErr};
 ghost use Rattle.mvo_types.specs.declared.ids.TxId.{TxId};
 ghost use Rattle.mvo_cli.specs.Bound.{tx_by, Binds, KeepsBound};
 
@@ -16,7 +16,9 @@ pub struct Names {
 
 impl Names {
     /// No names.
-    pub fn new(alloc: Global) -> Names {
+    pub fn new(alloc: Global) -> Names
+        ensures { (q : List ℕ) → tx_by result q ≡ None }
+    {
         Names {
             alloc,
             bound: BTreeMap::new(alloc),
