@@ -1,11 +1,11 @@
 -- The magic and the version in front of the frames.
-use Rattle.std.proofs.Common.{◌≡◌, ◌≢◌, ℕ, ◌+◌, ◌<◌, ◌≤◌, ◌^◌, List, [], ◌∷◌, ◌++◌, length, take, drop, refl, sym, ap, subst, ◌∙◌, arith, append_assoc, length-append, take-append-drop}
+use Rattle.std.proofs.Common.{◌≡◌, ◌≢◌, ℕ, ◌<◌, ◌≤◌, ◌^◌, List, ◌∷◌, ◌++◌, length, take, drop, refl, sym, ap, subst, ◌∙◌, arith, length-append, take-append-drop}
 use Rattle.std.proofs.lemmas.List.{drop_at, length-take, length-drop}
 use Rattle.byteorder.specs.Endian.{little_bytes, little_number}
 use Rattle.byteorder.specs.Numbers.{little_number-reads_back, little_from-take, length-bytes_low_first}
 use Rattle.mvo_group.proofs.Fields.{IsBytes, IsBytes-take, IsBytes-drop, number_back}
 use Rattle.mvo_group.specs.Data.{GroupData}
-use Rattle.mvo_store.specs.Frames.{magic, header, Frames, HasGroups, IsOtherVersion, IsBroken}
+use Rattle.mvo_store.specs.Frames.{magic, header, Frames, HasFrames, HasGroups, IsOtherVersion, IsBroken}
 use Rattle.mvo_store.proofs.Walk.{behind_header}
 
 -- four bytes are those of their number
@@ -39,14 +39,18 @@ groups_magic gs bytes has =
       magic_number bytes (1 ∷ 0 ∷ 0 ∷ 0 ∷ b.0) b.1,
     )
 
+pub frames_magic : (gs : List GroupData) (bytes : List ℕ) → HasFrames gs bytes → (8 ≤ length bytes) × (little_number 4 bytes ≡ 0x4c4f564d)
+frames_magic gs bytes has = (omega (arith, ap (λ (l : List ℕ). length l) has.1, length-append header has.0), magic_number bytes (1 ∷ 0 ∷ 0 ∷ 0 ∷ has.0) has.1)
+
 pub broken_short : (bytes : List ℕ) → length bytes < 8 → IsBroken bytes
 broken_short bytes short = record {
   version = λ o. absurd (omega (arith, short, (other_magic bytes o).0));
   groups = λ gs has. absurd (omega (arith, short, (groups_magic gs bytes has).0));
+  frames = λ gs has. absurd (omega (arith, short, (frames_magic gs bytes has).0));
 }
 
 pub broken_magic : (bytes : List ℕ) → little_number 4 bytes ≢ 0x4c4f564d → IsBroken bytes
-broken_magic bytes ne = record { version = λ o. ne (other_magic bytes o).1; groups = λ gs has. ne (groups_magic gs bytes has).1 }
+broken_magic bytes ne = record { version = λ o. ne (other_magic bytes o).1; groups = λ gs has. ne (groups_magic gs bytes has).1; frames = λ gs has. ne (frames_magic gs bytes has).1 }
 
 -- version 1 is no other
 pub not_other : (bytes rest : List ℕ) → bytes ≡ header ++ rest → IsOtherVersion bytes → ⊥
@@ -74,10 +78,12 @@ version_1 bytes fields rest fits long is behind one last =
 
 -- version 1, and no frames
 pub broken_frames : (bytes rest : List ℕ) → bytes ≡ header ++ rest → ((gs : List GroupData) → Frames 8 0 gs rest → ⊥) → IsBroken bytes
-broken_frames bytes rest whole none = record {
-  version = not_other bytes rest whole;
-  groups = λ gs has.
-      let b = behind_header bytes gs has in
-      let same : b.0 ≡ rest = sym (drop_at header b.0 8 refl) ∙ ap (λ (l : List ℕ). drop 8 l) (sym b.1 ∙ whole) ∙ drop_at header rest 8 refl in
-      none gs (subst (λ (l : List ℕ). Frames 8 0 gs l) same b.2);
-}
+broken_frames bytes rest whole none =
+    let no_frames : (gs : List GroupData) → HasFrames gs bytes → ⊥ = λ gs has.
+    let same : has.0 ≡ rest = sym (drop_at header has.0 8 refl) ∙ ap (λ (l : List ℕ). drop 8 l) (sym has.1 ∙ whole) ∙ drop_at header rest 8 refl in
+    none gs (subst (λ (l : List ℕ). Frames 8 0 gs l) same has.2) in
+    record {
+      version = not_other bytes rest whole;
+      groups = λ gs has. no_frames gs (behind_header bytes gs has);
+      frames = no_frames;
+    }

@@ -1,5 +1,5 @@
 -- A log stays safe over a step.
-use Rattle.std.proofs.Common.{◌≡◌, ◌≢◌, ◌⊎◌, inl, inr, ⊎_elim, ℕ, ◌≤◌, true, false, Bool, cond, List, [], ◌∷◌, ◌++◌, Result, Ok, Err, OnOk, OnErr, IfErr, Option, Some, None, refl, sym, subst, ap, ◌∙◌, arith}
+use Rattle.std.proofs.Common.{◌≡◌, ◌≢◌, ◌⊎◌, inl, inr, ℕ, ◌≤◌, true, false, Bool, cond, List, [], ◌∷◌, ◌++◌, Result, Ok, Err, OnOk, IfErr, Option, Some, None, refl, sym, subst, arith}
 use Rattle.mvo_types.specs.declared.refusal.Refusal.{Refusal}
 use Rattle.mvo_types.specs.declared.refusal.Refusal.TheVariants.{DiskFault, Down}
 use Rattle.mvo_types.specs.Keys.{Map}
@@ -13,6 +13,7 @@ use Rattle.mvo_store.specs.Steps.{RefusedFor, LeftBy}
 use Rattle.mvo_store.specs.Images.{groups_now, safe_unmoved}
 use Rattle.mvo_store.specs.declared.log.Log.{Log}
 use Rattle.mvo_store.proofs.Crash.{mark_after-push}
+use Rattle.mvo_store.proofs.Walk.{behind_header}
 
 pub fault_or_not : (e : Refusal) → (e ≡ DiskFault) ⊎ (e ≢ DiskFault)
 fault_or_not DiskFault = inl refl
@@ -40,7 +41,7 @@ abbrev pub GivesUpTo : ℕ → List ℕ → Type 0
 GivesUpTo mark bytes = (rows : Map) × (later : ℕ) × Recovers bytes rows later × (mark ≤ later)
 
 gives : (gs : List GroupData) (bytes : List ℕ) (mark : ℕ) → HasGroups 0 gs bytes → mark ≤ mark_of gs → GivesUpTo mark bytes
-gives gs bytes mark has le = (rows_of gs, mark_of gs, record { groups = gs; has = has; rows_are = refl; mark_is = refl }, le)
+gives gs bytes mark has le = (rows_of gs, mark_of gs, record { groups = gs; has = has; frames = behind_header bytes gs has; rows_are = refl; mark_is = refl }, le)
 
 gives_either : (gs : List GroupData) (o : Option GroupData) (bytes : List ℕ) (mark : ℕ) → mark ≡ mark_of gs → HasWithOrWithout gs o bytes → GivesUpTo mark bytes
 gives_either gs o bytes mark is (inl has) = gives gs bytes mark has (omega (arith, is))

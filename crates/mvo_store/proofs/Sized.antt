@@ -7,7 +7,6 @@ use Rattle.mvo_group.proofs.Fields.{IsBytes, IsBytes-take, number_back}
 use Rattle.mvo_group.specs.Data.{GroupData}
 use Rattle.mvo_group.specs.Rules.{IsGroup}
 use Rattle.mvo_group.specs.Body.{body_of}
-use Rattle.mvo_group.proofs.Bodies.{body_of-injective}
 use Rattle.mvo_group.proofs.Sizes.{length-body_of}
 use Rattle.mvo_store.specs.Frames.{sized, IsNextFrame}
 

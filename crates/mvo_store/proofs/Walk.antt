@@ -1,14 +1,11 @@
 -- Reading goes on by one frame.
-use Rattle.std.proofs.Common.{◌≡◌, ◌≢◌, ℕ, ◌+◌, ◌-◌, ◌<◌, ◌≤◌, List, [], ◌∷◌, ◌++◌, length, refl, sym, ap, subst, ◌∙◌, arith, append_assoc, length-append, take, drop, take-append-drop}
+use Rattle.std.proofs.Common.{◌≡◌, ◌≢◌, ℕ, ◌+◌, ◌-◌, ◌<◌, List, [], ◌∷◌, ◌++◌, length, refl, sym, ap, subst, ◌∙◌, arith, append_assoc, length-append, drop}
 use Rattle.std.specs.List.{flat_map}
 use Rattle.std.proofs.lemmas.List.Concat.{flat_map-cons}
 use Rattle.std.proofs.lemmas.List.{drop_at, append-nil}
 use Rattle.std.specs.FinMap as map
 use Rattle.mvo_store.proofs.Crash.{front-push, mark_after-push}
 use Rattle.mvo_store.proofs.Replays.{after_groups-push}
-use Rattle.byteorder.specs.Endian.{little_bytes, little_number}
-use Rattle.byteorder.specs.Numbers.{little_from-take}
-use Rattle.mvo_group.proofs.Fields.{IsBytes, IsBytes-take, number_back}
 use Rattle.mvo_group.specs.Data.{GroupData}
 use Rattle.mvo_group.specs.Body.{body_of}
 use Rattle.mvo_group.proofs.Bodies.{body_of-injective}

@@ -57,6 +57,10 @@ abbrev pub Frames : ℕ → ℕ → List GroupData → List ℕ → Type 0
 Frames place mark [] bytes = (gate : ℕ) × (rest : List ℕ) × (bytes ≡ gate ∷ rest) × (gate ≢ 165)
 Frames place mark (g ∷ gs) bytes = (after : List ℕ) × (rest : List ℕ) × (bytes ≡ 165 ∷ after) × IsNextFrame place mark g after rest × Frames (place + 1 + length (sized (body_of g))) g.mark gs rest
 
+-- behind the header stand the frames of these groups, one after another
+abbrev pub HasFrames : List GroupData → List ℕ → Type 0
+HasFrames gs bytes = (rest : List ℕ) × (bytes ≡ header ++ rest) × Frames 8 0 gs rest
+
 -- a whole magic, and a whole version field with another number than 1
 pub record IsOtherVersion (bytes : List ℕ) : Type 0 where
   pub version : ℕ
@@ -69,3 +73,4 @@ pub record IsOtherVersion (bytes : List ℕ) : Type 0 where
 pub record IsBroken (bytes : List ℕ) : Type 0 where
   pub version : IsOtherVersion bytes → ⊥
   pub groups : (gs : List GroupData) → HasGroups 0 gs bytes → ⊥
+  pub frames : (gs : List GroupData) → HasFrames gs bytes → ⊥

@@ -4,7 +4,7 @@ use Rattle.std.specs.FinMap as map
 use Rattle.mvo_types.specs.Keys.{Map}
 use Rattle.mvo_model.specs.Told.{put_at}
 use Rattle.mvo_group.specs.Data.{NetWrite, RecordData, GroupData}
-use Rattle.mvo_store.specs.Frames.{HasGroups, Frames, front, mark_after}
+use Rattle.mvo_store.specs.Frames.{HasGroups, HasFrames, Frames, front, mark_after}
 
 -- the rows after some writes, one after another
 abbrev pub after_writes : List NetWrite → Map → Map
@@ -34,6 +34,7 @@ IsWellFormed bytes = (gs : List GroupData) × HasGroups 0 gs bytes
 pub record Recovers (bytes : List ℕ) (rows : Map) (mark : ℕ) : Type 0 where
   pub groups : List GroupData
   pub has : HasGroups 0 groups bytes
+  pub frames : HasFrames groups bytes
   pub rows_are : rows ≡ rows_of groups
   pub mark_is : mark ≡ mark_of groups
 

@@ -1,5 +1,5 @@
 -- When a step of the store is refused, and what a refusal leaves.
-use Rattle.std.specs.Prelude.{◌≡◌, ◌≢◌, ◌⊎◌, ℕ, ◌+◌, ◌<◌, ◌≤◌, ◌^◌, nat_le, List, [], Bool, true, false, Option, Some, None, Result, Ok, Err, if◌then◌else◌}
+use Rattle.std.specs.Prelude.{◌≡◌, ◌≢◌, ◌⊎◌, ℕ, ◌+◌, ◌<◌, ◌≤◌, ◌^◌, nat_le, List, [], Bool, true, Option, Some, None, Result, Ok, Err, if◌then◌else◌}
 use Rattle.mvo_types.specs.declared.refusal.Refusal.{Refusal}
 use Rattle.mvo_types.specs.declared.refusal.Refusal.TheVariants.{ClockSpent, SegmentFull, DiskFault, Down, Busy, NotFormatted, Corrupt, BadVersion, NothingToDo, AlreadyFormatted, OutOfMemory}
 use Rattle.mvo_group.specs.Data.{GroupData}

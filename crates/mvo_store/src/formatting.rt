@@ -24,6 +24,7 @@ pub fn format<D: Disk>(disk: D) -> Result<D, (Refusal, D)>
     ensures recovers { IfOk result (λ d. Recovers (D.content d 2) map.empty 0) }
     ensures durable { IfOk result (λ d. Only (D.content d 2) (D.may_leave d 2)) }
     ensures others { IfOk result (λ d. (n : ℕ) → n ≢ 2 → D.content d n ≡ D.content disk n) }
+    ensures others_err { IfErr result (λ e. (n : ℕ) → n ≢ 2 → D.content e.1 n ≡ D.content disk n) }
     ensures empty { IfOk result (λ d. D.content disk 2 ≡ []) }
     ensures count { IfOk result (λ d. (D.fault_count disk < 2 ^ 63) × (D.fault_count d ≡ D.fault_count disk)) }
     ensures refused { IfErr result (λ e. IsFormatRefusal e.0 (D.fault_count disk) (D.fault_count e.1) (D.content disk 2)) }

@@ -30,7 +30,7 @@ pub struct Log<D: Disk> {
 }
 
 impl<D: Disk> Log<D> {
-    ghost use Rattle.std.specs.Prelude.{◌≡◌, ◌≢◌, ◌≤◌, ◌+◌, ◌<◌, ◌^◌, List, length, true, false, OnOk, OnErr, IfOk, IfErr, IsErrOf, Some, None};
+    ghost use Rattle.std.specs.Prelude.{◌≡◌, ◌≢◌, ◌≤◌, ◌+◌, ◌<◌, ◌^◌, ℕ, List, length, true, false, OnOk, OnErr, IfOk, IfErr, IsErrOf, Some, None};
     ghost use Rattle.mvo_disk.specs.Disk.{LeavesOnly};
     ghost use Rattle.mvo_group.specs.Data.{GroupData};
     ghost use Rattle.mvo_store.specs.Frames.{HasGroups};
@@ -61,6 +61,7 @@ impl<D: Disk> Log<D> {
         if let Some(refusal) = self.can_take() {
             return Err((refusal, group));
         }
+        // A look at a field: from then on the proof knows that the group keeps its rules.
         let _ = group.mark();
         self.pending = Some(group);
         Ok(())
@@ -97,6 +98,7 @@ impl<D: Disk> Log<D> {
         requires stands { self.old.down ≡ false → (gs : List GroupData) × Stands D.content D.may_leave D.fault_count self.old gs }
         ensures refused { RefusedFor (why_not_append_body self.old) result }
         ensures ok { OnOk result (self.new ≡ record self.old { disk = self.new.disk; next = self.new.next; written = true }) }
+        ensures others { (n : ℕ) → n ≢ 2 → D.content self.new.disk n ≡ D.content self.old.disk n }
         ensures count { OnOk result (D.fault_count self.new.disk ≡ D.fault_count self.old.disk) }
         ensures err { IfErr result (λ e. LeftBy D.fault_count e self.old self.new) }
         ensures stands { OnOk result ((gs : List GroupData) → Stands D.content D.may_leave D.fault_count self.old gs → Stands D.content D.may_leave D.fault_count self.new gs) }
@@ -120,6 +122,7 @@ impl<D: Disk> Log<D> {
         ensures no_memory { IsErrOf result Refusal.OutOfMemory → ⊥ }
         ensures ok { OnOk result ((self.new.pending ≡ None) × (self.new.written ≡ false) × (self.new.down ≡ false)) }
         ensures mark { IfOk result (λ durable. IsMarkOf self.old.pending durable × (self.new.mark.0 ≡ durable)) }
+        ensures others { (n : ℕ) → n ≢ 2 → D.content self.new.disk n ≡ D.content self.old.disk n }
         ensures count { OnOk result (D.fault_count self.new.disk ≡ D.fault_count self.old.disk) }
         ensures err { IfErr result (λ e. LeftBy D.fault_count e self.old self.new) }
         ensures stands { OnOk result ((gs : List GroupData) → Stands D.content D.may_leave D.fault_count self.old gs →

@@ -125,6 +125,7 @@ impl<D: Disk> Store<D> {
     pub fn append_body(&mut self) -> Result<(), Refusal>
         ensures refused { RefusedFor (why_not_append_body self.old) result }
         ensures ok { OnOk result (self.new ≡ record self.old { disk = self.new.disk; next = self.new.next; written = true }) }
+        ensures others { (n : ℕ) → n ≢ 2 → D.content self.new.disk n ≡ D.content self.old.disk n }
         ensures count { OnOk result (D.fault_count self.new.disk ≡ D.fault_count self.old.disk) }
         ensures err { IfErr result (λ e. LeftBy D.fault_count e self.old self.new) }
         ensures stands { OnOk result ((gs : List GroupData) → Stands D.content D.may_leave D.fault_count self.old gs → Stands D.content D.may_leave D.fault_count self.new gs) }
@@ -146,6 +147,7 @@ impl<D: Disk> Store<D> {
         ensures no_memory { IsErrOf result Refusal.OutOfMemory → ⊥ }
         ensures ok { OnOk result ((self.new.pending ≡ None) × (self.new.written ≡ false) × (self.new.down ≡ false)) }
         ensures mark { IfOk result (λ durable. IsMarkOf self.old.pending durable × (self.new.mark.0 ≡ durable)) }
+        ensures others { (n : ℕ) → n ≢ 2 → D.content self.new.disk n ≡ D.content self.old.disk n }
         ensures count { OnOk result (D.fault_count self.new.disk ≡ D.fault_count self.old.disk) }
         ensures err { IfErr result (λ e. LeftBy D.fault_count e self.old self.new) }
         ensures stands { OnOk result ((gs : List GroupData) → Stands D.content D.may_leave D.fault_count self.old gs →

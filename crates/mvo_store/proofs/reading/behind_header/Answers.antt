@@ -1,4 +1,4 @@
-use Rattle.std.proofs.Common.{sym, arith}
+use Rattle.std.proofs.Common.{arith}
 use Rattle.mvo_store.proofs.Header.{broken_short, broken_magic, other_version, version_1}
 use Rattle.mvo_store.proofs.reading.behind_header.Goals as goal
 

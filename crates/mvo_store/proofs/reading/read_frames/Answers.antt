@@ -1,4 +1,4 @@
-use Rattle.std.proofs.Common.{◌≡◌, ◌+◌, ◌-◌, ◌∷◌, List, ℕ, length, refl, ap, ◌∙◌}
+use Rattle.std.proofs.Common.{◌+◌, ◌-◌, ◌∷◌, length, refl, ap, ◌∙◌}
 use Rattle.mvo_store.specs.Frames.{IsNextFrame}
 use Rattle.mvo_store.proofs.Walk.{so_far_none, so_far_more, so_far_all, none_here, none_next}
 use Rattle.mvo_store.proofs.reading.read_frames.Goals as goal

@@ -1,7 +1,4 @@
-use Rattle.std.proofs.Common.{◌≡◌, ◌<◌, ◌++◌, List, length}
-use Rattle.mvo_group.specs.Data.{GroupData}
-use Rattle.mvo_store.specs.Frames.{Frames, front}
-use Rattle.mvo_store.specs.Recovery.{rows_of, mark_of}
+use Rattle.std.proofs.Common.{length}
 use Rattle.mvo_store.proofs.Walk.{IsReadSoFar}
 use Rattle.mvo_store.proofs.reading.read_frames.Given as goal
 

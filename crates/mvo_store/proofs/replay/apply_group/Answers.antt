@@ -1,4 +1,4 @@
-use Rattle.std.proofs.Common.{◌≡◌, ◌∙◌, sym, ap}
+use Rattle.std.proofs.Common.{◌∙◌, sym, ap}
 use Rattle.mvo_store.specs.Recovery.{after_writes}
 use Rattle.mvo_store.proofs.Replays.{after_records-push}
 use Rattle.mvo_store.proofs.replay.apply_group.Goals as goal

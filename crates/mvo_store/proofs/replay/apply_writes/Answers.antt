@@ -1,4 +1,4 @@
-use Rattle.std.proofs.Common.{◌≡◌, ◌∙◌, sym, ap, map, List}
+use Rattle.std.proofs.Common.{◌∙◌, sym, ap, map, List}
 use Rattle.std.proofs.lemmas.List.{map_push}
 use Rattle.mvo_group.specs.Data.{NetWrite, net_write}
 use Rattle.mvo_model.specs.Told.{put_at}

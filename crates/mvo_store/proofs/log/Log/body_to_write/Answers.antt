@@ -1,4 +1,4 @@
-use Rattle.std.proofs.Common.{◌≡◌, ap, arith, List, ℕ, length, ◌∷◌, [], length-append}
+use Rattle.std.proofs.Common.{ap, arith, List, ℕ, length, ◌∷◌, [], length-append}
 use Rattle.mvo_group.specs.Body.{body_of}
 use Rattle.mvo_store.specs.Frames.{sized}
 use Rattle.mvo_store.proofs.Sized.{length-sized}

@@ -1,5 +1,6 @@
 use Rattle.std.proofs.Common.{sym, ◌∙◌, arith}
 use Rattle.mvo_store.proofs.Opens.{opens}
+use Rattle.mvo_store.proofs.Walk.{behind_header}
 use Rattle.mvo_store.proofs.store.Store.open.Goals as goal
 
 pub returns-clause-stands : goal.returns-clause-stands
@@ -12,3 +13,8 @@ pub returns-clause-exactly : goal.returns-clause-exactly
 returns-clause-exactly g c = λ rows mark r.
     let s = returns-clause-stands g c r.groups r.has in
     (r.rows_are ∙ sym s.1, r.mark_is ∙ sym s.2)
+
+pub returns-clause-recovers : goal.returns-clause-recovers
+returns-clause-recovers g c =
+    let r = c.in-Ok.ensures.found in
+    record { groups = r.groups; has = r.has; frames = behind_header (g.D.Disk.content c.args.disk 2) r.groups r.has; rows_are = r.rows_are; mark_is = r.mark_is }
