@@ -2,3 +2,4 @@ pub mod View
 pub mod Writers
 pub mod Kept
 pub mod Events
+pub mod Replies

@@ -4,6 +4,7 @@ ghost use Rattle.mvo_model.specs.Trace.{Step};
 ghost use Rattle.mvo_state.specs.Stands.{Stands};
 ghost use Rattle.mvo_state.specs.Marks.{StaysBelow};
 ghost use Rattle.mvo_core.specs.Events.{happened};
+ghost use Rattle.mvo_core.specs.Replies.{IsReplyTo, IsCopiedReplyTo};
 
 use crate::engine::Core;
 use crate::event::Event;
@@ -14,6 +15,7 @@ impl Core {
     /// One step. It leads from a state that stands for a trace to one that stands for the trace with
     /// this event and reply.
     pub fn step(&mut self, event: Event) -> Reply
+        ensures reply { IsReplyTo self.old event result self.new }
         ensures stands { (opening : Map) (xs : List Step) → Stands opening xs self.old → Stands opening (xs ++ happened event result) self.new }
         ensures stays { StaysBelow self.old self.new }
     {
@@ -59,6 +61,7 @@ impl Core {
 
     /// One step, of an event that is kept: an event whose copy is refused replies 90 and does nothing.
     pub fn step_copy(&mut self, event: &Event) -> Reply
+        ensures reply { IsCopiedReplyTo self.old event.now result self.new }
         ensures stands { (opening : Map) (xs : List Step) → Stands opening xs self.old → Stands opening (xs ++ happened event.now result) self.new }
         ensures stays { StaysBelow self.old self.new }
     {

@@ -1,6 +1,8 @@
 ghost use Rattle.std.specs.Prelude.{◌≡◌, IfOk, IfErr, length};
 ghost use Rattle.mvo_model.specs.Trace.{IsSerial};
+ghost use Rattle.mvo_state.specs.Line.{State, opened};
 ghost use Rattle.mvo_core.specs.Events.{trace_of};
+ghost use Rattle.mvo_core.specs.Replies.{AreRepliesTo};
 
 use crate::engine::Core;
 use crate::event::Event;
@@ -12,6 +14,7 @@ use std::alloc::Global;
 /// first: refused with 90 it has run nothing. An event whose copy is refused replies 90 and does
 /// nothing.
 pub fn run(alloc: Global, rows: Rows, mark: Stamp, events: &[Event]) -> Result<Vec<Reply>, Refusal>
+    ensures each { IfOk result (λ replies. (last : State) × AreRepliesTo (opened rows mark.0) events.now replies.items last) }
     ensures replies { IfOk result (λ replies. length replies.items ≡ length events.now) }
     ensures serial { IfOk result (λ replies. IsSerial rows (trace_of events.now replies.items)) }
     ensures memory { IfErr result (λ r. r ≡ Refusal.OutOfMemory) }
