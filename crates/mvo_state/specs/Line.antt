@@ -68,6 +68,14 @@ abbrev pub last_writer : RowKey → ℕ → List Slot → Option Slot
 last_writer k b [] = None
 last_writer k b (x ∷ xs) = but (cond (is_writer k b x) (Some x) None) (last_writer k b xs)
 
+abbrev pub end_or : ℕ → Option Slot → ℕ
+end_or start None = start
+end_or start (Some x) = x.stop
+
+-- the origin of a key that stands for the transaction with the begin b: the end of its last writer, or the opening mark without one
+abbrev pub origin : State → ℕ → RowKey → ℕ
+origin s b k = end_or s.start (last_writer k b s.line)
+
 abbrev pub has : List ℕ → ℕ → Bool
 has ds d = list_any (λ x. x == d) ds
 
