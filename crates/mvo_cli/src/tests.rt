@@ -58,7 +58,7 @@ const BAD_LINES: [&[u8]; 46] = [
     b"begin t2 t3",
     b"Begin t2",
     b"begins t2",
-    b"begin T2",
+    b"begin tX",
     b"begin t_2",
     b"begin t23456789012345678",
     b"begin t2\r",
