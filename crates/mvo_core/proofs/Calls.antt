@@ -17,6 +17,7 @@ use Rattle.mvo_types.specs.Said.{Said}
 use Rattle.mvo_model.specs.Serial.{answer_to}
 use Rattle.mvo_model.specs.Told.{Told, left_by, net_write}
 use Rattle.mvo_state.specs.declared.over.OverTx.{OverTx}
+use Rattle.mvo_state.specs.declared.marks.Marks.{Marks}
 use Rattle.mvo_state.specs.Entries.{IsKeyed, key_of, entries}
 use Rattle.mvo_state.specs.Line.{State, Slot, Running, opened, began, told, with_told, prepared, to_slot, without, checked, with_check, committed, with_settled, dropped, undone, told_of, snapshot, seen_by, is_writer, last_writer, committed_tx, aborted_tx, has}
 use Rattle.mvo_state.specs.Sound.{IsSound, IsNumbered, IsSingle, IsActive, IsPreparing, IsUnchanged, IsRising, AreDistinct}
@@ -91,20 +92,20 @@ not_active_by one over t = cond (one_is (λ p. p.id == t) one) NotActive (cond (
 abbrev pub not_preparing_by : List Running → List OverTx → ℕ → Refusal
 not_preparing_by running over t = cond (list_any (λ r. r.id == t) running) NotPreparing (cond (list_any (λ u. u.id.0 == t) over) Ended NoSuchTransaction)
 
-pub absent_active : (base : Map) (start clock : ℕ) (running : List Running) (tale : List Slot) (one : Option Slot) (over : List OverTx) (t : ℕ) → AllByRecursion IsStored tale → IsOneOpen one → not_active (state_of base start clock running tale one over) t ≡ not_active_by one over t
-absent_active base start clock running tale one over t h o = not_active_is (state_of base start clock running tale one over) t _ (any_preparing t tale one h o)
+pub absent_active : (base : Map) (marks : Marks) (clock : ℕ) (running : List Running) (tale : List Slot) (one : Option Slot) (over : List OverTx) (t : ℕ) → AllByRecursion IsStored tale → IsOneOpen one → not_active (state_of base marks clock running tale one over) t ≡ not_active_by one over t
+absent_active base marks clock running tale one over t h o = not_active_is (state_of base marks clock running tale one over) t _ (any_preparing t tale one h o)
 
 -- ---- begin
 pub why_begun : (s : State) (n : ℕ) → unfinished s ≡ n → why_not_begun s ≡ if_stands (nat_le 1024 n) TableFull (if_stands (nat_le MAX_STAMP s.clock) ClockSpent None)
 why_begun s n e = ap (λ (m : ℕ). if_stands (nat_le 1024 m) TableFull (if_stands (nat_le MAX_STAMP s.clock) ClockSpent None)) e
 
-pub unfinished_is : (base : Map) (start clock : ℕ) (running : List Running) (tale : List Slot) (one : Option Slot) (over : List OverTx) → AllByRecursion IsStored tale → IsOneOpen one → unfinished (state_of base start clock running tale one over) ≡ length running + (count_one one + length over)
-unfinished_is base start clock running tale one over h o = ap (λ (n : ℕ). length running + (n + length over)) (unsettled_line tale one h o)
+pub unfinished_is : (base : Map) (marks : Marks) (clock : ℕ) (running : List Running) (tale : List Slot) (one : Option Slot) (over : List OverTx) → AllByRecursion IsStored tale → IsOneOpen one → unfinished (state_of base marks clock running tale one over) ≡ length running + (count_one one + length over)
+unfinished_is base marks clock running tale one over h o = ap (λ (n : ℕ). length running + (n + length over)) (unsettled_line tale one h o)
 
-pub kept_began : (base : Map) (start clock : ℕ) (running : List Running) (tale : List Slot) (one : Option Slot) (over : List OverTx) (tc oc : ℕ) → length running + (count_one one + length over) < 1024 → IsKept (state_of base start clock running tale one over) tale one tc oc →
-    IsKept (began (state_of base start clock running tale one over) (clock + 1)) tale one tc oc
-kept_began base start clock running tale one over tc oc lt k =
-    let s = state_of base start clock running tale one over in
+pub kept_began : (base : Map) (marks : Marks) (clock : ℕ) (running : List Running) (tale : List Slot) (one : Option Slot) (over : List OverTx) (tc oc : ℕ) → length running + (count_one one + length over) < 1024 → IsKept (state_of base marks clock running tale one over) tale one tc oc →
+    IsKept (began (state_of base marks clock running tale one over) (clock + 1)) tale one tc oc
+kept_began base marks clock running tale one over tc oc lt k =
+    let s = state_of base marks clock running tale one over in
     record {
       sound = sound_began s (clock + 1) (omega arith) k.sound;
       numbered = numbered_began s (clock + 1) (omega arith) k.sound k.numbered;
@@ -160,25 +161,25 @@ length-set' (y ∷ ys) zero x = refl
 length-set' (y ∷ ys) (suc i) x = ap suc (length-set' ys i x)
 
 -- what a call that tells an operation finds, and what it leaves
-pub record IsTold (base : Map) (start clock : ℕ) (running : List Running) (tale : List Slot) (one : Option Slot) (over : List OverTx) (tc oc t at : ℕ) (op : Op) (a : Said) (new : Running) : Type 0 where
-  pub state : state_of base start clock (set running at new) tale one over ≡ told (state_of base start clock running tale one over) t op a
-  pub kept : IsKept (state_of base start clock (set running at new) tale one over) tale one tc oc
+pub record IsTold (base : Map) (marks : Marks) (clock : ℕ) (running : List Running) (tale : List Slot) (one : Option Slot) (over : List OverTx) (tc oc t at : ℕ) (op : Op) (a : Said) (new : Running) : Type 0 where
+  pub state : state_of base marks clock (set running at new) tale one over ≡ told (state_of base marks clock running tale one over) t op a
+  pub kept : IsKept (state_of base marks clock (set running at new) tale one over) tale one tc oc
 
-pub kept_told : (base : Map) (start clock : ℕ) (running : List Running) (tale : List Slot) (one : Option Slot) (over : List OverTx) (tc oc t at : ℕ) (op : Op) (a : Said) (mine new : Running) →
-    position (λ r. r.id == t) running ≡ Some at → mine ≡ get_or running at mine → new ≡ record mine { told = mine.told ++ (op, a) ∷ [] } → one_is (is_writer (key_of op) t) one ≡ false → IsKeyed op → a ≡ answer_to op (snapshot (state_of base start clock running tale one over) t) →
-    IsKept (state_of base start clock running tale one over) tale one tc oc → IsTold base start clock running tale one over tc oc t at op a new
-kept_told base start clock running tale one over tc oc t at op a mine new p is e f key ans k =
-    let s = state_of base start clock running tale one over in
+pub kept_told : (base : Map) (marks : Marks) (clock : ℕ) (running : List Running) (tale : List Slot) (one : Option Slot) (over : List OverTx) (tc oc t at : ℕ) (op : Op) (a : Said) (mine new : Running) →
+    position (λ r. r.id == t) running ≡ Some at → mine ≡ get_or running at mine → new ≡ record mine { told = mine.told ++ (op, a) ∷ [] } → one_is (is_writer (key_of op) t) one ≡ false → IsKeyed op → a ≡ answer_to op (snapshot (state_of base marks clock running tale one over) t) →
+    IsKept (state_of base marks clock running tale one over) tale one tc oc → IsTold base marks clock running tale one over tc oc t at op a new
+kept_told base marks clock running tale one over tc oc t at op a mine new p is e f key ans k =
+    let s = state_of base marks clock running tale one over in
     let quiet : is_open (last_writer (key_of op) t s.line) ≡ false = writer_line (key_of op) t tale one k.stored k.open' ∙ f in
     let found = found_at t running at mine p is k.numbered.distinct in
     let mine_alone : IsAlone mine = subst IsAlone (sym is) (at_one IsAlone running at mine found.inside k.alone) in
     let same : set running at new ≡ map (with_told s.line t op a) running = told_at s.line t op a running at mine new p is e quiet k.numbered.distinct in
     record {
-      state = ap (λ (rs : List Running). state_of base start clock rs tale one over) same;
+      state = ap (λ (rs : List Running). state_of base marks clock rs tale one over) same;
       kept = record {
-        sound = subst (λ (rs : List Running). IsSound (state_of base start clock rs tale one over)) (sym same) (sound_answer s t op a key ans k.numbered k.sound);
-        numbered = subst (λ (rs : List Running). IsNumbered (state_of base start clock rs tale one over)) (sym same) (numbered_told s t op a k.numbered);
-        single = subst (λ (rs : List Running). IsSingle (state_of base start clock rs tale one over)) (sym same) (single_told s t op a k.single);
+        sound = subst (λ (rs : List Running). IsSound (state_of base marks clock rs tale one over)) (sym same) (sound_answer s t op a key ans k.numbered k.sound);
+        numbered = subst (λ (rs : List Running). IsNumbered (state_of base marks clock rs tale one over)) (sym same) (numbered_told s t op a k.numbered);
+        single = subst (λ (rs : List Running). IsSingle (state_of base marks clock rs tale one over)) (sym same) (single_told s t op a k.single);
         stored = k.stored;
         open' = k.open';
         alone = alone_told s.line t op a running at new (subst IsAlone (sym e) (record { rests = mine_alone.rests; doom = mine_alone.doom })) k.alone;
@@ -200,21 +201,21 @@ length-remove (x ∷ xs) (suc i) lt = let h = length-remove xs i (omega arith) i
 each_without : (P : Running → Type 0) (t : ℕ) (rs : List Running) → AllByRecursion P rs → AllByRecursion P (without t rs)
 each_without P t rs h = each_filter (λ r. not (r.id == t)) P P (λ r _ q. q) rs h
 
-pub record IsPrecommitted (base : Map) (start clock : ℕ) (running : List Running) (tale : List Slot) (over : List OverTx) (tc oc t at : ℕ) (x : Slot) : Type 0 where
-  pub state : state_of base start (clock + 1) (remove running at) tale (Some x) over ≡ now_prepared (state_of base start clock running tale None over) t
-  pub kept : IsKept (state_of base start (clock + 1) (remove running at) tale (Some x) over) tale (Some x) tc oc
+pub record IsPrecommitted (base : Map) (marks : Marks) (clock : ℕ) (running : List Running) (tale : List Slot) (over : List OverTx) (tc oc t at : ℕ) (x : Slot) : Type 0 where
+  pub state : state_of base marks (clock + 1) (remove running at) tale (Some x) over ≡ now_prepared (state_of base marks clock running tale None over) t
+  pub kept : IsKept (state_of base marks (clock + 1) (remove running at) tale (Some x) over) tale (Some x) tc oc
 
-pub kept_prepared : (base : Map) (start clock : ℕ) (running : List Running) (tale : List Slot) (over : List OverTx) (tc tc' oc t at : ℕ) (mine : Running) (x : Slot) →
+pub kept_prepared : (base : Map) (marks : Marks) (clock : ℕ) (running : List Running) (tale : List Slot) (over : List OverTx) (tc tc' oc t at : ℕ) (mine : Running) (x : Slot) →
     position (λ r. r.id == t) running ≡ Some at → mine ≡ get_or running at mine → x ≡ to_slot (clock + 1) mine → length tale < tc' →
-    IsKept (state_of base start clock running tale None over) tale None tc oc → IsPrecommitted base start clock running tale over tc' oc t at x
-kept_prepared base start clock running tale over tc tc' oc t at mine x p is e room k =
-    let s = state_of base start clock running tale None over in
+    IsKept (state_of base marks clock running tale None over) tale None tc oc → IsPrecommitted base marks clock running tale over tc' oc t at x
+kept_prepared base marks clock running tale over tc tc' oc t at mine x p is e room k =
+    let s = state_of base marks clock running tale None over in
     let found = found_at t running at mine p is k.numbered.distinct in
     let mine_alone : IsAlone mine = subst IsAlone (sym is) (at_one IsAlone running at mine found.inside k.alone) in
     let active : IsActive base s.line clock mine = subst (IsActive base s.line clock) (sym is) (at_one (IsActive base s.line clock) running at mine found.inside k.sound.running) in
     let rs : without mine.id running ≡ remove running at = ap (λ (n : ℕ). without n running) found.id ∙ found.without in
     let line : s.line ++ to_slot (clock + 1) mine ∷ [] ≡ line_of tale (Some x) = ap (λ (l : List Slot). l ++ to_slot (clock + 1) mine ∷ []) (append-nil tale) ∙ ap (λ (y : Slot). tale ++ y ∷ []) (sym e) in
-    let same : prepared s mine (clock + 1) ≡ state_of base start (clock + 1) (remove running at) tale (Some x) over = (λ i. record { base = base; start = start; clock = clock + 1; running = rs i; line = line i; over = over }) in
+    let same : prepared s mine (clock + 1) ≡ state_of base marks (clock + 1) (remove running at) tale (Some x) over = (λ i. record { base = base; marks = marks; clock = clock + 1; running = rs i; line = line i; over = over }) in
     record {
       state = sym same ∙ sym (ap (prepared_at s) found.found);
       kept = record {
@@ -242,9 +243,9 @@ pub change_is : (tale : List Slot) (ws : List ℕ) (x : Slot) (w : Option RowKey
 change_is tale ws x None i = refl
 change_is tale ws x (Some k) i = ap differs (change_line x.id x.stop k tale x (omega arith) ∙ sym (change_writers x.id x.stop k tale ws i))
 
-pub record IsCommit (base : Map) (start clock : ℕ) (running : List Running) (tale : List Slot) (over : List OverTx) (tc oc t : ℕ) (x : Slot) : Type 0 where
-  pub state : state_of base start clock running (tale ++ with_settled x.stop x ∷ []) None (over ++ committed_tx t x.stop ∷ []) ≡ committed (state_of base start clock running tale (Some x) over) t x.stop
-  pub kept : IsKept (state_of base start clock running (tale ++ with_settled x.stop x ∷ []) None (over ++ committed_tx t x.stop ∷ [])) (tale ++ with_settled x.stop x ∷ []) None tc oc
+pub record IsCommit (base : Map) (marks : Marks) (clock : ℕ) (running : List Running) (tale : List Slot) (over : List OverTx) (tc oc t : ℕ) (x : Slot) : Type 0 where
+  pub state : state_of base marks clock running (tale ++ with_settled x.stop x ∷ []) None (over ++ committed_tx t x.stop ∷ []) ≡ committed (state_of base marks clock running tale (Some x) over) t x.stop
+  pub kept : IsKept (state_of base marks clock running (tale ++ with_settled x.stop x ∷ []) None (over ++ committed_tx t x.stop ∷ [])) (tale ++ with_settled x.stop x ∷ []) None tc oc
 
 none_rest : (x : Slot) (ys : List Slot) → x.rests ≡ [] → AllByRecursion (λ y. y.settled ≡ false → has x.rests y.stop ≡ false) ys
 none_rest x [] e = tt
@@ -254,16 +255,16 @@ or_same : (a b : Bool) → b ≡ true → (a || b) ≡ true
 or_same true b e = refl
 or_same false b e = e
 
-pub kept_committed : (base : Map) (start clock : ℕ) (running : List Running) (tale : List Slot) (over : List OverTx) (tc oc t : ℕ) (x : Slot) → x.id ≡ t → x.valid ≡ true →
-    IsKept (state_of base start clock running tale (Some x) over) tale (Some x) tc oc → IsCommit base start clock running tale over tc oc t x
-kept_committed base start clock running tale over tc oc t x id v k =
-    let s = state_of base start clock running tale (Some x) over in
+pub kept_committed : (base : Map) (marks : Marks) (clock : ℕ) (running : List Running) (tale : List Slot) (over : List OverTx) (tc oc t : ℕ) (x : Slot) → x.id ≡ t → x.valid ≡ true →
+    IsKept (state_of base marks clock running tale (Some x) over) tale (Some x) tc oc → IsCommit base marks clock running tale over tc oc t x
+kept_committed base marks clock running tale over tc oc t x id v k =
+    let s = state_of base marks clock running tale (Some x) over in
     let line = settled_line tale x k.stored k.sound.rising in
-    let same : committed s t x.stop ≡ state_of base start clock running (tale ++ with_settled x.stop x ∷ []) None (over ++ committed_tx t x.stop ∷ []) = ap (λ (l : List Slot). record { base = base; start = start; clock = clock; running = running; line = l; over = over ++ committed_tx t x.stop ∷ [] }) line in
+    let same : committed s t x.stop ≡ state_of base marks clock running (tale ++ with_settled x.stop x ∷ []) None (over ++ committed_tx t x.stop ∷ []) = ap (λ (l : List Slot). record { base = base; marks = marks; clock = clock; running = running; line = l; over = over ++ committed_tx t x.stop ∷ [] }) line in
     record {
       state = sym same;
       kept = record {
-        sound = subst IsSound same (subst (λ (n : ℕ). IsSound (committed s n x.stop)) id (settled_in base start clock running tale [] x over k.open'.settled v k.open'.doom (none_rest x (tale ++ x ∷ []) k.open'.rests) k.sound));
+        sound = subst IsSound same (subst (λ (n : ℕ). IsSound (committed s n x.stop)) id (settled_in base marks clock running tale [] x over k.open'.settled v k.open'.doom (none_rest x (tale ++ x ∷ []) k.open'.rests) k.sound));
         numbered = subst IsNumbered same (numbered_committed s t x.stop k.numbered);
         single = subst IsSingle same (single_committed s t x (preparing_line t tale (Some x) k.stored k.open' ∙ picked t x (eq-eqb x.id t id)) k.sound k.single);
         stored = each_append IsStored tale (with_settled x.stop x ∷ []) k.stored (record { settled = or_same x.settled (x.stop == x.stop) (eq-eqb x.stop x.stop refl); rests = k.open'.rests }, tt);
@@ -275,20 +276,20 @@ kept_committed base start clock running tale over tc oc t x id v k =
       };
     }
 
-pub record IsUndone (base : Map) (start clock : ℕ) (running : List Running) (tale : List Slot) (over : List OverTx) (tc oc t : ℕ) (x : Slot) : Type 0 where
-  pub state : state_of base start clock running tale None (over ++ aborted_tx t ∷ []) ≡ undone (state_of base start clock running tale (Some x) over) t x.stop
-  pub kept : IsKept (state_of base start clock running tale None (over ++ aborted_tx t ∷ [])) tale None tc oc
+pub record IsUndone (base : Map) (marks : Marks) (clock : ℕ) (running : List Running) (tale : List Slot) (over : List OverTx) (tc oc t : ℕ) (x : Slot) : Type 0 where
+  pub state : state_of base marks clock running tale None (over ++ aborted_tx t ∷ []) ≡ undone (state_of base marks clock running tale (Some x) over) t x.stop
+  pub kept : IsKept (state_of base marks clock running tale None (over ++ aborted_tx t ∷ [])) tale None tc oc
 
 open_at : (tale : List Slot) (x : Slot) → IsOpen x → IsRising (line_of tale (Some x)) → AllByRecursion (λ y. y.stop ≡ x.stop → y.settled ≡ false) (line_of tale (Some x))
 open_at tale x o r = each_append (λ y. y.stop ≡ x.stop → y.settled ≡ false) tale (x ∷ []) (each_weaker (λ y. y.stop < x.stop) (λ y. y.stop ≡ x.stop → y.settled ≡ false) (λ y lt e. absurd (omega arith)) tale (before_last tale x r)) (λ _. o.settled, tt)
 
-pub kept_undone : (base : Map) (start clock : ℕ) (running : List Running) (tale : List Slot) (over : List OverTx) (tc oc t : ℕ) (x : Slot) → x.id ≡ t →
-    IsKept (state_of base start clock running tale (Some x) over) tale (Some x) tc oc → IsUndone base start clock running tale over tc oc t x
-kept_undone base start clock running tale over tc oc t x id k =
-    let s = state_of base start clock running tale (Some x) over in
+pub kept_undone : (base : Map) (marks : Marks) (clock : ℕ) (running : List Running) (tale : List Slot) (over : List OverTx) (tc oc t : ℕ) (x : Slot) → x.id ≡ t →
+    IsKept (state_of base marks clock running tale (Some x) over) tale (Some x) tc oc → IsUndone base marks clock running tale over tc oc t x
+kept_undone base marks clock running tale over tc oc t x id k =
+    let s = state_of base marks clock running tale (Some x) over in
     let line = undone_line t tale x k.stored k.sound.rising in
     let rs = running_doomed t x.stop running k.alone in
-    let same : undone s t x.stop ≡ state_of base start clock running tale None (over ++ aborted_tx t ∷ []) = (λ i. record { base = base; start = start; clock = clock; running = rs i; line = line i; over = over ++ aborted_tx t ∷ [] }) in
+    let same : undone s t x.stop ≡ state_of base marks clock running tale None (over ++ aborted_tx t ∷ []) = (λ i. record { base = base; marks = marks; clock = clock; running = rs i; line = line i; over = over ++ aborted_tx t ∷ [] }) in
     record {
       state = sym same;
       kept = record {
@@ -304,17 +305,17 @@ kept_undone base start clock running tale over tc oc t x id k =
       };
     }
 
-pub record IsDropped (base : Map) (start clock : ℕ) (running : List Running) (tale : List Slot) (one : Option Slot) (over : List OverTx) (tc oc t at : ℕ) : Type 0 where
-  pub state : state_of base start clock (remove running at) tale one (over ++ aborted_tx t ∷ []) ≡ dropped (state_of base start clock running tale one over) t
-  pub kept : IsKept (state_of base start clock (remove running at) tale one (over ++ aborted_tx t ∷ [])) tale one tc oc
+pub record IsDropped (base : Map) (marks : Marks) (clock : ℕ) (running : List Running) (tale : List Slot) (one : Option Slot) (over : List OverTx) (tc oc t at : ℕ) : Type 0 where
+  pub state : state_of base marks clock (remove running at) tale one (over ++ aborted_tx t ∷ []) ≡ dropped (state_of base marks clock running tale one over) t
+  pub kept : IsKept (state_of base marks clock (remove running at) tale one (over ++ aborted_tx t ∷ [])) tale one tc oc
 
-pub kept_dropped : (base : Map) (start clock : ℕ) (running : List Running) (tale : List Slot) (one : Option Slot) (over : List OverTx) (tc oc t at : ℕ) (mine : Running) →
+pub kept_dropped : (base : Map) (marks : Marks) (clock : ℕ) (running : List Running) (tale : List Slot) (one : Option Slot) (over : List OverTx) (tc oc t at : ℕ) (mine : Running) →
     position (λ r. r.id == t) running ≡ Some at → mine ≡ get_or running at mine →
-    IsKept (state_of base start clock running tale one over) tale one tc oc → IsDropped base start clock running tale one over tc oc t at
-kept_dropped base start clock running tale one over tc oc t at mine p is k =
-    let s = state_of base start clock running tale one over in
+    IsKept (state_of base marks clock running tale one over) tale one tc oc → IsDropped base marks clock running tale one over tc oc t at
+kept_dropped base marks clock running tale one over tc oc t at mine p is k =
+    let s = state_of base marks clock running tale one over in
     let found = found_at t running at mine p is k.numbered.distinct in
-    let same : dropped s t ≡ state_of base start clock (remove running at) tale one (over ++ aborted_tx t ∷ []) = ap (λ (rs : List Running). state_of base start clock rs tale one (over ++ aborted_tx t ∷ [])) found.without in
+    let same : dropped s t ≡ state_of base marks clock (remove running at) tale one (over ++ aborted_tx t ∷ []) = ap (λ (rs : List Running). state_of base marks clock rs tale one (over ++ aborted_tx t ∷ [])) found.without in
     record {
       state = sym same;
       kept = record {
@@ -331,15 +332,15 @@ kept_dropped base start clock running tale one over tc oc t at mine p is k =
     }
 
 -- ---- finish
-pub kept_left : (base : Map) (start clock : ℕ) (running : List Running) (tale : List Slot) (one : Option Slot) (over : List OverTx) (tc oc oc' t at : ℕ) (mine : OverTx) →
+pub kept_left : (base : Map) (marks : Marks) (clock : ℕ) (running : List Running) (tale : List Slot) (one : Option Slot) (over : List OverTx) (tc oc oc' t at : ℕ) (mine : OverTx) →
     position (λ u. u.id.0 == t) over ≡ Some at → 1024 ≤ oc' →
-    IsKept (state_of base start clock running tale one over) tale one tc oc → IsKept (state_of base start clock running tale one (remove over at)) tale one tc oc'
-kept_left base start clock running tale one over tc oc oc' t at mine p room k =
-    let s = state_of base start clock running tale one over in
+    IsKept (state_of base marks clock running tale one over) tale one tc oc → IsKept (state_of base marks clock running tale one (remove over at)) tale one tc oc'
+kept_left base marks clock running tale one over tc oc oc' t at mine p room k =
+    let s = state_of base marks clock running tale one over in
     record {
       sound = record { legal = k.sound.legal; rising = k.sound.rising; clear = k.sound.clear; placed = k.sound.placed; preparing = k.sound.preparing; running = k.sound.running };
       numbered = record { distinct = k.numbered.distinct; apart = k.numbered.apart };
-      single = subst (λ (us : List OverTx). IsSingle (state_of base start clock running tale one us)) (sym (over_at t over at mine p)) (single_left s t k.single);
+      single = subst (λ (us : List OverTx). IsSingle (state_of base marks clock running tale one us)) (sym (over_at t over at mine p)) (single_left s t k.single);
       stored = k.stored;
       open' = k.open';
       alone = k.alone;
@@ -359,20 +360,20 @@ unlined t (x ∷ xs) h = ap (λ (b : Bool). cond (b && not x.settled) (Some x) (
 pub active_unlined : (s : State) (t i : ℕ) (mine : Running) → IsFound t s.running i mine → mine ≡ get_or s.running i mine → IsNumbered s → preparing_of t s.line ≡ None
 active_unlined s t i mine f is n = unlined t s.line (subst (λ (m : ℕ). AllByRecursion (λ x. x.id ≢ m) s.line) f.id (subst (λ (r : Running). AllByRecursion (λ x. x.id ≢ r.id) s.line) (sym is) (at_one (λ r. AllByRecursion (λ x. x.id ≢ r.id) s.line) s.running i mine f.inside n.apart)))
 
-pub record IsCounted (base : Map) (start clock : ℕ) (running : List Running) (tale : List Slot) (over : List OverTx) (tc oc : ℕ) (x new : Slot) (v : Bool) : Type 0 where
-  pub state : state_of base start clock running tale (Some new) over ≡ checked (state_of base start clock running tale (Some x) over) x.stop v
-  pub kept : IsKept (state_of base start clock running tale (Some new) over) tale (Some new) tc oc
+pub record IsCounted (base : Map) (marks : Marks) (clock : ℕ) (running : List Running) (tale : List Slot) (over : List OverTx) (tc oc : ℕ) (x new : Slot) (v : Bool) : Type 0 where
+  pub state : state_of base marks clock running tale (Some new) over ≡ checked (state_of base marks clock running tale (Some x) over) x.stop v
+  pub kept : IsKept (state_of base marks clock running tale (Some new) over) tale (Some new) tc oc
 
 one_check : (tale : List Slot) (x : Slot) (v : Bool) → IsRising (line_of tale (Some x)) → ((k : RowKey) → slice_get (entries x.told) x.checked ≡ Some k → IsUnchanged (line_of tale (Some x)) x.id x.stop k) → (v ≡ true → length (entries x.told) ≤ x.checked + 1) → AllByRecursion (IsCheck (line_of tale (Some x)) x.stop v) (line_of tale (Some x))
 one_check tale x v r q f = each_append (IsCheck (line_of tale (Some x)) x.stop v) tale (x ∷ []) (each_weaker (λ y. y.stop < x.stop) (IsCheck (line_of tale (Some x)) x.stop v) (λ y lt e. absurd (omega arith)) tale (before_last tale x r)) (λ _. (q, f), tt)
 
-pub kept_checked : (base : Map) (start clock : ℕ) (running : List Running) (tale : List Slot) (over : List OverTx) (tc oc : ℕ) (x new : Slot) (v : Bool) → new ≡ record x { checked = x.checked + 1; valid = v } → v ≡ nat_le (length (entries x.told)) (x.checked + 1) →
+pub kept_checked : (base : Map) (marks : Marks) (clock : ℕ) (running : List Running) (tale : List Slot) (over : List OverTx) (tc oc : ℕ) (x new : Slot) (v : Bool) → new ≡ record x { checked = x.checked + 1; valid = v } → v ≡ nat_le (length (entries x.told)) (x.checked + 1) →
     entry_differs (line_of tale (Some x)) x (slice_get (entries x.told) x.checked) ≡ None →
-    IsKept (state_of base start clock running tale (Some x) over) tale (Some x) tc oc → IsCounted base start clock running tale over tc oc x new v
-kept_checked base start clock running tale over tc oc x new v e last none k =
-    let s = state_of base start clock running tale (Some x) over in
+    IsKept (state_of base marks clock running tale (Some x) over) tale (Some x) tc oc → IsCounted base marks clock running tale over tc oc x new v
+kept_checked base marks clock running tale over tc oc x new v e last none k =
+    let s = state_of base marks clock running tale (Some x) over in
     let line = checked_line tale x v k.sound.rising in
-    let same : checked s x.stop v ≡ state_of base start clock running tale (Some new) over = ap (λ (l : List Slot). record { base = base; start = start; clock = clock; running = running; line = l; over = over }) (line ∙ ap (λ (y : Slot). line_of tale (Some y)) (sym e)) in
+    let same : checked s x.stop v ≡ state_of base marks clock running tale (Some new) over = ap (λ (l : List Slot). record { base = base; marks = marks; clock = clock; running = running; line = l; over = over }) (line ∙ ap (λ (y : Slot). line_of tale (Some y)) (sym e)) in
     record {
       state = sym same;
       kept = record {
@@ -401,9 +402,9 @@ pub record IsMine (s : State) (one : Option Slot) (t at : ℕ) (mine : Running) 
   pub doom : mine.doom ≡ None
   pub quiet : (k : RowKey) → is_open (last_writer k t s.line) ≡ one_is (is_writer k mine.id) one
 
-pub mine_at : (base : Map) (start clock : ℕ) (running : List Running) (tale : List Slot) (one : Option Slot) (over : List OverTx) (tc oc t at : ℕ) (mine : Running) →
-    position (λ r. r.id == t) running ≡ Some at → mine ≡ get_or running at mine → IsKept (state_of base start clock running tale one over) tale one tc oc → IsMine (state_of base start clock running tale one over) one t at mine
-mine_at base start clock running tale one over tc oc t at mine p is k =
+pub mine_at : (base : Map) (marks : Marks) (clock : ℕ) (running : List Running) (tale : List Slot) (one : Option Slot) (over : List OverTx) (tc oc t at : ℕ) (mine : Running) →
+    position (λ r. r.id == t) running ≡ Some at → mine ≡ get_or running at mine → IsKept (state_of base marks clock running tale one over) tale one tc oc → IsMine (state_of base marks clock running tale one over) one t at mine
+mine_at base marks clock running tale one over tc oc t at mine p is k =
     let found = found_at t running at mine p is k.numbered.distinct in
     record {
       found = found;
@@ -412,9 +413,9 @@ mine_at base start clock running tale one over tc oc t at mine p is k =
     }
 
 -- what is shown at a key, where nobody is Preparing who wrote it
-pub shown_at : (base : Map) (start clock : ℕ) (running : List Running) (tale : List Slot) (ws : List ℕ) (one : Option Slot) (over : List OverTx) (t : ℕ) (k : RowKey) (own : Told) → own ≡ told_of t running → at_places tale ws ≡ filter is_writing tale → one_is (is_writer k t) one ≡ false →
-    fin.get (left_by own (seen_by base (at_places tale ws) t)) k ≡ fin.get (snapshot (state_of base start clock running tale one over) t) k
-shown_at base start clock running tale ws one over t k own e i f = seen_writers t k own base tale ws i ∙ seen_line k t own base tale one f ∙ ap (λ ts. fin.get (left_by ts (seen_by base (line_of tale one) t)) k) e
+pub shown_at : (base : Map) (marks : Marks) (clock : ℕ) (running : List Running) (tale : List Slot) (ws : List ℕ) (one : Option Slot) (over : List OverTx) (t : ℕ) (k : RowKey) (own : Told) → own ≡ told_of t running → at_places tale ws ≡ filter is_writing tale → one_is (is_writer k t) one ≡ false →
+    fin.get (left_by own (seen_by base (at_places tale ws) t)) k ≡ fin.get (snapshot (state_of base marks clock running tale one over) t) k
+shown_at base marks clock running tale ws one over t k own e i f = seen_writers t k own base tale ws i ∙ seen_line k t own base tale one f ∙ ap (λ ts. fin.get (left_by ts (seen_by base (line_of tale one) t)) k) e
 
 -- the refusals of a read, as the code finds them
 abbrev pub read_refusal_by : Running → Option Slot → RowKey → Option Refusal
@@ -435,20 +436,20 @@ insert_here s one t at row mine m = why_inserted s t row mine (one_is (is_writer
 pub insert_quiet : (mine : Running) (one : Option Slot) (row : Line) (t : ℕ) → mine.id ≡ t → insert_refusal_by mine one row ≡ None → one_is (is_writer row.key t) one ≡ false
 insert_quiet mine one row t e n = ap (λ (m : ℕ). one_is (is_writer row.key m) one) (sym e) ∙ (none_stands _ Busy None (none_stands _ TooManyWrites _ (none_stands _ TooManyReads _ (none_stands _ DataTooLong _ (none_stands _ BadTable _ n).1).1).1).1).0
 
-pub read_absent : (base : Map) (start clock : ℕ) (running : List Running) (tale : List Slot) (one : Option Slot) (over : List OverTx) (t : ℕ) (k : RowKey) → position (λ r. r.id == t) running ≡ None → AllByRecursion IsStored tale → IsOneOpen one → why_not_read (state_of base start clock running tale one over) t k ≡ Some (not_active_by one over t)
-read_absent base start clock running tale one over t k p h o =
-    ap (not_read_at (state_of base start clock running tale one over) t k) (not_found t running p) ∙ ap (λ (r : Refusal). Some r) (absent_active base start clock running tale one over t h o)
+pub read_absent : (base : Map) (marks : Marks) (clock : ℕ) (running : List Running) (tale : List Slot) (one : Option Slot) (over : List OverTx) (t : ℕ) (k : RowKey) → position (λ r. r.id == t) running ≡ None → AllByRecursion IsStored tale → IsOneOpen one → why_not_read (state_of base marks clock running tale one over) t k ≡ Some (not_active_by one over t)
+read_absent base marks clock running tale one over t k p h o =
+    ap (not_read_at (state_of base marks clock running tale one over) t k) (not_found t running p) ∙ ap (λ (r : Refusal). Some r) (absent_active base marks clock running tale one over t h o)
 
-pub insert_absent : (base : Map) (start clock : ℕ) (running : List Running) (tale : List Slot) (one : Option Slot) (over : List OverTx) (t : ℕ) (row : Line) → position (λ r. r.id == t) running ≡ None → AllByRecursion IsStored tale → IsOneOpen one → why_not_inserted (state_of base start clock running tale one over) t row ≡ Some (not_active_by one over t)
-insert_absent base start clock running tale one over t row p h o =
-    ap (not_inserted_at (state_of base start clock running tale one over) t row) (not_found t running p) ∙ ap (λ (r : Refusal). Some r) (absent_active base start clock running tale one over t h o)
+pub insert_absent : (base : Map) (marks : Marks) (clock : ℕ) (running : List Running) (tale : List Slot) (one : Option Slot) (over : List OverTx) (t : ℕ) (row : Line) → position (λ r. r.id == t) running ≡ None → AllByRecursion IsStored tale → IsOneOpen one → why_not_inserted (state_of base marks clock running tale one over) t row ≡ Some (not_active_by one over t)
+insert_absent base marks clock running tale one over t row p h o =
+    ap (not_inserted_at (state_of base marks clock running tale one over) t row) (not_found t running p) ∙ ap (λ (r : Refusal). Some r) (absent_active base marks clock running tale one over t h o)
 
-pub precommit_absent : (base : Map) (start clock : ℕ) (running : List Running) (tale : List Slot) (one : Option Slot) (over : List OverTx) (t : ℕ) → position (λ r. r.id == t) running ≡ None → AllByRecursion IsStored tale → IsOneOpen one → why_not_prepared (state_of base start clock running tale one over) t ≡ Some (not_active_by one over t)
-precommit_absent base start clock running tale one over t p h o =
-    ap (not_prepared_at (state_of base start clock running tale one over) t) (not_found t running p) ∙ ap (λ (r : Refusal). Some r) (absent_active base start clock running tale one over t h o)
+pub precommit_absent : (base : Map) (marks : Marks) (clock : ℕ) (running : List Running) (tale : List Slot) (one : Option Slot) (over : List OverTx) (t : ℕ) → position (λ r. r.id == t) running ≡ None → AllByRecursion IsStored tale → IsOneOpen one → why_not_prepared (state_of base marks clock running tale one over) t ≡ Some (not_active_by one over t)
+precommit_absent base marks clock running tale one over t p h o =
+    ap (not_prepared_at (state_of base marks clock running tale one over) t) (not_found t running p) ∙ ap (λ (r : Refusal). Some r) (absent_active base marks clock running tale one over t h o)
 
-pub precommit_here : (base : Map) (start clock : ℕ) (running : List Running) (tale : List Slot) (one : Option Slot) (over : List OverTx) (t at : ℕ) (mine : Running) → AllByRecursion IsStored tale → IsOneOpen one → IsMine (state_of base start clock running tale one over) one t at mine → why_not_prepared (state_of base start clock running tale one over) t ≡ if_stands (nat_le MAX_STAMP clock) ClockSpent (if_stands (is_some one) Busy None)
-precommit_here base start clock running tale one over t at mine h o m = why_prepared (state_of base start clock running tale one over) t mine (is_some one) m.found.found m.doom (any_open_line tale one h o)
+pub precommit_here : (base : Map) (marks : Marks) (clock : ℕ) (running : List Running) (tale : List Slot) (one : Option Slot) (over : List OverTx) (t at : ℕ) (mine : Running) → AllByRecursion IsStored tale → IsOneOpen one → IsMine (state_of base marks clock running tale one over) one t at mine → why_not_prepared (state_of base marks clock running tale one over) t ≡ if_stands (nat_le MAX_STAMP clock) ClockSpent (if_stands (is_some one) Busy None)
+precommit_here base marks clock running tale one over t at mine h o m = why_prepared (state_of base marks clock running tale one over) t mine (is_some one) m.found.found m.doom (any_open_line tale one h o)
 
 -- nobody, or another, is Preparing
 pub unprepared : (t : ℕ) (tale : List Slot) (one : Option Slot) → pick t one ≡ None → AllByRecursion IsStored tale → IsOneOpen one → preparing_of t (line_of tale one) ≡ None
@@ -469,21 +470,21 @@ get_again [] i d lt = absurd (omega arith)
 get_again (x ∷ xs) zero d lt = refl
 get_again (x ∷ xs) (suc i) d lt = get_again xs i d (omega arith)
 
-pub precommit_at : (base : Map) (start clock : ℕ) (running : List Running) (tale : List Slot) (one : Option Slot) (over : List OverTx) (tc oc t at : ℕ) → position (λ r. r.id == t) running ≡ Some at → IsKept (state_of base start clock running tale one over) tale one tc oc → why_not_prepared (state_of base start clock running tale one over) t ≡ if_stands (nat_le MAX_STAMP clock) ClockSpent (if_stands (is_some one) Busy None)
-precommit_at base start clock running tale one over tc oc t at p k =
+pub precommit_at : (base : Map) (marks : Marks) (clock : ℕ) (running : List Running) (tale : List Slot) (one : Option Slot) (over : List OverTx) (tc oc t at : ℕ) → position (λ r. r.id == t) running ≡ Some at → IsKept (state_of base marks clock running tale one over) tale one tc oc → why_not_prepared (state_of base marks clock running tale one over) t ≡ if_stands (nat_le MAX_STAMP clock) ClockSpent (if_stands (is_some one) Busy None)
+precommit_at base marks clock running tale one over tc oc t at p k =
     let mine = get_or running at default in
     let lt = (position-Some (λ r. r.id == t) running at default p).0 in
-    precommit_here base start clock running tale one over t at mine k.stored k.open' (mine_at base start clock running tale one over tc oc t at mine p (get_again running at default lt) k)
+    precommit_here base marks clock running tale one over t at mine k.stored k.open' (mine_at base marks clock running tale one over tc oc t at mine p (get_again running at default lt) k)
 
 -- ---- calls on the one that is Preparing, where it is another
-pub settle_other : (base : Map) (start clock : ℕ) (running : List Running) (tale : List Slot) (one : Option Slot) (over : List OverTx) (t : ℕ) → pick t one ≡ None → AllByRecursion IsStored tale → IsOneOpen one → why_not_settled (state_of base start clock running tale one over) t ≡ Some (not_preparing_by running over t)
-settle_other base start clock running tale one over t e h o =
-    let s = state_of base start clock running tale one over in
+pub settle_other : (base : Map) (marks : Marks) (clock : ℕ) (running : List Running) (tale : List Slot) (one : Option Slot) (over : List OverTx) (t : ℕ) → pick t one ≡ None → AllByRecursion IsStored tale → IsOneOpen one → why_not_settled (state_of base marks clock running tale one over) t ≡ Some (not_preparing_by running over t)
+settle_other base marks clock running tale one over t e h o =
+    let s = state_of base marks clock running tale one over in
     not_preparing_now s t _ (ap (not_settled_at s t) (unprepared t tale one e h o))
 
-pub check_other : (base : Map) (start clock : ℕ) (running : List Running) (tale : List Slot) (one : Option Slot) (over : List OverTx) (t : ℕ) → pick t one ≡ None → AllByRecursion IsStored tale → IsOneOpen one → why_not_checked (state_of base start clock running tale one over) t ≡ Some (not_preparing_by running over t)
-check_other base start clock running tale one over t e h o =
-    let s = state_of base start clock running tale one over in
+pub check_other : (base : Map) (marks : Marks) (clock : ℕ) (running : List Running) (tale : List Slot) (one : Option Slot) (over : List OverTx) (t : ℕ) → pick t one ≡ None → AllByRecursion IsStored tale → IsOneOpen one → why_not_checked (state_of base marks clock running tale one over) t ≡ Some (not_preparing_by running over t)
+check_other base marks clock running tale one over t e h o =
+    let s = state_of base marks clock running tale one over in
     not_preparing_now s t _ (ap (not_checked_at s t) (unprepared t tale one e h o))
 
 -- the first refusal of a rollback, by what is there
@@ -499,8 +500,8 @@ pub no_one : (t : ℕ) (one : Option Slot) → one ≡ None → pick t one ≡ N
 no_one t one e = ap (pick t) e
 
 -- with the one that is Preparing
-pub kept_with : (base : Map) (start clock : ℕ) (running : List Running) (tale : List Slot) (one other : Option Slot) (over : List OverTx) (tc oc : ℕ) → one ≡ other → IsKept (state_of base start clock running tale one over) tale one tc oc → IsKept (state_of base start clock running tale other over) tale other tc oc
-kept_with base start clock running tale one other over tc oc e k = subst (λ (o : Option Slot). IsKept (state_of base start clock running tale o over) tale o tc oc) e k
+pub kept_with : (base : Map) (marks : Marks) (clock : ℕ) (running : List Running) (tale : List Slot) (one other : Option Slot) (over : List OverTx) (tc oc : ℕ) → one ≡ other → IsKept (state_of base marks clock running tale one over) tale one tc oc → IsKept (state_of base marks clock running tale other over) tale other tc oc
+kept_with base marks clock running tale one other over tc oc e k = subst (λ (o : Option Slot). IsKept (state_of base marks clock running tale o over) tale o tc oc) e k
 
 -- the stored commits are the settled ones of the line
 pub tale_settled : (tale : List Slot) (one : Option Slot) → AllByRecursion IsStored tale → IsOneOpen one → filter (λ x. x.settled) (line_of tale one) ≡ tale

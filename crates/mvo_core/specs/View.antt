@@ -9,6 +9,7 @@ use Rattle.mvo_types.specs.Said.{said}
 use Rattle.mvo_model.specs.Told.{Told}
 use Rattle.mvo_types.specs.Keys.{Map}
 use Rattle.mvo_state.specs.declared.over.OverTx.{OverTx}
+use Rattle.mvo_state.specs.declared.marks.Marks.{Marks}
 use Rattle.mvo_state.specs.Line.{State, Slot, Running}
 
 -- operations with their answers, apart from where they lie in memory
@@ -24,8 +25,8 @@ abbrev pub line_of : List Slot → Option Slot → List Slot
 line_of tale one = tale ++ option_to_list one
 
 -- what the core's fields stand for
-abbrev pub state_of : Map → ℕ → ℕ → List Running → List Slot → Option Slot → List OverTx → State
-state_of base start clock running tale one over = record { base = base; start = start; clock = clock; running = running; line = line_of tale one; over = over }
+abbrev pub state_of : Map → Marks → ℕ → List Running → List Slot → Option Slot → List OverTx → State
+state_of base marks clock running tale one over = record { base = base; marks = marks; clock = clock; running = running; line = line_of tale one; over = over }
 
 -- whether one is there that passes
 abbrev pub one_is : (Slot → Bool) → Option Slot → Bool

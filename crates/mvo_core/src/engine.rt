@@ -16,7 +16,7 @@ use crate::refuse::{
 use crate::reply::{Finishing, Settlement, Validation, checked_answer, insert_answer};
 use crate::tale::Tale;
 use crate::told::{note_writer, push_reserved, tell};
-use mvo_state::OverTx;
+use mvo_state::{Marks, OverTx};
 use mvo_types::{Answer, MAX_STAMP, MAX_UNFINISHED, Op, Refusal, Row, RowKey, Rows, Stamp, TxId};
 use std::alloc::Global;
 use std::marker::Model;
@@ -25,7 +25,7 @@ use std::marker::Model;
 #[derive(Drop)]
 pub struct Core {
     base: Rows,
-    start: u64,
+    marks: Marks,
     clock: u64,
     running: Vec<ActiveTx>,
     preparing: Option<PreparingTx>,
@@ -47,9 +47,9 @@ impl Model for Core {
 
     ghost coded = { Prim.hlevel (codes, coded_map) };
 
-    ghost view = { λ c. state_of c.base c.start c.clock c.running.items c.tale.items c.preparing c.over.items };
+    ghost view = { λ c. state_of c.base c.marks c.clock c.running.items c.tale.items c.preparing c.over.items };
 
-    ghost invariant = { λ c. IsCore (state_of c.base c.start c.clock c.running.items c.tale.items c.preparing c.over.items) c.tale.items c.writers.items c.preparing (vec_capacity c.tale) (vec_capacity c.writers) (vec_capacity c.over) };
+    ghost invariant = { λ c. IsCore (state_of c.base c.marks c.clock c.running.items c.tale.items c.preparing c.over.items) c.tale.items c.writers.items c.preparing (vec_capacity c.tale) (vec_capacity c.writers) (vec_capacity c.over) };
 }
 
 impl Core {
@@ -62,7 +62,7 @@ impl Core {
         over.reserve(MAX_UNFINISHED)?;
         Ok(Core {
             base: rows,
-            start: mark.0,
+            marks: Marks::opened(mark),
             clock: mark.0,
             running: Vec::new(alloc),
             preparing: None,

@@ -45,4 +45,4 @@ sound_settled s t x f w n h =
     let there : IsSound (record s { line = p.0 ++ x ∷ p.1 }) = subst (λ (l : List Slot). IsSound (record s { line = l })) p.2 h in
     subst (λ (l : List Slot). IsSound (committed (record s { line = l }) t x.stop)) (sym p.2)
     (subst (λ (i : ℕ). IsSound (committed (record s { line = p.0 ++ x ∷ p.1 }) i x.stop)) p.3
-    (settled_in s.base s.start s.clock s.running p.0 p.1 x s.over p.4 q.1 q.0 (subst (AllByRecursion _) p.2 (waiting_none x.rests s.line n)) there))
+    (settled_in s.base s.marks s.clock s.running p.0 p.1 x s.over p.4 q.1 q.0 (subst (AllByRecursion _) p.2 (waiting_none x.rests s.line n)) there))

@@ -18,6 +18,7 @@ use Rattle.mvo_state.specs.Entries.{IsKeyed, IsApart}
 use Rattle.mvo_state.proofs.Each.{each_weaker, each_both, each_always, each_append, each_front, each_back, each_map, each_filter}
 use Rattle.mvo_state.proofs.Keyed.{all_agree_at}
 use Rattle.mvo_state.specs.declared.over.OverTx.{OverTx}
+use Rattle.mvo_state.specs.declared.marks.Marks.{Marks}
 use Rattle.mvo_state.specs.Line.{State, Slot, Running, tale, told_below, seen_by, is_writer, last_writer, has, rest_on, with_end, but, began, told, with_told, prepared, to_slot, without, checked, with_check, committed, with_settled, doomed_by, with_doom, running_doom, not_at, dropped, undone}
 use Rattle.mvo_state.specs.Sound.{IsDecided, IsUnchanged, IsClear, IsRising, IsResting, IsActive, IsPreparing, IsPlaced, IsSound}
 use Rattle.mvo_state.proofs.Lines.{decided_now, has_rest, decided_more, told_below-last, decided_last, clear_last, rising_last, tale_last, IsLike, told_below-map, decided_map, rising_map, unchanged_map, IsOut, decided_filter, seen_filter, tale_filter, clear_filter, rising_filter, each_part}
@@ -303,10 +304,10 @@ settled_one base line e x true is q h = absurd (true≢false (sym (or_right x.se
     or_right false = refl
 settled_one base line e x false is q h = record { resting = h.resting; below = h.below; checked = h.checked; valid = h.valid }
 
-pub settled_in : (base : Map) (start clock : ℕ) (running : List Running) (before after : List Slot) (t : Slot) (over : List OverTx) → t.settled ≡ false → t.valid ≡ true → t.doom ≡ None → IsFreeToSettle (before ++ t ∷ after) t →
-    let s : State = record { base = base; start = start; clock = clock; running = running; line = before ++ t ∷ after; over = over } in
+pub settled_in : (base : Map) (marks : Marks) (clock : ℕ) (running : List Running) (before after : List Slot) (t : Slot) (over : List OverTx) → t.settled ≡ false → t.valid ≡ true → t.doom ≡ None → IsFreeToSettle (before ++ t ∷ after) t →
+    let s : State = record { base = base; marks = marks; clock = clock; running = running; line = before ++ t ∷ after; over = over } in
     IsSound s → IsSound (committed s t.id t.stop)
-settled_in base start clock running before after t over o v d n h =
+settled_in base marks clock running before after t over o v d n h =
     let line = before ++ t ∷ after in
     let f = with_settled t.stop in
     let l = like_settled t.stop in

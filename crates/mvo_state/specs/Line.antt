@@ -8,6 +8,7 @@ use Rattle.mvo_types.specs.Said.{Said}
 use Rattle.mvo_model.specs.Told.{Told, left_by, net_write}
 use Rattle.mvo_state.specs.declared.over.Outcome.TheVariants.{Committed, Aborted}
 use Rattle.mvo_state.specs.declared.over.OverTx.{OverTx}
+use Rattle.mvo_state.specs.declared.marks.Marks.{Marks}
 use Rattle.mvo_state.specs.Entries.{key_of}
 
 -- an Active transaction, by its begin: its operations with their answers, the ends of those that it rests on, and the first of these that was aborted
@@ -30,7 +31,7 @@ pub record Slot : Type 0 where
 
 pub record State : Type 0 where
   pub base : Map  -- the rows at the tale's start
-  pub start : ℕ
+  pub marks : Marks
   pub clock : ℕ
   pub running : List Running
   pub line : List Slot  -- by end timestamp
@@ -38,7 +39,7 @@ pub record State : Type 0 where
 
 -- the state of a core that was just opened
 abbrev pub opened : Map → ℕ → State
-opened rows mark = record { base = rows; start = mark; clock = mark; running = []; line = []; over = [] }
+opened rows mark = record { base = rows; marks = record { opening = record { 0 = mark }; closed = record { 0 = mark } }; clock = mark; running = []; line = []; over = [] }
 
 -- what the settled ones were told, by end timestamp
 abbrev pub tale : List Slot → List Told
@@ -74,7 +75,7 @@ end_or start (Some x) = x.stop
 
 -- the origin of a key that stands for the transaction with the begin b: the end of its last writer, or the opening mark without one
 abbrev pub origin : State → ℕ → RowKey → ℕ
-origin s b k = end_or s.start (last_writer k b s.line)
+origin s b k = end_or s.marks.opening.0 (last_writer k b s.line)
 
 abbrev pub has : List ℕ → ℕ → Bool
 has ds d = list_any (λ x. x == d) ds

@@ -16,32 +16,32 @@ use Rattle.mvo_core.proofs.engine.Core.begin_tx.Goals.{Then-count_unfinished-ge-
 pub returns-then-count_unfinished-ge-MAX_UNFINISHED-clause-refused : goal.returns-then-count_unfinished-ge-MAX_UNFINISHED-clause-refused
 returns-then-count_unfinished-ge-MAX_UNFINISHED-clause-refused c =
     let f = c.self.inside in
-    let s = state_of f.base f.start f.clock f.running.items f.tale.items f.preparing f.over.items in
+    let s = state_of f.base f.marks f.clock f.running.items f.tale.items f.preparing f.over.items in
     let n : ℕ = length f.running.items + (count_one f.preparing + length f.over.items) in
     let counted : c.count_unfinished.result ≡ n = c.count_unfinished.ensures ∙ ap (λ (rs : List Running). length rs + (count_one f.preparing + length c.deref-2.result.now)) c.deref.ensures.value ∙ ap (λ (us : List OverTx). length f.running.items + (count_one f.preparing + length us)) c.deref-2.ensures.value in
     refuse (why_not_begun c.args.self.now) TableFull
-    (ap why_not_begun (sym c.self.view_is) ∙ why_begun s n (unfinished_is f.base f.start f.clock f.running.items f.tale.items f.preparing f.over.items c.self.invariant.kept.stored c.self.invariant.kept.open')
+    (ap why_not_begun (sym c.self.view_is) ∙ why_begun s n (unfinished_is f.base f.marks f.clock f.running.items f.tale.items f.preparing f.over.items c.self.invariant.kept.stored c.self.invariant.kept.open')
     ∙ stands_now (nat_le 1024 n) TableFull _ (le-leb 1024 n (let t = c.if-count_unfinished-ge-MAX_UNFINISHED.true in omega arith)))
 
 pub returns-then-self-ge-MAX_STAMP-clause-refused : goal.returns-then-self-ge-MAX_STAMP-clause-refused
 returns-then-self-ge-MAX_STAMP-clause-refused c =
     let f = c.self.inside in
-    let s = state_of f.base f.start f.clock f.running.items f.tale.items f.preparing f.over.items in
+    let s = state_of f.base f.marks f.clock f.running.items f.tale.items f.preparing f.over.items in
     let n : ℕ = length f.running.items + (count_one f.preparing + length f.over.items) in
     let counted : c.count_unfinished.result ≡ n = c.count_unfinished.ensures ∙ ap (λ (rs : List Running). length rs + (count_one f.preparing + length c.deref-2.result.now)) c.deref.ensures.value ∙ ap (λ (us : List OverTx). length f.running.items + (count_one f.preparing + length us)) c.deref-2.ensures.value in
     refuse (why_not_begun c.args.self.now) ClockSpent
-    (ap why_not_begun (sym c.self.view_is) ∙ why_begun s n (unfinished_is f.base f.start f.clock f.running.items f.tale.items f.preparing f.over.items c.self.invariant.kept.stored c.self.invariant.kept.open')
+    (ap why_not_begun (sym c.self.view_is) ∙ why_begun s n (unfinished_is f.base f.marks f.clock f.running.items f.tale.items f.preparing f.over.items c.self.invariant.kept.stored c.self.invariant.kept.open')
     ∙ stands_not (nat_le 1024 n) TableFull _ (lt-leb 1024 n (let t = c.if-count_unfinished-ge-MAX_UNFINISHED.false in omega arith))
     ∙ stands_now (nat_le MAX_STAMP f.clock) ClockSpent _ (le-leb MAX_STAMP f.clock c.if-self-ge-MAX_STAMP.true))
 
 pub returns-in_err-push-clause-refused : goal.returns-in_err-push-clause-refused
 returns-in_err-push-clause-refused c =
     let f = c.self.inside in
-    let s = state_of f.base f.start f.clock f.running.items f.tale.items f.preparing f.over.items in
+    let s = state_of f.base f.marks f.clock f.running.items f.tale.items f.preparing f.over.items in
     let n : ℕ = length f.running.items + (count_one f.preparing + length f.over.items) in
     let counted : c.count_unfinished.result ≡ n = c.count_unfinished.ensures ∙ ap (λ (rs : List Running). length rs + (count_one f.preparing + length c.deref-2.result.now)) c.deref.ensures.value ∙ ap (λ (us : List OverTx). length f.running.items + (count_one f.preparing + length us)) c.deref-2.ensures.value in
     no_memory (why_not_begun c.args.self.now) c.from_residual.result
-    (ap why_not_begun (sym c.self.view_is) ∙ why_begun s n (unfinished_is f.base f.start f.clock f.running.items f.tale.items f.preparing f.over.items c.self.invariant.kept.stored c.self.invariant.kept.open')
+    (ap why_not_begun (sym c.self.view_is) ∙ why_begun s n (unfinished_is f.base f.marks f.clock f.running.items f.tale.items f.preparing f.over.items c.self.invariant.kept.stored c.self.invariant.kept.open')
     ∙ stands_not (nat_le 1024 n) TableFull _ (lt-leb 1024 n (let t = c.if-count_unfinished-ge-MAX_UNFINISHED.false in omega arith))
     ∙ stands_not (nat_le MAX_STAMP f.clock) ClockSpent _ (lt-leb MAX_STAMP f.clock c.if-self-ge-MAX_STAMP.false))
     c.from_residual.ensures.1
@@ -52,18 +52,18 @@ invariant_of-self-2 c =
     let n : ℕ = length f.running.items + (count_one f.preparing + length f.over.items) in
     let counted : c.count_unfinished.result ≡ n = c.count_unfinished.ensures ∙ ap (λ (rs : List Running). length rs + (count_one f.preparing + length c.deref-2.result.now)) c.deref.ensures.value ∙ ap (λ (us : List OverTx). length f.running.items + (count_one f.preparing + length us)) c.deref-2.ensures.value in
     record {
-      kept = subst (λ (rs : List Running). IsKept (state_of f.base f.start (f.clock + 1) rs f.tale.items f.preparing f.over.items) f.tale.items f.preparing (vec_capacity f.tale) (vec_capacity f.over))
+      kept = subst (λ (rs : List Running). IsKept (state_of f.base f.marks (f.clock + 1) rs f.tale.items f.preparing f.over.items) f.tale.items f.preparing (vec_capacity f.tale) (vec_capacity f.over))
           (sym (c.in_ok-push.ensures.items ∙ ap (λ (r : Running). f.running.items ++ r ∷ []) c.begun.ensures))
-          (kept_began f.base f.start f.clock f.running.items f.tale.items f.preparing f.over.items (vec_capacity f.tale) (vec_capacity f.over) (let t = c.if-count_unfinished-ge-MAX_UNFINISHED.false in omega arith) c.self.invariant.kept);
+          (kept_began f.base f.marks f.clock f.running.items f.tale.items f.preparing f.over.items (vec_capacity f.tale) (vec_capacity f.over) (let t = c.if-count_unfinished-ge-MAX_UNFINISHED.false in omega arith) c.self.invariant.kept);
       indexed = c.self.invariant.indexed;
     }
 
 pub returns-clause-refused : goal.returns-clause-refused
 returns-clause-refused c =
     let f = c.self.inside in
-    let s = state_of f.base f.start f.clock f.running.items f.tale.items f.preparing f.over.items in
+    let s = state_of f.base f.marks f.clock f.running.items f.tale.items f.preparing f.over.items in
     let n : ℕ = length f.running.items + (count_one f.preparing + length f.over.items) in
     let counted : c.count_unfinished.result ≡ n = c.count_unfinished.ensures ∙ ap (λ (rs : List Running). length rs + (count_one f.preparing + length c.deref-2.result.now)) c.deref.ensures.value ∙ ap (λ (us : List OverTx). length f.running.items + (count_one f.preparing + length us)) c.deref-2.ensures.value in
-    ap why_not_begun (sym c.self.view_is) ∙ why_begun s n (unfinished_is f.base f.start f.clock f.running.items f.tale.items f.preparing f.over.items c.self.invariant.kept.stored c.self.invariant.kept.open')
+    ap why_not_begun (sym c.self.view_is) ∙ why_begun s n (unfinished_is f.base f.marks f.clock f.running.items f.tale.items f.preparing f.over.items c.self.invariant.kept.stored c.self.invariant.kept.open')
     ∙ stands_not (nat_le 1024 n) TableFull _ (lt-leb 1024 n (let t = c.if-count_unfinished-ge-MAX_UNFINISHED.false in omega arith))
     ∙ stands_not (nat_le MAX_STAMP f.clock) ClockSpent _ (lt-leb MAX_STAMP f.clock c.if-self-ge-MAX_STAMP.false)

@@ -30,7 +30,7 @@ returns-in_default-clause-refused c =
     let f = c.self.inside in
     let over : list_any (λ u. u.id.0 == c.args.tx.0) f.over.items ≡ false = none_any (λ u. u.id.0 == c.args.tx.0) f.over.items (sym (c.in_default.ensures ∙ ap (λ (us : List OverTx). position (λ u. u.id.0 == c.args.tx.0) us) c.deref.ensures.value)) in
     ap (λ (s : State). why_not_finished s c.args.tx.0) (sym c.self.view_is)
-    ∙ unfinished (state_of f.base f.start f.clock f.running.items f.tale.items f.preparing f.over.items) c.args.tx.0 _ _ over (any_running c.args.tx.0 f.running.items) (any_preparing c.args.tx.0 f.tale.items f.preparing c.self.invariant.kept.stored c.self.invariant.kept.open')
+    ∙ unfinished (state_of f.base f.marks f.clock f.running.items f.tale.items f.preparing f.over.items) c.args.tx.0 _ _ over (any_running c.args.tx.0 f.running.items) (any_preparing c.args.tx.0 f.tale.items f.preparing c.self.invariant.kept.stored c.self.invariant.kept.open')
     ∙ ap (λ (rs : List Running). Some (cond (list_any (λ r. r.id == c.args.tx.0) rs) NotEnded (cond (one_is (λ p. p.id == c.args.tx.0) f.preparing) NotEnded NoSuchTransaction))) (sym c.deref-in_default.ensures.value)
     ∙ ap (λ (r : Refusal). Some r) (sym c.not_ended.ensures)
 
@@ -44,15 +44,15 @@ returns-clause-refused c =
 pub returns-clause-ok : goal.returns-clause-ok
 returns-clause-ok c =
     let f = c.self.inside in
-    ap (λ (us : List OverTx). state_of f.base f.start f.clock f.running.items f.tale.items f.preparing us)
+    ap (λ (us : List OverTx). state_of f.base f.marks f.clock f.running.items f.tale.items f.preparing us)
     (c.remove.ensures.items ∙ over_at c.args.tx.0 f.over.items c.in-Some.at c.remove.result (sym (c.in-Some.ensures ∙ ap (λ (us : List OverTx). position (λ u. u.id.0 == c.args.tx.0) us) c.deref.ensures.value)))
     ∙ ap (λ (s : State). left s c.args.tx.0) c.self.view_is
 
 pub invariant_of-self : goal.invariant_of-self
 invariant_of-self c =
     let f = c.self.inside in
-    let kept = subst (λ (us : List OverTx). IsKept (state_of f.base f.start f.clock f.running.items f.tale.items f.preparing us) f.tale.items f.preparing (vec_capacity f.tale) (vec_capacity c.remove.new.self)) (sym c.remove.ensures.items)
-    (kept_left f.base f.start f.clock f.running.items f.tale.items f.preparing f.over.items (vec_capacity f.tale) (vec_capacity f.over) (vec_capacity c.remove.new.self) c.args.tx.0 c.in-Some.at c.remove.result
+    let kept = subst (λ (us : List OverTx). IsKept (state_of f.base f.marks f.clock f.running.items f.tale.items f.preparing us) f.tale.items f.preparing (vec_capacity f.tale) (vec_capacity c.remove.new.self)) (sym c.remove.ensures.items)
+    (kept_left f.base f.marks f.clock f.running.items f.tale.items f.preparing f.over.items (vec_capacity f.tale) (vec_capacity f.over) (vec_capacity c.remove.new.self) c.args.tx.0 c.in-Some.at c.remove.result
     (sym (c.in-Some.ensures ∙ ap (λ (us : List OverTx). position (λ u. u.id.0 == c.args.tx.0) us) c.deref.ensures.value))
     (let a = c.self.invariant.kept.over_room in let b = c.remove.ensures.capacity in omega arith) c.self.invariant.kept) in
     record { kept = kept; indexed = c.self.invariant.indexed }

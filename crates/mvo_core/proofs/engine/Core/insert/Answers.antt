@@ -21,31 +21,31 @@ returns-in_default-clause-refused c =
     let f = c.self.inside in
     refuse (why_not_inserted c.args.self.now c.args.tx.0 c.args.row) c.not_active.result
     (ap (λ (s : State). why_not_inserted s c.args.tx.0 c.args.row) (sym c.self.view_is)
-    ∙ insert_absent f.base f.start f.clock f.running.items f.tale.items f.preparing f.over.items c.args.tx.0 c.args.row (sym (c.in_default.ensures ∙ ap (λ (rs : List Running). position (λ r. r.id == c.args.tx.0) rs) c.deref.ensures.value)) c.self.invariant.kept.stored c.self.invariant.kept.open'
+    ∙ insert_absent f.base f.marks f.clock f.running.items f.tale.items f.preparing f.over.items c.args.tx.0 c.args.row (sym (c.in_default.ensures ∙ ap (λ (rs : List Running). position (λ r. r.id == c.args.tx.0) rs) c.deref.ensures.value)) c.self.invariant.kept.stored c.self.invariant.kept.open'
     ∙ ap (λ (us : List OverTx). Some (not_active_by f.preparing us c.args.tx.0)) (sym c.deref-in_default.ensures.value)
     ∙ ap (λ (r : Refusal). Some r) (sym c.not_active.ensures))
 
 pub returns-in-Some-insert_refusal-clause-refused : goal.returns-in-Some-insert_refusal-clause-refused
 returns-in-Some-insert_refusal-clause-refused c =
     let f = c.self.inside in
-    let m = mine_at f.base f.start f.clock f.running.items f.tale.items f.preparing f.over.items (vec_capacity f.tale) (vec_capacity f.over) c.args.tx.0 c.in-Some.at c.index-own.result.now (sym (c.in-Some.ensures ∙ ap (λ (rs : List Running). position (λ r. r.id == c.args.tx.0) rs) c.deref.ensures.value)) c.index-own.ensures c.self.invariant.kept in
+    let m = mine_at f.base f.marks f.clock f.running.items f.tale.items f.preparing f.over.items (vec_capacity f.tale) (vec_capacity f.over) c.args.tx.0 c.in-Some.at c.index-own.result.now (sym (c.in-Some.ensures ∙ ap (λ (rs : List Running). position (λ r. r.id == c.args.tx.0) rs) c.deref.ensures.value)) c.index-own.ensures c.self.invariant.kept in
     refuse (why_not_inserted c.args.self.now c.args.tx.0 c.args.row) c.in-Some-insert_refusal.refusal
     (ap (λ (s : State). why_not_inserted s c.args.tx.0 c.args.row) (sym c.self.view_is)
-    ∙ insert_here (state_of f.base f.start f.clock f.running.items f.tale.items f.preparing f.over.items) f.preparing c.args.tx.0 c.in-Some.at c.args.row c.index-own.result.now m
+    ∙ insert_here (state_of f.base f.marks f.clock f.running.items f.tale.items f.preparing f.over.items) f.preparing c.args.tx.0 c.in-Some.at c.args.row c.index-own.result.now m
     ∙ sym c.insert_refusal.ensures ∙ c.in-Some-insert_refusal.is)
 
 pub returns-in_err-tell-clause-refused : goal.returns-in_err-tell-clause-refused
 returns-in_err-tell-clause-refused c =
     let f = c.self.inside in
-    let m = mine_at f.base f.start f.clock f.running.items f.tale.items f.preparing f.over.items (vec_capacity f.tale) (vec_capacity f.over) c.args.tx.0 c.in-Some.at c.index-own.result.now (sym (c.in-Some.ensures ∙ ap (λ (rs : List Running). position (λ r. r.id == c.args.tx.0) rs) c.deref.ensures.value)) c.index-own.ensures c.self.invariant.kept in
+    let m = mine_at f.base f.marks f.clock f.running.items f.tale.items f.preparing f.over.items (vec_capacity f.tale) (vec_capacity f.over) c.args.tx.0 c.in-Some.at c.index-own.result.now (sym (c.in-Some.ensures ∙ ap (λ (rs : List Running). position (λ r. r.id == c.args.tx.0) rs) c.deref.ensures.value)) c.index-own.ensures c.self.invariant.kept in
     no_memory (why_not_inserted c.args.self.now c.args.tx.0 c.args.row) c.from_residual.result
     (ap (λ (s : State). why_not_inserted s c.args.tx.0 c.args.row) (sym c.self.view_is)
-    ∙ insert_here (state_of f.base f.start f.clock f.running.items f.tale.items f.preparing f.over.items) f.preparing c.args.tx.0 c.in-Some.at c.args.row c.index-own.result.now m
+    ∙ insert_here (state_of f.base f.marks f.clock f.running.items f.tale.items f.preparing f.over.items) f.preparing c.args.tx.0 c.in-Some.at c.args.row c.index-own.result.now m
     ∙ sym c.insert_refusal.ensures ∙ c.in_default-insert_refusal.is) c.from_residual.ensures.1
 
 -- the state before the call
 old : After-insert_answer-2 → State
-old c = let f = c.self.inside in state_of f.base f.start f.clock f.running.items f.tale.items f.preparing f.over.items
+old c = let f = c.self.inside in state_of f.base f.marks f.clock f.running.items f.tale.items f.preparing f.over.items
 
 place : (c : After-insert_answer-2) → position (λ r. r.id == c.args.tx.0) c.self.inside.running.items ≡ Some c.in-Some.at
 place c = sym (c.in-Some.ensures ∙ ap (λ (rs : List Running). position (λ r. r.id == c.args.tx.0) rs) c.deref.ensures.value)
@@ -54,7 +54,7 @@ mine : (c : After-insert_answer-2) → IsMine (old c) c.self.inside.preparing c.
 unfolding old
 mine c =
     let f = c.self.inside in
-    mine_at f.base f.start f.clock f.running.items f.tale.items f.preparing f.over.items (vec_capacity f.tale) (vec_capacity f.over) c.args.tx.0 c.in-Some.at c.index-own.result.now (place c) c.index-own.ensures c.self.invariant.kept
+    mine_at f.base f.marks f.clock f.running.items f.tale.items f.preparing f.over.items (vec_capacity f.tale) (vec_capacity f.over) c.args.tx.0 c.in-Some.at c.index-own.result.now (place c) c.index-own.ensures c.self.invariant.kept
 
 none : (c : After-insert_answer-2) → insert_refusal_by c.index-own.result.now c.self.inside.preparing c.args.row ≡ None
 none c = sym c.insert_refusal.ensures ∙ c.in_default-insert_refusal.is
@@ -75,16 +75,16 @@ there c =
     ∙ ap (λ (tale : List Slot). map.contains_key (left_by (told_view c.deref-4.result.now) (seen_by f.base (at_places tale c.deref-3.result.now) c.args.tx.0)) c.args.row.key) c.deref-2.ensures.value
     ∙ ap (λ (ws : List ℕ). map.contains_key (left_by (told_view c.deref-4.result.now) (seen_by f.base (at_places f.tale.items ws) c.args.tx.0)) c.args.row.key) c.deref-3.ensures.value
     ∙ ap (λ ops. map.contains_key (left_by (told_view ops) (seen_by f.base (at_places f.tale.items f.writers.items) c.args.tx.0)) c.args.row.key) own
-    ∙ ap is_some (shown_at f.base f.start f.clock f.running.items f.tale.items f.writers.items f.preparing f.over.items c.args.tx.0 c.args.row.key (told_view c.own.inside.ops.items) (told' ∙ sym (mine c).found.told) c.self.invariant.indexed.places (quiet c))
+    ∙ ap is_some (shown_at f.base f.marks f.clock f.running.items f.tale.items f.writers.items f.preparing f.over.items c.args.tx.0 c.args.row.key (told_view c.own.inside.ops.items) (told' ∙ sym (mine c).found.told) c.self.invariant.indexed.places (quiet c))
 
 answer : (c : After-insert_answer-2) → said c.insert_answer-2.result ≡ cond (map.contains_key (snapshot (old c) c.args.tx.0) c.args.row.key) Exist Inserts
 answer c = c.insert_answer-2.ensures ∙ ap (λ (b : Bool). cond b Exist Inserts) (there c)
 
-now : (c : After-insert_answer-2) → IsTold c.self.inside.base c.self.inside.start c.self.inside.clock c.self.inside.running.items c.self.inside.tale.items c.self.inside.preparing c.self.inside.over.items (vec_capacity c.self.inside.tale) (vec_capacity c.self.inside.over) c.args.tx.0 c.in-Some.at (op.Insert c.args.row) (said c.insert_answer-2.result) c.tell.new.tx
+now : (c : After-insert_answer-2) → IsTold c.self.inside.base c.self.inside.marks c.self.inside.clock c.self.inside.running.items c.self.inside.tale.items c.self.inside.preparing c.self.inside.over.items (vec_capacity c.self.inside.tale) (vec_capacity c.self.inside.over) c.args.tx.0 c.in-Some.at (op.Insert c.args.row) (said c.insert_answer-2.result) c.tell.new.tx
 unfolding old
 now c =
     let f = c.self.inside in
-    kept_told f.base f.start f.clock f.running.items f.tale.items f.preparing f.over.items (vec_capacity f.tale) (vec_capacity f.over) c.args.tx.0 c.in-Some.at (op.Insert c.args.row) (said c.insert_answer-2.result) c.index_mut-own.result.now c.tell.new.tx
+    kept_told f.base f.marks f.clock f.running.items f.tale.items f.preparing f.over.items (vec_capacity f.tale) (vec_capacity f.over) c.args.tx.0 c.in-Some.at (op.Insert c.args.row) (said c.insert_answer-2.result) c.index_mut-own.result.now c.tell.new.tx
     (place c) c.index_mut-own.ensures.value
     (c.in_ok-tell.ensures.ok
     ∙ ap (λ (a : Said). record c.index_mut-own.result.now { told = c.index_mut-own.result.now.told ++ (op.Insert c.args.row, a) ∷ [] }) (c.insert_answer.ensures ∙ sym c.insert_answer-2.ensures))

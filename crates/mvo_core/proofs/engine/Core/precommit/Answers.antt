@@ -20,7 +20,7 @@ returns-in_default-clause-refused c =
     let f = c.self.inside in
     refuse (why_not_prepared c.args.self.now c.args.tx.0) c.not_active.result
     (ap (λ (s : State). why_not_prepared s c.args.tx.0) (sym c.self.view_is)
-    ∙ precommit_absent f.base f.start f.clock f.running.items f.tale.items f.preparing f.over.items c.args.tx.0 (sym (c.in_default.ensures ∙ ap (λ (rs : List Running). position (λ r. r.id == c.args.tx.0) rs) c.deref.ensures.value)) c.self.invariant.kept.stored c.self.invariant.kept.open'
+    ∙ precommit_absent f.base f.marks f.clock f.running.items f.tale.items f.preparing f.over.items c.args.tx.0 (sym (c.in_default.ensures ∙ ap (λ (rs : List Running). position (λ r. r.id == c.args.tx.0) rs) c.deref.ensures.value)) c.self.invariant.kept.stored c.self.invariant.kept.open'
     ∙ ap (λ (us : List OverTx). Some (not_active_by f.preparing us c.args.tx.0)) (sym c.deref-in_default.ensures.value)
     ∙ ap (λ (r : Refusal). Some r) (sym c.not_active.ensures))
 
@@ -29,7 +29,7 @@ returns-then-self-ge-MAX_STAMP-clause-refused c =
     let f = c.self.inside in
     refuse (why_not_prepared c.args.self.now c.args.tx.0) ClockSpent
     (ap (λ (s : State). why_not_prepared s c.args.tx.0) (sym c.self.view_is)
-    ∙ precommit_at f.base f.start f.clock f.running.items f.tale.items f.preparing f.over.items (vec_capacity f.tale) (vec_capacity f.over) c.args.tx.0 c.in-Some.at (sym (c.in-Some.ensures ∙ ap (λ (rs : List Running). position (λ r. r.id == c.args.tx.0) rs) c.deref.ensures.value)) c.self.invariant.kept
+    ∙ precommit_at f.base f.marks f.clock f.running.items f.tale.items f.preparing f.over.items (vec_capacity f.tale) (vec_capacity f.over) c.args.tx.0 c.in-Some.at (sym (c.in-Some.ensures ∙ ap (λ (rs : List Running). position (λ r. r.id == c.args.tx.0) rs) c.deref.ensures.value)) c.self.invariant.kept
     ∙ stands_now (nat_le MAX_STAMP f.clock) ClockSpent _ (le-leb MAX_STAMP f.clock c.if-self-ge-MAX_STAMP.true))
 
 pub returns-then-is_some-clause-refused : goal.returns-then-is_some-clause-refused
@@ -37,7 +37,7 @@ returns-then-is_some-clause-refused c =
     let f = c.self.inside in
     refuse (why_not_prepared c.args.self.now c.args.tx.0) Busy
     (ap (λ (s : State). why_not_prepared s c.args.tx.0) (sym c.self.view_is)
-    ∙ precommit_at f.base f.start f.clock f.running.items f.tale.items f.preparing f.over.items (vec_capacity f.tale) (vec_capacity f.over) c.args.tx.0 c.in-Some.at (sym (c.in-Some.ensures ∙ ap (λ (rs : List Running). position (λ r. r.id == c.args.tx.0) rs) c.deref.ensures.value)) c.self.invariant.kept
+    ∙ precommit_at f.base f.marks f.clock f.running.items f.tale.items f.preparing f.over.items (vec_capacity f.tale) (vec_capacity f.over) c.args.tx.0 c.in-Some.at (sym (c.in-Some.ensures ∙ ap (λ (rs : List Running). position (λ r. r.id == c.args.tx.0) rs) c.deref.ensures.value)) c.self.invariant.kept
     ∙ stands_not (nat_le MAX_STAMP f.clock) ClockSpent _ (lt-leb MAX_STAMP f.clock c.if-self-ge-MAX_STAMP.false)
     ∙ stands_now (is_some f.preparing) Busy None (sym c.if-is_some.ensures))
 
@@ -46,7 +46,7 @@ returns-in_err-reserve-clause-refused c =
     let f = c.self.inside in
     no_memory (why_not_prepared c.args.self.now c.args.tx.0) c.from_residual.result
     (ap (λ (s : State). why_not_prepared s c.args.tx.0) (sym c.self.view_is)
-    ∙ precommit_at f.base f.start f.clock f.running.items f.tale.items f.preparing f.over.items (vec_capacity f.tale) (vec_capacity f.over) c.args.tx.0 c.in-Some.at (sym (c.in-Some.ensures ∙ ap (λ (rs : List Running). position (λ r. r.id == c.args.tx.0) rs) c.deref.ensures.value)) c.self.invariant.kept
+    ∙ precommit_at f.base f.marks f.clock f.running.items f.tale.items f.preparing f.over.items (vec_capacity f.tale) (vec_capacity f.over) c.args.tx.0 c.in-Some.at (sym (c.in-Some.ensures ∙ ap (λ (rs : List Running). position (λ r. r.id == c.args.tx.0) rs) c.deref.ensures.value)) c.self.invariant.kept
     ∙ stands_not (nat_le MAX_STAMP f.clock) ClockSpent _ (lt-leb MAX_STAMP f.clock c.if-self-ge-MAX_STAMP.false)
     ∙ stands_not (is_some f.preparing) Busy None (sym c.if-is_some.ensures)) c.from_residual.ensures.1
 
@@ -55,7 +55,7 @@ returns-in_err-reserve-2-clause-refused c =
     let f = c.self.inside in
     no_memory (why_not_prepared c.args.self.now c.args.tx.0) c.from_residual-in_err-reserve-2.result
     (ap (λ (s : State). why_not_prepared s c.args.tx.0) (sym c.self.view_is)
-    ∙ precommit_at f.base f.start f.clock f.running.items f.tale.items f.preparing f.over.items (vec_capacity f.tale) (vec_capacity f.over) c.args.tx.0 c.in-Some.at (sym (c.in-Some.ensures ∙ ap (λ (rs : List Running). position (λ r. r.id == c.args.tx.0) rs) c.deref.ensures.value)) c.self.invariant.kept
+    ∙ precommit_at f.base f.marks f.clock f.running.items f.tale.items f.preparing f.over.items (vec_capacity f.tale) (vec_capacity f.over) c.args.tx.0 c.in-Some.at (sym (c.in-Some.ensures ∙ ap (λ (rs : List Running). position (λ r. r.id == c.args.tx.0) rs) c.deref.ensures.value)) c.self.invariant.kept
     ∙ stands_not (nat_le MAX_STAMP f.clock) ClockSpent _ (lt-leb MAX_STAMP f.clock c.if-self-ge-MAX_STAMP.false)
     ∙ stands_not (is_some f.preparing) Busy None (sym c.if-is_some.ensures)) c.from_residual-in_err-reserve-2.ensures.1
 
@@ -66,27 +66,27 @@ is_none (Some x) e = absurd (true≢false e)
 empty : (c : After-self-2-1) → c.self.inside.preparing ≡ None
 empty c = is_none c.self.inside.preparing (sym c.if-is_some.ensures)
 
-now : (c : After-self-2-1) → IsPrecommitted c.self.inside.base c.self.inside.start c.self.inside.clock c.self.inside.running.items c.self.inside.tale.items c.self.inside.over.items (vec_capacity c.reserve.new.self) (vec_capacity c.self.inside.over) c.args.tx.0 c.in-Some.at c.of.result
+now : (c : After-self-2-1) → IsPrecommitted c.self.inside.base c.self.inside.marks c.self.inside.clock c.self.inside.running.items c.self.inside.tale.items c.self.inside.over.items (vec_capacity c.reserve.new.self) (vec_capacity c.self.inside.over) c.args.tx.0 c.in-Some.at c.of.result
 now c =
     let f = c.self.inside in
-    kept_prepared f.base f.start f.clock f.running.items f.tale.items f.over.items (vec_capacity f.tale) (vec_capacity c.reserve.new.self) (vec_capacity f.over) c.args.tx.0 c.in-Some.at c.remove-own.result c.of.result
+    kept_prepared f.base f.marks f.clock f.running.items f.tale.items f.over.items (vec_capacity f.tale) (vec_capacity c.reserve.new.self) (vec_capacity f.over) c.args.tx.0 c.in-Some.at c.remove-own.result c.of.result
     (sym (c.in-Some.ensures ∙ ap (λ (rs : List Running). position (λ r. r.id == c.args.tx.0) rs) c.deref.ensures.value)) c.remove-own.ensures.value c.of.ensures
     (let room = c.in_ok-reserve.ensures.ok in omega arith)
-    (subst (λ (o : Option Slot). IsKept (state_of f.base f.start f.clock f.running.items f.tale.items o f.over.items) f.tale.items o (vec_capacity f.tale) (vec_capacity f.over)) (empty c) c.self.invariant.kept)
+    (subst (λ (o : Option Slot). IsKept (state_of f.base f.marks f.clock f.running.items f.tale.items o f.over.items) f.tale.items o (vec_capacity f.tale) (vec_capacity f.over)) (empty c) c.self.invariant.kept)
 
 -- the fields as they are after the call
-fields : (c : After-self-2-1) → state_of c.self.inside.base c.self.inside.start (c.self.inside.clock + 1) c.remove-own.new.self.items c.reserve.new.self.items (Some c.of.result) c.self.inside.over.items ≡ state_of c.self.inside.base c.self.inside.start (c.self.inside.clock + 1) (remove c.self.inside.running.items c.in-Some.at) c.self.inside.tale.items (Some c.of.result) c.self.inside.over.items
+fields : (c : After-self-2-1) → state_of c.self.inside.base c.self.inside.marks (c.self.inside.clock + 1) c.remove-own.new.self.items c.reserve.new.self.items (Some c.of.result) c.self.inside.over.items ≡ state_of c.self.inside.base c.self.inside.marks (c.self.inside.clock + 1) (remove c.self.inside.running.items c.in-Some.at) c.self.inside.tale.items (Some c.of.result) c.self.inside.over.items
 fields c =
     let f = c.self.inside in
-    ap (λ (rs : List Running). state_of f.base f.start (f.clock + 1) rs c.reserve.new.self.items (Some c.of.result) f.over.items) c.remove-own.ensures.items
-    ∙ ap (λ (tale : List Slot). state_of f.base f.start (f.clock + 1) (remove f.running.items c.in-Some.at) tale (Some c.of.result) f.over.items) c.in_ok-reserve.ensures.items
+    ap (λ (rs : List Running). state_of f.base f.marks (f.clock + 1) rs c.reserve.new.self.items (Some c.of.result) f.over.items) c.remove-own.ensures.items
+    ∙ ap (λ (tale : List Slot). state_of f.base f.marks (f.clock + 1) (remove f.running.items c.in-Some.at) tale (Some c.of.result) f.over.items) c.in_ok-reserve.ensures.items
 
 pub invariant_of-self-2 : goal.invariant_of-self-2
 invariant_of-self-2 c =
     let f = c.self.inside in
     record {
-      kept = subst (λ (tale : List Slot). IsKept (state_of f.base f.start (f.clock + 1) c.remove-own.new.self.items tale (Some c.of.result) f.over.items) tale (Some c.of.result) (vec_capacity c.reserve.new.self) (vec_capacity f.over)) (sym c.in_ok-reserve.ensures.items)
-          (subst (λ (rs : List Running). IsKept (state_of f.base f.start (f.clock + 1) rs f.tale.items (Some c.of.result) f.over.items) f.tale.items (Some c.of.result) (vec_capacity c.reserve.new.self) (vec_capacity f.over)) (sym c.remove-own.ensures.items) (now c).kept);
+      kept = subst (λ (tale : List Slot). IsKept (state_of f.base f.marks (f.clock + 1) c.remove-own.new.self.items tale (Some c.of.result) f.over.items) tale (Some c.of.result) (vec_capacity c.reserve.new.self) (vec_capacity f.over)) (sym c.in_ok-reserve.ensures.items)
+          (subst (λ (rs : List Running). IsKept (state_of f.base f.marks (f.clock + 1) rs f.tale.items (Some c.of.result) f.over.items) f.tale.items (Some c.of.result) (vec_capacity c.reserve.new.self) (vec_capacity f.over)) (sym c.remove-own.ensures.items) (now c).kept);
       indexed = subst (λ (tale : List Slot). IsIndexed tale c.reserve-2.new.self.items (Some c.of.result) (vec_capacity c.reserve-2.new.self)) (sym c.in_ok-reserve.ensures.items)
           (subst (λ (ws : List ℕ). IsIndexed f.tale.items ws (Some c.of.result) (vec_capacity c.reserve-2.new.self)) (sym c.in_ok-reserve-2.ensures.items)
           (indexed_with f.tale.items f.writers.items f.preparing (Some c.of.result) (vec_capacity f.writers) (vec_capacity c.reserve-2.new.self) (let room = c.in_ok-reserve-2.ensures.ok in omega arith) c.self.invariant.indexed));
@@ -96,7 +96,7 @@ pub returns-clause-refused : goal.returns-clause-refused
 returns-clause-refused c =
     let f = c.self.inside in
     ap (λ (s : State). why_not_prepared s c.args.tx.0) (sym c.self.view_is)
-    ∙ precommit_at f.base f.start f.clock f.running.items f.tale.items f.preparing f.over.items (vec_capacity f.tale) (vec_capacity f.over) c.args.tx.0 c.in-Some.at (sym (c.in-Some.ensures ∙ ap (λ (rs : List Running). position (λ r. r.id == c.args.tx.0) rs) c.deref.ensures.value)) c.self.invariant.kept
+    ∙ precommit_at f.base f.marks f.clock f.running.items f.tale.items f.preparing f.over.items (vec_capacity f.tale) (vec_capacity f.over) c.args.tx.0 c.in-Some.at (sym (c.in-Some.ensures ∙ ap (λ (rs : List Running). position (λ r. r.id == c.args.tx.0) rs) c.deref.ensures.value)) c.self.invariant.kept
     ∙ stands_not (nat_le MAX_STAMP f.clock) ClockSpent _ (lt-leb MAX_STAMP f.clock c.if-self-ge-MAX_STAMP.false)
     ∙ stands_not (is_some f.preparing) Busy None (sym c.if-is_some.ensures)
 
@@ -104,5 +104,5 @@ pub returns-clause-ok : goal.returns-clause-ok
 returns-clause-ok c =
     let f = c.self.inside in
     fields c ∙ (now c).state
-    ∙ ap (λ (o : Option Slot). now_prepared (state_of f.base f.start f.clock f.running.items f.tale.items o f.over.items) c.args.tx.0) (sym (empty c))
+    ∙ ap (λ (o : Option Slot). now_prepared (state_of f.base f.marks f.clock f.running.items f.tale.items o f.over.items) c.args.tx.0) (sym (empty c))
     ∙ ap (λ (s : State). now_prepared s c.args.tx.0) c.self.view_is

@@ -21,49 +21,49 @@ returns-in_default-clause-refused c =
     let f = c.self.inside in
     refuse (why_not_read c.args.self.now c.args.tx.0 c.args.key) c.not_active.result
     (ap (λ (s : State). why_not_read s c.args.tx.0 c.args.key) (sym c.self.view_is)
-    ∙ read_absent f.base f.start f.clock f.running.items f.tale.items f.preparing f.over.items c.args.tx.0 c.args.key (sym (c.in_default.ensures ∙ ap (λ (rs : List Running). position (λ r. r.id == c.args.tx.0) rs) c.deref.ensures.value)) c.self.invariant.kept.stored c.self.invariant.kept.open'
+    ∙ read_absent f.base f.marks f.clock f.running.items f.tale.items f.preparing f.over.items c.args.tx.0 c.args.key (sym (c.in_default.ensures ∙ ap (λ (rs : List Running). position (λ r. r.id == c.args.tx.0) rs) c.deref.ensures.value)) c.self.invariant.kept.stored c.self.invariant.kept.open'
     ∙ ap (λ (us : List OverTx). Some (not_active_by f.preparing us c.args.tx.0)) (sym c.deref-in_default.ensures.value)
     ∙ ap (λ (r : Refusal). Some r) (sym c.not_active.ensures))
 
 pub returns-in-Some-read_refusal-clause-refused : goal.returns-in-Some-read_refusal-clause-refused
 returns-in-Some-read_refusal-clause-refused c =
     let f = c.self.inside in
-    let m = mine_at f.base f.start f.clock f.running.items f.tale.items f.preparing f.over.items (vec_capacity f.tale) (vec_capacity f.over) c.args.tx.0 c.in-Some.at c.index-own.result.now (sym (c.in-Some.ensures ∙ ap (λ (rs : List Running). position (λ r. r.id == c.args.tx.0) rs) c.deref.ensures.value)) c.index-own.ensures c.self.invariant.kept in
+    let m = mine_at f.base f.marks f.clock f.running.items f.tale.items f.preparing f.over.items (vec_capacity f.tale) (vec_capacity f.over) c.args.tx.0 c.in-Some.at c.index-own.result.now (sym (c.in-Some.ensures ∙ ap (λ (rs : List Running). position (λ r. r.id == c.args.tx.0) rs) c.deref.ensures.value)) c.index-own.ensures c.self.invariant.kept in
     refuse (why_not_read c.args.self.now c.args.tx.0 c.args.key) c.in-Some-read_refusal.refusal
     (ap (λ (s : State). why_not_read s c.args.tx.0 c.args.key) (sym c.self.view_is)
-    ∙ read_here (state_of f.base f.start f.clock f.running.items f.tale.items f.preparing f.over.items) f.preparing c.args.tx.0 c.in-Some.at c.args.key c.index-own.result.now m
+    ∙ read_here (state_of f.base f.marks f.clock f.running.items f.tale.items f.preparing f.over.items) f.preparing c.args.tx.0 c.in-Some.at c.args.key c.index-own.result.now m
     ∙ sym c.read_refusal.ensures ∙ c.in-Some-read_refusal.is)
 
 pub returns-in_err-row-clause-refused : goal.returns-in_err-row-clause-refused
 returns-in_err-row-clause-refused c =
     let f = c.self.inside in
-    let m = mine_at f.base f.start f.clock f.running.items f.tale.items f.preparing f.over.items (vec_capacity f.tale) (vec_capacity f.over) c.args.tx.0 c.in-Some.at c.index-own.result.now (sym (c.in-Some.ensures ∙ ap (λ (rs : List Running). position (λ r. r.id == c.args.tx.0) rs) c.deref.ensures.value)) c.index-own.ensures c.self.invariant.kept in
+    let m = mine_at f.base f.marks f.clock f.running.items f.tale.items f.preparing f.over.items (vec_capacity f.tale) (vec_capacity f.over) c.args.tx.0 c.in-Some.at c.index-own.result.now (sym (c.in-Some.ensures ∙ ap (λ (rs : List Running). position (λ r. r.id == c.args.tx.0) rs) c.deref.ensures.value)) c.index-own.ensures c.self.invariant.kept in
     no_memory (why_not_read c.args.self.now c.args.tx.0 c.args.key) c.from_residual.result
     (ap (λ (s : State). why_not_read s c.args.tx.0 c.args.key) (sym c.self.view_is)
-    ∙ read_here (state_of f.base f.start f.clock f.running.items f.tale.items f.preparing f.over.items) f.preparing c.args.tx.0 c.in-Some.at c.args.key c.index-own.result.now m
+    ∙ read_here (state_of f.base f.marks f.clock f.running.items f.tale.items f.preparing f.over.items) f.preparing c.args.tx.0 c.in-Some.at c.args.key c.index-own.result.now m
     ∙ sym c.read_refusal.ensures ∙ c.in_default-read_refusal.is) c.from_residual.ensures.1
 
 pub returns-in_err-kept-clause-refused : goal.returns-in_err-kept-clause-refused
 returns-in_err-kept-clause-refused c =
     let f = c.self.inside in
-    let m = mine_at f.base f.start f.clock f.running.items f.tale.items f.preparing f.over.items (vec_capacity f.tale) (vec_capacity f.over) c.args.tx.0 c.in-Some.at c.index-own.result.now (sym (c.in-Some.ensures ∙ ap (λ (rs : List Running). position (λ r. r.id == c.args.tx.0) rs) c.deref.ensures.value)) c.index-own.ensures c.self.invariant.kept in
+    let m = mine_at f.base f.marks f.clock f.running.items f.tale.items f.preparing f.over.items (vec_capacity f.tale) (vec_capacity f.over) c.args.tx.0 c.in-Some.at c.index-own.result.now (sym (c.in-Some.ensures ∙ ap (λ (rs : List Running). position (λ r. r.id == c.args.tx.0) rs) c.deref.ensures.value)) c.index-own.ensures c.self.invariant.kept in
     no_memory (why_not_read c.args.self.now c.args.tx.0 c.args.key) c.from_residual-in_err-kept.result
     (ap (λ (s : State). why_not_read s c.args.tx.0 c.args.key) (sym c.self.view_is)
-    ∙ read_here (state_of f.base f.start f.clock f.running.items f.tale.items f.preparing f.over.items) f.preparing c.args.tx.0 c.in-Some.at c.args.key c.index-own.result.now m
+    ∙ read_here (state_of f.base f.marks f.clock f.running.items f.tale.items f.preparing f.over.items) f.preparing c.args.tx.0 c.in-Some.at c.args.key c.index-own.result.now m
     ∙ sym c.read_refusal.ensures ∙ c.in_default-read_refusal.is) c.from_residual-in_err-kept.ensures.1
 
 pub returns-in_err-tell-clause-refused : goal.returns-in_err-tell-clause-refused
 returns-in_err-tell-clause-refused c =
     let f = c.self.inside in
-    let m = mine_at f.base f.start f.clock f.running.items f.tale.items f.preparing f.over.items (vec_capacity f.tale) (vec_capacity f.over) c.args.tx.0 c.in-Some.at c.index-own.result.now (sym (c.in-Some.ensures ∙ ap (λ (rs : List Running). position (λ r. r.id == c.args.tx.0) rs) c.deref.ensures.value)) c.index-own.ensures c.self.invariant.kept in
+    let m = mine_at f.base f.marks f.clock f.running.items f.tale.items f.preparing f.over.items (vec_capacity f.tale) (vec_capacity f.over) c.args.tx.0 c.in-Some.at c.index-own.result.now (sym (c.in-Some.ensures ∙ ap (λ (rs : List Running). position (λ r. r.id == c.args.tx.0) rs) c.deref.ensures.value)) c.index-own.ensures c.self.invariant.kept in
     no_memory (why_not_read c.args.self.now c.args.tx.0 c.args.key) c.from_residual-in_err-tell.result
     (ap (λ (s : State). why_not_read s c.args.tx.0 c.args.key) (sym c.self.view_is)
-    ∙ read_here (state_of f.base f.start f.clock f.running.items f.tale.items f.preparing f.over.items) f.preparing c.args.tx.0 c.in-Some.at c.args.key c.index-own.result.now m
+    ∙ read_here (state_of f.base f.marks f.clock f.running.items f.tale.items f.preparing f.over.items) f.preparing c.args.tx.0 c.in-Some.at c.args.key c.index-own.result.now m
     ∙ sym c.read_refusal.ensures ∙ c.in_default-read_refusal.is) c.from_residual-in_err-tell.ensures.1
 
 -- the state before the call
 old : In_ok-tell → State
-old c = let f = c.self.inside in state_of f.base f.start f.clock f.running.items f.tale.items f.preparing f.over.items
+old c = let f = c.self.inside in state_of f.base f.marks f.clock f.running.items f.tale.items f.preparing f.over.items
 
 place : (c : In_ok-tell) → position (λ r. r.id == c.args.tx.0) c.self.inside.running.items ≡ Some c.in-Some.at
 place c = sym (c.in-Some.ensures ∙ ap (λ (rs : List Running). position (λ r. r.id == c.args.tx.0) rs) c.deref.ensures.value)
@@ -72,7 +72,7 @@ mine : (c : In_ok-tell) → IsMine (old c) c.self.inside.preparing c.args.tx.0 c
 unfolding old
 mine c =
     let f = c.self.inside in
-    mine_at f.base f.start f.clock f.running.items f.tale.items f.preparing f.over.items (vec_capacity f.tale) (vec_capacity f.over) c.args.tx.0 c.in-Some.at c.index-own.result.now (place c) c.index-own.ensures c.self.invariant.kept
+    mine_at f.base f.marks f.clock f.running.items f.tale.items f.preparing f.over.items (vec_capacity f.tale) (vec_capacity f.over) c.args.tx.0 c.in-Some.at c.index-own.result.now (place c) c.index-own.ensures c.self.invariant.kept
 
 none : (c : In_ok-tell) → read_refusal_by c.index-own.result.now c.self.inside.preparing c.args.key ≡ None
 none c = sym c.read_refusal.ensures ∙ c.in_default-read_refusal.is
@@ -90,13 +90,13 @@ answer c =
     ∙ ap (λ (tale : List Slot). row_at (left_by (told_view c.deref-4.result.now) (seen_by f.base (at_places tale c.deref-3.result.now) c.args.tx.0)) c.args.key) c.deref-2.ensures.value
     ∙ ap (λ (ws : List ℕ). row_at (left_by (told_view c.deref-4.result.now) (seen_by f.base (at_places f.tale.items ws) c.args.tx.0)) c.args.key) c.deref-3.ensures.value
     ∙ ap (λ ops. row_at (left_by (told_view ops) (seen_by f.base (at_places f.tale.items f.writers.items) c.args.tx.0)) c.args.key) own
-    ∙ ap (option_map (line_at c.args.key)) (shown_at f.base f.start f.clock f.running.items f.tale.items f.writers.items f.preparing f.over.items c.args.tx.0 c.args.key (told_view c.own.inside.ops.items) (told' ∙ sym (mine c).found.told) c.self.invariant.indexed.places (quiet c))
+    ∙ ap (option_map (line_at c.args.key)) (shown_at f.base f.marks f.clock f.running.items f.tale.items f.writers.items f.preparing f.over.items c.args.tx.0 c.args.key (told_view c.own.inside.ops.items) (told' ∙ sym (mine c).found.told) c.self.invariant.indexed.places (quiet c))
 
-now : (c : In_ok-tell) → IsTold c.self.inside.base c.self.inside.start c.self.inside.clock c.self.inside.running.items c.self.inside.tale.items c.self.inside.preparing c.self.inside.over.items (vec_capacity c.self.inside.tale) (vec_capacity c.self.inside.over) c.args.tx.0 c.in-Some.at (op.Read c.args.key) (Row c.in_ok-row.row) c.tell.new.tx
+now : (c : In_ok-tell) → IsTold c.self.inside.base c.self.inside.marks c.self.inside.clock c.self.inside.running.items c.self.inside.tale.items c.self.inside.preparing c.self.inside.over.items (vec_capacity c.self.inside.tale) (vec_capacity c.self.inside.over) c.args.tx.0 c.in-Some.at (op.Read c.args.key) (Row c.in_ok-row.row) c.tell.new.tx
 unfolding old
 now c =
     let f = c.self.inside in
-    kept_told f.base f.start f.clock f.running.items f.tale.items f.preparing f.over.items (vec_capacity f.tale) (vec_capacity f.over) c.args.tx.0 c.in-Some.at (op.Read c.args.key) (Row c.in_ok-row.row) c.index_mut-own.result.now c.tell.new.tx
+    kept_told f.base f.marks f.clock f.running.items f.tale.items f.preparing f.over.items (vec_capacity f.tale) (vec_capacity f.over) c.args.tx.0 c.in-Some.at (op.Read c.args.key) (Row c.in_ok-row.row) c.index_mut-own.result.now c.tell.new.tx
     (place c) c.index_mut-own.ensures.value
     (c.in_ok-tell.ensures.ok ∙ ap (λ (r : Option Line). record c.index_mut-own.result.now { told = c.index_mut-own.result.now.told ++ (op.Read c.args.key, Row r) ∷ [] }) c.in_ok-kept.ensures)
     (quiet c) tt (ap Row (answer c)) c.self.invariant.kept

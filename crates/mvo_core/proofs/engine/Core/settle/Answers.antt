@@ -20,7 +20,7 @@ pub returns-in_default-clause-refused : goal.returns-in_default-clause-refused
 returns-in_default-clause-refused c =
     let f = c.self.inside in
     ap (λ (s : State). why_not_settled s c.args.tx.0) (sym c.self.view_is)
-    ∙ settle_other f.base f.start f.clock f.running.items f.tale.items f.preparing f.over.items c.args.tx.0 (no_one c.args.tx.0 f.preparing (sym c.in_default.ensures.value)) c.self.invariant.kept.stored c.self.invariant.kept.open'
+    ∙ settle_other f.base f.marks f.clock f.running.items f.tale.items f.preparing f.over.items c.args.tx.0 (no_one c.args.tx.0 f.preparing (sym c.in_default.ensures.value)) c.self.invariant.kept.stored c.self.invariant.kept.open'
     ∙ ap (λ (rs : List Running). Some (not_preparing_by rs f.over.items c.args.tx.0)) (sym c.deref.ensures.value)
     ∙ ap (λ (us : List OverTx). Some (not_preparing_by c.deref.result.now us c.args.tx.0)) (sym c.deref-in_default.ensures.value)
     ∙ ap (λ (r : Refusal). Some r) (sym c.not_preparing.ensures)
@@ -29,7 +29,7 @@ pub returns-then-not-is-clause-refused : goal.returns-then-not-is-clause-refused
 returns-then-not-is-clause-refused c =
     let f = c.self.inside in
     ap (λ (s : State). why_not_settled s c.args.tx.0) (sym c.self.view_is)
-    ∙ settle_other f.base f.start f.clock f.running.items f.tale.items f.preparing f.over.items c.args.tx.0 (not_one c.args.tx.0 c.in-Some.own f.preparing (sym c.in-Some.ensures.value) (sym c.if-not-is.ensures)) c.self.invariant.kept.stored c.self.invariant.kept.open'
+    ∙ settle_other f.base f.marks f.clock f.running.items f.tale.items f.preparing f.over.items c.args.tx.0 (not_one c.args.tx.0 c.in-Some.own f.preparing (sym c.in-Some.ensures.value) (sym c.if-not-is.ensures)) c.self.invariant.kept.stored c.self.invariant.kept.open'
     ∙ ap (λ (rs : List Running). Some (not_preparing_by rs f.over.items c.args.tx.0)) (sym c.deref-then-not-is.ensures.value)
     ∙ ap (λ (us : List OverTx). Some (not_preparing_by c.deref-then-not-is.result.now us c.args.tx.0)) (sym c.deref-then-not-is-2.ensures.value)
     ∙ ap (λ (r : Refusal). Some r) (sym c.not_preparing-then-not-is.ensures)
@@ -38,32 +38,32 @@ pub returns-then-not-is_valid-clause-refused : goal.returns-then-not-is_valid-cl
 returns-then-not-is_valid-clause-refused c =
     let f = c.self.inside in
     let x = c.in-Some.own in
-    let k = kept_with f.base f.start f.clock f.running.items f.tale.items f.preparing (Some x) f.over.items (vec_capacity f.tale) (vec_capacity f.over) (sym c.in-Some.ensures.value) c.self.invariant.kept in
+    let k = kept_with f.base f.marks f.clock f.running.items f.tale.items f.preparing (Some x) f.over.items (vec_capacity f.tale) (vec_capacity f.over) (sym c.in-Some.ensures.value) c.self.invariant.kept in
     ap (λ (s : State). why_not_settled s c.args.tx.0) (sym c.self.view_is)
-    ∙ ap (λ (o : Option Slot). why_not_settled (state_of f.base f.start f.clock f.running.items f.tale.items o f.over.items) c.args.tx.0) (sym c.in-Some.ensures.value)
-    ∙ why_settled (state_of f.base f.start f.clock f.running.items f.tale.items (Some x) f.over.items) c.args.tx.0 x (prepared_one c.args.tx.0 f.tale.items x (sym c.if-not-is.ensures) k.stored k.open') k.open'.doom
+    ∙ ap (λ (o : Option Slot). why_not_settled (state_of f.base f.marks f.clock f.running.items f.tale.items o f.over.items) c.args.tx.0) (sym c.in-Some.ensures.value)
+    ∙ why_settled (state_of f.base f.marks f.clock f.running.items f.tale.items (Some x) f.over.items) c.args.tx.0 x (prepared_one c.args.tx.0 f.tale.items x (sym c.if-not-is.ensures) k.stored k.open') k.open'.doom
     ∙ stands_now (not x.valid) NotValidated None (ap not (sym c.if-not-is_valid.ensures))
 
 -- what is kept before the call, with the one that is Preparing
-kept : (c : After-push_reserved-2) → IsKept (state_of c.self.inside.base c.self.inside.start c.self.inside.clock c.self.inside.running.items c.self.inside.tale.items (Some c.in-Some.own) c.self.inside.over.items) c.self.inside.tale.items (Some c.in-Some.own) (vec_capacity c.self.inside.tale) (vec_capacity c.self.inside.over)
+kept : (c : After-push_reserved-2) → IsKept (state_of c.self.inside.base c.self.inside.marks c.self.inside.clock c.self.inside.running.items c.self.inside.tale.items (Some c.in-Some.own) c.self.inside.over.items) c.self.inside.tale.items (Some c.in-Some.own) (vec_capacity c.self.inside.tale) (vec_capacity c.self.inside.over)
 kept c =
     let f = c.self.inside in
-    kept_with f.base f.start f.clock f.running.items f.tale.items f.preparing (Some c.in-Some.own) f.over.items (vec_capacity f.tale) (vec_capacity f.over) (sym c.in-Some.ensures.value) c.self.invariant.kept
+    kept_with f.base f.marks f.clock f.running.items f.tale.items f.preparing (Some c.in-Some.own) f.over.items (vec_capacity f.tale) (vec_capacity f.over) (sym c.in-Some.ensures.value) c.self.invariant.kept
 
-found : (c : After-push_reserved-2) → preparing_of c.args.tx.0 (state_of c.self.inside.base c.self.inside.start c.self.inside.clock c.self.inside.running.items c.self.inside.tale.items (Some c.in-Some.own) c.self.inside.over.items).line ≡ Some c.in-Some.own
+found : (c : After-push_reserved-2) → preparing_of c.args.tx.0 (state_of c.self.inside.base c.self.inside.marks c.self.inside.clock c.self.inside.running.items c.self.inside.tale.items (Some c.in-Some.own) c.self.inside.over.items).line ≡ Some c.in-Some.own
 found c = prepared_one c.args.tx.0 c.self.inside.tale.items c.in-Some.own (sym c.if-not-is.ensures) (kept c).stored (kept c).open'
 
 -- the state before the call
-before : (c : After-push_reserved-2) → state_of c.self.inside.base c.self.inside.start c.self.inside.clock c.self.inside.running.items c.self.inside.tale.items (Some c.in-Some.own) c.self.inside.over.items ≡ c.args.self.now
+before : (c : After-push_reserved-2) → state_of c.self.inside.base c.self.inside.marks c.self.inside.clock c.self.inside.running.items c.self.inside.tale.items (Some c.in-Some.own) c.self.inside.over.items ≡ c.args.self.now
 before c =
     let f = c.self.inside in
-    ap (λ (o : Option Slot). state_of f.base f.start f.clock f.running.items f.tale.items o f.over.items) c.in-Some.ensures.value ∙ c.self.view_is
+    ap (λ (o : Option Slot). state_of f.base f.marks f.clock f.running.items f.tale.items o f.over.items) c.in-Some.ensures.value ∙ c.self.view_is
 
-now : (c : After-push_reserved-2) → IsCommit c.self.inside.base c.self.inside.start c.self.inside.clock c.self.inside.running.items c.self.inside.tale.items c.self.inside.over.items (vec_capacity c.push_reserved.new.items) (vec_capacity c.push_reserved-2.new.items) c.args.tx.0 c.in-Some.own
+now : (c : After-push_reserved-2) → IsCommit c.self.inside.base c.self.inside.marks c.self.inside.clock c.self.inside.running.items c.self.inside.tale.items c.self.inside.over.items (vec_capacity c.push_reserved.new.items) (vec_capacity c.push_reserved-2.new.items) c.args.tx.0 c.in-Some.own
 now c =
     let f = c.self.inside in
     let k = kept c in
-    kept_committed f.base f.start f.clock f.running.items f.tale.items f.over.items (vec_capacity c.push_reserved.new.items) (vec_capacity c.push_reserved-2.new.items) c.args.tx.0 c.in-Some.own (eqb-true c.in-Some.own.id c.args.tx.0 (sym c.if-not-is.ensures)) (sym c.if-not-is_valid.ensures)
+    kept_committed f.base f.marks f.clock f.running.items f.tale.items f.over.items (vec_capacity c.push_reserved.new.items) (vec_capacity c.push_reserved-2.new.items) c.args.tx.0 c.in-Some.own (eqb-true c.in-Some.own.id c.args.tx.0 (sym c.if-not-is.ensures)) (sym c.if-not-is_valid.ensures)
     (record {
       sound = k.sound;
       numbered = k.numbered;
@@ -82,12 +82,12 @@ tale_now c = c.push_reserved.ensures.items ∙ ap (λ (x : Slot). c.self.inside.
 over_now : (c : After-push_reserved-2) → c.push_reserved-2.new.items.items ≡ c.self.inside.over.items ++ committed_tx c.args.tx.0 c.in-Some.own.stop ∷ []
 over_now c = c.push_reserved-2.ensures.items ∙ ap (λ (u : OverTx). c.self.inside.over.items ++ u ∷ []) (c.committed.ensures ∙ ap (committed_tx c.args.tx.0) c.end.ensures)
 
-kept_now : (c : After-push_reserved-2) → IsKept (state_of c.self.inside.base c.self.inside.start c.self.inside.clock c.self.inside.running.items c.push_reserved.new.items.items c.take.new.self c.push_reserved-2.new.items.items) c.push_reserved.new.items.items c.take.new.self (vec_capacity c.push_reserved.new.items) (vec_capacity c.push_reserved-2.new.items)
+kept_now : (c : After-push_reserved-2) → IsKept (state_of c.self.inside.base c.self.inside.marks c.self.inside.clock c.self.inside.running.items c.push_reserved.new.items.items c.take.new.self c.push_reserved-2.new.items.items) c.push_reserved.new.items.items c.take.new.self (vec_capacity c.push_reserved.new.items) (vec_capacity c.push_reserved-2.new.items)
 kept_now c =
     let f = c.self.inside in
-    subst (λ (o : Option Slot). IsKept (state_of f.base f.start f.clock f.running.items c.push_reserved.new.items.items o c.push_reserved-2.new.items.items) c.push_reserved.new.items.items o (vec_capacity c.push_reserved.new.items) (vec_capacity c.push_reserved-2.new.items)) (sym c.take.ensures.after)
-    (subst (λ (us : List OverTx). IsKept (state_of f.base f.start f.clock f.running.items c.push_reserved.new.items.items None us) c.push_reserved.new.items.items None (vec_capacity c.push_reserved.new.items) (vec_capacity c.push_reserved-2.new.items)) (sym (over_now c))
-    (subst (λ (tale : List Slot). IsKept (state_of f.base f.start f.clock f.running.items tale None (f.over.items ++ committed_tx c.args.tx.0 c.in-Some.own.stop ∷ [])) tale None (vec_capacity c.push_reserved.new.items) (vec_capacity c.push_reserved-2.new.items)) (sym (tale_now c)) (now c).kept))
+    subst (λ (o : Option Slot). IsKept (state_of f.base f.marks f.clock f.running.items c.push_reserved.new.items.items o c.push_reserved-2.new.items.items) c.push_reserved.new.items.items o (vec_capacity c.push_reserved.new.items) (vec_capacity c.push_reserved-2.new.items)) (sym c.take.ensures.after)
+    (subst (λ (us : List OverTx). IsKept (state_of f.base f.marks f.clock f.running.items c.push_reserved.new.items.items None us) c.push_reserved.new.items.items None (vec_capacity c.push_reserved.new.items) (vec_capacity c.push_reserved-2.new.items)) (sym (over_now c))
+    (subst (λ (tale : List Slot). IsKept (state_of f.base f.marks f.clock f.running.items tale None (f.over.items ++ committed_tx c.args.tx.0 c.in-Some.own.stop ∷ [])) tale None (vec_capacity c.push_reserved.new.items) (vec_capacity c.push_reserved-2.new.items)) (sym (tale_now c)) (now c).kept))
 
 indexed_now : (c : After-push_reserved-2) → IsIndexed c.push_reserved.new.items.items c.note_writer.new.writers.items c.take.new.self (vec_capacity c.note_writer.new.writers)
 indexed_now c =
@@ -107,7 +107,7 @@ pub returns-clause-refused : goal.returns-clause-refused
 returns-clause-refused c =
     let f = c.self.inside in
     ap (λ (s : State). why_not_settled s c.args.tx.0) (sym (before c))
-    ∙ why_settled (state_of f.base f.start f.clock f.running.items f.tale.items (Some c.in-Some.own) f.over.items) c.args.tx.0 c.in-Some.own (found c) (kept c).open'.doom
+    ∙ why_settled (state_of f.base f.marks f.clock f.running.items f.tale.items (Some c.in-Some.own) f.over.items) c.args.tx.0 c.in-Some.own (found c) (kept c).open'.doom
     ∙ stands_not (not c.in-Some.own.valid) NotValidated None (ap not (sym c.if-not-is_valid.ensures))
 
 pub returns-clause-answer : goal.returns-clause-answer
@@ -116,9 +116,9 @@ returns-clause-answer c = ap (λ (n : ℕ). Committed (record { 0 = n })) (c.end
 pub returns-clause-ok : goal.returns-clause-ok
 returns-clause-ok c =
     let f = c.self.inside in
-    ap (λ (o : Option Slot). state_of f.base f.start f.clock f.running.items c.push_reserved.new.items.items o c.push_reserved-2.new.items.items) c.take.ensures.after
-    ∙ ap (λ (us : List OverTx). state_of f.base f.start f.clock f.running.items c.push_reserved.new.items.items None us) (over_now c)
-    ∙ ap (λ (tale : List Slot). state_of f.base f.start f.clock f.running.items tale None (f.over.items ++ committed_tx c.args.tx.0 c.in-Some.own.stop ∷ [])) (tale_now c)
+    ap (λ (o : Option Slot). state_of f.base f.marks f.clock f.running.items c.push_reserved.new.items.items o c.push_reserved-2.new.items.items) c.take.ensures.after
+    ∙ ap (λ (us : List OverTx). state_of f.base f.marks f.clock f.running.items c.push_reserved.new.items.items None us) (over_now c)
+    ∙ ap (λ (tale : List Slot). state_of f.base f.marks f.clock f.running.items tale None (f.over.items ++ committed_tx c.args.tx.0 c.in-Some.own.stop ∷ [])) (tale_now c)
     ∙ (now c).state
-    ∙ sym (ap (committed_at (state_of f.base f.start f.clock f.running.items f.tale.items (Some c.in-Some.own) f.over.items) c.args.tx.0) (found c))
+    ∙ sym (ap (committed_at (state_of f.base f.marks f.clock f.running.items f.tale.items (Some c.in-Some.own) f.over.items) c.args.tx.0) (found c))
     ∙ ap (λ (s : State). now_committed s c.args.tx.0) (before c)
