@@ -3,3 +3,4 @@ pub mod Writers
 pub mod Kept
 pub mod Events
 pub mod Replies
+pub mod Groups

@@ -1,0 +1,78 @@
+-- The chain of groups: which commits the next group takes.
+use Rattle.std.specs.Prelude.{ℕ, ◌≡◌, ◌+◌, ◌≤◌, ◌==◌, nat_lt, nat_le, Bool, true, false, not, ◌&&◌, cond, if◌then◌else◌, List, [], ◌∷◌, ◌++◌, map, length, sum_by, Option, None, Some, ⊤}
+use Rattle.std.specs.List.{list_any}
+use Rattle.std.specs.List.Sorted.{IsStrictlySortedBy}
+use Rattle.std.specs.Ordering.{eq_by_cmp}
+use Rattle.mvo_types.specs.declared.row.RowKey.{RowKey}
+use Rattle.mvo_types.specs.declared.refusal.Refusal.{Refusal}
+use Rattle.mvo_types.specs.declared.refusal.Refusal.TheVariants.{Busy, NothingToDo, RingFull}
+use Rattle.mvo_types.specs.Line.{Held}
+use Rattle.mvo_types.specs.Keys.{key_cmp}
+use Rattle.mvo_model.specs.Told.{Told, net_write}
+use Rattle.mvo_group.specs.Data.{NetWrite, RecordData, GroupData}
+use Rattle.mvo_group.specs.Rules.{record_len}
+use Rattle.mvo_state.specs.Entries.{written_keys}
+use Rattle.mvo_state.specs.Line.{State, Slot}
+use Rattle.mvo_state.specs.Causes.{if_stands}
+use Rattle.mvo_state.specs.Marks.{low_water}
+use Rattle.mvo_core.specs.Writers.{is_there, is_writing}
+
+-- the write at a key, if one of these is of it
+abbrev pub write_in : RowKey → List NetWrite → Option (Option Held)
+write_in k [] = None
+write_in k (w ∷ ws) = cond (eq_by_cmp key_cmp k w.0) (Some w.1) (write_in k ws)
+
+-- the record of a commit: its end, and by key its net writes
+pub record IsRecordOf (c : ℕ × Told) (r : RecordData) : Type 0 where
+  pub end' : r.end ≡ c.0
+  pub rise : IsStrictlySortedBy key_cmp (map (λ w. w.0) r.writes)
+  pub writes : (k : RowKey) → write_in k r.writes ≡ net_write k c.1
+
+-- the records of these commits, one after another
+abbrev pub AreRecordsOf : List (ℕ × Told) → List RecordData → Type 0
+AreRecordsOf [] [] = ⊤
+AreRecordsOf [] (r ∷ rs) = ⊥
+AreRecordsOf (c ∷ cs) [] = ⊥
+AreRecordsOf (c ∷ cs) (r ∷ rs) = IsRecordOf c r × AreRecordsOf cs rs
+
+-- the committed transactions that wrote, with an end above prev and at most mark, by end timestamp
+abbrev pub commits_in : ℕ → ℕ → List Slot → List (ℕ × Told)
+commits_in prev mark [] = []
+commits_in prev mark (x ∷ xs) = if (x.settled && is_writing x) && (nat_lt prev x.stop && nat_le x.stop mark) then (x.stop, x.told) ∷ commits_in prev mark xs else commits_in prev mark xs
+
+-- the commits that the next group may take
+abbrev pub due : State → List (ℕ × Told)
+due s = commits_in s.marks.closed.0 (low_water s) s.line
+
+-- no more records, and no more bytes, than a group may have
+pub record Fits (rs : List RecordData) : Type 0 where
+  pub few : length rs ≤ 1024
+  pub size : 18 + sum_by record_len rs ≤ 4194304
+
+abbrev pub end_in : ℕ → List RecordData → ℕ
+end_in e [] = e
+end_in e (r ∷ rs) = end_in r.end rs
+
+-- the low-water if none is left, and else the end of the last record
+abbrev pub mark_by : ℕ → ℕ → List (ℕ × Told) → List RecordData → ℕ
+mark_by low prev [] rs = low
+mark_by low prev (c ∷ cs) rs = end_in prev rs
+
+-- the next group: the longest beginning of the commits due that fits
+pub record IsNextGroup (s : State) (g : GroupData) : Type 0 where
+  pub prev : g.prev ≡ s.marks.closed.0
+  pub taken : List (ℕ × Told)
+  pub left : List (ℕ × Told)
+  pub parts : taken ++ left ≡ due s
+  pub records : AreRecordsOf taken g.records
+  pub fits : Fits g.records
+  pub longest : (c : ℕ × Told) (cs : List (ℕ × Told)) (r : RecordData) → left ≡ c ∷ cs → IsRecordOf c r → Fits (g.records ++ r ∷ []) → ⊥
+  pub mark : g.mark ≡ mark_by (low_water s) s.marks.closed.0 left g.records
+
+-- the state after a group with this mark was closed
+abbrev pub closed_at : State → ℕ → State
+closed_at s mark = record s { marks = record { opening = s.marks.opening; closed = record { 0 = mark } } }
+
+-- why no group is closed, by whether the place for it is taken. In the meantime: not while one is Preparing
+abbrev pub why_not_closed : State → Bool → Option Refusal
+why_not_closed s full = if_stands (list_any (λ x. not x.settled) s.line) Busy (if_stands (low_water s == s.marks.closed.0) NothingToDo (if_stands full RingFull None))
