@@ -21,11 +21,11 @@ use Rattle.mvo_core.specs.Writers.{is_there, is_writing, at_place, at_places}
 use Rattle.mvo_core.specs.Kept.{IsIndexed}
 
 -- ---- one place more
-at_places-append : (tale : List Slot) (is js : List ℕ) → at_places tale (is ++ js) ≡ at_places tale is ++ at_places tale js
+pub at_places-append : (tale : List Slot) (is js : List ℕ) → at_places tale (is ++ js) ≡ at_places tale is ++ at_places tale js
 at_places-append tale [] js = refl
 at_places-append tale (i ∷ is) js = ap (λ xs. at_place tale i ++ xs) (at_places-append tale is js) ∙ sym (append_assoc (at_place tale i) (at_places tale is) (at_places tale js))
 
-append-none : {X : Type 0} (xs : List X) → xs ++ [] ≡ xs
+pub append-none : {X : Type 0} (xs : List X) → xs ++ [] ≡ xs
 append-none [] = refl
 append-none (x ∷ xs) = ap (λ ys. x ∷ ys) (append-none xs)
 
@@ -142,11 +142,11 @@ get_front [] x i lt = absurd (omega arith)
 get_front (y ∷ ys) x zero lt = refl
 get_front (y ∷ ys) x (suc i) lt = get_front ys x i (omega arith)
 
-get_last : (tale : List Slot) (x : Slot) → slice_get (tale ++ x ∷ []) (length tale) ≡ Some x
+pub get_last : (tale : List Slot) (x : Slot) → slice_get (tale ++ x ∷ []) (length tale) ≡ Some x
 get_last [] x = refl
 get_last (y ∷ ys) x = get_last ys x
 
-places_front : (tale : List Slot) (x : Slot) (ws : List ℕ) → AllByRecursion (λ i. i < length tale) ws → at_places (tale ++ x ∷ []) ws ≡ at_places tale ws
+pub places_front : (tale : List Slot) (x : Slot) (ws : List ℕ) → AllByRecursion (λ i. i < length tale) ws → at_places (tale ++ x ∷ []) ws ≡ at_places tale ws
 places_front tale x [] h = refl
 places_front tale x (i ∷ is) h = ap (λ o. option_to_list o ++ at_places (tale ++ x ∷ []) is) (get_front tale x i h.0) ∙ ap (λ xs. at_place tale i ++ xs) (places_front tale x is h.1)
 
@@ -158,7 +158,7 @@ filter_last (y ∷ ys) x = go (is_writing y) (filter_last ys x)
     go true e = ap (λ zs. y ∷ zs) e
     go false e = e
 
-inside_more : (tale : List Slot) (x : Slot) (ws : List ℕ) → AllByRecursion (λ i. i < length tale) ws → AllByRecursion (λ i. i < length (tale ++ x ∷ [])) ws
+pub inside_more : (tale : List Slot) (x : Slot) (ws : List ℕ) → AllByRecursion (λ i. i < length tale) ws → AllByRecursion (λ i. i < length (tale ++ x ∷ [])) ws
 inside_more tale x ws h = each_weaker (λ i. i < length tale) (λ i. i < length (tale ++ x ∷ [])) (λ i lt. omega (arith, length-append tale (x ∷ []))) ws h
 
 none_there : (b : Bool) → b ≡ true → b ≡ false → ⊥

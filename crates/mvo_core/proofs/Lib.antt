@@ -4,3 +4,4 @@ pub mod Lined
 pub mod Places
 pub mod Calls
 pub mod Traced
+pub mod Grouped

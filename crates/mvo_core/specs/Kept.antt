@@ -1,6 +1,7 @@
 -- What each core keeps.
-use Rattle.std.specs.Prelude.{ℕ, ◌≡◌, ◌+◌, ◌<◌, ◌≤◌, Bool, true, false, if◌then◌else◌, is_some, List, [], length, Option, None, Some, ⊤}
+use Rattle.std.specs.Prelude.{ℕ, ◌≡◌, ◌+◌, ◌<◌, ◌≤◌, Bool, true, false, if◌then◌else◌, is_some, List, [], length, take, drop, Option, None, Some, ⊤}
 use Rattle.std.specs.List.{AllByRecursion, filter}
+use Rattle.mvo_types.specs.declared.limits.TheConstants.{MAX_STAMP}
 use Rattle.mvo_state.specs.Line.{State, Slot, Running}
 use Rattle.mvo_state.specs.Sound.{IsSound, IsNumbered, IsSingle}
 use Rattle.mvo_core.specs.Writers.{is_writing, at_places}
@@ -47,6 +48,21 @@ pub record IsIndexed (tale : List Slot) (writers : List ℕ) (one : Option Slot)
   pub inside : AllByRecursion (λ i. i < length tale) writers
   pub room : is_some one ≡ true → length writers < capacity
 
-pub record IsCore (s : State) (tale : List Slot) (writers : List ℕ) (one : Option Slot) (tale_capacity writers_capacity over_capacity : ℕ) : Type 0 where
+-- one that is Preparing ends above the mark
+abbrev pub IsAbove : ℕ → Option Slot → Type 0
+IsAbove mark None = ⊤
+IsAbove mark (Some x) = mark < x.stop
+
+-- in groups are those that wrote with an end of at most the mark: so many of the places, from the first on
+pub record IsGrouped (mark clock : ℕ) (tale : List Slot) (writers : List ℕ) (grouped : ℕ) (one : Option Slot) : Type 0 where
+  pub drawn : mark ≤ clock
+  pub within : mark < clock → clock ≤ MAX_STAMP
+  pub above : IsAbove mark one
+  pub few : grouped ≤ length writers
+  pub taken : AllByRecursion (λ x. x.stop ≤ mark) (at_places tale (take grouped writers))
+  pub left : AllByRecursion (λ x. mark < x.stop) (at_places tale (drop grouped writers))
+
+pub record IsCore (s : State) (tale : List Slot) (writers : List ℕ) (grouped : ℕ) (one : Option Slot) (tale_capacity writers_capacity over_capacity : ℕ) : Type 0 where
   pub kept : IsKept s tale one tale_capacity over_capacity
   pub indexed : IsIndexed tale writers one writers_capacity
+  pub groups : IsGrouped s.marks.closed.0 s.clock tale writers grouped one

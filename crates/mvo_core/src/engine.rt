@@ -32,6 +32,8 @@ pub struct Core {
     tale: Tale,
     /// The places in the tale of those that wrote.
     writers: Vec<usize>,
+    /// How many of these are in groups that were closed.
+    grouped: usize,
     over: Vec<OverTx>,
 }
 
@@ -49,7 +51,7 @@ impl Model for Core {
 
     ghost view = { λ c. state_of c.base c.marks c.clock c.running.items c.tale.items c.preparing c.over.items };
 
-    ghost invariant = { λ c. IsCore (state_of c.base c.marks c.clock c.running.items c.tale.items c.preparing c.over.items) c.tale.items c.writers.items c.preparing (vec_capacity c.tale) (vec_capacity c.writers) (vec_capacity c.over) };
+    ghost invariant = { λ c. IsCore (state_of c.base c.marks c.clock c.running.items c.tale.items c.preparing c.over.items) c.tale.items c.writers.items c.grouped c.preparing (vec_capacity c.tale) (vec_capacity c.writers) (vec_capacity c.over) };
 }
 
 impl Core {
@@ -68,6 +70,7 @@ impl Core {
             preparing: None,
             tale: Vec::new(alloc),
             writers: Vec::new(alloc),
+            grouped: 0,
             over,
         })
     }

@@ -9,6 +9,7 @@ use Rattle.mvo_state.specs.Line.{State, Running, began}
 use Rattle.mvo_state.specs.Causes.{IsRefusal, if_stands, why_not_begun}
 use Rattle.mvo_core.specs.View.{state_of}
 use Rattle.mvo_core.specs.Kept.{IsKept, count_one}
+use Rattle.mvo_core.proofs.Grouped.{grouped_drawn}
 use Rattle.mvo_core.proofs.Calls.{refuse, no_memory, stands_now, stands_not, why_begun, unfinished_is, kept_began}
 use Rattle.mvo_core.proofs.engine.Core.begin_tx.Goals as goal
 use Rattle.mvo_core.proofs.engine.Core.begin_tx.Goals.{Then-count_unfinished-ge-MAX_UNFINISHED, Then-self-ge-MAX_STAMP, After-from_residual, After-self-1}
@@ -56,6 +57,7 @@ invariant_of-self-2 c =
           (sym (c.in_ok-push.ensures.items ∙ ap (λ (r : Running). f.running.items ++ r ∷ []) c.begun.ensures))
           (kept_began f.base f.marks f.clock f.running.items f.tale.items f.preparing f.over.items (vec_capacity f.tale) (vec_capacity f.over) (let t = c.if-count_unfinished-ge-MAX_UNFINISHED.false in omega arith) c.self.invariant.kept);
       indexed = c.self.invariant.indexed;
+      groups = grouped_drawn f.marks.closed.0 f.clock f.tale.items f.writers.items f.grouped f.preparing (let lt = c.if-self-ge-MAX_STAMP.false in omega arith) c.self.invariant.groups;
     }
 
 pub returns-clause-refused : goal.returns-clause-refused

@@ -55,4 +55,4 @@ invariant_of-self c =
     (kept_left f.base f.marks f.clock f.running.items f.tale.items f.preparing f.over.items (vec_capacity f.tale) (vec_capacity f.over) (vec_capacity c.remove.new.self) c.args.tx.0 c.in-Some.at c.remove.result
     (sym (c.in-Some.ensures ∙ ap (λ (us : List OverTx). position (λ u. u.id.0 == c.args.tx.0) us) c.deref.ensures.value))
     (let a = c.self.invariant.kept.over_room in let b = c.remove.ensures.capacity in omega arith) c.self.invariant.kept) in
-    record { kept = kept; indexed = c.self.invariant.indexed }
+    record { kept = kept; indexed = c.self.invariant.indexed; groups = c.self.invariant.groups }

@@ -91,7 +91,7 @@ now c =
     (quiet c) tt (answer c) c.self.invariant.kept
 
 pub invariant_of-self-2 : goal.invariant_of-self-2
-invariant_of-self-2 c = record { kept = (now c).kept; indexed = c.self.invariant.indexed }
+invariant_of-self-2 c = record { kept = (now c).kept; indexed = c.self.invariant.indexed; groups = c.self.invariant.groups }
 
 pub returns-clause-refused : goal.returns-clause-refused
 unfolding old

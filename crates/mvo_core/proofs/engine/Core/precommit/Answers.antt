@@ -9,8 +9,9 @@ use Rattle.mvo_state.specs.Line.{State, Running, Slot}
 use Rattle.mvo_state.specs.Causes.{if_stands, why_not_prepared}
 use Rattle.mvo_state.specs.Steps.{now_prepared}
 use Rattle.mvo_core.specs.View.{state_of}
-use Rattle.mvo_core.specs.Kept.{IsKept, IsIndexed}
+use Rattle.mvo_core.specs.Kept.{IsKept, IsIndexed, IsGrouped}
 use Rattle.mvo_core.proofs.Indexed.{indexed_with}
+use Rattle.mvo_core.proofs.Grouped.{grouped_prepared}
 use Rattle.mvo_core.proofs.Calls.{refuse, no_memory, stands_now, stands_not, not_active_by, precommit_absent, precommit_at, IsPrecommitted, kept_prepared}
 use Rattle.mvo_core.proofs.engine.Core.precommit.Goals as goal
 use Rattle.mvo_core.proofs.engine.Core.precommit.Goals.{After-self-2-1}
@@ -90,6 +91,9 @@ invariant_of-self-2 c =
       indexed = subst (λ (tale : List Slot). IsIndexed tale c.reserve-2.new.self.items (Some c.of.result) (vec_capacity c.reserve-2.new.self)) (sym c.in_ok-reserve.ensures.items)
           (subst (λ (ws : List ℕ). IsIndexed f.tale.items ws (Some c.of.result) (vec_capacity c.reserve-2.new.self)) (sym c.in_ok-reserve-2.ensures.items)
           (indexed_with f.tale.items f.writers.items f.preparing (Some c.of.result) (vec_capacity f.writers) (vec_capacity c.reserve-2.new.self) (let room = c.in_ok-reserve-2.ensures.ok in omega arith) c.self.invariant.indexed));
+      groups = subst (λ (tale : List Slot). IsGrouped f.marks.closed.0 (f.clock + 1) tale c.reserve-2.new.self.items f.grouped (Some c.of.result)) (sym c.in_ok-reserve.ensures.items)
+          (subst (λ (ws : List ℕ). IsGrouped f.marks.closed.0 (f.clock + 1) f.tale.items ws f.grouped (Some c.of.result)) (sym c.in_ok-reserve-2.ensures.items)
+          (grouped_prepared f.marks.closed.0 f.clock f.tale.items f.writers.items f.grouped f.preparing c.of.result (ap (λ (x : Slot). x.stop) c.of.ensures) (let lt = c.if-self-ge-MAX_STAMP.false in omega arith) c.self.invariant.groups));
     }
 
 pub returns-clause-refused : goal.returns-clause-refused

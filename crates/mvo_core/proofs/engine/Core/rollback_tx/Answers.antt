@@ -9,9 +9,10 @@ use Rattle.mvo_state.specs.Line.{State, Running, Slot, aborted_tx}
 use Rattle.mvo_state.specs.Causes.{running_of, preparing_of, why_not_rolled_back}
 use Rattle.mvo_state.specs.Steps.{now_aborted, aborted_at}
 use Rattle.mvo_core.specs.View.{line_of, state_of, one_is}
-use Rattle.mvo_core.specs.Kept.{IsKept, IsIndexed}
+use Rattle.mvo_core.specs.Kept.{IsKept, IsIndexed, IsGrouped}
 use Rattle.mvo_core.proofs.Places.{IsFound, found_at, any_at, any_running, none_any}
 use Rattle.mvo_core.proofs.Indexed.{indexed_without}
+use Rattle.mvo_core.proofs.Grouped.{grouped_without}
 use Rattle.mvo_core.proofs.Calls.{not_preparing_by, any_preparing, rolled_back_is, active_unlined, IsDropped, kept_dropped, IsUndone, kept_undone, prepared_one, kept_with, one_there}
 use Rattle.mvo_core.proofs.engine.Core.rollback_tx.Goals as goal
 use Rattle.mvo_core.proofs.engine.Core.rollback_tx.Goals.{After-push_reserved, After-push_reserved-2}
@@ -34,7 +35,7 @@ invariant_of-self c =
     let f = c.self.inside in
     let kept = subst (λ (us : List OverTx). IsKept (state_of f.base f.marks f.clock c.remove.new.self.items f.tale.items f.preparing us) f.tale.items f.preparing (vec_capacity f.tale) (vec_capacity c.push_reserved.new.items)) (sym (over_now c))
     (subst (λ (rs : List Running). IsKept (state_of f.base f.marks f.clock rs f.tale.items f.preparing (f.over.items ++ aborted_tx c.args.tx.0 ∷ [])) f.tale.items f.preparing (vec_capacity f.tale) (vec_capacity c.push_reserved.new.items)) (sym c.remove.ensures.items) (dropped c).kept) in
-    record { kept = kept; indexed = c.self.invariant.indexed }
+    record { kept = kept; indexed = c.self.invariant.indexed; groups = c.self.invariant.groups }
 
 pub returns-in-Some-clause-refused : goal.returns-in-Some-clause-refused
 returns-in-Some-clause-refused c =
@@ -85,6 +86,7 @@ invariant_of-self-2 c =
     record {
       kept = kept;
       indexed = subst (λ (o : Option Slot). IsIndexed f.tale.items f.writers.items o (vec_capacity f.writers)) (sym c.take.ensures.after) (indexed_without f.tale.items f.writers.items f.preparing (vec_capacity f.writers) c.self.invariant.indexed);
+      groups = subst (λ (o : Option Slot). IsGrouped f.marks.closed.0 f.clock f.tale.items f.writers.items f.grouped o) (sym c.take.ensures.after) (grouped_without f.marks.closed.0 f.clock f.tale.items f.writers.items f.grouped f.preparing c.self.invariant.groups);
     }
 
 pub returns-clause-refused : goal.returns-clause-refused

@@ -9,9 +9,10 @@ use Rattle.mvo_state.specs.Causes.{if_stands, preparing_of, why_not_settled, end
 use Rattle.mvo_state.specs.Steps.{now_committed, committed_at}
 use Rattle.mvo_core.specs.View.{state_of}
 use Rattle.mvo_core.specs.Writers.{is_writing}
-use Rattle.mvo_core.specs.Kept.{IsKept, IsIndexed}
+use Rattle.mvo_core.specs.Kept.{IsKept, IsIndexed, IsGrouped}
 use Rattle.mvo_core.specs.declared.reply.Settlement.TheVariants.{Committed}
 use Rattle.mvo_core.proofs.Indexed.{indexed_push}
+use Rattle.mvo_core.proofs.Grouped.{grouped_push}
 use Rattle.mvo_core.proofs.Calls.{stands_now, stands_not, not_preparing_by, settle_other, not_one, no_one, why_settled, prepared_one, kept_with, IsCommit, kept_committed}
 use Rattle.mvo_core.proofs.engine.Core.settle.Goals as goal
 use Rattle.mvo_core.proofs.engine.Core.settle.Goals.{After-push_reserved-2, Joined-self-2}
@@ -89,19 +90,33 @@ kept_now c =
     (subst (λ (us : List OverTx). IsKept (state_of f.base f.marks f.clock f.running.items c.push_reserved.new.items.items None us) c.push_reserved.new.items.items None (vec_capacity c.push_reserved.new.items) (vec_capacity c.push_reserved-2.new.items)) (sym (over_now c))
     (subst (λ (tale : List Slot). IsKept (state_of f.base f.marks f.clock f.running.items tale None (f.over.items ++ committed_tx c.args.tx.0 c.in-Some.own.stop ∷ [])) tale None (vec_capacity c.push_reserved.new.items) (vec_capacity c.push_reserved-2.new.items)) (sym (tale_now c)) (now c).kept))
 
+places_now : (c : After-push_reserved-2) → c.note_writer.new.writers.items ≡ cond (is_writing c.in-Some.own) (c.self.inside.writers.items ++ length c.self.inside.tale.items ∷ []) c.self.inside.writers.items
+places_now c =
+    let f = c.self.inside in
+    let x = c.in-Some.own in
+    let place : c.len-place.result ≡ length f.tale.items = search rules in
+    c.note_writer.ensures.items ∙ ap (λ (b : Bool). cond b (f.writers.items ++ c.len-place.result ∷ []) f.writers.items) c.is_writer-is_writer.ensures ∙ ap (λ (n : ℕ). cond (is_writing x) (f.writers.items ++ n ∷ []) f.writers.items) place
+
 indexed_now : (c : After-push_reserved-2) → IsIndexed c.push_reserved.new.items.items c.note_writer.new.writers.items c.take.new.self (vec_capacity c.note_writer.new.writers)
 indexed_now c =
     let f = c.self.inside in
     let x = c.in-Some.own in
-    let place : c.len-place.result ≡ length f.tale.items = search rules in
-    let places : c.note_writer.new.writers.items ≡ cond (is_writing x) (f.writers.items ++ length f.tale.items ∷ []) f.writers.items = c.note_writer.ensures.items ∙ ap (λ (b : Bool). cond b (f.writers.items ++ c.len-place.result ∷ []) f.writers.items) c.is_writer-is_writer.ensures ∙ ap (λ (n : ℕ). cond (is_writing x) (f.writers.items ++ n ∷ []) f.writers.items) place in
     subst (λ (o : Option Slot). IsIndexed c.push_reserved.new.items.items c.note_writer.new.writers.items o (vec_capacity c.note_writer.new.writers)) (sym c.take.ensures.after)
-    (subst (λ (ws : List ℕ). IsIndexed c.push_reserved.new.items.items ws None (vec_capacity c.note_writer.new.writers)) (sym places)
+    (subst (λ (ws : List ℕ). IsIndexed c.push_reserved.new.items.items ws None (vec_capacity c.note_writer.new.writers)) (sym (places_now c))
     (subst (λ (tale : List Slot). IsIndexed tale (cond (is_writing x) (f.writers.items ++ length f.tale.items ∷ []) f.writers.items) None (vec_capacity c.note_writer.new.writers)) (sym (tale_now c))
     (indexed_push f.tale.items (with_settled x.stop x) f.writers.items f.preparing (vec_capacity f.writers) (vec_capacity c.note_writer.new.writers) (is_writing x) refl c.self.invariant.indexed)))
 
+groups_now : (c : After-push_reserved-2) → IsGrouped c.self.inside.marks.closed.0 c.self.inside.clock c.push_reserved.new.items.items c.note_writer.new.writers.items c.self.inside.grouped c.take.new.self
+groups_now c =
+    let f = c.self.inside in
+    let x = c.in-Some.own in
+    subst (λ (o : Option Slot). IsGrouped f.marks.closed.0 f.clock c.push_reserved.new.items.items c.note_writer.new.writers.items f.grouped o) (sym c.take.ensures.after)
+    (subst (λ (ws : List ℕ). IsGrouped f.marks.closed.0 f.clock c.push_reserved.new.items.items ws f.grouped None) (sym (places_now c))
+    (subst (λ (tale : List Slot). IsGrouped f.marks.closed.0 f.clock tale (cond (is_writing x) (f.writers.items ++ length f.tale.items ∷ []) f.writers.items) f.grouped None) (sym (tale_now c))
+    (grouped_push f.marks.closed.0 f.clock f.tale.items f.writers.items f.grouped f.preparing x (with_settled x.stop x) (is_writing x) (sym c.in-Some.ensures.value) refl c.self.invariant.indexed.inside c.self.invariant.groups)))
+
 pub invariant_of-self-2 : goal.invariant_of-self-2
-invariant_of-self-2 c = record { kept = kept_now c; indexed = indexed_now c }
+invariant_of-self-2 c = record { kept = kept_now c; indexed = indexed_now c; groups = groups_now c }
 
 pub returns-clause-refused : goal.returns-clause-refused
 returns-clause-refused c =

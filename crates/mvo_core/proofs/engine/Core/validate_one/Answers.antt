@@ -11,9 +11,10 @@ use Rattle.mvo_state.specs.Causes.{preparing_of, why_not_checked, change_of, dif
 use Rattle.mvo_state.specs.Steps.{now_aborted, aborted_at, now_checked, checked_at, is_valid_now, is_valid_at}
 use Rattle.mvo_core.specs.View.{line_of, state_of}
 use Rattle.mvo_core.specs.Writers.{at_places}
-use Rattle.mvo_core.specs.Kept.{IsKept, IsIndexed}
+use Rattle.mvo_core.specs.Kept.{IsKept, IsIndexed, IsGrouped}
 use Rattle.mvo_core.specs.declared.reply.Validation.TheVariants.{Valid, More}
 use Rattle.mvo_core.proofs.Indexed.{indexed_with, indexed_without}
+use Rattle.mvo_core.proofs.Grouped.{grouped_without, grouped_again}
 use Rattle.mvo_core.proofs.Calls.{not_preparing_by, check_other, not_one, no_one, why_checked, change_is, prepared_one, kept_with, IsUndone, kept_undone, IsCounted, kept_checked}
 use Rattle.mvo_core.proofs.engine.Core.validate_one.Goals as goal
 use Rattle.mvo_core.proofs.engine.Core.validate_one.Goals.{Joined-self-2, After-drop-own-inside-in-Some-next_change-2, After-checked_answer}
@@ -106,6 +107,7 @@ invariant_of-self-in-Some-next_change c =
     record {
       kept = kept;
       indexed = subst (λ (o : Option Slot). IsIndexed f.tale.items f.writers.items o (vec_capacity f.writers)) (sym c.take.ensures.after) (indexed_without f.tale.items f.writers.items f.preparing (vec_capacity f.writers) c.self.invariant.indexed);
+      groups = subst (λ (o : Option Slot). IsGrouped f.marks.closed.0 f.clock f.tale.items f.writers.items f.grouped o) (sym c.take.ensures.after) (grouped_without f.marks.closed.0 f.clock f.tale.items f.writers.items f.grouped f.preparing c.self.invariant.groups);
     }
 
 pub returns-in-Some-next_change-clause-refused : goal.returns-in-Some-next_change-clause-refused
@@ -163,6 +165,7 @@ invariant_of-self-2 c =
     record {
       kept = (counted c).kept;
       indexed = indexed_with f.tale.items f.writers.items f.preparing (Some c.count_check-valid.new.self) (vec_capacity f.writers) (vec_capacity f.writers) (c.self.invariant.indexed.room (ap is_some (sym c.in-Some.ensures.value))) c.self.invariant.indexed;
+      groups = grouped_again f.marks.closed.0 f.clock f.tale.items f.writers.items f.grouped f.preparing c.in-Some.own c.count_check-valid.new.self (sym c.in-Some.ensures.value) (ap (λ (x : Slot). x.stop) c.count_check-valid.ensures.ok) c.self.invariant.groups;
     }
 
 pub returns-clause-refused : goal.returns-clause-refused
