@@ -1,6 +1,5 @@
 -- Which of those that wrote are in groups.
 use Rattle.std.proofs.Common.{◌≡◌, ℕ, zero, suc, ◌+◌, ◌<◌, ◌≤◌, Bool, true, false, cond, List, [], ◌∷◌, ◌++◌, Option, None, Some, length, take, drop, refl, sym, ap, ◌∙◌, subst, arith, length-append}
-use Rattle.std.specs.Prelude.{⊤}
 use Rattle.std.specs.Option.{option_to_list}
 use Rattle.std.specs.List.{AllByRecursion}
 use Rattle.mvo_types.specs.declared.limits.TheConstants.{MAX_STAMP}
@@ -8,7 +7,7 @@ use Rattle.mvo_state.specs.Line.{Slot}
 use Rattle.mvo_state.proofs.Each.{each_append}
 use Rattle.mvo_core.specs.Writers.{at_places}
 use Rattle.mvo_core.specs.Kept.{IsAbove, IsGrouped}
-use Rattle.mvo_core.proofs.Indexed.{at_places-append, get_last, places_front, append-none}
+use Rattle.mvo_core.proofs.Indexed.{at_places-append, get_last, places_front}
 
 -- ---- the clock goes on
 pub grouped_drawn : (mark clock : ℕ) (tale : List Slot) (ws : List ℕ) (n : ℕ) (one : Option Slot) → clock < MAX_STAMP → IsGrouped mark clock tale ws n one → IsGrouped mark (clock + 1) tale ws n one

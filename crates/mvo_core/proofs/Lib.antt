@@ -5,3 +5,5 @@ pub mod Places
 pub mod Calls
 pub mod Traced
 pub mod Grouped
+pub mod Taking
+pub mod Closing

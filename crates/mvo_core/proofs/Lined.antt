@@ -1,23 +1,22 @@
 -- A line of stored commits, and behind them one that is Preparing.
-use Rattle.std.proofs.Common.{◌≡◌, ◌≢◌, ℕ, ◌+◌, ◌<◌, ◌≤◌, Bool, true, false, cond, not, ◌||◌, List, [], ◌∷◌, ◌++◌, Option, None, Some, map, refl, sym, ap, ◌∙◌, subst, arith, length}
-use Rattle.std.specs.Prelude.{⊤, nat_lt, ◌==◌, ◌&&◌, is_some}
-use Rattle.std.specs.Option.{unwrap_or, option_to_list}
+use Rattle.std.proofs.Common.{◌≡◌, ℕ, ◌+◌, ◌<◌, ◌≤◌, Bool, true, false, cond, not, ◌||◌, List, [], ◌∷◌, ◌++◌, Option, None, Some, map, refl, sym, ap, ◌∙◌, arith}
+use Rattle.std.specs.Prelude.{nat_lt, ◌==◌, ◌&&◌, is_some}
+use Rattle.std.specs.Option.{unwrap_or}
 use Rattle.std.specs.List.{AllByRecursion, filter, list_any}
 use Rattle.std.specs.FinMap as fin
-use Rattle.std.proofs.lemmas.Bool.{ne_eqb, eq-eqb, true≢false, false≢true, le-ltb, and_parts}
+use Rattle.std.proofs.lemmas.Bool.{ne_eqb, eq-eqb, true≢false, le-ltb}
 use Rattle.mvo_types.specs.declared.row.RowKey.{RowKey}
 use Rattle.mvo_types.specs.Line.{Held}
 use Rattle.mvo_types.specs.Keys.{Map}
 use Rattle.mvo_model.specs.Told.{Told, left_by, net_write, later}
 use Rattle.mvo_model.proofs.Serials.{get-left_by, net_write-append}
 use Rattle.mvo_state.specs.Line.{Slot, Running, told_below, seen_by, is_writer, but, last_writer, has, with_settled, with_check, with_doom, doomed_by, running_doom, not_at}
-use Rattle.mvo_state.specs.Causes.{preparing_of, unsettled, is_open, is_changer, change_of, or_first}
+use Rattle.mvo_state.specs.Causes.{preparing_of, unsettled, is_open, change_of, or_first}
 use Rattle.mvo_state.specs.Sound.{IsRising}
-use Rattle.mvo_state.proofs.Each.{each_weaker}
 use Rattle.mvo_state.proofs.Lines.{told_below-append, append-nil}
 use Rattle.mvo_state.proofs.Settle.{rising_before}
 use Rattle.mvo_core.specs.View.{line_of, one_is}
-use Rattle.mvo_core.specs.Kept.{IsStored, IsOpen, IsOneOpen, IsAlone, count_one}
+use Rattle.mvo_core.specs.Kept.{IsStored, IsOneOpen, IsAlone, count_one}
 use Rattle.mvo_core.proofs.Indexed.{change_push}
 
 -- the Preparing transaction, if it is t

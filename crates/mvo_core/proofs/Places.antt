@@ -1,12 +1,11 @@
 -- A transaction at its place in a list.
 use Rattle.std.proofs.Common.{◌≡◌, ◌≢◌, ◌||◌, ℕ, zero, suc, ◌<◌, ◌≤◌, ◌+◌, Bool, true, false, cond, not, List, [], ◌∷◌, ◌++◌, map, length, get_or, set, Option, None, Some, refl, sym, ap, ◌∙◌, subst, arith}
-use Rattle.std.specs.Prelude.{⊤, ◌==◌, nat_lt, is_some, position, remove}
-use Rattle.std.specs.List.{AllByRecursion, list_any, filter, position_or_len}
+use Rattle.std.specs.Prelude.{◌==◌, nat_lt, is_some, position, remove}
+use Rattle.std.specs.List.{AllByRecursion, list_any, position_or_len}
 use Rattle.std.proofs.lemmas.Bool.{eqb-true, eq-eqb, ne_eqb, false≢true, true≢false, ltb-false}
 use Rattle.std.proofs.lemmas.List.Quantifiers.{position-Some}
 use Rattle.mvo_types.specs.declared.op.Op.{Op}
 use Rattle.mvo_types.specs.Said.{Said}
-use Rattle.mvo_model.specs.Told.{Told}
 use Rattle.mvo_state.specs.declared.over.OverTx.{OverTx}
 use Rattle.mvo_state.specs.Entries.{key_of}
 use Rattle.mvo_state.specs.Line.{Slot, Running, rest_on, with_told, with_end, without, without_over, told_of, last_writer}

@@ -1,5 +1,5 @@
 -- The chain of groups: which commits the next group takes.
-use Rattle.std.specs.Prelude.{ℕ, ◌≡◌, ◌+◌, ◌≤◌, ◌==◌, nat_lt, nat_le, Bool, true, false, not, ◌&&◌, cond, if◌then◌else◌, List, [], ◌∷◌, ◌++◌, map, length, sum_by, Option, None, Some, ⊤}
+use Rattle.std.specs.Prelude.{ℕ, ◌≡◌, ◌+◌, ◌<◌, ◌≤◌, ◌⊎◌, ◌==◌, nat_lt, nat_le, Bool, not, ◌&&◌, cond, if◌then◌else◌, List, [], ◌∷◌, ◌++◌, map, take, drop, length, sum_by, Option, None, Some, ⊤}
 use Rattle.std.specs.List.{list_any}
 use Rattle.std.specs.List.Sorted.{IsStrictlySortedBy}
 use Rattle.std.specs.Ordering.{eq_by_cmp}
@@ -11,11 +11,10 @@ use Rattle.mvo_types.specs.Keys.{key_cmp}
 use Rattle.mvo_model.specs.Told.{Told, net_write}
 use Rattle.mvo_group.specs.Data.{NetWrite, RecordData, GroupData}
 use Rattle.mvo_group.specs.Rules.{record_len}
-use Rattle.mvo_state.specs.Entries.{written_keys}
 use Rattle.mvo_state.specs.Line.{State, Slot}
 use Rattle.mvo_state.specs.Causes.{if_stands}
 use Rattle.mvo_state.specs.Marks.{low_water}
-use Rattle.mvo_core.specs.Writers.{is_there, is_writing}
+use Rattle.mvo_core.specs.Writers.{is_writing}
 
 -- the write at a key, if one of these is of it
 abbrev pub write_in : RowKey → List NetWrite → Option (Option Held)
@@ -27,6 +26,10 @@ pub record IsRecordOf (c : ℕ × Told) (r : RecordData) : Type 0 where
   pub end' : r.end ≡ c.0
   pub rise : IsStrictlySortedBy key_cmp (map (λ w. w.0) r.writes)
   pub writes : (k : RowKey) → write_in k r.writes ≡ net_write k c.1
+
+-- what the record of a stored commit is made of
+abbrev pub commit_by : Slot → ℕ × Told
+commit_by x = (x.stop, x.told)
 
 -- the records of these commits, one after another
 abbrev pub AreRecordsOf : List (ℕ × Told) → List RecordData → Type 0
@@ -58,16 +61,26 @@ abbrev pub mark_by : ℕ → ℕ → List (ℕ × Told) → List RecordData → 
 mark_by low prev [] rs = low
 mark_by low prev (c ∷ cs) rs = end_in prev rs
 
--- the next group: the longest beginning of the commits due that fits
+-- behind these the record of the next commit doesn't fit
+abbrev pub IsTooMuch : ℕ × Told → List RecordData → Type 0
+IsTooMuch c rs = (1024 ≤ length rs) ⊎ ((r : RecordData) × IsRecordOf c r × (4194304 < 18 + sum_by record_len (rs ++ r ∷ [])))
+
+abbrev pub IsFull : List (ℕ × Told) → List RecordData → Type 0
+IsFull [] rs = ⊤
+IsFull (c ∷ cs) rs = IsTooMuch c rs
+
+-- these are the records of the first of the commits: as many as fit
+pub record IsLongest (commits : List (ℕ × Told)) (rs : List RecordData) : Type 0 where
+  pub few : length rs ≤ length commits
+  pub records : AreRecordsOf (take (length rs) commits) rs
+  pub fits : Fits rs
+  pub full : IsFull (drop (length rs) commits) rs
+
+-- the next group
 pub record IsNextGroup (s : State) (g : GroupData) : Type 0 where
   pub prev : g.prev ≡ s.marks.closed.0
-  pub taken : List (ℕ × Told)
-  pub left : List (ℕ × Told)
-  pub parts : taken ++ left ≡ due s
-  pub records : AreRecordsOf taken g.records
-  pub fits : Fits g.records
-  pub longest : (c : ℕ × Told) (cs : List (ℕ × Told)) (r : RecordData) → left ≡ c ∷ cs → IsRecordOf c r → Fits (g.records ++ r ∷ []) → ⊥
-  pub mark : g.mark ≡ mark_by (low_water s) s.marks.closed.0 left g.records
+  pub longest : IsLongest (due s) g.records
+  pub mark : g.mark ≡ mark_by (low_water s) s.marks.closed.0 (drop (length g.records) (due s)) g.records
 
 -- the state after a group with this mark was closed
 abbrev pub closed_at : State → ℕ → State

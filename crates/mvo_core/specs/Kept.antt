@@ -1,5 +1,5 @@
 -- What each core keeps.
-use Rattle.std.specs.Prelude.{ℕ, ◌≡◌, ◌+◌, ◌<◌, ◌≤◌, Bool, true, false, if◌then◌else◌, is_some, List, [], length, take, drop, Option, None, Some, ⊤}
+use Rattle.std.specs.Prelude.{ℕ, ◌≡◌, ◌+◌, ◌<◌, ◌≤◌, true, false, if◌then◌else◌, is_some, List, [], length, take, drop, Option, None, Some, ⊤}
 use Rattle.std.specs.List.{AllByRecursion, filter}
 use Rattle.mvo_types.specs.declared.limits.TheConstants.{MAX_STAMP}
 use Rattle.mvo_state.specs.Line.{State, Slot, Running}

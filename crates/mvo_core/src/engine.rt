@@ -1,13 +1,16 @@
-ghost use Rattle.std.specs.Prelude.{◌≡◌, ◌+◌, ◌≤◌, OnOk, OnErr, IfOk, IfErr, MatchResult, None, Some, Ok, filter, if◌then◌else◌};
+ghost use Rattle.std.specs.Prelude.{◌≡◌, ◌+◌, ◌≤◌, OnOk, OnErr, IfOk, IfErr, IfSome, MatchResult, None, Some, Ok, filter, if◌then◌else◌, is_some, true};
 ghost use Rattle.mvo_types.specs.Said.{said};
 ghost use Rattle.mvo_model.specs.Serial.{answer_to};
 ghost use Rattle.mvo_state.specs.Line.{opened, began, told, left, snapshot};
 ghost use Rattle.mvo_state.specs.Causes.{IsRefusal, why_not_begun, why_not_read, why_not_inserted, why_not_prepared, why_not_checked, why_not_settled, why_not_rolled_back, why_not_finished, end_of};
 ghost use Rattle.mvo_state.specs.Sound.{IsSound, IsNumbered, IsSingle};
 ghost use Rattle.mvo_state.specs.Steps.{now_prepared, now_checked, now_committed, now_aborted, is_valid_now, after_refusal};
+ghost use Rattle.mvo_core.specs.Groups.{IsNextGroup, why_not_closed, closed_at};
 
 use crate::active::ActiveTx;
+use crate::closed::Closed;
 use crate::look::{copy_of, is_shown, next_change, shown};
+use crate::next_records::{mark_of, next_records};
 use crate::preparing::PreparingTx;
 use crate::refuse::{
     count_unfinished, insert_refusal, is_preparing, not_active, not_ended, not_preparing, place_of,
@@ -16,6 +19,7 @@ use crate::refuse::{
 use crate::reply::{Finishing, Settlement, Validation, checked_answer, insert_answer};
 use crate::tale::Tale;
 use crate::told::{note_writer, push_reserved, tell};
+use mvo_group::Group;
 use mvo_state::{Marks, OverTx};
 use mvo_types::{Answer, MAX_STAMP, MAX_UNFINISHED, Op, Refusal, Row, RowKey, Rows, Stamp, TxId};
 use std::alloc::Global;
@@ -250,6 +254,39 @@ impl Core {
         };
         self.over.remove(at);
         Ok(Finishing::Done)
+    }
+
+    /// Closes the next group into the place: the longest beginning of the commits that wrote with an
+    /// end above the last group's mark and at most the low-water, which fits into a group. If all
+    /// fit, its mark is the low-water, else the end of the last that does. A group may hold no
+    /// records. Refused, in this order: 52 while one is Preparing, 56 if the mark wouldn't rise, 36
+    /// if the place is taken, 90.
+    pub fn close_group(&mut self, place: &mut Option<Group>) -> Result<Closed, Refusal>
+        ensures refused { MatchResult result (λ _. why_not_closed self.old (is_some place.old) ≡ None) (IsRefusal (why_not_closed self.old (is_some place.old))) }
+        ensures group { IfOk result (λ closed. IfSome place.new (λ g. IsNextGroup self.old g × (g.prev ≡ closed.prev.0) × (g.mark ≡ closed.mark.0))) }
+        ensures put { IfOk result (λ _. is_some place.new ≡ true) }
+        ensures ok { IfOk result (λ closed. self.new ≡ closed_at self.old closed.mark.0) }
+        ensures err { OnErr result ((self.new ≡ self.old) × (place.new ≡ place.old)) }
+    {
+        if self.preparing.is_some() {
+            return Err(Refusal::Busy);
+        }
+        let prev = self.marks.closed;
+        let low_water = Stamp(self.clock);
+        if low_water == prev {
+            return Err(Refusal::NothingToDo);
+        }
+        if place.is_some() {
+            return Err(Refusal::RingFull);
+        }
+        let alloc = *self.tale.allocator();
+        let records = next_records(alloc, &self.tale, &self.writers[self.grouped..])?;
+        let grouped = self.grouped + records.len();
+        let mark = mark_of(&records, grouped == self.writers.len(), low_water);
+        *place = Some(Group::new(prev, mark, records).unwrap());
+        self.marks.closed = mark;
+        self.grouped = grouped;
+        Ok(Closed { prev, mark })
     }
 
     /// The timestamp that was drawn last. What each core keeps is known wherever it is asked for.

@@ -2,9 +2,12 @@
 #![tactic(auto)]
 
 mod active;
+mod closed;
+mod commit_record;
 mod engine;
 mod event;
 mod look;
+mod next_records;
 mod preparing;
 mod refuse;
 mod reply;
@@ -14,6 +17,7 @@ mod told;
 mod whole;
 
 pub use active::ActiveTx;
+pub use closed::Closed;
 pub use engine::Core;
 pub use event::Event;
 pub use preparing::PreparingTx;
