@@ -1,0 +1,37 @@
+ghost use Rattle.std.specs.Prelude.{◌≡◌, IfOk};
+
+use mvo_types::Stamp;
+use std::alloc::AllocError;
+
+/// A step that is asked for.
+#[derive(Debug, Drop)]
+pub enum Event {
+    /// A step of a transaction.
+    Core(mvo_core::Event),
+    /// The next group of commits is closed into the place of closed groups.
+    CloseGroup,
+    /// The store takes the closed group.
+    TakeGroup,
+    /// The store writes the body of the group that it took.
+    AppendBody,
+    /// The store opens that group's gate.
+    AppendOpen,
+    /// Whether the store's mark is at least this timestamp.
+    Poll(Stamp),
+}
+
+impl Event {
+    /// A copy of the event.
+    pub fn copy(&self) -> Result<Event, AllocError>
+        ensures { IfOk result (λ e. e ≡ self.now) }
+    {
+        match self {
+            Event::Core(event) => Ok(Event::Core(event.copy()?)),
+            Event::CloseGroup => Ok(Event::CloseGroup),
+            Event::TakeGroup => Ok(Event::TakeGroup),
+            Event::AppendBody => Ok(Event::AppendBody),
+            Event::AppendOpen => Ok(Event::AppendOpen),
+            Event::Poll(stamp) => Ok(Event::Poll(*stamp)),
+        }
+    }
+}

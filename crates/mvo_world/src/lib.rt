@@ -1,0 +1,10 @@
+//! The world: the event core over a log segment that survives a stop at any moment.
+#![tactic(auto)]
+
+mod event;
+mod reply;
+mod world;
+
+pub use event::Event;
+pub use reply::Reply;
+pub use world::World;
