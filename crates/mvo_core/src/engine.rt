@@ -5,6 +5,7 @@ ghost use Rattle.mvo_state.specs.Line.{opened, began, told, left, snapshot};
 ghost use Rattle.mvo_state.specs.Causes.{IsRefusal, why_not_begun, why_not_read, why_not_inserted, why_not_prepared, why_not_checked, why_not_settled, why_not_rolled_back, why_not_finished, end_of};
 ghost use Rattle.mvo_state.specs.Sound.{IsSound, IsNumbered, IsSingle};
 ghost use Rattle.mvo_state.specs.Steps.{now_prepared, now_checked, now_committed, now_aborted, is_valid_now, after_refusal};
+ghost use Rattle.mvo_group.specs.Rules.{KeepsRules};
 ghost use Rattle.mvo_core.specs.Groups.{IsNextGroup, why_not_closed, closed_at};
 
 use crate::active::ActiveTx;
@@ -263,7 +264,7 @@ impl Core {
     /// if the place is taken, 90.
     pub fn close_group(&mut self, place: &mut Option<Group>) -> Result<Closed, Refusal>
         ensures refused { MatchResult result (λ _. why_not_closed self.old (is_some place.old) ≡ None) (IsRefusal (why_not_closed self.old (is_some place.old))) }
-        ensures group { IfOk result (λ closed. IfSome place.new (λ g. IsNextGroup self.old g × (g.prev ≡ closed.prev.0) × (g.mark ≡ closed.mark.0))) }
+        ensures group { IfOk result (λ closed. IfSome place.new (λ g. IsNextGroup self.old g × KeepsRules g × (g.prev ≡ closed.prev.0) × (g.mark ≡ closed.mark.0))) }
         ensures put { IfOk result (λ _. is_some place.new ≡ true) }
         ensures ok { IfOk result (λ closed. self.new ≡ closed_at self.old closed.mark.0) }
         ensures err { OnErr result ((self.new ≡ self.old) × (place.new ≡ place.old)) }

@@ -41,10 +41,10 @@ pub fn next_records(
     Ok(records)
 }
 
-fn end_of(record: &Record) -> Stamp
-    ensures { result.0 ≡ record.now.end }
+fn end_of(commit: &Record) -> Stamp
+    ensures { result.0 ≡ commit.now.end }
 {
-    record.end
+    commit.end
 }
 
 /// The mark of a group with these records: the low-water if they are all, and else the end of the

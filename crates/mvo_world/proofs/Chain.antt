@@ -1,0 +1,107 @@
+-- The groups of a world hold the commits up to the last one's mark.
+use Rattle.std.proofs.Common.{◌≡◌, ℕ, ◌<◌, ◌≤◌, ◌+◌, Bool, true, false, cond, not, List, [], ◌∷◌, ◌++◌, Option, None, Some, map, refl, sym, ap, ◌∙◌, subst, arith}
+use Rattle.std.specs.Prelude.{⊤, nat_lt, nat_le, ◌==◌, ◌&&◌}
+use Rattle.std.specs.List.{AllByRecursion, filter}
+use Rattle.std.proofs.lemmas.Bool.{true≢false, false≢true, lt-ltb, ltb-true, ltb-false, le-leb, leb-true, le-ltb, lt-leb}
+use Rattle.mvo_types.specs.Keys.{Map}
+use Rattle.mvo_model.specs.Told.{Told, left_by}
+use Rattle.mvo_model.specs.Trace.{Step, told_to, committed, rows_of_commits, rows_up_to}
+use Rattle.mvo_group.specs.Data.{RecordData, GroupData}
+use Rattle.mvo_state.specs.Line.{State, Slot}
+use Rattle.mvo_state.specs.Sound.{IsRising}
+use Rattle.mvo_state.specs.Marks.{IsClosedAt, StaysBelow, settled_to}
+use Rattle.mvo_state.specs.Stands.{Stands, pairs}
+use Rattle.mvo_state.proofs.Each.{each_weaker}
+use Rattle.mvo_core.specs.Groups.{AreRecordsOf}
+use Rattle.mvo_store.specs.Frames.{mark_after}
+use Rattle.mvo_store.specs.Recovery.{after_records, after_groups}
+use Rattle.mvo_world.specs.Groups.{is_due, IsGroupOf, AreGroupsOf}
+use Rattle.mvo_world.proofs.Rows.{left_by_all, left_by_all-append, is_after, records_rows}
+
+-- ---- rows up to a mark, by the line
+rows_of_line : (m : ℕ) (line : List Slot) (steps : List Step) (rows : Map) → AllByRecursion (λ (x : Slot). told_to x.id steps ≡ x.told) line → rows_of_commits m (pairs line) steps rows ≡ left_by_all (settled_to m line) rows
+rows_of_line m [] steps rows h = refl
+rows_of_line m (x ∷ xs) steps rows h = go x.settled (nat_le x.stop m) (λ ms. rows_of_line m xs steps ms h.1)
+  where
+    go : (s b : Bool) → ((ms : Map) → rows_of_commits m (pairs xs) steps ms ≡ left_by_all (settled_to m xs) ms) →
+        rows_of_commits m (cond s ((x.stop, x.id) ∷ pairs xs) (pairs xs)) steps rows ≡ left_by_all (cond (s && nat_le x.stop m) ((x.stop, x.told) ∷ settled_to m xs) (settled_to m xs)) rows
+    go false b ih = ih rows
+    go true b ih = ih (cond (nat_le x.stop m) (left_by (told_to x.id steps) rows) rows) ∙ here (nat_le x.stop m)
+      where
+        here : (c : Bool) → left_by_all (settled_to m xs) (cond c (left_by (told_to x.id steps) rows) rows) ≡ left_by_all (cond c ((x.stop, x.told) ∷ settled_to m xs) (settled_to m xs)) rows
+        here true = ap (λ (ts : Told). left_by_all (settled_to m xs) (left_by ts rows)) h.0
+        here false = refl
+
+pub rows_up_to_is : (m : ℕ) (opening : Map) (steps : List Step) (s : State) → Stands opening steps s → rows_up_to m opening steps ≡ left_by_all (settled_to m s.line) opening
+rows_up_to_is m opening steps s h = ap (λ (cs : List (ℕ × ℕ)). rows_of_commits m cs steps opening) h.tale ∙ rows_of_line m s.line steps opening h.ended
+
+-- ---- the commits up to one mark, and those up to a later one
+none_to : (m : ℕ) (xs : List Slot) → AllByRecursion (λ (x : Slot). m < x.stop) xs → settled_to m xs ≡ []
+none_to m [] h = refl
+none_to m (x ∷ xs) h = ap (λ (b : Bool). cond (x.settled && b) ((x.stop, x.told) ∷ settled_to m xs) (settled_to m xs)) (lt-leb x.stop m h.0) ∙ go x.settled (none_to m xs h.1)
+  where
+    go : (s : Bool) → settled_to m xs ≡ [] → cond (s && false) ((x.stop, x.told) ∷ settled_to m xs) (settled_to m xs) ≡ []
+    go true e = e
+    go false e = e
+
+all_after : (m n : ℕ) (xs : List Slot) → AllByRecursion (λ (x : Slot). m < x.stop) xs → filter (is_after m) (settled_to n xs) ≡ settled_to n xs
+all_after m n [] h = refl
+all_after m n (x ∷ xs) h = go (x.settled && nat_le x.stop n) (all_after m n xs h.1)
+  where
+    go : (b : Bool) → filter (is_after m) (settled_to n xs) ≡ settled_to n xs → filter (is_after m) (cond b ((x.stop, x.told) ∷ settled_to n xs) (settled_to n xs)) ≡ cond b ((x.stop, x.told) ∷ settled_to n xs) (settled_to n xs)
+    go true e = ap (λ (c : Bool). cond c ((x.stop, x.told) ∷ filter (is_after m) (settled_to n xs)) (filter (is_after m) (settled_to n xs))) (lt-ltb m x.stop h.0) ∙ ap (λ cs. (x.stop, x.told) ∷ cs) e
+    go false e = e
+
+pub parts : (m n : ℕ) (xs : List Slot) → m ≤ n → IsRising xs → settled_to n xs ≡ settled_to m xs ++ filter (is_after m) (settled_to n xs)
+parts m n [] le h = refl
+parts m n (x ∷ xs) le h = go (nat_le x.stop m) refl (parts m n xs le h.1)
+  where
+    go : (b : Bool) → nat_le x.stop m ≡ b → settled_to n xs ≡ settled_to m xs ++ filter (is_after m) (settled_to n xs) →
+        cond (x.settled && nat_le x.stop n) ((x.stop, x.told) ∷ settled_to n xs) (settled_to n xs) ≡ cond (x.settled && nat_le x.stop m) ((x.stop, x.told) ∷ settled_to m xs) (settled_to m xs) ++ filter (is_after m) (cond (x.settled && nat_le x.stop n) ((x.stop, x.told) ∷ settled_to n xs) (settled_to n xs))
+    go true e r =
+        let low = leb-true x.stop m e in
+        ap (λ (b : Bool). cond (x.settled && b) ((x.stop, x.told) ∷ settled_to n xs) (settled_to n xs)) (le-leb x.stop n (omega arith))
+        ∙ here x.settled r
+        ∙ sym (ap (λ (b : Bool). cond (x.settled && b) ((x.stop, x.told) ∷ settled_to m xs) (settled_to m xs) ++ filter (is_after m) (cond (x.settled && nat_le x.stop n) ((x.stop, x.told) ∷ settled_to n xs) (settled_to n xs))) e
+        ∙ ap (λ (b : Bool). cond (x.settled && true) ((x.stop, x.told) ∷ settled_to m xs) (settled_to m xs) ++ filter (is_after m) (cond (x.settled && b) ((x.stop, x.told) ∷ settled_to n xs) (settled_to n xs))) (le-leb x.stop n (omega arith)))
+      where
+        here : (s : Bool) → settled_to n xs ≡ settled_to m xs ++ filter (is_after m) (settled_to n xs) → cond (s && true) ((x.stop, x.told) ∷ settled_to n xs) (settled_to n xs) ≡ cond (s && true) ((x.stop, x.told) ∷ settled_to m xs) (settled_to m xs) ++ filter (is_after m) (cond (s && true) ((x.stop, x.told) ∷ settled_to n xs) (settled_to n xs))
+        here false q = q
+        here true q = ap (λ cs. (x.stop, x.told) ∷ cs) q ∙ ap (λ (c : Bool). ((x.stop, x.told) ∷ settled_to m xs) ++ cond c ((x.stop, x.told) ∷ filter (is_after m) (settled_to n xs)) (filter (is_after m) (settled_to n xs))) (sym (le-ltb m x.stop (leb-true x.stop m e)))
+    go false e r =
+        let high : m < x.stop = ltb-true m x.stop (over (nat_le x.stop m) e) in
+        let all : AllByRecursion (λ (y : Slot). m < y.stop) (x ∷ xs) = (high, each_weaker (λ (y : Slot). x.stop < y.stop) (λ (y : Slot). m < y.stop) (λ y lt. omega arith) xs h.0) in
+        sym (all_after m n (x ∷ xs) all)
+        ∙ ap (λ cs. cs ++ filter (is_after m) (settled_to n (x ∷ xs))) (sym (none_to m (x ∷ xs) all))
+      where
+        over : (b : Bool) → nat_le x.stop m ≡ false → nat_lt m x.stop ≡ true
+        over b f = lt-ltb m x.stop (above f)
+          where
+            above : nat_le x.stop m ≡ false → m < x.stop
+            above g = split (nat_lt m x.stop) refl
+              where
+                split : (c : Bool) → nat_lt m x.stop ≡ c → m < x.stop
+                split true t = ltb-true m x.stop t
+                split false t = absurd (true≢false (sym (le-leb x.stop m (ltb-false m x.stop t)) ∙ g))
+
+-- ---- the rows that the groups leave
+pub chain_rows : (s : State) (mark : ℕ) (gs : List GroupData) (rows : Map) → IsRising s.line → AreGroupsOf s mark gs → after_groups gs (left_by_all (settled_to mark s.line) rows) ≡ left_by_all (settled_to (mark_after mark gs) s.line) rows
+chain_rows s mark [] rows h gs = refl
+chain_rows s mark (g ∷ more) rows h gs =
+    let prev = gs.0 in
+    let it = gs.1 in
+    let lt = it.rules.above in
+    let le : mark ≤ g.mark = omega arith in
+    ap (after_groups more) (
+    records_rows g.prev (settled_to g.mark s.line) g.records (left_by_all (settled_to mark s.line) rows) it.records
+    ∙ ap (λ (n : ℕ). left_by_all (filter (is_after n) (settled_to g.mark s.line)) (left_by_all (settled_to mark s.line) rows)) prev
+    ∙ sym (left_by_all-append (settled_to mark s.line) (filter (is_after mark) (settled_to g.mark s.line)) rows)
+    ∙ ap (λ cs. left_by_all cs rows) (sym (parts mark g.mark s.line le h)))
+    ∙ chain_rows s g.mark more rows h gs.2
+
+-- ---- what stays
+pub groups_stay : (s s' : State) (mark : ℕ) (gs : List GroupData) → StaysBelow s s' → AreGroupsOf s mark gs → AreGroupsOf s' mark gs
+groups_stay s s' mark [] stays h = tt
+groups_stay s s' mark (g ∷ gs) stays h =
+    let kept = stays g.mark h.1.closed in
+    (h.0, record { closed = kept.0; records = subst (λ cs. AreRecordsOf (filter (is_due g.prev) cs) g.records) (sym kept.1) h.1.records; rules = h.1.rules }, groups_stay s s' g.mark gs stays h.2)

@@ -1,0 +1,135 @@
+-- The rows after the records of commits are those after what the commits were told.
+use Rattle.std.proofs.Common.{◌≡◌, ℕ, ◌<◌, ◌≤◌, ◌+◌, Bool, true, false, cond, not, List, [], ◌∷◌, ◌++◌, Option, None, Some, map, refl, sym, ap, ◌∙◌, subst, arith}
+use Rattle.std.specs.Prelude.{⊤, nat_lt, nat_le, ◌&&◌}
+use Rattle.std.specs.Option.{option_map, unwrap_or}
+use Rattle.std.specs.List.{AllByRecursion, filter}
+use Rattle.std.specs.List.Sorted.{IsStrictlySortedBy}
+use Rattle.std.specs.Ordering.{eq_by_cmp}
+use Rattle.std.specs.declared.cmp.Ordering.{Ordering}
+use Rattle.std.specs.declared.cmp.Ordering.TheVariants.{Less, Equal, Greater}
+use Rattle.std.specs.FinMap as fin
+use Rattle.std.proofs.lemmas.Bool.{true≢false, false≢true, lt-ltb, ltb-true, ltb-false, le-leb, leb-true, le-ltb, lt-leb}
+use Rattle.mvo_types.specs.declared.row.RowKey.{RowKey}
+use Rattle.mvo_types.specs.Line.{Held}
+use Rattle.mvo_types.specs.Keys.{Map, key_cmp}
+use Rattle.mvo_types.proofs.Maps.{keys_total, exact_keys}
+use Rattle.mvo_model.specs.Told.{Told, Write, write_of, written, put_at, left_by, net_write}
+use Rattle.mvo_model.proofs.Serials.{get-left_by}
+use Rattle.mvo_group.specs.Data.{NetWrite, RecordData, GroupData}
+use Rattle.mvo_state.specs.Entries.{noted, noted_key, written_from, written_keys}
+use Rattle.mvo_state.specs.Line.{State, Slot}
+use Rattle.mvo_state.specs.Sound.{IsRising}
+use Rattle.mvo_state.specs.Marks.{settled_to}
+use Rattle.mvo_store.specs.Recovery.{after_writes, after_records, after_groups}
+use Rattle.mvo_core.specs.Writers.{is_there}
+use Rattle.mvo_core.specs.Groups.{IsRecordOf, AreRecordsOf, write_in}
+
+-- ---- one record
+get-put : (q k : RowKey) (h : Option Held) (m : Map) → fin.get (put_at k h m) q ≡ cond (eq_by_cmp key_cmp q k) h (fin.get m q)
+get-put q k None m = fin.get-remove keys_total m k q
+get-put q k (Some h) m = fin.get-insert keys_total m k h q
+
+unequal : (o : Ordering) → o ≡ Less → o ≡ Equal → ⊥
+unequal o e f = cc
+
+no_later : (q k : RowKey) (ws : List NetWrite) → q ≡ k → AllByRecursion (λ (j : RowKey). key_cmp k j ≡ Less) (map (λ w. w.0) ws) → write_in q ws ≡ None
+no_later q k [] e h = refl
+no_later q k (w ∷ ws) e h = go (eq_by_cmp key_cmp q w.0) refl (no_later q k ws e h.1)
+  where
+    is_less : key_cmp q w.0 ≡ Less
+    is_less = ap (λ (j : RowKey). key_cmp j w.0) e ∙ h.0
+
+    go : (b : Bool) → eq_by_cmp key_cmp q w.0 ≡ b → write_in q ws ≡ None → cond b (Some w.1) (write_in q ws) ≡ None
+    go true t r = absurd (true≢false (sym t ∙ differ (key_cmp q w.0) (ap (λ (j : RowKey). key_cmp j w.0) e ∙ h.0)))
+      where
+        differ : (o : Ordering) → o ≡ Less → eq_by_cmp (λ (a b : RowKey). o) q w.0 ≡ false
+        differ Less f = refl
+        differ Equal f = absurd (unequal Equal f refl)
+        differ Greater f = refl
+    go false t r = r
+
+same_key : (q k : RowKey) → eq_by_cmp key_cmp q k ≡ true → q ≡ k
+same_key q k t = exact_keys q k (go (key_cmp q k) t)
+  where
+    go : (o : Ordering) → eq_by_cmp (λ (a b : RowKey). o) q k ≡ true → o ≡ Equal
+    go Less t' = absurd (false≢true t')
+    go Equal t' = refl
+    go Greater t' = absurd (false≢true t')
+
+get-after_writes : (q : RowKey) (ws : List NetWrite) (m : Map) → IsStrictlySortedBy key_cmp (map (λ w. w.0) ws) → fin.get (after_writes ws m) q ≡ unwrap_or (write_in q ws) (fin.get m q)
+unfolding IsStrictlySortedBy
+get-after_writes q [] m h = refl
+get-after_writes q (w ∷ ws) m h =
+    get-after_writes q ws (put_at w.0 w.1 m) h.1
+    ∙ ap (unwrap_or (write_in q ws)) (get-put q w.0 w.1 m)
+    ∙ go (eq_by_cmp key_cmp q w.0) refl
+  where
+    go : (b : Bool) → eq_by_cmp key_cmp q w.0 ≡ b → unwrap_or (write_in q ws) (cond b w.1 (fin.get m q)) ≡ unwrap_or (cond b (Some w.1) (write_in q ws)) (fin.get m q)
+    go true t = ap (λ o. unwrap_or o w.1) (no_later q w.0 ws (same_key q w.0 t) h.0)
+    go false t = refl
+
+record_rows : (c : ℕ × Told) (r : RecordData) (m : Map) → IsRecordOf c r → after_writes r.writes m ≡ left_by c.1 m
+record_rows c r m is = fin.same_map keys_total exact_keys _ _ (λ q. get-after_writes q r.writes m is.rise ∙ ap (λ o. unwrap_or o (fin.get m q)) (is.writes q) ∙ sym (get-left_by q c.1 m))
+
+-- ---- one that wrote no key
+cons_nil : (k : RowKey) (ks : List RowKey) → ◌≡◌ {A = List RowKey} (k ∷ ks) [] → ⊥
+cons_nil k ks e = cc
+
+noted_some : (ks : List RowKey) (k : RowKey) → noted ks k ≡ [] → ⊥
+noted_some [] k e = cons_nil k [] e
+noted_some (j ∷ js) k e = go _ e
+  where
+    go : (b : Bool) → cond b (j ∷ js) ((j ∷ js) ++ k ∷ []) ≡ [] → ⊥
+    go true f = cons_nil j js f
+    go false f = cons_nil j (js ++ k ∷ []) f
+
+none_before : (ks : List RowKey) (ts : Told) → written_from ks ts ≡ [] → ks ≡ []
+none_before ks [] e = e
+none_before ks (t ∷ ts) e = go (write_of t.0 t.1) (none_before (noted_key ks (option_map (λ w. w.0) (write_of t.0 t.1))) ts e)
+  where
+    go : (w : Option Write) → noted_key ks (option_map (λ v. v.0) w) ≡ [] → ks ≡ []
+    go None f = f
+    go (Some w) f = absurd (noted_some ks w.0 f)
+
+nothing_from : (ks : List RowKey) (ts : Told) (m : Map) → written_from ks ts ≡ [] → left_by ts m ≡ m
+nothing_from ks [] m e = refl
+nothing_from ks (t ∷ ts) m e =
+    nothing_from (noted_key ks (option_map (λ w. w.0) (write_of t.0 t.1))) ts (written (write_of t.0 t.1) m) e
+    ∙ go (write_of t.0 t.1) (none_before (noted_key ks (option_map (λ w. w.0) (write_of t.0 t.1))) ts e)
+  where
+    go : (w : Option Write) → noted_key ks (option_map (λ v. v.0) w) ≡ [] → written w m ≡ m
+    go None f = refl
+    go (Some w) f = absurd (noted_some ks w.0 f)
+
+nothing : (ts : Told) (m : Map) → is_there (written_keys ts) ≡ false → left_by ts m ≡ m
+nothing ts m f = nothing_from [] ts m (go (written_keys ts) refl f)
+  where
+    go : (ks : List RowKey) → written_keys ts ≡ ks → is_there ks ≡ false → written_keys ts ≡ []
+    go [] e g = e
+    go (j ∷ js) e g = absurd (true≢false g)
+
+-- ---- one commit after another
+abbrev pub left_by_all : List (ℕ × Told) → Map → Map
+left_by_all [] m = m
+left_by_all (c ∷ cs) m = left_by_all cs (left_by c.1 m)
+
+pub left_by_all-append : (cs ds : List (ℕ × Told)) (m : Map) → left_by_all (cs ++ ds) m ≡ left_by_all ds (left_by_all cs m)
+left_by_all-append [] ds m = refl
+left_by_all-append (c ∷ cs) ds m = left_by_all-append cs ds (left_by c.1 m)
+
+abbrev pub is_after : ℕ → ℕ × Told → Bool
+is_after prev c = nat_lt prev c.0
+
+-- the records of those that wrote leave what they all leave
+pub records_rows : (prev : ℕ) (cs : List (ℕ × Told)) (rs : List RecordData) (m : Map) → AreRecordsOf (filter (λ c. nat_lt prev c.0 && is_there (written_keys c.1)) cs) rs → after_records rs m ≡ left_by_all (filter (is_after prev) cs) m
+records_rows prev [] [] m h = refl
+records_rows prev [] (r ∷ rs) m h = absurd h
+records_rows prev (c ∷ cs) rs m h = go (nat_lt prev c.0) (is_there (written_keys c.1)) refl rs h (λ qs n k. records_rows prev cs qs n k)
+  where
+    go : (a b : Bool) → is_there (written_keys c.1) ≡ b → (qs : List RecordData) → AreRecordsOf (cond (a && b) (c ∷ filter (λ d. nat_lt prev d.0 && is_there (written_keys d.1)) cs) (filter (λ d. nat_lt prev d.0 && is_there (written_keys d.1)) cs)) qs →
+        ((ps : List RecordData) (n : Map) → AreRecordsOf (filter (λ d. nat_lt prev d.0 && is_there (written_keys d.1)) cs) ps → after_records ps n ≡ left_by_all (filter (is_after prev) cs) n) →
+        after_records qs m ≡ left_by_all (cond a (c ∷ filter (is_after prev) cs) (filter (is_after prev) cs)) m
+    go false b e qs k ih = ih qs m k
+    go true false e qs k ih = ih qs m k ∙ ap (left_by_all (filter (is_after prev) cs)) (sym (nothing c.1 m e))
+    go true true e [] k ih = absurd k
+    go true true e (r ∷ qs) k ih = ap (after_records qs) (record_rows c r m k.0) ∙ ih qs (left_by c.1 m) k.1

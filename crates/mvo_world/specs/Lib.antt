@@ -1,0 +1,4 @@
+pub mod Whole
+pub mod Steps
+pub mod Groups
+pub mod Standing
