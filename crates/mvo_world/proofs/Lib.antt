@@ -1,3 +1,5 @@
 pub mod Rows
 pub mod Chain
 pub mod Closed
+pub mod Stood
+pub mod Moves

@@ -1,3 +1,5 @@
+ghost use Rattle.std.specs.Prelude.{◌≡◌, ◌++◌, ◌∷◌, [], ◌<◌, ◌≤◌, vec_len, vec_capacity};
+
 use crate::event::Event;
 use crate::reply::Reply;
 use mvo_core::Core;
@@ -6,24 +8,67 @@ use mvo_group::Group;
 use mvo_store::Store;
 use mvo_types::{Refusal, Stamp};
 use std::alloc::Global;
+use std::marker::Model;
 
-/// The event core, the place of closed groups, and the store of groups.
+/// The event core, the place of closed groups, and the store of groups, in one value. Contracts see
+/// the state of the core, the group in the place, and the log of the store.
+///
+/// A world that `open` gave stands for its events since (`StandsOver`): the committed transactions'
+/// replies are serial, and each image that a stop may leave gives the rows up to a mark at least
+/// each acknowledged one.
 #[derive(Drop)]
 pub struct World<D: Disk> {
+    alloc: Global,
     core: Core,
     /// The group that was closed and that the store hasn't taken.
     place: Option<Group>,
     store: Store<D>,
 }
 
+impl<D: Disk> Model for World<D> {
+    ghost use Rattle.std.specs.Coded.{codes};
+    ghost use Rattle.mvo_types.specs.Keys.{coded_map};
+    ghost use Rattle.mvo_world.specs.Whole.{Whole, IsLinked};
+
+    ghost Value = { Whole D };
+
+    ghost coded = { Prim.hlevel (codes, coded_map) };
+
+    ghost view = { λ w. record { core = w.core; place = w.place; log = w.store } };
+
+    ghost invariant = { λ w. IsLinked {D = D} (record { core = w.core; place = w.place; log = w.store }) };
+}
+
 impl<D: Disk> World<D> {
-    /// A world over what is on the disk. Refused as `Store::open` is, or with 90, the disk comes back.
-    pub fn open(alloc: Global, disk: D) -> Result<World<D>, (Refusal, D)> {
-        let (store, rows, mark) = Store::open(alloc, disk)?;
+    ghost use Rattle.std.specs.Prelude.{◌≡◌, ◌++◌, ℕ, List, [], ◌∷◌, length, IfOk, IfErr, OnErr, nat_le};
+    ghost use Rattle.mvo_model.specs.Trace.{Step, IsSerial};
+    ghost use Rattle.mvo_disk.specs.Disk.{AllOf, LeavesOnly};
+    ghost use Rattle.mvo_group.specs.Data.{GroupData};
+    ghost use Rattle.mvo_store.specs.Frames.{HasGroups};
+    ghost use Rattle.mvo_store.specs.Recovery.{rows_of, mark_of};
+    ghost use Rattle.mvo_store.specs.Steps.{IsOpenRefusal};
+    ghost use Rattle.mvo_world.specs.Steps.{happened, acknowledged, closed_by, trace_of, all_acknowledged, all_closed};
+    ghost use Rattle.mvo_world.specs.Standing.{IsGood, StandsOver};
+
+    /// A world over what is on the disk. It writes and cuts nothing. Refused as `Store::open` is, or
+    /// with 90; the disk comes back.
+    pub fn open(alloc: Global, disk: D) -> Result<World<D>, (Refusal, D)>
+        ensures stands { IfOk result (λ w. (old : List GroupData) → HasGroups 0 old (D.content disk 2) → StandsOver D.content D.may_leave D.fault_count old [] (mark_of old ∷ []) [] w) }
+        ensures content { IfOk result (λ w. (n : ℕ) → D.content w.log.disk n ≡ D.content disk n) }
+        ensures any_moment { IfOk result (λ w. LeavesOnly D.moment D.left_since disk w.log.disk (AllOf (D.may_leave disk))) }
+        ensures refused { IfErr result (λ e. IsOpenRefusal e.0 (D.fault_count disk) (D.fault_count e.1) (D.content disk 2)) }
+        ensures content_err { IfErr result (λ e. (n : ℕ) → D.content e.1 n ≡ D.content disk n) }
+        ensures any_moment_err { IfErr result (λ e. LeavesOnly D.moment D.left_since disk e.1 (AllOf (D.may_leave disk))) }
+    {
+        let (store, rows, mark) = match Store::open(alloc, disk) {
+            Ok(opened) => opened,
+            Err(refused) => return Err(refused),
+        };
         let Ok(core) = Core::open(alloc, rows, mark) else {
             return Err((Refusal::OutOfMemory, store.into_disk()));
         };
         Ok(World {
+            alloc,
             core,
             place: None,
             store,
@@ -31,18 +76,32 @@ impl<D: Disk> World<D> {
     }
 
     /// The mark of the last group that is durable, or the one that the world opened at.
-    pub fn mark(&self) -> Stamp {
+    pub fn mark(&self) -> Stamp
+        ensures value { result ≡ self.now.log.mark }
+        ensures images { (old : List GroupData) (steps : List Step) (acked closed : List ℕ) → StandsOver D.content D.may_leave D.fault_count old steps acked closed self.now →
+            (image : ℕ → List ℕ) → AllOf (D.may_leave self.now.log.disk) image → IsGood (rows_of old) (mark_of old) steps acked closed (image 2) }
+    {
+        let _clock = self.core.clock();
         self.store.mark()
     }
 
     /// The disk, as it stands.
-    pub fn into_disk(self) -> D {
+    pub fn into_disk(self) -> D
+        ensures disk { result ≡ self.log.disk }
+        ensures good { (old : List GroupData) (steps : List Step) (acked closed : List ℕ) → StandsOver D.content D.may_leave D.fault_count old steps acked closed self →
+            IsGood (rows_of old) (mark_of old) steps acked closed (D.content result 2) }
+    {
+        let _clock = self.core.clock();
         let World { store, .. } = self;
         store.into_disk()
     }
 
-    /// Refused: 51, 52 where one is pending, 56 where none is closed.
-    fn take_group(&mut self) -> Result<(), Refusal> {
+    /// Refused: 51, 52 where one is pending, 56 where none is closed; then nothing changes.
+    fn take_group(&mut self) -> Result<(), Refusal>
+        ensures stands { (old : List GroupData) (steps : List Step) (acked closed : List ℕ) → StandsOver D.content D.may_leave D.fault_count old steps acked closed self.old → StandsOver D.content D.may_leave D.fault_count old steps acked closed self.new }
+        ensures disk { self.new.log.disk ≡ self.old.log.disk }
+        ensures err { OnErr result (self.new ≡ self.old) }
+    {
         if let Some(refusal) = self.store.can_take() {
             return Err(refusal);
         }
@@ -58,8 +117,16 @@ impl<D: Disk> World<D> {
         }
     }
 
-    /// One step.
-    pub fn step(&mut self, event: Event) -> Reply {
+    /// One step. It leads from a world that stands for its events to one that stands for these and
+    /// this one, with its reply; and a stop at any moment of it leaves an image that is good for the
+    /// events before it.
+    pub fn step(&mut self, event: Event) -> Reply
+        ensures stands { (old : List GroupData) (steps : List Step) (acked closed : List ℕ) → StandsOver D.content D.may_leave D.fault_count old steps acked closed self.old →
+            StandsOver D.content D.may_leave D.fault_count old (steps ++ happened event result) (acked ++ acknowledged event result) (closed ++ closed_by event result) self.new }
+        ensures any_moment { (old : List GroupData) (steps : List Step) (acked closed : List ℕ) → StandsOver D.content D.may_leave D.fault_count old steps acked closed self.old →
+            LeavesOnly D.moment D.left_since self.old.log.disk self.new.log.disk (λ image. IsGood (rows_of old) (mark_of old) steps acked closed (image 2)) }
+    {
+        let _clock = self.core.clock();
         match event {
             Event::Core(event) => Reply::Core(self.core.step(event)),
             Event::CloseGroup => match self.core.close_group(&mut self.place) {
@@ -81,4 +148,45 @@ impl<D: Disk> World<D> {
             Event::Poll(stamp) => Reply::Polled(self.store.mark() >= stamp),
         }
     }
+
+    /// One step, of an event that is kept: an event whose copy is refused replies 90 and does nothing.
+    fn step_copy(&mut self, event: &Event) -> Reply
+        ensures stands { (old : List GroupData) (steps : List Step) (acked closed : List ℕ) → StandsOver D.content D.may_leave D.fault_count old steps acked closed self.old →
+            StandsOver D.content D.may_leave D.fault_count old (steps ++ happened event.now result) (acked ++ acknowledged event.now result) (closed ++ closed_by event.now result) self.new }
+        ensures any_moment { (old : List GroupData) (steps : List Step) (acked closed : List ℕ) → StandsOver D.content D.may_leave D.fault_count old steps acked closed self.old →
+            LeavesOnly D.moment D.left_since self.old.log.disk self.new.log.disk (λ image. IsGood (rows_of old) (mark_of old) steps acked closed (image 2)) }
+    {
+        match event.copy() {
+            Ok(event) => self.step(event),
+            Err(_) => Reply::Refused(Refusal::OutOfMemory),
+        }
+    }
+
+    /// Runs the events, one after another. It takes room for its replies first: refused with 90, it
+    /// has run nothing. An event whose copy is refused replies 90 and does nothing.
+    pub fn run(&mut self, events: &[Event]) -> Result<Vec<Reply>, Refusal>
+        ensures replies { IfOk result (λ replies. length replies.items ≡ length events.now) }
+        ensures serial { IfOk result (λ replies. (old : List GroupData) (acked closed : List ℕ) → StandsOver D.content D.may_leave D.fault_count old [] acked closed self.old → IsSerial (rows_of old) (trace_of events.now replies.items)) }
+        ensures stands { IfOk result (λ replies. (old : List GroupData) (acked closed : List ℕ) → StandsOver D.content D.may_leave D.fault_count old [] acked closed self.old →
+            StandsOver D.content D.may_leave D.fault_count old (trace_of events.now replies.items) (acked ++ all_acknowledged events.now replies.items) (closed ++ all_closed events.now replies.items) self.new) }
+        ensures memory { IfErr result (λ r. r ≡ Refusal.OutOfMemory) }
+        ensures err { OnErr result (self.new ≡ self.old) }
+    {
+        let mut replies = Vec::new(self.alloc);
+        replies.reserve(events.len())?;
+        for event in events {
+            let reply = self.step_copy(event);
+            push_reserved(&mut replies, reply);
+        }
+        Ok(replies)
+    }
+}
+
+/// Adds an item where there is room.
+fn push_reserved<T: Drop>(items: &mut Vec<T>, item: T)
+    requires { vec_len items.old < vec_capacity items.old }
+    ensures items { items.new.items ≡ items.old.items ++ item ∷ [] }
+    ensures room { vec_capacity items.old ≤ vec_capacity items.new }
+{
+    items.push(item).unwrap();
 }
