@@ -1,4 +1,5 @@
 pub mod Writes
+pub mod Records
 pub mod Indexed
 pub mod Lined
 pub mod Places

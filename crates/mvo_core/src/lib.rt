@@ -2,6 +2,7 @@
 #![tactic(auto)]
 
 mod active;
+mod commit_record;
 mod engine;
 mod event;
 mod look;

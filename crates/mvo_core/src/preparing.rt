@@ -103,12 +103,19 @@ impl PreparingTx {
         requires { self.valid ≡ true }
         ensures { result ≡ with_settled self.stop self }
     {
-        let PreparingTx { id, end, ops, .. } = self;
+        let PreparingTx {
+            id,
+            end,
+            ops,
+            written,
+            ..
+        } = self;
         TaleEntry {
             id: TxId(id),
             begin: Stamp(id),
             end: Stamp(end),
             ops,
+            written,
         }
     }
 }
