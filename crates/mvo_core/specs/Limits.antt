@@ -1,5 +1,5 @@
 -- The limits of what a transaction does.
-use Rattle.std.specs.Prelude.{◌≤◌, List, length, ⊤}
+use Rattle.std.specs.Prelude.{◌≤◌, length, ⊤}
 use Rattle.std.specs.List.{AllByRecursion}
 use Rattle.mvo_types.specs.declared.op.Op.{Op}
 use Rattle.mvo_types.specs.declared.op.Op.TheVariants.{Read, Scan, Insert, Update, Delete}

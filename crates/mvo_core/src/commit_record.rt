@@ -6,7 +6,6 @@ ghost use Rattle.mvo_types.specs.Keys.{key_cmp};
 ghost use Rattle.mvo_group.specs.Data.{net_write};
 ghost use Rattle.mvo_group.specs.Rules.{IsRecord};
 ghost use Rattle.mvo_core.specs.Groups.{IsRecordOf};
-ghost use Rattle.mvo_core.specs.Limits.{AreLimited};
 ghost use Rattle.mvo_core.specs.Records.{net_writes};
 ghost use Rattle.mvo_core.specs.View.{told_view, held_view};
 ghost use Rattle.mvo_core.specs.Writers.{is_writing};
@@ -20,7 +19,7 @@ use std::alloc::{AllocError, Global};
 /// The record of a stored commit: its end, and by key what it left at each key that it wrote.
 pub fn record_of(alloc: Global, tx: &TaleEntry) -> Result<Record, AllocError>
     ensures written { IfOk result (λ r. IsRecordOf (tx.now.stop, tx.now.told) r) }
-    ensures rules { AreLimited tx.now.told → is_writing tx.now ≡ true → IfOk result (λ r. IsRecord r) }
+    ensures rules { is_writing tx.now ≡ true → IfOk result (λ r. IsRecord r) }
 {
     let keys = in_order(&tx.written)?;
     Ok(Record {

@@ -9,7 +9,6 @@ use Rattle.mvo_group.specs.Rules.{IsRecord}
 use Rattle.mvo_state.specs.Entries.{written_keys}
 use Rattle.mvo_state.specs.Line.{Slot}
 use Rattle.mvo_core.specs.Groups.{IsRecordOf}
-use Rattle.mvo_core.specs.Limits.{AreLimited}
 use Rattle.mvo_core.specs.Records.{net_writes}
 use Rattle.mvo_core.specs.View.{told_view}
 use Rattle.mvo_core.specs.Writers.{is_writing}
@@ -42,5 +41,5 @@ returns-clause-written c =
 pub returns-clause-rules : goal.returns-clause-rules
 unfolding left
 returns-clause-rules c =
-    subst (λ (x : Slot). AreLimited x.told → is_writing x ≡ true → IsRecord (left c)) c.tx.view_is
-    (record_keeps (told_view c.tx.inside.ops.items) c.in_ok-keys.keys.items (left c) (writes c) (keys c) c.in_ok-keys.ensures.rise)
+    subst (λ (x : Slot). is_writing x ≡ true → IsRecord (left c)) c.tx.view_is
+    (record_keeps (told_view c.tx.inside.ops.items) c.in_ok-keys.keys.items (left c) (writes c) (keys c) c.in_ok-keys.ensures.rise c.tx.invariant.2)

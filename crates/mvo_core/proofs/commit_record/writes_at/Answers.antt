@@ -1,9 +1,7 @@
-use Rattle.std.proofs.Common.{◌≡◌, ◌∷◌, [], ◌++◌, List, Some, None, map, take, get_or, sym, ap, ◌∙◌}
+use Rattle.std.proofs.Common.{◌∷◌, [], ◌++◌, Some, map, take, sym, ap, ◌∙◌}
 use Rattle.std.proofs.lemmas.List.{map_push}
 use Rattle.std.specs.Option.{option_map}
 use Rattle.mvo_types.specs.declared.row.RowKey.{RowKey}
-use Rattle.mvo_model.specs.Told as told
-use Rattle.mvo_group.specs.declared.write.Write.{Write}
 use Rattle.mvo_group.specs.Data.{NetWrite, net_write}
 use Rattle.mvo_core.specs.Records.{net_writes}
 use Rattle.mvo_core.specs.View.{told_view, held_view}
