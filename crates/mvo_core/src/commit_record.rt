@@ -17,6 +17,7 @@ use mvo_types::{Answer, Op, Row, RowKey};
 use std::alloc::{AllocError, Global};
 
 /// The record of a stored commit: its end, and by key what it left at each key that it wrote.
+/// Rows are copied, since the commit keeps its own.
 pub fn record_of(alloc: Global, tx: &TaleEntry) -> Result<Record, AllocError>
     ensures written { IfOk result (λ r. IsRecordOf (tx.now.stop, tx.now.told) r) }
     ensures rules { is_writing tx.now ≡ true → IfOk result (λ r. IsRecord r) }
