@@ -1,4 +1,6 @@
 pub mod Writes
+pub mod Records
+pub mod Limits
 pub mod Indexed
 pub mod Lined
 pub mod Places

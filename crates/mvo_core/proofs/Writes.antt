@@ -56,7 +56,7 @@ get-seen k own base tale b w x e f =
     ∙ ap (unwrap_or (net_write k own)) (sym (get-left_by k (told_below b tale) base))
     ∙ sym (get-left_by k own (seen_by base tale b))
 
-written_from-push : (ks : List RowKey) (ts : Told) (x : Op × Said) → written_from ks (ts ++ x ∷ []) ≡ noted_key (written_from ks ts) (option_map (λ w. w.0) (write_of x.0 x.1))
+pub written_from-push : (ks : List RowKey) (ts : Told) (x : Op × Said) → written_from ks (ts ++ x ∷ []) ≡ noted_key (written_from ks ts) (option_map (λ w. w.0) (write_of x.0 x.1))
 written_from-push ks [] x = refl
 written_from-push ks (t ∷ ts) x = written_from-push (noted_key ks (option_map (λ w. w.0) (write_of t.0 t.1))) ts x
 

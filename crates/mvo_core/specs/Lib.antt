@@ -4,3 +4,5 @@ pub mod Kept
 pub mod Events
 pub mod Replies
 pub mod Groups
+pub mod Limits
+pub mod Records

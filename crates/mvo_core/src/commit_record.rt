@@ -1,16 +1,75 @@
-ghost use Rattle.std.specs.Prelude.{◌≡◌, IfOk, true};
+ghost use Rattle.std.specs.Prelude.{◌≡◌, true, map, IfOk};
+ghost use Rattle.std.specs.List.Sorted.{IsPermutation, IsStrictlySortedBy};
+ghost use Rattle.std.specs.List.{IsDistinct};
+ghost use Rattle.std.specs.Ordering.{eq_by_cmp};
+ghost use Rattle.mvo_types.specs.Keys.{key_cmp};
+ghost use Rattle.mvo_group.specs.Data.{net_write};
 ghost use Rattle.mvo_group.specs.Rules.{IsRecord};
-ghost use Rattle.mvo_core.specs.Writers.{is_writing};
 ghost use Rattle.mvo_core.specs.Groups.{IsRecordOf};
+ghost use Rattle.mvo_core.specs.Records.{net_writes};
+ghost use Rattle.mvo_core.specs.View.{told_view, held_view};
+ghost use Rattle.mvo_core.specs.Writers.{is_writing};
 
 use crate::tale::TaleEntry;
-use mvo_group::Record;
+use crate::told::last_write;
+use mvo_group::{Record, Write};
+use mvo_types::{Answer, Op, Row, RowKey};
 use std::alloc::{AllocError, Global};
 
 /// The record of a stored commit: its end, and by key what it left at each key that it wrote.
+/// Rows are copied, since the commit keeps its own.
 pub fn record_of(alloc: Global, tx: &TaleEntry) -> Result<Record, AllocError>
     ensures written { IfOk result (λ r. IsRecordOf (tx.now.stop, tx.now.told) r) }
     ensures rules { is_writing tx.now ≡ true → IfOk result (λ r. IsRecord r) }
 {
-    Err(AllocError)
+    let keys = in_order(&tx.written)?;
+    Ok(Record {
+        end: tx.end,
+        writes: writes_at(alloc, &tx.ops, &keys)?,
+    })
+}
+
+/// The keys in the order of (table, key).
+fn in_order(keys: &Vec<RowKey>) -> Result<Vec<RowKey>, AllocError>
+    requires { IsDistinct (eq_by_cmp key_cmp) keys.now.items }
+    ensures same { IfOk result (λ v. IsPermutation keys.now.items v.items) }
+    ensures rise { IfOk result (λ v. IsStrictlySortedBy key_cmp v.items) }
+{
+    let mut sorted = copy_keys(keys)?;
+    sorted.sort_unstable();
+    Ok(sorted)
+}
+
+/// A copy of the keys.
+fn copy_keys(keys: &Vec<RowKey>) -> Result<Vec<RowKey>, AllocError>
+    ensures { IfOk result (λ v. v.items ≡ keys.now.items) }
+{
+    keys.clone()
+}
+
+/// The last write at each of the keys, where there is one.
+fn writes_at(alloc: Global, ops: &[(Op, Answer)], keys: &[RowKey]) -> Result<Vec<Write>, AllocError>
+    ensures { IfOk result (λ ws. map net_write ws.items ≡ net_writes (told_view ops.now) keys.now) }
+{
+    let mut writes = Vec::new(alloc);
+    for key in keys {
+        if let Some(row) = last_write(ops, *key) {
+            writes.push(left_at(*key, row)?)?;
+        }
+    }
+    Ok(writes)
+}
+
+/// The write that leaves this at the key: a copy of the row, or no row.
+fn left_at(key: RowKey, row: Option<&Row>) -> Result<Write, AllocError>
+    ensures { IfOk result (λ w. net_write w ≡ (key, held_view row.entry)) }
+{
+    match row {
+        Some(row) => {
+            let mut left = row.copy()?;
+            left.key = key;
+            Ok(Write::Put(left))
+        }
+        None => Ok(Write::Delete(key)),
+    }
 }

@@ -28,13 +28,14 @@ impl Model for PreparingTx {
     ghost use Rattle.std.specs.Prelude.{◌≡◌, ◌≤◌, [], None, false, length};
     ghost use Rattle.mvo_state.specs.Entries.{entries, written_keys};
     ghost use Rattle.mvo_state.specs.Line.{Slot};
+    ghost use Rattle.mvo_core.specs.Limits.{AreLimited};
     ghost use Rattle.mvo_core.specs.View.{told_view};
 
     ghost Value = { Slot };
 
     ghost view = { λ t. record { id = t.id; stop = t.end; told = told_view t.ops.items; settled = false; checked = t.checked; valid = t.valid; rests = []; doom = None } };
 
-    ghost invariant = { λ t. (t.looked_at.items ≡ entries (told_view t.ops.items)) × (t.written.items ≡ written_keys (told_view t.ops.items)) × (t.valid ≡ false → t.checked ≤ length (entries (told_view t.ops.items))) };
+    ghost invariant = { λ t. (t.looked_at.items ≡ entries (told_view t.ops.items)) × (t.written.items ≡ written_keys (told_view t.ops.items)) × (t.valid ≡ false → t.checked ≤ length (entries (told_view t.ops.items))) × AreLimited (told_view t.ops.items) };
 }
 
 impl PreparingTx {
@@ -103,12 +104,19 @@ impl PreparingTx {
         requires { self.valid ≡ true }
         ensures { result ≡ with_settled self.stop self }
     {
-        let PreparingTx { id, end, ops, .. } = self;
+        let PreparingTx {
+            id,
+            end,
+            ops,
+            written,
+            ..
+        } = self;
         TaleEntry {
             id: TxId(id),
             begin: Stamp(id),
             end: Stamp(end),
             ops,
+            written,
         }
     }
 }

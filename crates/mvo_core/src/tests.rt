@@ -1,4 +1,5 @@
 mod random;
+mod records;
 
 use crate::{Event, Reply, run};
 use mvo_types::{Answer, Refusal, Row, RowKey, Rows, Stamp, TxId};

@@ -5,6 +5,7 @@ ghost use Rattle.mvo_types.specs.Keys.{key_cmp};
 ghost use Rattle.mvo_types.specs.Said.{said};
 ghost use Rattle.mvo_model.specs.Told.{write_of, net_write, write_at, later};
 ghost use Rattle.mvo_state.specs.Entries.{noted, noted_key, is_noted, key_of};
+ghost use Rattle.mvo_core.specs.Limits.{AreLimited};
 ghost use Rattle.mvo_core.specs.View.{told_view, held_view};
 
 use crate::active::ActiveTx;
@@ -98,7 +99,8 @@ fn key_written(op: &Op, answer: &Answer) -> Option<RowKey>
 
 /// Adds an operation with its answer. Refused, it changes nothing.
 pub fn tell(tx: &mut ActiveTx, key: RowKey, op: Op, answer: Answer) -> Result<(), AllocError>
-    requires { key ≡ key_of op }
+    requires key { key ≡ key_of op }
+    requires limits { AreLimited (tx.old.told ++ (op, said answer) ∷ []) }
     ensures ok { OnOk result (tx.new ≡ record tx.old { told = tx.old.told ++ (op, said answer) ∷ [] }) }
     ensures err { OnErr result (tx.new ≡ tx.old) }
 {

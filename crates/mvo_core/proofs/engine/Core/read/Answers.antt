@@ -10,6 +10,8 @@ use Rattle.mvo_model.specs.Told.{Told, left_by}
 use Rattle.mvo_state.specs.declared.over.OverTx.{OverTx}
 use Rattle.mvo_state.specs.Line.{State, Running, Slot, told, snapshot, seen_by, is_writer}
 use Rattle.mvo_state.specs.Causes.{why_not_read}
+use Rattle.mvo_core.specs.Limits.{AreLimited}
+use Rattle.mvo_core.proofs.Limits.{found_twice, limited_read}
 use Rattle.mvo_core.specs.Writers.{at_places}
 use Rattle.mvo_core.specs.View.{state_of, one_is, told_view}
 use Rattle.mvo_core.proofs.Calls.{refuse, no_memory, not_active_by, IsMine, mine_at, shown_at, read_refusal_by, read_here, read_quiet, read_absent, IsTold, kept_told}
@@ -60,6 +62,15 @@ returns-in_err-tell-clause-refused c =
     (ap (λ (s : State). why_not_read s c.args.tx.0 c.args.key) (sym c.self.view_is)
     ∙ read_here (state_of f.base f.marks f.clock f.running.items f.tale.items f.preparing f.over.items) f.preparing c.args.tx.0 c.in-Some.at c.args.key c.index-own.result.now m
     ∙ sym c.read_refusal.ensures ∙ c.in_default-read_refusal.is) c.from_residual-in_err-tell.ensures.1
+
+-- the limits hold with one operation more
+pub tell-requires-clause-limits : goal.tell-requires-clause-limits
+tell-requires-clause-limits c =
+    let f = c.self.inside in
+    let own : AreLimited c.index-own.result.now.told = subst (λ (r : Running). AreLimited r.told) c.own.view_is c.own.invariant.2 in
+    subst (λ (r : Running). AreLimited (r.told ++ (op.Read c.args.key, Row c.in_ok-kept.kept) ∷ []))
+    (found_twice f.running.items c.args.tx.0 c.in-Some.at c.index-own.result.now c.index_mut-own.result.now (sym (c.in-Some.ensures ∙ ap (λ (rs : List Running). position (λ r. r.id == c.args.tx.0) rs) c.deref.ensures.value)) c.index-own.ensures c.index_mut-own.ensures.value)
+    (limited_read c.index-own.result.now.told c.args.key (Row c.in_ok-kept.kept) own)
 
 -- the state before the call
 old : In_ok-tell → State
