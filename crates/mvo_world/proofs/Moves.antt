@@ -11,7 +11,9 @@ use Rattle.mvo_types.specs.Keys.{Map}
 use Rattle.mvo_model.specs.Trace.{Step}
 use Rattle.mvo_group.specs.Data.{GroupData}
 use Rattle.mvo_group.specs.Rules.{KeepsRules}
-use Rattle.mvo_state.specs.Line.{State, Slot, Running, checked}
+use Rattle.mvo_state.specs.Line.{State, Slot, Running, checked, opened}
+use Rattle.mvo_state.proofs.Stood.{stands_opened}
+use Rattle.mvo_types.specs.declared.ids.Stamp.{Stamp}
 use Rattle.mvo_state.specs.Sound.{IsSound}
 use Rattle.mvo_state.specs.Marks.{IsClosedAt, StaysBelow, settled_to}
 use Rattle.mvo_state.specs.Stands.{Stands}
@@ -256,3 +258,18 @@ module _ {D : Type 0} (content : D → ℕ → List ℕ) (may_leave : D → ℕ 
     marks = h.marks;
     covers = each_append (λ m. m ≤ w.log.mark.0) acked (n ∷ []) h.covers (le, tt);
   }
+
+  -- a world that was just opened
+  pub stands_begun : (old : List GroupData) (rows : Map) (mark : Stamp) (core : State) (log : Log D) → core ≡ opened rows mark.0 → rows ≡ rows_of old → mark.0 ≡ mark_of old → log.pending ≡ None → log.mark ≡ mark → IsSafe content may_leave fault_count log old → StandsOver content may_leave fault_count old [] (mark_of old ∷ []) [] (record { core = core; place = None; log = log })
+  stands_begun old rows mark core log is rows_are mark_is none at safe =
+      let wait : option_to_list log.pending ++ [] ≡ [] = ap (λ (q : Option GroupData). option_to_list q ++ []) none in
+      record {
+        sent = [];
+        core = subst (Stands (rows_of old) []) (sym is) (subst (λ (m : Map). Stands m [] (opened rows mark.0)) rows_are (stands_opened rows mark.0));
+        before = subst (IsClosedAt (mark_of old)) (sym is) (record { drawn = omega (arith, mark_is); above = tt });
+        none = ap (λ (s : State). settled_to (mark_of old) s.line) is;
+        log = subst (IsSafe content may_leave fault_count log) (sym (append-nil old)) safe;
+        groups = subst (AreGroupsOf core (mark_of old)) (sym wait) tt;
+        marks = ap (map (λ x. x.mark)) wait;
+        covers = (omega (arith, mark_is, ap (λ (m : Stamp). m.0) at), tt);
+      }

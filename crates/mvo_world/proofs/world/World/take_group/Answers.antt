@@ -1,14 +1,34 @@
-use Rattle.std.proofs.Common.{rules, ◌≡◌, ◌++◌, ◌∷◌, [], ◌<◌, ◌≤◌, vec_len, vec_capacity, ℕ, List, length, IfOk, IfErr, OnErr, nat_le, ◌+◌, ◌-◌, ◌*◌, ◌/◌, ◌%◌, Bool, true, false, nat_eq, nat_lt, slice_index_or, slice_set, bit_and, bit_or, Fits, w8, w32, w64, Bor, MutBor}
-use Rattle.mvo_model.specs.Trace.{Step, IsSerial}
-use Rattle.mvo_disk.specs.Disk.{AllOf, LeavesOnly}
+use Rattle.std.proofs.Common.{◌≡◌, ◌++◌, ◌∷◌, List, Option, Some, None, true, false, Bool, cond, refl, ap, ◌∙◌, subst, sym}
+use Rattle.std.specs.Option.{option_to_list}
+use Rattle.std.proofs.lemmas.Bool.{true≢false}
+use Rattle.mvo_types.specs.declared.refusal.Refusal.{Refusal}
+use Rattle.mvo_types.specs.declared.refusal.Refusal.TheVariants.{Busy, Down}
 use Rattle.mvo_group.specs.Data.{GroupData}
-use Rattle.mvo_store.specs.Frames.{HasGroups}
-use Rattle.mvo_store.specs.Recovery.{rows_of, mark_of}
-use Rattle.mvo_store.specs.Steps.{IsOpenRefusal}
-use Rattle.mvo_world.specs.Steps.{happened, acknowledged, closed_by, trace_of, all_acknowledged, all_closed}
-use Rattle.mvo_world.specs.Standing.{IsGood, StandsOver}
+use Rattle.mvo_store.specs.Standing.{IsSafe}
+use Rattle.mvo_store.specs.Steps.{why_taken, why_not_take}
+use Rattle.mvo_store.specs.declared.log.Log.{Log}
+use Rattle.mvo_world.specs.Whole.{Whole, waiting}
+use Rattle.mvo_world.specs.Standing.{StandsOver}
+use Rattle.mvo_world.proofs.Moves.{stands_moved}
 use Rattle.mvo_world.proofs.world.World.take_group.Goals as goal
 
--- src/world.rt:100:5
+some_none : (r : Refusal) → ◌≡◌ {A = Option Refusal} (Some r) None → ⊥
+some_none r e = cc
+
+nothing_taken : (down : Bool) (pending : Option GroupData) → cond down (Some Down) (why_taken pending) ≡ None → pending ≡ None
+nothing_taken true pending e = absurd (some_none Down e)
+nothing_taken false None e = refl
+nothing_taken false (Some g) e = absurd (some_none Busy e)
+
 pub returns-in-Ok-clause-stands : goal.returns-in-Ok-clause-stands
-returns-in-Ok-clause-stands g c = ?
+returns-in-Ok-clause-stands g c = λ old steps acked closed h.
+    let log = c.self.inside.store in
+    let group = c.in-Some-take.group in
+    let none : log.pending ≡ None = nothing_taken log.down log.pending (sym c.can_take.ensures ∙ c.in_default.is) in
+    let is = c.in-Ok.ensures.ok in
+    let place : c.self.inside.place ≡ Some group = sym c.take.ensures.value ∙ c.in-Some-take.is in
+    let before : Whole _ = record { core = c.self.inside.core; place = c.self.inside.place; log = log } in
+    let safe = subst (λ w. StandsOver g.D.Disk.content g.D.Disk.may_leave g.D.Disk.fault_count old steps acked closed w) (sym c.self.view_is) h in
+    stands_moved g.D.Disk.content g.D.Disk.may_leave g.D.Disk.fault_count old steps acked closed before _ refl
+    (ap (λ (l : Log _). option_to_list l.pending ++ option_to_list c.take.new.self) is ∙ ap (λ p. group ∷ option_to_list p) c.take.ensures.after ∙ sym (ap (λ p. option_to_list p ++ option_to_list c.self.inside.place) none ∙ ap option_to_list place))
+    (ap (λ (l : Log _). l.mark) is) safe (c.in-Ok.ensures.safe _ safe.log)
