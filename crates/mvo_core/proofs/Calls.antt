@@ -1,29 +1,29 @@
 -- What each call finds, and that it keeps what each core keeps.
-use Rattle.std.proofs.Common.{◌≡◌, ◌≢◌, ℕ, zero, suc, ◌+◌, ◌<◌, ◌≤◌, Bool, true, false, cond, not, ◌||◌, List, [], ◌∷◌, ◌++◌, Option, None, Some, Result, Ok, Err, map, refl, sym, ap, ◌∙◌, subst, arith, length, length-append, get_or, set, ◌⊎◌, inl, inr}
-use Rattle.std.specs.Prelude.{⊤, nat_lt, nat_le, ◌==◌, ◌&&◌, is_some, position, remove, slice_get, MatchResult, IsErrAnd, option_and_then}
-use Rattle.std.specs.Option.{option_to_list}
+use Rattle.std.proofs.Common.{◌≡◌, ◌≢◌, ℕ, zero, suc, ◌+◌, ◌<◌, ◌≤◌, Bool, true, false, cond, not, ◌||◌, List, [], ◌∷◌, ◌++◌, Option, None, Some, map, refl, sym, ap, ◌∙◌, subst, arith, length, length-append, get_or, set, ◌⊎◌}
+use Rattle.std.specs.Prelude.{nat_lt, nat_le, ◌==◌, ◌&&◌, is_some, position, remove, slice_get, option_and_then}
+use Rattle.std.specs.Option.{}
 use Rattle.std.specs.List.{AllByRecursion, filter, list_any}
 use Rattle.std.specs.FinMap as fin
-use Rattle.std.proofs.lemmas.Bool.{eqb-true, true≢false, false≢true, le-leb, lt-leb, leb-true, eq-eqb, ne_eqb}
+use Rattle.std.proofs.lemmas.Bool.{eqb-true, false≢true, leb-true, eq-eqb, ne_eqb}
 use Rattle.std.proofs.lemmas.List.Quantifiers.{position-Some}
-use Rattle.mvo_types.specs.declared.limits.TheConstants.{MAX_STAMP, MAX_TABLE, MAX_DATA_LEN, MAX_UNFINISHED}
+use Rattle.mvo_types.specs.declared.limits.TheConstants.{MAX_STAMP, MAX_TABLE, MAX_DATA_LEN}
 use Rattle.mvo_types.specs.declared.row.RowKey.{RowKey}
 use Rattle.mvo_types.specs.declared.op.Op.{Op}
 use Rattle.mvo_types.specs.declared.refusal.Refusal.{Refusal}
-use Rattle.mvo_types.specs.declared.refusal.Refusal.TheVariants.{NoSuchTransaction, Ended, NotActive, NotPreparing, NotValidated, NotEnded, ValidationFailed, DependencyAborted, TableFull, TooManyWrites, TooManyReads, DataTooLong, BadTable, ClockSpent, Busy, OutOfMemory}
+use Rattle.mvo_types.specs.declared.refusal.Refusal.TheVariants.{NoSuchTransaction, Ended, NotActive, NotPreparing, NotValidated, ValidationFailed, TableFull, TooManyWrites, TooManyReads, DataTooLong, BadTable, ClockSpent, Busy}
 use Rattle.mvo_types.specs.Line.{Line}
 use Rattle.mvo_types.specs.Keys.{Map}
 use Rattle.mvo_types.specs.Said.{Said}
 use Rattle.mvo_model.specs.Serial.{answer_to}
-use Rattle.mvo_model.specs.Told.{Told, left_by, net_write}
+use Rattle.mvo_model.specs.Told.{Told, left_by}
 use Rattle.mvo_state.specs.declared.over.OverTx.{OverTx}
 use Rattle.mvo_state.specs.declared.marks.Marks.{Marks}
 use Rattle.mvo_state.specs.Entries.{IsKeyed, key_of, entries}
-use Rattle.mvo_state.specs.Line.{State, Slot, Running, opened, began, told, with_told, prepared, to_slot, without, checked, with_check, committed, with_settled, dropped, undone, told_of, snapshot, seen_by, is_writer, last_writer, committed_tx, aborted_tx, has}
-use Rattle.mvo_state.specs.Sound.{IsSound, IsNumbered, IsSingle, IsActive, IsPreparing, IsUnchanged, IsRising, AreDistinct}
-use Rattle.mvo_state.specs.Causes.{IsRefusal, if_stands, or_doomed, running_of, preparing_of, not_there, not_preparing, not_active, is_over, unfinished, why_not_begun, is_open, is_read_too_many, is_write_too_many, not_read_at, why_not_read, not_inserted_at, why_not_inserted, not_prepared_at, why_not_prepared, not_settled_at, why_not_settled, not_checked_at, why_not_checked, why_not_rolled_back, why_not_finished, change_of, differs, entry_differs, end_of, end_at}
-use Rattle.mvo_state.specs.Steps.{prepared_at, now_prepared, is_last_check, is_valid_at, is_valid_now, checked_at, now_checked, committed_at, now_committed, aborted_at, now_aborted}
-use Rattle.mvo_state.proofs.Each.{each_weaker, each_both, each_append, each_map, each_filter}
+use Rattle.mvo_state.specs.Line.{State, Slot, Running, began, told, with_told, prepared, to_slot, without, checked, committed, with_settled, dropped, undone, told_of, snapshot, seen_by, is_writer, last_writer, committed_tx, aborted_tx, has}
+use Rattle.mvo_state.specs.Sound.{IsSound, IsNumbered, IsSingle, IsActive, IsUnchanged, IsRising, AreDistinct}
+use Rattle.mvo_state.specs.Causes.{if_stands, running_of, preparing_of, not_there, not_preparing, not_active, unfinished, why_not_begun, is_open, is_read_too_many, is_write_too_many, not_read_at, why_not_read, not_inserted_at, why_not_inserted, not_prepared_at, why_not_prepared, not_settled_at, why_not_settled, not_checked_at, why_not_checked, why_not_rolled_back, change_of, differs, entry_differs}
+use Rattle.mvo_state.specs.Steps.{prepared_at, now_prepared}
+use Rattle.mvo_state.proofs.Each.{each_weaker, each_append, each_filter}
 use Rattle.mvo_state.proofs.Lines.{append-nil}
 use Rattle.mvo_state.proofs.Sound.{IsAnswer, IsCheck, sound_began, sound_told, sound_prepared, sound_checked, sound_dropped, sound_undone, settled_in}
 use Rattle.mvo_state.proofs.Causes.{change_none}
@@ -32,48 +32,10 @@ use Rattle.mvo_state.proofs.Single.{single_began, single_told, single_prepared, 
 use Rattle.mvo_core.specs.View.{line_of, one_is, state_of}
 use Rattle.mvo_core.specs.Writers.{is_writing, at_places}
 use Rattle.mvo_core.specs.Kept.{IsStored, IsOpen, IsOneOpen, IsAlone, IsKept, count_one}
+use Rattle.mvo_core.proofs.Refusing.{some_none, none_stands, undoomed, pick_some, picked, unpicked}
 use Rattle.mvo_core.proofs.Lined.{pick, preparing_line, unsettled_line, any_open_line, writer_line, seen_line, change_line, settled_line, checked_line, undone_line, running_doomed, before_last}
 use Rattle.mvo_core.proofs.Indexed.{seen_writers, change_writers}
 use Rattle.mvo_core.proofs.Places.{IsFound, found_at, told_at, at_one, any_running, not_found, over_at}
-
--- ---- refusals
-pub refuse : (w : Option Refusal) (r : Refusal) → w ≡ Some r → IsRefusal w r
-refuse w r e = subst (λ (v : Option Refusal). IsRefusal v r) (sym e) refl
-
-pub no_memory : {T : Type 0} (w : Option Refusal) (r : Result T Refusal) → w ≡ None → IsErrAnd r (λ e. e ≡ OutOfMemory) → MatchResult r (λ _. w ≡ None) (IsRefusal w)
-no_memory w (Ok x) n e = absurd e
-no_memory w (Err x) n e = subst (λ (v : Option Refusal). IsRefusal v x) (sym n) e
-
-some_none : (r : Refusal) → ◌≡◌ {A = Option Refusal} (Some r) None → ⊥
-some_none r q = cc
-
--- where a refusal's cause stands, and where no cause does
-pub stands_now : (b : Bool) (r : Refusal) (next : Option Refusal) → b ≡ true → if_stands b r next ≡ Some r
-stands_now b r next e = ap (λ (c : Bool). cond c (Some r) next) e
-
-pub stands_not : (b : Bool) (r : Refusal) (next : Option Refusal) → b ≡ false → if_stands b r next ≡ next
-stands_not b r next e = ap (λ (c : Bool). cond c (Some r) next) e
-
-pub none_stands : (b : Bool) (r : Refusal) (next : Option Refusal) → if_stands b r next ≡ None → (b ≡ false) × (next ≡ None)
-none_stands true r next e = absurd (some_none r e)
-none_stands false r next e = (refl, e)
-
-undoomed : (d : Option ℕ) (w : Option Refusal) → d ≡ None → or_doomed d w ≡ w
-undoomed d w e = ap (λ (x : Option ℕ). or_doomed x w) e
-
-pick_some : (t : ℕ) (one : Option Slot) → is_some (pick t one) ≡ one_is (λ p. p.id == t) one
-pick_some t None = refl
-pick_some t (Some x) = go (x.id == t)
-  where
-    go : (b : Bool) → is_some (cond b (Some x) None) ≡ b
-    go true = refl
-    go false = refl
-
-pub picked : (t : ℕ) (x : Slot) → x.id == t ≡ true → pick t (Some x) ≡ Some x
-picked t x e = ap (λ (b : Bool). cond b (Some x) None) e
-
-pub unpicked : (t : ℕ) (x : Slot) → x.id == t ≡ false → pick t (Some x) ≡ None
-unpicked t x e = ap (λ (b : Bool). cond b (Some x) None) e
 
 -- ---- what is known of a core's fields
 pub any_preparing : (t : ℕ) (tale : List Slot) (one : Option Slot) → AllByRecursion IsStored tale → IsOneOpen one → is_some (preparing_of t (line_of tale one)) ≡ one_is (λ p. p.id == t) one
