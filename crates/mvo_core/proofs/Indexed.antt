@@ -14,7 +14,7 @@ use Rattle.mvo_model.specs.Told.{Told, Write, write_of, write_at, left_by, later
 use Rattle.mvo_model.proofs.Serials.{get-left_by, net_write-append}
 use Rattle.mvo_state.specs.Entries.{noted, noted_key, written_from, written_keys}
 use Rattle.mvo_state.specs.Line.{Slot, told_below, seen_by}
-use Rattle.mvo_state.specs.Causes.{is_changer, or_first, change_of}
+use Rattle.mvo_state.specs.Causes.{is_key_changer as is_changer, or_first, key_change as change_of}
 use Rattle.mvo_state.proofs.Each.{each_weaker, each_append}
 use Rattle.mvo_state.proofs.Lines.{told_below-append}
 use Rattle.mvo_core.specs.Writers.{is_there, is_writing, at_place, at_places}
