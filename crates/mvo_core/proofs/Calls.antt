@@ -1,6 +1,7 @@
 -- What each call finds, and that it keeps what each core keeps.
-use Rattle.std.proofs.Common.{◌≡◌, ◌≢◌, ℕ, zero, suc, ◌+◌, ◌<◌, ◌≤◌, Bool, true, false, cond, not, ◌||◌, List, [], ◌∷◌, ◌++◌, Option, None, Some, Result, Ok, Err, map, refl, sym, ap, ◌∙◌, subst, arith, length, length-append, get_or, set}
-use Rattle.std.specs.Prelude.{nat_lt, nat_le, ◌==◌, ◌&&◌, is_some, position, remove, slice_get, MatchResult, IsErrAnd, option_and_then}
+use Rattle.std.proofs.Common.{◌≡◌, ◌≢◌, ℕ, zero, suc, ◌+◌, ◌<◌, ◌≤◌, Bool, true, false, cond, not, ◌||◌, List, [], ◌∷◌, ◌++◌, Option, None, Some, map, refl, sym, ap, ◌∙◌, subst, arith, length, length-append, get_or, set}
+use Rattle.std.specs.Prelude.{nat_lt, nat_le, ◌==◌, ◌&&◌, is_some, position, remove, slice_get, option_and_then}
+use Rattle.std.specs.Option.{option_map}
 use Rattle.std.specs.List.{AllByRecursion, filter, list_any}
 use Rattle.std.specs.FinMap as fin
 use Rattle.std.proofs.lemmas.Bool.{eqb-true, false≢true, leb-true, eq-eqb, ne_eqb}
@@ -9,7 +10,7 @@ use Rattle.mvo_types.specs.declared.limits.TheConstants.{MAX_STAMP, MAX_TABLE, M
 use Rattle.mvo_types.specs.declared.row.RowKey.{RowKey}
 use Rattle.mvo_types.specs.declared.op.Op.{Op}
 use Rattle.mvo_types.specs.declared.refusal.Refusal.{Refusal}
-use Rattle.mvo_types.specs.declared.refusal.Refusal.TheVariants.{NoSuchTransaction, Ended, NotActive, NotPreparing, NotValidated, ValidationFailed, TableFull, TooManyWrites, TooManyReads, DataTooLong, BadTable, ClockSpent, Busy, OutOfMemory}
+use Rattle.mvo_types.specs.declared.refusal.Refusal.TheVariants.{NoSuchTransaction, Ended, NotActive, NotPreparing, NotValidated, ValidationFailed, TableFull, TooManyWrites, TooManyReads, DataTooLong, BadTable, ClockSpent, Busy}
 use Rattle.mvo_types.specs.Line.{Line}
 use Rattle.mvo_types.specs.Keys.{Map}
 use Rattle.mvo_types.specs.Said.{Said}
@@ -17,62 +18,26 @@ use Rattle.mvo_model.specs.Serial.{answer_to}
 use Rattle.mvo_model.specs.Told.{Told, left_by}
 use Rattle.mvo_state.specs.declared.over.OverTx.{OverTx}
 use Rattle.mvo_state.specs.declared.marks.Marks.{Marks}
-use Rattle.mvo_state.specs.Entries.{IsKeyed, key_of, entries}
+use Rattle.mvo_state.specs.Entries.{IsKeyed, key_of, entries, entry_keys}
+use Rattle.mvo_state.specs.Entries.Entry.{Key}
 use Rattle.mvo_state.specs.Line.{State, Slot, Running, began, told, with_told, prepared, to_slot, without, checked, committed, with_settled, dropped, undone, told_of, snapshot, seen_by, is_writer, last_writer, committed_tx, aborted_tx, has}
-use Rattle.mvo_state.specs.Sound.{IsSound, IsNumbered, IsSingle, IsActive, IsUnchanged, IsRising, AreDistinct}
-use Rattle.mvo_state.specs.Causes.{IsRefusal, if_stands, or_doomed, running_of, preparing_of, not_there, not_preparing, not_active, unfinished, why_not_begun, is_open, is_read_too_many, is_write_too_many, not_read_at, why_not_read, not_inserted_at, why_not_inserted, not_prepared_at, why_not_prepared, not_settled_at, why_not_settled, not_checked_at, why_not_checked, why_not_rolled_back, change_of, differs, entry_differs}
+use Rattle.mvo_state.specs.Sound.{IsSound, IsNumbered, IsSingle, IsActive, IsPlaced, IsUnchanged, IsRising, AreDistinct}
+use Rattle.mvo_state.specs.Causes.{if_stands, running_of, preparing_of, not_there, not_preparing, not_active, unfinished, why_not_begun, is_open, busy_at, is_read_key_too_many, is_write_too_many, not_read_at, why_not_read, not_inserted_at, why_not_inserted, not_prepared_at, why_not_prepared, not_settled_at, why_not_settled, not_checked_at, why_not_checked, why_not_rolled_back, key_change, differs, entry_differs}
 use Rattle.mvo_state.specs.Steps.{prepared_at, now_prepared}
-use Rattle.mvo_state.proofs.Each.{each_weaker, each_append, each_filter}
+use Rattle.mvo_state.proofs.Each.{each_weaker, each_append, each_back, each_filter}
 use Rattle.mvo_state.proofs.Lines.{append-nil}
 use Rattle.mvo_state.proofs.Sound.{IsAnswer, IsCheck, sound_began, sound_told, sound_prepared, sound_checked, sound_dropped, sound_undone, settled_in}
+use Rattle.mvo_state.proofs.Entries.{next_keyed, too_many_keyed}
 use Rattle.mvo_state.proofs.Causes.{change_none}
 use Rattle.mvo_state.proofs.Numbered.{numbered_began, numbered_told, numbered_prepared, numbered_checked, numbered_committed, numbered_dropped, numbered_undone}
 use Rattle.mvo_state.proofs.Single.{single_began, single_told, single_prepared, single_checked, single_committed, single_dropped, single_undone, single_left}
 use Rattle.mvo_core.specs.View.{line_of, one_is, state_of}
 use Rattle.mvo_core.specs.Writers.{is_writing, at_places}
 use Rattle.mvo_core.specs.Kept.{IsStored, IsOpen, IsOneOpen, IsAlone, IsKept, count_one}
+use Rattle.mvo_core.proofs.Refusing.{some_none, none_stands, undoomed, pick_some, picked, unpicked}
 use Rattle.mvo_core.proofs.Lined.{pick, preparing_line, unsettled_line, any_open_line, writer_line, seen_line, change_line, settled_line, checked_line, undone_line, running_doomed, before_last}
 use Rattle.mvo_core.proofs.Indexed.{seen_writers, change_writers}
 use Rattle.mvo_core.proofs.Places.{IsFound, found_at, told_at, at_one, any_running, not_found, over_at}
-
--- ---- refusals
-pub refuse : (w : Option Refusal) (r : Refusal) → w ≡ Some r → IsRefusal w r
-refuse w r e = subst (λ (v : Option Refusal). IsRefusal v r) (sym e) refl
-
-pub no_memory : {T : Type 0} (w : Option Refusal) (r : Result T Refusal) → w ≡ None → IsErrAnd r (λ e. e ≡ OutOfMemory) → MatchResult r (λ _. w ≡ None) (IsRefusal w)
-no_memory w (Ok x) n e = absurd e
-no_memory w (Err x) n e = subst (λ (v : Option Refusal). IsRefusal v x) (sym n) e
-
-some_none : (r : Refusal) → ◌≡◌ {A = Option Refusal} (Some r) None → ⊥
-some_none r q = cc
-
--- where a refusal's cause stands, and where no cause does
-pub stands_now : (b : Bool) (r : Refusal) (next : Option Refusal) → b ≡ true → if_stands b r next ≡ Some r
-stands_now b r next e = ap (λ (c : Bool). cond c (Some r) next) e
-
-pub stands_not : (b : Bool) (r : Refusal) (next : Option Refusal) → b ≡ false → if_stands b r next ≡ next
-stands_not b r next e = ap (λ (c : Bool). cond c (Some r) next) e
-
-pub none_stands : (b : Bool) (r : Refusal) (next : Option Refusal) → if_stands b r next ≡ None → (b ≡ false) × (next ≡ None)
-none_stands true r next e = absurd (some_none r e)
-none_stands false r next e = (refl, e)
-
-undoomed : (d : Option ℕ) (w : Option Refusal) → d ≡ None → or_doomed d w ≡ w
-undoomed d w e = ap (λ (x : Option ℕ). or_doomed x w) e
-
-pick_some : (t : ℕ) (one : Option Slot) → is_some (pick t one) ≡ one_is (λ p. p.id == t) one
-pick_some t None = refl
-pick_some t (Some x) = go (x.id == t)
-  where
-    go : (b : Bool) → is_some (cond b (Some x) None) ≡ b
-    go true = refl
-    go false = refl
-
-pub picked : (t : ℕ) (x : Slot) → x.id == t ≡ true → pick t (Some x) ≡ Some x
-picked t x e = ap (λ (b : Bool). cond b (Some x) None) e
-
-pub unpicked : (t : ℕ) (x : Slot) → x.id == t ≡ false → pick t (Some x) ≡ None
-unpicked t x e = ap (λ (b : Bool). cond b (Some x) None) e
 
 -- ---- what is known of a core's fields
 pub any_preparing : (t : ℕ) (tale : List Slot) (one : Option Slot) → AllByRecursion IsStored tale → IsOneOpen one → is_some (preparing_of t (line_of tale one)) ≡ one_is (λ p. p.id == t) one
@@ -118,17 +83,19 @@ kept_began base marks clock running tale one over tc oc lt k =
     }
 
 -- ---- an operation
-pub why_read : (s : State) (t : ℕ) (k : RowKey) (mine : Running) (b : Bool) → running_of t s.running ≡ Some mine → mine.doom ≡ None → is_open (last_writer k t s.line) ≡ b →
-    why_not_read s t k ≡ if_stands (nat_lt MAX_TABLE k.table) BadTable (if_stands (is_read_too_many mine.told k) TooManyReads (if_stands b Busy None))
-why_read s t k mine b f d o =
+pub why_read : (s : State) (t : ℕ) (k : RowKey) (mine : Running) (b : Bool) → running_of t s.running ≡ Some mine → mine.doom ≡ None → AllByRecursion (λ o. IsKeyed o.0) mine.told → is_open (last_writer k t s.line) ≡ b →
+    why_not_read s t k ≡ if_stands (nat_lt MAX_TABLE k.table) BadTable (if_stands (is_read_key_too_many mine.told k) TooManyReads (if_stands b Busy None))
+why_read s t k mine b f d h o =
     ap (not_read_at s t k) f ∙ undoomed mine.doom _ d
-    ∙ ap (λ (c : Bool). if_stands (nat_lt MAX_TABLE k.table) BadTable (if_stands (is_read_too_many mine.told k) TooManyReads (if_stands c Busy None))) o
+    ∙ ap (λ (m : Bool). if_stands (nat_lt MAX_TABLE k.table) BadTable (if_stands m TooManyReads (busy_at s t k))) (too_many_keyed mine.told k h)
+    ∙ ap (λ (c : Bool). if_stands (nat_lt MAX_TABLE k.table) BadTable (if_stands (is_read_key_too_many mine.told k) TooManyReads (if_stands c Busy None))) o
 
-pub why_inserted : (s : State) (t : ℕ) (row : Line) (mine : Running) (b : Bool) → running_of t s.running ≡ Some mine → mine.doom ≡ None → is_open (last_writer row.key t s.line) ≡ b →
-    why_not_inserted s t row ≡ if_stands (nat_lt MAX_TABLE row.key.table) BadTable (if_stands (nat_lt MAX_DATA_LEN (length row.bytes)) DataTooLong (if_stands (is_read_too_many mine.told row.key) TooManyReads (if_stands (is_write_too_many mine.told row.key) TooManyWrites (if_stands b Busy None))))
-why_inserted s t row mine b f d o =
+pub why_inserted : (s : State) (t : ℕ) (row : Line) (mine : Running) (b : Bool) → running_of t s.running ≡ Some mine → mine.doom ≡ None → AllByRecursion (λ o. IsKeyed o.0) mine.told → is_open (last_writer row.key t s.line) ≡ b →
+    why_not_inserted s t row ≡ if_stands (nat_lt MAX_TABLE row.key.table) BadTable (if_stands (nat_lt MAX_DATA_LEN (length row.bytes)) DataTooLong (if_stands (is_read_key_too_many mine.told row.key) TooManyReads (if_stands (is_write_too_many mine.told row.key) TooManyWrites (if_stands b Busy None))))
+why_inserted s t row mine b f d h o =
     ap (not_inserted_at s t row) f ∙ undoomed mine.doom _ d
-    ∙ ap (λ (c : Bool). if_stands (nat_lt MAX_TABLE row.key.table) BadTable (if_stands (nat_lt MAX_DATA_LEN (length row.bytes)) DataTooLong (if_stands (is_read_too_many mine.told row.key) TooManyReads (if_stands (is_write_too_many mine.told row.key) TooManyWrites (if_stands c Busy None))))) o
+    ∙ ap (λ (m : Bool). if_stands (nat_lt MAX_TABLE row.key.table) BadTable (if_stands (nat_lt MAX_DATA_LEN (length row.bytes)) DataTooLong (if_stands m TooManyReads (if_stands (is_write_too_many mine.told row.key) TooManyWrites (busy_at s t row.key))))) (too_many_keyed mine.told row.key h)
+    ∙ ap (λ (c : Bool). if_stands (nat_lt MAX_TABLE row.key.table) BadTable (if_stands (nat_lt MAX_DATA_LEN (length row.bytes)) DataTooLong (if_stands (is_read_key_too_many mine.told row.key) TooManyReads (if_stands (is_write_too_many mine.told row.key) TooManyWrites (if_stands c Busy None))))) o
 
 told_of_each : (t : ℕ) (rs : List Running) → AreDistinct rs → AllByRecursion (λ r. r.id ≡ t → r.told ≡ told_of t rs) rs
 told_of_each t [] h = tt
@@ -234,13 +201,21 @@ kept_prepared base marks clock running tale over tc tc' oc t at mine x p is e ro
 pub why_settled : (s : State) (t : ℕ) (x : Slot) → preparing_of t s.line ≡ Some x → x.doom ≡ None → why_not_settled s t ≡ if_stands (not x.valid) NotValidated None
 why_settled s t x f d = ap (not_settled_at s t) f ∙ undoomed x.doom _ d
 
-pub why_checked : (s : State) (t : ℕ) (x : Slot) → preparing_of t s.line ≡ Some x → x.doom ≡ None → why_not_checked s t ≡ cond x.valid None (entry_differs s.line x (slice_get (entries x.told) x.checked))
+pub why_checked : (s : State) (t : ℕ) (x : Slot) → preparing_of t s.line ≡ Some x → x.doom ≡ None → why_not_checked s t ≡ cond x.valid None (entry_differs s.base s.line x (slice_get (entries x.told) x.checked))
 why_checked s t x f d = ap (not_checked_at s t) f ∙ undoomed x.doom _ d
 
+-- the one that is Preparing has operations on one key alone
+pub keyed_one : (base : Map) (marks : Marks) (clock : ℕ) (running : List Running) (tale : List Slot) (x : Slot) (over : List OverTx) (tc oc : ℕ) → IsKept (state_of base marks clock running tale (Some x) over) tale (Some x) tc oc → AllByRecursion (λ o. IsKeyed o.0) x.told
+keyed_one base marks clock running tale x over tc oc k = (each_back (IsPlaced (line_of tale (Some x)) clock) tale (x ∷ []) k.sound.placed).0.keyed
+
 -- the next entry's change, in the code's reckoning
-pub change_is : (tale : List Slot) (ws : List ℕ) (x : Slot) (w : Option RowKey) → at_places tale ws ≡ filter is_writing tale → entry_differs (line_of tale (Some x)) x w ≡ differs (option_and_then (λ k. change_of x.id x.stop k (at_places tale ws)) w)
-change_is tale ws x None i = refl
-change_is tale ws x (Some k) i = ap differs (change_line x.id x.stop k tale x (omega arith) ∙ sym (change_writers x.id x.stop k tale ws i))
+pub change_is : (base : Map) (tale : List Slot) (ws : List ℕ) (x : Slot) → AllByRecursion (λ o. IsKeyed o.0) x.told → at_places tale ws ≡ filter is_writing tale →
+    entry_differs base (line_of tale (Some x)) x (slice_get (entries x.told) x.checked) ≡ differs (option_and_then (λ k. key_change x.id x.stop k (at_places tale ws)) (slice_get (entry_keys x.told) x.checked))
+change_is base tale ws x h i = ap (entry_differs base (line_of tale (Some x)) x) (next_keyed x.told x.checked h) ∙ go (slice_get (entry_keys x.told) x.checked)
+  where
+    go : (w : Option RowKey) → entry_differs base (line_of tale (Some x)) x (option_map Key w) ≡ differs (option_and_then (λ k. key_change x.id x.stop k (at_places tale ws)) w)
+    go None = refl
+    go (Some k) = ap differs (change_line x.id x.stop k tale x (omega arith) ∙ sym (change_writers x.id x.stop k tale ws i))
 
 pub record IsCommit (base : Map) (marks : Marks) (clock : ℕ) (running : List Running) (tale : List Slot) (over : List OverTx) (tc oc t : ℕ) (x : Slot) : Type 0 where
   pub state : state_of base marks clock running (tale ++ with_settled x.stop x ∷ []) None (over ++ committed_tx t x.stop ∷ []) ≡ committed (state_of base marks clock running tale (Some x) over) t x.stop
@@ -363,11 +338,11 @@ pub record IsCounted (base : Map) (marks : Marks) (clock : ℕ) (running : List 
   pub state : state_of base marks clock running tale (Some new) over ≡ checked (state_of base marks clock running tale (Some x) over) x.stop v
   pub kept : IsKept (state_of base marks clock running tale (Some new) over) tale (Some new) tc oc
 
-one_check : (tale : List Slot) (x : Slot) (v : Bool) → IsRising (line_of tale (Some x)) → ((k : RowKey) → slice_get (entries x.told) x.checked ≡ Some k → IsUnchanged (line_of tale (Some x)) x.id x.stop k) → (v ≡ true → length (entries x.told) ≤ x.checked + 1) → AllByRecursion (IsCheck (line_of tale (Some x)) x.stop v) (line_of tale (Some x))
+one_check : (tale : List Slot) (x : Slot) (v : Bool) → IsRising (line_of tale (Some x)) → ((k : RowKey) → slice_get (entry_keys x.told) x.checked ≡ Some k → IsUnchanged (line_of tale (Some x)) x.id x.stop k) → (v ≡ true → length (entry_keys x.told) ≤ x.checked + 1) → AllByRecursion (IsCheck (line_of tale (Some x)) x.stop v) (line_of tale (Some x))
 one_check tale x v r q f = each_append (IsCheck (line_of tale (Some x)) x.stop v) tale (x ∷ []) (each_weaker (λ y. y.stop < x.stop) (IsCheck (line_of tale (Some x)) x.stop v) (λ y lt e. absurd (omega arith)) tale (before_last tale x r)) (λ _. (q, f), tt)
 
-pub kept_checked : (base : Map) (marks : Marks) (clock : ℕ) (running : List Running) (tale : List Slot) (over : List OverTx) (tc oc : ℕ) (x new : Slot) (v : Bool) → new ≡ record x { checked = x.checked + 1; valid = v } → v ≡ nat_le (length (entries x.told)) (x.checked + 1) →
-    entry_differs (line_of tale (Some x)) x (slice_get (entries x.told) x.checked) ≡ None →
+pub kept_checked : (base : Map) (marks : Marks) (clock : ℕ) (running : List Running) (tale : List Slot) (over : List OverTx) (tc oc : ℕ) (x new : Slot) (v : Bool) → new ≡ record x { checked = x.checked + 1; valid = v } → v ≡ nat_le (length (entry_keys x.told)) (x.checked + 1) →
+    entry_differs base (line_of tale (Some x)) x (slice_get (entries x.told) x.checked) ≡ None →
     IsKept (state_of base marks clock running tale (Some x) over) tale (Some x) tc oc → IsCounted base marks clock running tale over tc oc x new v
 kept_checked base marks clock running tale over tc oc x new v e last none k =
     let s = state_of base marks clock running tale (Some x) over in
@@ -376,7 +351,7 @@ kept_checked base marks clock running tale over tc oc x new v e last none k =
     record {
       state = sym same;
       kept = record {
-        sound = subst IsSound same (sound_checked s x.stop v (one_check tale x v k.sound.rising (λ key is. unchanged key (sym (ap (entry_differs (line_of tale (Some x)) x) is) ∙ none)) (λ t. leb-true (length (entries x.told)) (x.checked + 1) (sym last ∙ t))) k.sound);
+        sound = subst IsSound same (sound_checked s x.stop v (one_check tale x v k.sound.rising (λ key is. unchanged key (sym (ap (entry_differs base (line_of tale (Some x)) x) (next_keyed x.told x.checked (keyed_one base marks clock running tale x over tc oc k) ∙ ap (option_map Key) is)) ∙ none)) (λ t. leb-true (length (entry_keys x.told)) (x.checked + 1) (sym last ∙ t))) k.sound);
         numbered = subst IsNumbered same (numbered_checked s x.stop v k.numbered);
         single = subst IsSingle same (single_checked s x.stop v k.single);
         stored = k.stored;
@@ -392,13 +367,14 @@ kept_checked base marks clock running tale over tc oc x new v e last none k =
     none_change None q = refl
     none_change (Some n) q = absurd (some_none (ValidationFailed (record { 0 = n })) q)
 
-    unchanged : (key : RowKey) → differs (change_of x.id x.stop key (line_of tale (Some x))) ≡ None → IsUnchanged (line_of tale (Some x)) x.id x.stop key
+    unchanged : (key : RowKey) → differs (key_change x.id x.stop key (line_of tale (Some x))) ≡ None → IsUnchanged (line_of tale (Some x)) x.id x.stop key
     unchanged key q = change_none x.id x.stop key (line_of tale (Some x)) (none_change _ q)
 
 -- ---- what a call finds at its place, in the code's own reckoning
 pub record IsMine (s : State) (one : Option Slot) (t at : ℕ) (mine : Running) : Type 0 where
   pub found : IsFound t s.running at mine
   pub doom : mine.doom ≡ None
+  pub keyed : AllByRecursion (λ o. IsKeyed o.0) mine.told
   pub quiet : (k : RowKey) → is_open (last_writer k t s.line) ≡ one_is (is_writer k mine.id) one
 
 pub mine_at : (base : Map) (marks : Marks) (clock : ℕ) (running : List Running) (tale : List Slot) (one : Option Slot) (over : List OverTx) (tc oc t at : ℕ) (mine : Running) →
@@ -408,6 +384,7 @@ mine_at base marks clock running tale one over tc oc t at mine p is k =
     record {
       found = found;
       doom = (subst IsAlone (sym is) (at_one IsAlone running at mine found.inside k.alone)).doom;
+      keyed = (subst (IsActive base (line_of tale one) clock) (sym is) (at_one (IsActive base (line_of tale one) clock) running at mine found.inside k.sound.running)).keyed;
       quiet = λ key. writer_line key t tale one k.stored k.open' ∙ ap (λ (n : ℕ). one_is (is_writer key n) one) (sym found.id);
     }
 
@@ -418,19 +395,19 @@ shown_at base marks clock running tale ws one over t k own e i f = seen_writers 
 
 -- the refusals of a read, as the code finds them
 abbrev pub read_refusal_by : Running → Option Slot → RowKey → Option Refusal
-read_refusal_by mine one k = if_stands (nat_lt MAX_TABLE k.table) BadTable (if_stands (is_read_too_many mine.told k) TooManyReads (if_stands (one_is (is_writer k mine.id) one) Busy None))
+read_refusal_by mine one k = if_stands (nat_lt MAX_TABLE k.table) BadTable (if_stands (is_read_key_too_many mine.told k) TooManyReads (if_stands (one_is (is_writer k mine.id) one) Busy None))
 
 pub read_here : (s : State) (one : Option Slot) (t at : ℕ) (k : RowKey) (mine : Running) → IsMine s one t at mine → why_not_read s t k ≡ read_refusal_by mine one k
-read_here s one t at k mine m = why_read s t k mine (one_is (is_writer k mine.id) one) m.found.found m.doom (m.quiet k)
+read_here s one t at k mine m = why_read s t k mine (one_is (is_writer k mine.id) one) m.found.found m.doom m.keyed (m.quiet k)
 
 pub read_quiet : (mine : Running) (one : Option Slot) (k : RowKey) (t : ℕ) → mine.id ≡ t → read_refusal_by mine one k ≡ None → one_is (is_writer k t) one ≡ false
 read_quiet mine one k t e n = ap (λ (m : ℕ). one_is (is_writer k m) one) (sym e) ∙ (none_stands _ Busy None (none_stands _ TooManyReads _ (none_stands _ BadTable _ n).1).1).0
 
 abbrev pub insert_refusal_by : Running → Option Slot → Line → Option Refusal
-insert_refusal_by mine one row = if_stands (nat_lt MAX_TABLE row.key.table) BadTable (if_stands (nat_lt MAX_DATA_LEN (length row.bytes)) DataTooLong (if_stands (is_read_too_many mine.told row.key) TooManyReads (if_stands (is_write_too_many mine.told row.key) TooManyWrites (if_stands (one_is (is_writer row.key mine.id) one) Busy None))))
+insert_refusal_by mine one row = if_stands (nat_lt MAX_TABLE row.key.table) BadTable (if_stands (nat_lt MAX_DATA_LEN (length row.bytes)) DataTooLong (if_stands (is_read_key_too_many mine.told row.key) TooManyReads (if_stands (is_write_too_many mine.told row.key) TooManyWrites (if_stands (one_is (is_writer row.key mine.id) one) Busy None))))
 
 pub insert_here : (s : State) (one : Option Slot) (t at : ℕ) (row : Line) (mine : Running) → IsMine s one t at mine → why_not_inserted s t row ≡ insert_refusal_by mine one row
-insert_here s one t at row mine m = why_inserted s t row mine (one_is (is_writer row.key mine.id) one) m.found.found m.doom (m.quiet row.key)
+insert_here s one t at row mine m = why_inserted s t row mine (one_is (is_writer row.key mine.id) one) m.found.found m.doom m.keyed (m.quiet row.key)
 
 pub insert_quiet : (mine : Running) (one : Option Slot) (row : Line) (t : ℕ) → mine.id ≡ t → insert_refusal_by mine one row ≡ None → one_is (is_writer row.key t) one ≡ false
 insert_quiet mine one row t e n = ap (λ (m : ℕ). one_is (is_writer row.key m) one) (sym e) ∙ (none_stands _ Busy None (none_stands _ TooManyWrites _ (none_stands _ TooManyReads _ (none_stands _ DataTooLong _ (none_stands _ BadTable _ n).1).1).1).1).0

@@ -14,7 +14,7 @@ use Rattle.mvo_model.specs.Told.{Told, Write, write_of, write_at, left_by, later
 use Rattle.mvo_model.proofs.Serials.{get-left_by, net_write-append}
 use Rattle.mvo_state.specs.Entries.{noted, noted_key, written_from, written_keys}
 use Rattle.mvo_state.specs.Line.{Slot, told_below, seen_by}
-use Rattle.mvo_state.specs.Causes.{is_changer, or_first, change_of}
+use Rattle.mvo_state.specs.Causes.{is_key_changer, or_first, key_change}
 use Rattle.mvo_state.proofs.Each.{each_weaker, each_append}
 use Rattle.mvo_state.proofs.Lines.{told_below-append}
 use Rattle.mvo_core.specs.Writers.{is_there, is_writing, at_place, at_places}
@@ -49,15 +49,15 @@ first_none : (w : Option ℕ) → or_first None w ≡ w
 first_none None = refl
 first_none (Some n) = refl
 
-change_of-append : (b e : ℕ) (k : RowKey) (xs ys : List Slot) → change_of b e k (xs ++ ys) ≡ or_first (change_of b e k xs) (change_of b e k ys)
-change_of-append b e k [] ys = sym (first_none (change_of b e k ys))
-change_of-append b e k (x ∷ xs) ys = ap (or_first (cond (is_changer b e k x) (Some x.stop) None)) (change_of-append b e k xs ys) ∙ first_assoc (cond (is_changer b e k x) (Some x.stop) None) (change_of b e k xs) (change_of b e k ys)
+key_change-append : (b e : ℕ) (k : RowKey) (xs ys : List Slot) → key_change b e k (xs ++ ys) ≡ or_first (key_change b e k xs) (key_change b e k ys)
+key_change-append b e k [] ys = sym (first_none (key_change b e k ys))
+key_change-append b e k (x ∷ xs) ys = ap (or_first (cond (is_key_changer b e k x) (Some x.stop) None)) (key_change-append b e k xs ys) ∙ first_assoc (cond (is_key_changer b e k x) (Some x.stop) None) (key_change b e k xs) (key_change b e k ys)
 
-pub change_push : (b e : ℕ) (k : RowKey) (xs : List Slot) (y : Slot) → change_of b e k (xs ++ y ∷ []) ≡ or_first (change_of b e k xs) (cond (is_changer b e k y) (Some y.stop) None)
-change_push b e k xs y = change_of-append b e k xs (y ∷ [])
+pub change_push : (b e : ℕ) (k : RowKey) (xs : List Slot) (y : Slot) → key_change b e k (xs ++ y ∷ []) ≡ or_first (key_change b e k xs) (cond (is_key_changer b e k y) (Some y.stop) None)
+change_push b e k xs y = key_change-append b e k xs (y ∷ [])
 
-pub changed_more : (b e : ℕ) (k : RowKey) (tale : List Slot) (ws : List ℕ) (n : ℕ) → n < length ws → change_of b e k (at_places tale (take (n + 1) ws)) ≡ or_first (change_of b e k (at_places tale (take n ws))) (change_of b e k (at_place tale (get_or ws n 0)))
-changed_more b e k tale ws n lt = ap (change_of b e k) (places_more tale ws n lt) ∙ change_of-append b e k (at_places tale (take n ws)) (at_place tale (get_or ws n 0))
+pub changed_more : (b e : ℕ) (k : RowKey) (tale : List Slot) (ws : List ℕ) (n : ℕ) → n < length ws → key_change b e k (at_places tale (take (n + 1) ws)) ≡ or_first (key_change b e k (at_places tale (take n ws))) (key_change b e k (at_place tale (get_or ws n 0)))
+changed_more b e k tale ws n lt = ap (key_change b e k) (places_more tale ws n lt) ∙ key_change-append b e k (at_places tale (take n ws)) (at_place tale (get_or ws n 0))
 
 -- ---- one that wrote no key
 later-none : (a : Option (Option Held)) → later a None ≡ a
@@ -118,23 +118,23 @@ seen_writers b k own base tale ws e =
     ∙ ap (unwrap_or (net_write k own)) (get-left_by k (told_below b (at_places tale ws)) base ∙ ap (λ w. unwrap_or w (fin.get base k)) (ap (λ xs. net_write k (told_below b xs)) e ∙ written_writers b k tale) ∙ sym (get-left_by k (told_below b tale) base))
     ∙ sym (get-left_by k own (seen_by base tale b))
 
-no_changer : (b e : ℕ) (k : RowKey) (x : Slot) → is_writing x ≡ false → is_changer b e k x ≡ false
+no_changer : (b e : ℕ) (k : RowKey) (x : Slot) → is_writing x ≡ false → is_key_changer b e k x ≡ false
 no_changer b e k x f = ap (λ w. (nat_lt b x.stop && nat_lt x.stop e) && is_some w) (unwritten k x f) ∙ and-false (nat_lt b x.stop && nat_lt x.stop e)
   where
     and-false : (a : Bool) → (a && false) ≡ false
     and-false true = refl
     and-false false = refl
 
-change_filter : (b e : ℕ) (k : RowKey) (tale : List Slot) → change_of b e k (filter is_writing tale) ≡ change_of b e k tale
+change_filter : (b e : ℕ) (k : RowKey) (tale : List Slot) → key_change b e k (filter is_writing tale) ≡ key_change b e k tale
 change_filter b e k [] = refl
 change_filter b e k (x ∷ xs) = go (is_writing x) refl (change_filter b e k xs)
   where
-    go : (c : Bool) → is_writing x ≡ c → change_of b e k (filter is_writing xs) ≡ change_of b e k xs → change_of b e k (cond c (x ∷ filter is_writing xs) (filter is_writing xs)) ≡ or_first (cond (is_changer b e k x) (Some x.stop) None) (change_of b e k xs)
-    go true f r = ap (or_first (cond (is_changer b e k x) (Some x.stop) None)) r
-    go false f r = r ∙ sym (ap (λ (d : Bool). or_first (cond d (Some x.stop) None) (change_of b e k xs)) (no_changer b e k x f) ∙ first_none (change_of b e k xs))
+    go : (c : Bool) → is_writing x ≡ c → key_change b e k (filter is_writing xs) ≡ key_change b e k xs → key_change b e k (cond c (x ∷ filter is_writing xs) (filter is_writing xs)) ≡ or_first (cond (is_key_changer b e k x) (Some x.stop) None) (key_change b e k xs)
+    go true f r = ap (or_first (cond (is_key_changer b e k x) (Some x.stop) None)) r
+    go false f r = r ∙ sym (ap (λ (d : Bool). or_first (cond d (Some x.stop) None) (key_change b e k xs)) (no_changer b e k x f) ∙ first_none (key_change b e k xs))
 
-pub change_writers : (b e : ℕ) (k : RowKey) (tale : List Slot) (ws : List ℕ) → at_places tale ws ≡ filter is_writing tale → change_of b e k (at_places tale ws) ≡ change_of b e k tale
-change_writers b e k tale ws i = ap (change_of b e k) i ∙ change_filter b e k tale
+pub change_writers : (b e : ℕ) (k : RowKey) (tale : List Slot) (ws : List ℕ) → at_places tale ws ≡ filter is_writing tale → key_change b e k (at_places tale ws) ≡ key_change b e k tale
+change_writers b e k tale ws i = ap (key_change b e k) i ∙ change_filter b e k tale
 
 -- ---- one more is stored
 get_front : (tale : List Slot) (x : Slot) (i : ℕ) → i < length tale → slice_get (tale ++ x ∷ []) i ≡ slice_get tale i

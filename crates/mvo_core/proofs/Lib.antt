@@ -4,6 +4,7 @@ pub mod Limits
 pub mod Indexed
 pub mod Lined
 pub mod Places
+pub mod Refusing
 pub mod Calls
 pub mod Traced
 pub mod Grouped

@@ -21,7 +21,8 @@ use Rattle.mvo_state.specs.Causes.{is_write_too_many}
 use Rattle.mvo_state.proofs.Each.{each_append}
 use Rattle.mvo_core.specs.Limits.{IsInLimits, AreLimited}
 use Rattle.mvo_core.specs.View.{told_view}
-use Rattle.mvo_core.proofs.Calls.{none_stands, insert_refusal_by}
+use Rattle.mvo_core.proofs.Refusing.{none_stands}
+use Rattle.mvo_core.proofs.Calls.{insert_refusal_by}
 use Rattle.mvo_core.proofs.Writes.{written_from-push}
 
 -- the operations after one more

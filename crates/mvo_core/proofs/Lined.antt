@@ -11,7 +11,7 @@ use Rattle.mvo_types.specs.Keys.{Map}
 use Rattle.mvo_model.specs.Told.{Told, left_by, net_write, later}
 use Rattle.mvo_model.proofs.Serials.{get-left_by, net_write-append}
 use Rattle.mvo_state.specs.Line.{Slot, Running, told_below, seen_by, is_writer, but, last_writer, has, with_settled, with_check, with_doom, doomed_by, running_doom, not_at}
-use Rattle.mvo_state.specs.Causes.{preparing_of, unsettled, is_open, change_of, or_first}
+use Rattle.mvo_state.specs.Causes.{preparing_of, unsettled, is_open, key_change, or_first}
 use Rattle.mvo_state.specs.Sound.{IsRising}
 use Rattle.mvo_state.proofs.Lines.{told_below-append, append-nil}
 use Rattle.mvo_state.proofs.Settle.{rising_before}
@@ -103,8 +103,8 @@ seen_line k b own base tale (Some x) f =
     ∙ sym (get-left_by k own (seen_by base (tale ++ x ∷ []) b))
 
 -- ---- changes: its own is none
-pub change_line : (b e : ℕ) (k : RowKey) (tale : List Slot) (x : Slot) → e ≤ x.stop → change_of b e k (line_of tale (Some x)) ≡ change_of b e k tale
-change_line b e k tale x le = change_push b e k tale x ∙ ap (λ (c : Bool). or_first (change_of b e k tale) (cond c (Some x.stop) None)) (own_none (nat_lt b x.stop) (nat_lt x.stop e) (is_some (net_write k x.told)) (le-ltb x.stop e le))
+pub change_line : (b e : ℕ) (k : RowKey) (tale : List Slot) (x : Slot) → e ≤ x.stop → key_change b e k (line_of tale (Some x)) ≡ key_change b e k tale
+change_line b e k tale x le = change_push b e k tale x ∙ ap (λ (c : Bool). or_first (key_change b e k tale) (cond c (Some x.stop) None)) (own_none (nat_lt b x.stop) (nat_lt x.stop e) (is_some (net_write k x.told)) (le-ltb x.stop e le))
   where
     own_none : (p q r : Bool) → q ≡ false → ((p && q) && r) ≡ false
     own_none true q r g = ap (λ (c : Bool). c && r) g

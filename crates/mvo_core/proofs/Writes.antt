@@ -1,5 +1,5 @@
 -- The last write of a key, as a loop finds it.
-use Rattle.std.proofs.Common.{◌≡◌, ℕ, ◌+◌, ◌<◌, suc, Bool, true, false, cond, List, [], ◌∷◌, ◌++◌, map, take, length, get_or, Option, None, Some, refl, sym, ap, ◌∙◌, subst}
+use Rattle.std.proofs.Common.{◌≡◌, ℕ, ◌+◌, ◌<◌, cond, List, [], ◌∷◌, ◌++◌, map, take, length, get_or, Option, refl, sym, ap, ◌∙◌, subst}
 use Rattle.std.proofs.lemmas.List.{take_more, map-append}
 use Rattle.std.specs.Ordering.{eq_by_cmp}
 use Rattle.mvo_types.specs.declared.row.RowKey.{RowKey}
@@ -8,9 +8,8 @@ use Rattle.mvo_types.specs.declared.answer.Answer.{Answer}
 use Rattle.mvo_types.specs.Keys.{key_cmp}
 use Rattle.mvo_types.specs.Said.{said, Said}
 use Rattle.std.specs.Prelude.{nat_lt}
-use Rattle.mvo_state.specs.Entries.{noted, noted_key, entries, entries_from, written_keys, written_from, key_of}
+use Rattle.mvo_state.specs.Entries.{noted, noted_key, entry_keys, entry_keys_from, written_keys, written_from, key_of}
 use Rattle.mvo_state.specs.Line.{Slot, told_below, seen_by}
-use Rattle.mvo_state.specs.Causes.{is_changer, or_first, change_of}
 use Rattle.mvo_state.proofs.Lines.{told_below-append, append-nil}
 use Rattle.mvo_model.specs.Told.{Told, Write, write_of, write_at, later, net_write}
 use Rattle.mvo_model.proofs.Serials.{net_write-append, get-left_by, later_later}
@@ -31,13 +30,13 @@ last_step k ops i x w lt e is =
     ∙ net_write-append k (told_view (take i ops)) ((x.0, said x.1) ∷ [])
     ∙ ap (λ v. later (write_at k v) (net_write k (told_view (take i ops)))) (sym is)
 
-entries_from-push : (ks : List RowKey) (ts : Told) (x : Op × Said) → entries_from ks (ts ++ x ∷ []) ≡ noted (entries_from ks ts) (key_of x.0)
-entries_from-push ks [] x = refl
-entries_from-push ks (t ∷ ts) x = entries_from-push (noted ks (key_of t.0)) ts x
+entry_keys_from-push : (ks : List RowKey) (ts : Told) (x : Op × Said) → entry_keys_from ks (ts ++ x ∷ []) ≡ noted (entry_keys_from ks ts) (key_of x.0)
+entry_keys_from-push ks [] x = refl
+entry_keys_from-push ks (t ∷ ts) x = entry_keys_from-push (noted ks (key_of t.0)) ts x
 
 -- the entries after one more operation
-pub entries_told : (ops new : List (Op × Answer)) (op : Op) (a : Answer) → new ≡ ops ++ (op, a) ∷ [] → entries (told_view new) ≡ noted (entries (told_view ops)) (key_of op)
-entries_told ops new op a e = ap (λ xs. entries (told_view xs)) e ∙ ap entries (map-append (λ y. (y.0, said y.1)) ops ((op, a) ∷ [])) ∙ entries_from-push [] (told_view ops) (op, said a)
+pub entries_told : (ops new : List (Op × Answer)) (op : Op) (a : Answer) → new ≡ ops ++ (op, a) ∷ [] → entry_keys (told_view new) ≡ noted (entry_keys (told_view ops)) (key_of op)
+entries_told ops new op a e = ap (λ xs. entry_keys (told_view xs)) e ∙ ap entry_keys (map-append (λ y. (y.0, said y.1)) ops ((op, a) ∷ [])) ∙ entry_keys_from-push [] (told_view ops) (op, said a)
 
 -- what one more of the tale writes
 pub below_step : (b : ℕ) (k : RowKey) (es : List Slot) (i : ℕ) (e : Slot) → i < length es → e ≡ get_or es i e → net_write k (told_below b (take (i + 1) es)) ≡ later (net_write k (cond (nat_lt e.stop b) e.told [])) (net_write k (told_below b (take i es)))
@@ -63,16 +62,3 @@ written_from-push ks (t ∷ ts) x = written_from-push (noted_key ks (option_map 
 -- the keys written after one more operation
 pub written_told : (ops new : List (Op × Answer)) (op : Op) (a : Answer) → new ≡ ops ++ (op, a) ∷ [] → written_keys (told_view new) ≡ noted_key (written_keys (told_view ops)) (option_map (λ w. w.0) (write_of op (said a)))
 written_told ops new op a e = ap (λ xs. written_keys (told_view xs)) e ∙ ap written_keys (map-append (λ y. (y.0, said y.1)) ops ((op, a) ∷ [])) ∙ written_from-push [] (told_view ops) (op, said a)
-
--- the last change, with one more
-pub change_push : (b e : ℕ) (k : RowKey) (xs : List Slot) (y : Slot) → change_of b e k (xs ++ y ∷ []) ≡ or_first (change_of b e k xs) (cond (is_changer b e k y) (Some y.stop) None)
-change_push b e k [] y = or_first_none (cond (is_changer b e k y) (Some y.stop) None)
-  where
-    or_first_none : (a : Option ℕ) → or_first a None ≡ or_first None a
-    or_first_none None = refl
-    or_first_none (Some n) = refl
-change_push b e k (x ∷ xs) y = ap (or_first (cond (is_changer b e k x) (Some x.stop) None)) (change_push b e k xs y) ∙ assoc (cond (is_changer b e k x) (Some x.stop) None) (change_of b e k xs) (cond (is_changer b e k y) (Some y.stop) None)
-  where
-    assoc : (p q r : Option ℕ) → or_first p (or_first q r) ≡ or_first (or_first p q) r
-    assoc p q None = refl
-    assoc p q (Some n) = refl

@@ -17,7 +17,7 @@ pub struct ActiveTx {
 
 impl Model for ActiveTx {
     ghost use Rattle.std.specs.Prelude.{◌≡◌, [], None};
-    ghost use Rattle.mvo_state.specs.Entries.{entries, written_keys};
+    ghost use Rattle.mvo_state.specs.Entries.{entry_keys, written_keys};
     ghost use Rattle.mvo_state.specs.Line.{Running};
     ghost use Rattle.mvo_core.specs.Limits.{AreLimited};
     ghost use Rattle.mvo_core.specs.View.{told_view};
@@ -26,7 +26,7 @@ impl Model for ActiveTx {
 
     ghost view = { λ t. record { id = t.id; told = told_view t.ops.items; rests = []; doom = None } };
 
-    ghost invariant = { λ t. (t.looked_at.items ≡ entries (told_view t.ops.items)) × (t.written.items ≡ written_keys (told_view t.ops.items)) × AreLimited (told_view t.ops.items) };
+    ghost invariant = { λ t. (t.looked_at.items ≡ entry_keys (told_view t.ops.items)) × (t.written.items ≡ written_keys (told_view t.ops.items)) × AreLimited (told_view t.ops.items) };
 }
 
 impl ActiveTx {

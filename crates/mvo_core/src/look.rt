@@ -4,9 +4,9 @@ ghost use Rattle.std.specs.FinMap as map;
 ghost use Rattle.mvo_types.specs.Line.{held_of, line_at};
 ghost use Rattle.mvo_types.specs.Keys.{row_at};
 ghost use Rattle.mvo_model.specs.Told.{net_write, later, left_by};
-ghost use Rattle.mvo_state.specs.Entries.{entries};
+ghost use Rattle.mvo_state.specs.Entries.{entry_keys};
 ghost use Rattle.mvo_state.specs.Line.{told_below, seen_by, is_writer};
-ghost use Rattle.mvo_state.specs.Causes.{is_changer, or_first, change_of};
+ghost use Rattle.mvo_state.specs.Causes.{is_key_changer, or_first, key_change};
 ghost use Rattle.mvo_core.specs.View.{told_view, held_view};
 ghost use Rattle.mvo_core.specs.Writers.{at_place, at_places};
 
@@ -145,7 +145,7 @@ fn row_of(row: &Row, key: RowKey) -> Result<Row, AllocError>
 
 /// Whether the other changed the key between the begin and the end.
 fn changes_between(other: &TaleEntry, begin: u64, end: u64, key: RowKey) -> bool
-    ensures { result ≡ is_changer begin end key other.now }
+    ensures { result ≡ is_key_changer begin end key other.now }
 {
     begin < other.end.0 && other.end.0 < end && last_write(&other.ops, key).is_some()
 }
@@ -158,7 +158,7 @@ fn change_at_place(
     end: u64,
     key: RowKey,
 ) -> Option<u64>
-    ensures { result ≡ change_of begin end key (at_place tale.now place) }
+    ensures { result ≡ key_change begin end key (at_place tale.now place) }
 {
     match tale.get(place) {
         Some(other) if changes_between(other, begin, end, key) => Some(other.end.0),
@@ -184,7 +184,7 @@ fn change_between(
     end: u64,
     key: RowKey,
 ) -> Option<u64>
-    ensures { result ≡ change_of begin end key (at_places tale.now writers.now) }
+    ensures { result ≡ key_change begin end key (at_places tale.now writers.now) }
 {
     let mut last = None;
     for place in writers {
@@ -195,7 +195,7 @@ fn change_between(
 
 /// The end of the last writer that changed the next entry's key, if there is an entry and a change.
 pub fn next_change(tale: &[TaleEntry], writers: &[usize], tx: &PreparingTx) -> Option<u64>
-    ensures { result ≡ option_and_then (λ k. change_of tx.now.id tx.now.stop k (at_places tale.now writers.now)) (slice_get (entries tx.now.told) tx.now.checked) }
+    ensures { result ≡ option_and_then (λ k. key_change tx.now.id tx.now.stop k (at_places tale.now writers.now)) (slice_get (entry_keys tx.now.told) tx.now.checked) }
 {
     match tx.looked_at.get(tx.checked) {
         Some(key) => change_between(tale, writers, tx.id, tx.end, *key),

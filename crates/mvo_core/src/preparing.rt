@@ -1,5 +1,5 @@
 ghost use Rattle.std.specs.Prelude.{◌≡◌, ◌+◌, ◌==◌, true, false, length, nat_le};
-ghost use Rattle.mvo_state.specs.Entries.{entries};
+ghost use Rattle.mvo_state.specs.Entries.{entry_keys};
 ghost use Rattle.mvo_state.specs.Line.{to_slot, with_settled};
 ghost use Rattle.mvo_core.specs.Writers.{is_writing};
 
@@ -26,7 +26,7 @@ pub struct PreparingTx {
 
 impl Model for PreparingTx {
     ghost use Rattle.std.specs.Prelude.{◌≡◌, ◌≤◌, [], None, false, length};
-    ghost use Rattle.mvo_state.specs.Entries.{entries, written_keys};
+    ghost use Rattle.mvo_state.specs.Entries.{entry_keys, written_keys};
     ghost use Rattle.mvo_state.specs.Line.{Slot};
     ghost use Rattle.mvo_core.specs.Limits.{AreLimited};
     ghost use Rattle.mvo_core.specs.View.{told_view};
@@ -35,7 +35,7 @@ impl Model for PreparingTx {
 
     ghost view = { λ t. record { id = t.id; stop = t.end; told = told_view t.ops.items; settled = false; checked = t.checked; valid = t.valid; rests = []; doom = None } };
 
-    ghost invariant = { λ t. (t.looked_at.items ≡ entries (told_view t.ops.items)) × (t.written.items ≡ written_keys (told_view t.ops.items)) × (t.valid ≡ false → t.checked ≤ length (entries (told_view t.ops.items))) × AreLimited (told_view t.ops.items) };
+    ghost invariant = { λ t. (t.looked_at.items ≡ entry_keys (told_view t.ops.items)) × (t.written.items ≡ written_keys (told_view t.ops.items)) × (t.valid ≡ false → t.checked ≤ length (entry_keys (told_view t.ops.items))) × AreLimited (told_view t.ops.items) };
 }
 
 impl PreparingTx {
@@ -92,7 +92,7 @@ impl PreparingTx {
     pub fn count_check(&mut self) -> bool
         requires { self.old.valid ≡ false }
         ensures ok { self.new ≡ record self.old { checked = self.old.checked + 1; valid = result } }
-        ensures last { result ≡ nat_le (length (entries self.old.told)) (self.old.checked + 1) }
+        ensures last { result ≡ nat_le (length (entry_keys self.old.told)) (self.old.checked + 1) }
     {
         self.checked += 1;
         self.valid = self.checked >= self.looked_at.len();

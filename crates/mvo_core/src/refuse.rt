@@ -2,7 +2,7 @@ ghost use Rattle.std.specs.Prelude.{◌≡◌, ◌+◌, ◌≤◌, ◌==◌, Non
 ghost use Rattle.std.specs.Option.{is_some};
 ghost use Rattle.std.specs.List.{list_any};
 ghost use Rattle.mvo_state.specs.Line.{is_writer};
-ghost use Rattle.mvo_state.specs.Causes.{if_stands, is_read_too_many, is_write_too_many};
+ghost use Rattle.mvo_state.specs.Causes.{if_stands, is_read_key_too_many, is_write_too_many};
 ghost use Rattle.mvo_core.specs.View.{one_is};
 
 use crate::active::ActiveTx;
@@ -95,7 +95,7 @@ pub fn is_busy(preparing: &Option<PreparingTx>, begin: u64, key: RowKey) -> bool
 
 /// Whether the key is one more than the transaction may look at.
 pub fn is_entry_too_many(tx: &ActiveTx, key: RowKey) -> bool
-    ensures { result ≡ is_read_too_many tx.now.told key }
+    ensures { result ≡ is_read_key_too_many tx.now.told key }
 {
     !is_among(&tx.looked_at, key) && tx.looked_at.len() >= MAX_ENTRIES
 }
@@ -132,7 +132,7 @@ pub fn not_ended(running: &[ActiveTx], preparing: &Option<PreparingTx>, id: u64)
 
 /// Why a read of an Active transaction is refused, if it is.
 pub fn read_refusal(own: &ActiveTx, preparing: &Option<PreparingTx>, key: RowKey) -> Option<Refusal>
-    ensures { result ≡ if_stands (nat_lt MAX_TABLE key.table) Refusal.BadTable (if_stands (is_read_too_many own.now.told key) Refusal.TooManyReads (if_stands (one_is (is_writer key own.now.id) preparing.now) Refusal.Busy None)) }
+    ensures { result ≡ if_stands (nat_lt MAX_TABLE key.table) Refusal.BadTable (if_stands (is_read_key_too_many own.now.told key) Refusal.TooManyReads (if_stands (one_is (is_writer key own.now.id) preparing.now) Refusal.Busy None)) }
 {
     if key.table > MAX_TABLE {
         Some(Refusal::BadTable)
@@ -147,7 +147,7 @@ pub fn read_refusal(own: &ActiveTx, preparing: &Option<PreparingTx>, key: RowKey
 
 /// Why an insertion of an Active transaction is refused, if it is.
 pub fn insert_refusal(own: &ActiveTx, preparing: &Option<PreparingTx>, row: &Row) -> Option<Refusal>
-    ensures { result ≡ if_stands (nat_lt MAX_TABLE row.now.key.table) Refusal.BadTable (if_stands (nat_lt MAX_DATA_LEN (length row.now.bytes)) Refusal.DataTooLong (if_stands (is_read_too_many own.now.told row.now.key) Refusal.TooManyReads (if_stands (is_write_too_many own.now.told row.now.key) Refusal.TooManyWrites (if_stands (one_is (is_writer row.now.key own.now.id) preparing.now) Refusal.Busy None)))) }
+    ensures { result ≡ if_stands (nat_lt MAX_TABLE row.now.key.table) Refusal.BadTable (if_stands (nat_lt MAX_DATA_LEN (length row.now.bytes)) Refusal.DataTooLong (if_stands (is_read_key_too_many own.now.told row.now.key) Refusal.TooManyReads (if_stands (is_write_too_many own.now.told row.now.key) Refusal.TooManyWrites (if_stands (one_is (is_writer row.now.key own.now.id) preparing.now) Refusal.Busy None)))) }
 {
     let key = row.row_key();
     if key.table > MAX_TABLE {

@@ -1,15 +1,16 @@
 -- What the causes name.
-use Rattle.std.proofs.Common.{◌≡◌, ◌≢◌, ℕ, ◌<◌, ◌≤◌, Bool, true, false, cond, not, List, [], ◌∷◌, Option, None, Some, refl, sym, ap, ◌∙◌, subst, arith, ◌⊎◌, inl, inr}
-use Rattle.std.specs.Prelude.{⊤, nat_lt, ◌&&◌, is_some}
+use Rattle.std.proofs.Common.{◌≡◌, ℕ, ◌<◌, ◌≤◌, Bool, true, false, cond, not, List, [], ◌∷◌, Option, None, Some, refl, sym, ◌∙◌, subst, arith, ◌⊎◌, inl, inr}
+use Rattle.std.specs.Prelude.{nat_lt, ◌&&◌, is_some}
 use Rattle.std.specs.List.{AllByRecursion}
-use Rattle.std.proofs.lemmas.Bool.{false≢true, true≢false, and_parts, and_from, lt-ltb, ltb-true, not-true}
+use Rattle.std.proofs.lemmas.Bool.{true≢false, and_parts, and_from, lt-ltb, not-true}
 use Rattle.mvo_types.specs.declared.row.RowKey.{RowKey}
-use Rattle.mvo_types.specs.Line.{Held}
+use Rattle.mvo_types.specs.Keys.{Map}
 use Rattle.mvo_model.specs.Told.{net_write}
-use Rattle.mvo_state.proofs.Each.{each_weaker, each_both, each_always}
+use Rattle.mvo_state.proofs.Each.{each_weaker}
 use Rattle.mvo_state.specs.Line.{Slot, has}
 use Rattle.mvo_state.specs.Sound.{IsUnchanged, IsRising}
-use Rattle.mvo_state.specs.Causes.{waiting_for, is_changer, or_first, change_of}
+use Rattle.mvo_state.specs.Entries.{Entry}
+use Rattle.mvo_state.specs.Causes.{waiting_for, is_changer, is_key_changer, or_first, last_end, change_of, key_change}
 use Rattle.mvo_state.proofs.Lines.{none_unless}
 
 some_none : (z : Slot) → ◌≡◌ {A = Option Slot} (Some z) None → ⊥
@@ -68,52 +69,60 @@ num_same v z q = cc
 none_num : (z : ℕ) → ◌≡◌ {A = Option ℕ} None (Some z) → ⊥
 none_num z q = cc
 
-unchanged_one : (b e : ℕ) (k : RowKey) (u : Slot) → is_changer b e k u ≡ false → b < u.stop → u.stop < e → net_write k u.told ≡ None
+-- one that passes has this end
+abbrev pub HasEnd : (Slot → Bool) → ℕ → List Slot → Type 0
+HasEnd p n [] = ⊥
+HasEnd p n (x ∷ xs) = ((x.stop ≡ n) × (p x ≡ true)) ⊎ HasEnd p n xs
+
+-- without a last end none passes
+pub last_none : (p : Slot → Bool) (line : List Slot) → last_end p line ≡ None → AllByRecursion (λ u. p u ≡ false) line
+last_none p [] h = tt
+last_none p (x ∷ xs) h = go (p x) refl (last_end p xs) refl (λ q. last_none p xs q) h
+  where
+    go : (c : Bool) → p x ≡ c → (w : Option ℕ) → last_end p xs ≡ w → (last_end p xs ≡ None → AllByRecursion (λ u. p u ≡ false) xs) → or_first (cond c (Some x.stop) None) w ≡ None → (p x ≡ false) × AllByRecursion (λ u. p u ≡ false) xs
+    go c f (Some z) g r q = absurd (num_none z q)
+    go true f None g r q = absurd (num_none x.stop q)
+    go false f None g r q = (f, r g)
+
+-- the last end is that of one that passes
+pub last_some : (p : Slot → Bool) (line : List Slot) (n : ℕ) → last_end p line ≡ Some n → HasEnd p n line
+last_some p [] n h = absurd (none_num n h)
+last_some p (x ∷ xs) n h = go (p x) refl (last_end p xs) refl (λ q. last_some p xs n q) h
+  where
+    go : (c : Bool) → p x ≡ c → (w : Option ℕ) → last_end p xs ≡ w → (last_end p xs ≡ Some n → HasEnd p n xs) → or_first (cond c (Some x.stop) None) w ≡ Some n → ((x.stop ≡ n) × (p x ≡ true)) ⊎ HasEnd p n xs
+    go c f (Some z) g r q = inr (r (g ∙ q))
+    go true f None g r q = inl (num_same x.stop n q, f)
+    go false f None g r q = absurd (none_num n q)
+
+above_end : (p : Slot → Bool) (m n : ℕ) (xs : List Slot) → AllByRecursion (λ y. m < y.stop) xs → HasEnd p n xs → m < n
+above_end p m n [] h c = absurd c
+above_end p m n (x ∷ xs) h (inl e) = let l = h.0 in let q = e.0 in omega arith
+above_end p m n (x ∷ xs) h (inr c) = above_end p m n xs h.1 c
+
+-- and where the ends rise it is the greatest of those that pass
+pub last_greatest : (p : Slot → Bool) (line : List Slot) (n : ℕ) → IsRising line → last_end p line ≡ Some n → AllByRecursion (λ u. p u ≡ true → u.stop ≤ n) line
+last_greatest p [] n r h = tt
+last_greatest p (x ∷ xs) n r h = go (p x) refl (last_end p xs) refl (λ q. last_greatest p xs n r.1 q) h
+  where
+    none_here : (us : List Slot) → AllByRecursion (λ u. p u ≡ false) us → AllByRecursion (λ u. p u ≡ true → u.stop ≤ n) us
+    none_here us q = each_weaker (λ u. p u ≡ false) (λ u. p u ≡ true → u.stop ≤ n) (λ u f g. absurd (true≢false (sym g ∙ f))) us q
+
+    go : (c : Bool) → p x ≡ c → (w : Option ℕ) → last_end p xs ≡ w → (last_end p xs ≡ Some n → AllByRecursion (λ u. p u ≡ true → u.stop ≤ n) xs) → or_first (cond c (Some x.stop) None) w ≡ Some n → (p x ≡ true → x.stop ≤ n) × AllByRecursion (λ u. p u ≡ true → u.stop ≤ n) xs
+    go c f (Some z) g q i = (λ _. let lt = above_end p x.stop n xs r.0 (last_some p xs n (g ∙ i)) in omega arith, q (g ∙ i))
+    go true f None g q i = (λ _. let same = num_same x.stop n i in omega arith, none_here xs (last_none p xs g))
+    go false f None g q i = absurd (none_num n i)
+
+-- the stamp that a failed check names is the greatest by which the entry differs
+pub change_greatest : (base : Map) (line : List Slot) (b e : ℕ) (entry : Entry) (n : ℕ) → IsRising line → change_of base line b e entry ≡ Some n → HasEnd (is_changer base line b e entry) n line × AllByRecursion (λ u. is_changer base line b e entry u ≡ true → u.stop ≤ n) line
+change_greatest base line b e entry n r h = (last_some (is_changer base line b e entry) line n h, last_greatest (is_changer base line b e entry) line n r h)
+
+-- a key that none changed is as it was
+unchanged_one : (b e : ℕ) (k : RowKey) (u : Slot) → is_key_changer b e k u ≡ false → b < u.stop → u.stop < e → net_write k u.told ≡ None
 unchanged_one b e k u f l m = go (is_some (net_write k u.told)) refl
   where
     go : (w : Bool) → is_some (net_write k u.told) ≡ w → net_write k u.told ≡ None
     go false g = none_unless (net_write k u.told) g
     go true g = absurd (true≢false (sym (and_from (nat_lt b u.stop && nat_lt u.stop e) (is_some (net_write k u.told)) (and_from (nat_lt b u.stop) (nat_lt u.stop e) (lt-ltb b u.stop l) (lt-ltb u.stop e m)) g) ∙ f))
 
-pub change_none : (b e : ℕ) (k : RowKey) (line : List Slot) → change_of b e k line ≡ None → IsUnchanged line b e k
-change_none b e k [] h = tt
-change_none b e k (x ∷ xs) h = go (is_changer b e k x) refl (change_of b e k xs) refl (λ q. change_none b e k xs q) h
-  where
-    go : (c : Bool) → is_changer b e k x ≡ c → (w : Option ℕ) → change_of b e k xs ≡ w → (change_of b e k xs ≡ None → IsUnchanged xs b e k) → or_first (cond c (Some x.stop) None) w ≡ None → (b < x.stop → x.stop < e → net_write k x.told ≡ None) × IsUnchanged xs b e k
-    go c f (Some z) g r q = absurd (num_none z q)
-    go true f None g r q = absurd (num_none x.stop q)
-    go false f None g r q = (unchanged_one b e k x f, r g)
-
--- a stamp that is answered is that of a change, and the greatest
-abbrev pub IsChange : ℕ → ℕ → RowKey → ℕ → List Slot → Type 0
-IsChange b e k n [] = ⊥
-IsChange b e k n (x ∷ xs) = ((x.stop ≡ n) × (is_changer b e k x ≡ true)) ⊎ IsChange b e k n xs
-
-pub change_some : (b e : ℕ) (k : RowKey) (line : List Slot) (n : ℕ) → change_of b e k line ≡ Some n → IsChange b e k n line
-change_some b e k [] n h = absurd (none_num n h)
-change_some b e k (x ∷ xs) n h = go (is_changer b e k x) refl (change_of b e k xs) refl (λ q. change_some b e k xs n q) h
-  where
-    go : (c : Bool) → is_changer b e k x ≡ c → (w : Option ℕ) → change_of b e k xs ≡ w → (change_of b e k xs ≡ Some n → IsChange b e k n xs) → or_first (cond c (Some x.stop) None) w ≡ Some n → ((x.stop ≡ n) × (is_changer b e k x ≡ true)) ⊎ IsChange b e k n xs
-    go c f (Some z) g r q = inr (r (g ∙ q))
-    go true f None g r q = inl (num_same x.stop n q, f)
-    go false f None g r q = absurd (none_num n q)
-
-above_change : (b e : ℕ) (k : RowKey) (m n : ℕ) (xs : List Slot) → AllByRecursion (λ y. m < y.stop) xs → IsChange b e k n xs → m < n
-above_change b e k m n [] h c = absurd c
-above_change b e k m n (x ∷ xs) h (inl p) = let l = h.0 in let q = p.0 in omega arith
-above_change b e k m n (x ∷ xs) h (inr c) = above_change b e k m n xs h.1 c
-
-pub change_greatest : (b e : ℕ) (k : RowKey) (line : List Slot) (n : ℕ) → IsRising line → change_of b e k line ≡ Some n → AllByRecursion (λ u. is_changer b e k u ≡ true → u.stop ≤ n) line
-change_greatest b e k [] n r h = tt
-change_greatest b e k (x ∷ xs) n r h = go (is_changer b e k x) refl (change_of b e k xs) refl (λ q. change_greatest b e k xs n r.1 q) h
-  where
-    none_here : (us : List Slot) → IsUnchanged us b e k → AllByRecursion (λ u. is_changer b e k u ≡ true → u.stop ≤ n) us
-    none_here us q = each_weaker (λ u. b < u.stop → u.stop < e → net_write k u.told ≡ None) (λ u. is_changer b e k u ≡ true → u.stop ≤ n) (λ u f g.
-        let p = and_parts (nat_lt b u.stop && nat_lt u.stop e) (is_some (net_write k u.told)) g in
-        let o = and_parts (nat_lt b u.stop) (nat_lt u.stop e) p.0 in
-        absurd (false≢true (sym (ap is_some (f (ltb-true b u.stop o.0) (ltb-true u.stop e o.1))) ∙ p.1))) us q
-
-    go : (c : Bool) → is_changer b e k x ≡ c → (w : Option ℕ) → change_of b e k xs ≡ w → (change_of b e k xs ≡ Some n → AllByRecursion (λ u. is_changer b e k u ≡ true → u.stop ≤ n) xs) → or_first (cond c (Some x.stop) None) w ≡ Some n → (is_changer b e k x ≡ true → x.stop ≤ n) × AllByRecursion (λ u. is_changer b e k u ≡ true → u.stop ≤ n) xs
-    go c f (Some z) g q i = (λ _. let lt = above_change b e k x.stop n xs r.0 (change_some b e k xs n (g ∙ i)) in omega arith, q (g ∙ i))
-    go true f None g q i = (λ _. let same = num_same x.stop n i in omega arith, none_here xs (change_none b e k xs g))
-    go false f None g q i = absurd (none_num n i)
+pub change_none : (b e : ℕ) (k : RowKey) (line : List Slot) → key_change b e k line ≡ None → IsUnchanged line b e k
+change_none b e k line h = each_weaker (λ u. is_key_changer b e k u ≡ false) (λ u. b < u.stop → u.stop < e → net_write k u.told ≡ None) (unchanged_one b e k) line (last_none (is_key_changer b e k) line h)

@@ -1,5 +1,7 @@
 pub mod Each
 pub mod Keyed
+pub mod Entries
+pub mod Examples
 pub mod Inserted
 pub mod Lines
 pub mod Settle

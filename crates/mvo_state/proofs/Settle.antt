@@ -17,7 +17,7 @@ use Rattle.mvo_types.specs.Said.{Said}
 use Rattle.mvo_types.specs.Said.Said.{Row, Lines, Inserts, Exist, Updates, Deletes, Lacks}
 use Rattle.mvo_model.specs.Told.{Told, Write, write_of, write_at, left_by, later, net_write, AreSerial, Legal}
 use Rattle.mvo_model.proofs.Serials.{net_write-append, get-left_by, left_by-append, AreSerial-agree, left_by_all}
-use Rattle.mvo_state.specs.Entries.{key_of, entries}
+use Rattle.mvo_state.specs.Entries.{key_of}
 use Rattle.mvo_state.specs.Entries.{IsKeyed, IsApart}
 use Rattle.mvo_state.proofs.Each.{each_weaker, each_both, each_append, each_front, each_back, each_map}
 use Rattle.mvo_state.proofs.Keyed.{all_agree_at, each_key}

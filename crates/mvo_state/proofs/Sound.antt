@@ -13,7 +13,7 @@ use Rattle.mvo_types.specs.Said.{Said}
 use Rattle.mvo_model.specs.Serial.{answer_to}
 use Rattle.mvo_model.specs.Told.{Told, left_by, net_write, AreSerial, Legal}
 use Rattle.mvo_model.proofs.Serials.{get-left_by, AreSerial-push, AreSerial-agree}
-use Rattle.mvo_state.specs.Entries.{key_of, entries}
+use Rattle.mvo_state.specs.Entries.{key_of, entry_keys}
 use Rattle.mvo_state.specs.Entries.{IsKeyed, IsApart}
 use Rattle.mvo_state.proofs.Each.{each_weaker, each_both, each_always, each_append, each_front, each_back, each_map, each_filter}
 use Rattle.mvo_state.proofs.Keyed.{all_agree_at}
@@ -160,8 +160,8 @@ preparing_last base line clock y x lt h o =
     record {
       resting = λ n. resting_last base line y x.id x.told x.rests (omega arith) (q.resting n);
       below = q.below;
-      checked = each_weaker (IsUnchanged line x.id x.stop) (IsUnchanged (line ++ y ∷ []) x.id x.stop) (λ k. unchanged_last line y x.id x.stop k (omega arith)) (take x.checked (entries x.told)) q.checked;
-      valid = λ v. each_weaker (IsUnchanged line x.id x.stop) (IsUnchanged (line ++ y ∷ []) x.id x.stop) (λ k. unchanged_last line y x.id x.stop k (omega arith)) (entries x.told) (q.valid v);
+      checked = each_weaker (IsUnchanged line x.id x.stop) (IsUnchanged (line ++ y ∷ []) x.id x.stop) (λ k. unchanged_last line y x.id x.stop k (omega arith)) (take x.checked (entry_keys x.told)) q.checked;
+      valid = λ v. each_weaker (IsUnchanged line x.id x.stop) (IsUnchanged (line ++ y ∷ []) x.id x.stop) (λ k. unchanged_last line y x.id x.stop k (omega arith)) (entry_keys x.told) (q.valid v);
     }
 
 placed_last : (line : List Slot) (clock : ℕ) (y x : Slot) → clock < y.stop → IsPlaced line clock x → IsPlaced (line ++ y ∷ []) y.stop x
@@ -219,7 +219,7 @@ each_take_more P (x ∷ xs) (suc n) h f = (h.0, each_take_more P xs n h.1 f)
 
 -- the next entry of the transaction with the end e is the same
 abbrev pub IsCheck : List Slot → ℕ → Bool → Slot → Type 0
-IsCheck line e v x = x.stop ≡ e → ((k : RowKey) → slice_get (entries x.told) x.checked ≡ Some k → IsUnchanged line x.id x.stop k) × (v ≡ true → length (entries x.told) ≤ x.checked + 1)
+IsCheck line e v x = x.stop ≡ e → ((k : RowKey) → slice_get (entry_keys x.told) x.checked ≡ Some k → IsUnchanged line x.id x.stop k) × (v ≡ true → length (entry_keys x.told) ≤ x.checked + 1)
 
 like_check : (e : ℕ) (v : Bool) → IsLike (with_check e v)
 like_check e v = λ x. (refl, refl, λ q. q)
@@ -228,20 +228,20 @@ checked_one : (base : Map) (line : List Slot) (e : ℕ) (v : Bool) (x : Slot) (b
 checked_one base line e v x false is c h = record { resting = h.resting; below = h.below; checked = h.checked; valid = h.valid }
 checked_one base line e v x true is c h =
     let now = c (eqb-true x.stop e is) in
-    let all : AllByRecursion (IsUnchanged line x.id x.stop) (take (x.checked + 1) (entries x.told)) = rw add-one (each_take_more (IsUnchanged line x.id x.stop) (entries x.told) x.checked h.checked now.0) in
+    let all : AllByRecursion (IsUnchanged line x.id x.stop) (take (x.checked + 1) (entry_keys x.told)) = rw add-one (each_take_more (IsUnchanged line x.id x.stop) (entry_keys x.told) x.checked h.checked now.0) in
     record {
       resting = h.resting;
       below = h.below;
       checked = all;
-      valid = λ f. subst (AllByRecursion (IsUnchanged line x.id x.stop)) (take_all (x.checked + 1) (entries x.told) (now.1 f)) all;
+      valid = λ f. subst (AllByRecursion (IsUnchanged line x.id x.stop)) (take_all (x.checked + 1) (entry_keys x.told) (now.1 f)) all;
     }
 
 preparing_map : (f : Slot → Slot) → IsLike f → (base : Map) (line : List Slot) (x : Slot) → IsPreparing base line x → IsPreparing base (map f line) x
 preparing_map f l base line x h = record {
   resting = λ n. resting_map f l base line x.id x.told x.rests (h.resting n);
   below = h.below;
-  checked = each_weaker (IsUnchanged line x.id x.stop) (IsUnchanged (map f line) x.id x.stop) (λ k. unchanged_map f l x.id x.stop k line) (take x.checked (entries x.told)) h.checked;
-  valid = λ v. each_weaker (IsUnchanged line x.id x.stop) (IsUnchanged (map f line) x.id x.stop) (λ k. unchanged_map f l x.id x.stop k line) (entries x.told) (h.valid v);
+  checked = each_weaker (IsUnchanged line x.id x.stop) (IsUnchanged (map f line) x.id x.stop) (λ k. unchanged_map f l x.id x.stop k line) (take x.checked (entry_keys x.told)) h.checked;
+  valid = λ v. each_weaker (IsUnchanged line x.id x.stop) (IsUnchanged (map f line) x.id x.stop) (λ k. unchanged_map f l x.id x.stop k line) (entry_keys x.told) (h.valid v);
 }
 
 others_map : (f : Slot → Slot) → IsLike f → (n : ℕ) (line : List Slot) → AllByRecursion (λ y. y.stop ≢ n) line → AllByRecursion (λ y. y.stop ≢ n) (map f line)
@@ -378,8 +378,8 @@ preparing_undone base line clock t e o x h s =
     record {
       resting = resting_undone base line t e x.id x.told x.rests x.doom o h.0.keyed q.resting;
       below = q.below;
-      checked = each_weaker (IsUnchanged line x.id x.stop) (IsUnchanged (map (with_doom t e) (filter (not_at e) line)) x.id x.stop) (unchanged_undone t e x.id x.stop line) (take x.checked (entries x.told)) q.checked;
-      valid = λ v. each_weaker (IsUnchanged line x.id x.stop) (IsUnchanged (map (with_doom t e) (filter (not_at e) line)) x.id x.stop) (unchanged_undone t e x.id x.stop line) (entries x.told) (q.valid v);
+      checked = each_weaker (IsUnchanged line x.id x.stop) (IsUnchanged (map (with_doom t e) (filter (not_at e) line)) x.id x.stop) (unchanged_undone t e x.id x.stop line) (take x.checked (entry_keys x.told)) q.checked;
+      valid = λ v. each_weaker (IsUnchanged line x.id x.stop) (IsUnchanged (map (with_doom t e) (filter (not_at e) line)) x.id x.stop) (unchanged_undone t e x.id x.stop line) (entry_keys x.told) (q.valid v);
     }
 
 pub sound_undone : (s : State) (t e : ℕ) → AllByRecursion (λ x. x.stop ≡ e → x.settled ≡ false) s.line → IsSound s → IsSound (undone s t e)

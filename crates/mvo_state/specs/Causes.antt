@@ -1,14 +1,18 @@
 -- Which refusal comes first, and what it names.
-use Rattle.std.specs.Prelude.{ℕ, ◌≡◌, ◌+◌, ◌==◌, nat_lt, nat_le, Bool, true, false, not, ◌&&◌, cond, if◌then◌else◌, is_some, List, [], ◌∷◌, length, Option, None, Some, slice_get}
+use Rattle.std.specs.Prelude.{ℕ, ◌≡◌, ◌+◌, ◌==◌, nat_lt, nat_le, Bool, true, false, not, ◌||◌, ◌&&◌, cond, if◌then◌else◌, is_some, List, [], ◌∷◌, length, Option, None, Some, slice_get}
 use Rattle.std.specs.List.{list_any}
 use Rattle.mvo_types.specs.declared.limits.TheConstants.{MAX_STAMP, MAX_TABLE, MAX_DATA_LEN, MAX_UNFINISHED, MAX_WRITES, MAX_ENTRIES}
 use Rattle.mvo_types.specs.declared.row.RowKey.{RowKey}
 use Rattle.mvo_types.specs.declared.refusal.Refusal.{Refusal}
 use Rattle.mvo_types.specs.declared.refusal.Refusal.TheVariants.{NoSuchTransaction, Ended, NotActive, NotPreparing, NotValidated, NotEnded, ValidationFailed, DependencyAborted, TableFull, TooManyWrites, TooManyReads, DataTooLong, BadTable, ClockSpent, Busy, OutOfMemory}
-use Rattle.mvo_types.specs.Line.{Line}
-use Rattle.mvo_model.specs.Told.{Told, net_write}
-use Rattle.mvo_state.specs.Entries.{entries, is_noted, written_keys}
-use Rattle.mvo_state.specs.Line.{State, Slot, Running, has, last_writer}
+use Rattle.std.specs.Option.{option_map}
+use Rattle.mvo_types.specs.Line.{Line, line_at}
+use Rattle.mvo_types.specs.Keys.{Map, row_at}
+use Rattle.mvo_model.specs.Serial.{is_in_range}
+use Rattle.mvo_model.specs.Told.{Told, Write, write_of, written, net_write}
+use Rattle.mvo_state.specs.Entries.{Entry, entries, has_entry, entry_keys, is_noted, written_keys}
+use Rattle.mvo_state.specs.Entries.Entry.{Key, Range}
+use Rattle.mvo_state.specs.Line.{State, Slot, Running, has, last_writer, seen_by}
 
 -- the refusal that comes first, and want of memory where none has a cause
 abbrev pub IsRefusal : Option Refusal → Refusal → Type 0
@@ -67,9 +71,13 @@ is_open (Some x) = not x.settled
 abbrev pub busy_at : State → ℕ → RowKey → Option Refusal
 busy_at s t k = if_stands (is_open (last_writer k t s.line)) Busy None
 
--- one key more than a transaction may look at
-abbrev pub is_read_too_many : Told → RowKey → Bool
-is_read_too_many told k = not (is_noted (entries told) k) && nat_le MAX_ENTRIES (length (entries told))
+-- one entry more than a transaction may keep
+abbrev pub is_read_too_many : Told → Entry → Bool
+is_read_too_many told e = not (has_entry (entries told) e) && nat_le MAX_ENTRIES (length (entries told))
+
+-- the same of a key, where each operation is on one key
+abbrev pub is_read_key_too_many : Told → RowKey → Bool
+is_read_key_too_many told k = not (is_noted (entry_keys told) k) && nat_le MAX_ENTRIES (length (entry_keys told))
 
 -- one key more than a transaction may write
 abbrev pub is_write_too_many : Told → RowKey → Bool
@@ -77,7 +85,7 @@ is_write_too_many told k = not (is_noted (written_keys told) k) && nat_le MAX_WR
 
 abbrev pub not_read_at : State → ℕ → RowKey → Option Running → Option Refusal
 not_read_at s t k None = Some (not_active s t)
-not_read_at s t k (Some r) = or_doomed r.doom (if_stands (nat_lt MAX_TABLE k.table) BadTable (if_stands (is_read_too_many r.told k) TooManyReads (busy_at s t k)))
+not_read_at s t k (Some r) = or_doomed r.doom (if_stands (nat_lt MAX_TABLE k.table) BadTable (if_stands (is_read_too_many r.told (Key k)) TooManyReads (busy_at s t k)))
 
 abbrev pub why_not_read : State → ℕ → RowKey → Option Refusal
 why_not_read s t k = not_read_at s t k (running_of t s.running)
@@ -85,7 +93,7 @@ why_not_read s t k = not_read_at s t k (running_of t s.running)
 abbrev pub not_inserted_at : State → ℕ → Line → Option Running → Option Refusal
 not_inserted_at s t row None = Some (not_active s t)
 not_inserted_at s t row (Some r) = or_doomed r.doom (if_stands (nat_lt MAX_TABLE row.key.table) BadTable (if_stands (nat_lt MAX_DATA_LEN (length row.bytes)) DataTooLong
-    (if_stands (is_read_too_many r.told row.key) TooManyReads (if_stands (is_write_too_many r.told row.key) TooManyWrites (busy_at s t row.key)))))
+    (if_stands (is_read_too_many r.told (Key row.key)) TooManyReads (if_stands (is_write_too_many r.told row.key) TooManyWrites (busy_at s t row.key)))))
 
 abbrev pub why_not_inserted : State → ℕ → Line → Option Refusal
 why_not_inserted s t row = not_inserted_at s t row (running_of t s.running)
@@ -119,31 +127,64 @@ abbrev pub waiting_for : List ℕ → List Slot → Option Slot
 waiting_for ds [] = None
 waiting_for ds (x ∷ xs) = if not x.settled && has ds x.stop then Some x else waiting_for ds xs
 
--- changes the key between the begin and the end
-abbrev pub is_changer : ℕ → ℕ → RowKey → Slot → Bool
-is_changer b e k u = (nat_lt b u.stop && nat_lt u.stop e) && is_some (net_write k u.told)
+-- ---- what another changed
+-- whether there is a row, and in the range
+abbrev pub is_row_in : ℕ → ℕ → ℕ → Option Line → Bool
+is_row_in table lo hi None = false
+is_row_in table lo hi (Some r) = is_in_range table lo hi r
+
+-- whether a write on these rows ends a row in the range, or puts one there
+abbrev pub writes_in : ℕ → ℕ → ℕ → Map → Option Write → Bool
+writes_in table lo hi m None = false
+writes_in table lo hi m (Some w) = is_row_in table lo hi (row_at m w.0) || is_row_in table lo hi (option_map (line_at w.0) w.1)
+
+-- whether one of the writes does, each on the rows that those before it leave
+abbrev pub changes_range : ℕ → ℕ → ℕ → Told → Map → Bool
+changes_range table lo hi [] m = false
+changes_range table lo hi (t ∷ ts) m = writes_in table lo hi m (write_of t.0 t.1) || changes_range table lo hi ts (written (write_of t.0 t.1) m)
+
+-- whether it changes the entry: it has a writing answer on the key, or one that ends or puts a row in the range
+abbrev pub changes : Map → List Slot → Entry → Slot → Bool
+changes base line (Key k) u = is_some (net_write k u.told)
+changes base line (Range table lo hi) u = changes_range table lo hi u.told (seen_by base line u.id)
+
+-- changes the entry, and ends between the begin and the end
+abbrev pub is_changer : Map → List Slot → ℕ → ℕ → Entry → Slot → Bool
+is_changer base line b e entry u = (nat_lt b u.stop && nat_lt u.stop e) && changes base line entry u
+
+-- the same of a key
+abbrev pub is_key_changer : ℕ → ℕ → RowKey → Slot → Bool
+is_key_changer b e k u = (nat_lt b u.stop && nat_lt u.stop e) && is_some (net_write k u.told)
 
 abbrev pub or_first : Option ℕ → Option ℕ → Option ℕ
 or_first first None = first
 or_first first (Some n) = Some n
 
--- the greatest stamp of a change of the key between the begin and the end
-abbrev pub change_of : ℕ → ℕ → RowKey → List Slot → Option ℕ
-change_of b e k [] = None
-change_of b e k (x ∷ xs) = or_first (cond (is_changer b e k x) (Some x.stop) None) (change_of b e k xs)
+-- the end of the last of these that passes, if one does
+abbrev pub last_end : (Slot → Bool) → List Slot → Option ℕ
+last_end p [] = None
+last_end p (x ∷ xs) = or_first (cond (p x) (Some x.stop) None) (last_end p xs)
+
+-- the greatest stamp of a change of the entry between the begin and the end
+abbrev pub change_of : Map → List Slot → ℕ → ℕ → Entry → Option ℕ
+change_of base line b e entry = last_end (is_changer base line b e entry) line
+
+-- the same of a key, in the changes of these
+abbrev pub key_change : ℕ → ℕ → RowKey → List Slot → Option ℕ
+key_change b e k xs = last_end (is_key_changer b e k) xs
 
 abbrev pub differs : Option ℕ → Option Refusal
 differs None = None
 differs (Some stamp) = Some (ValidationFailed (record { 0 = stamp }))
 
-abbrev pub entry_differs : List Slot → Slot → Option RowKey → Option Refusal
-entry_differs line x None = None
-entry_differs line x (Some k) = differs (change_of x.id x.stop k line)
+abbrev pub entry_differs : Map → List Slot → Slot → Option Entry → Option Refusal
+entry_differs base line x None = None
+entry_differs base line x (Some e) = differs (change_of base line x.id x.stop e)
 
 -- ---- a check: the next entry differs
 abbrev pub not_checked_at : State → ℕ → Option Slot → Option Refusal
 not_checked_at s t None = Some (not_preparing s t)
-not_checked_at s t (Some x) = or_doomed x.doom (if x.valid then None else entry_differs s.line x (slice_get (entries x.told) x.checked))
+not_checked_at s t (Some x) = or_doomed x.doom (if x.valid then None else entry_differs s.base s.line x (slice_get (entries x.told) x.checked))
 
 abbrev pub why_not_checked : State → ℕ → Option Refusal
 why_not_checked s t = not_checked_at s t (preparing_of t s.line)

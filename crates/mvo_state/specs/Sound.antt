@@ -5,7 +5,7 @@ use Rattle.mvo_types.specs.declared.row.RowKey.{RowKey}
 use Rattle.mvo_types.specs.Keys.{Map}
 use Rattle.mvo_model.specs.Told.{Told, AreSerial, net_write, Legal}
 use Rattle.mvo_state.specs.declared.over.OverTx.{OverTx}
-use Rattle.mvo_state.specs.Entries.{key_of, entries}
+use Rattle.mvo_state.specs.Entries.{key_of, entry_keys}
 use Rattle.mvo_state.specs.Entries.{IsKeyed, IsApart}
 use Rattle.mvo_state.specs.Line.{State, Slot, Running, tale, seen_by, is_writer, has}
 
@@ -47,8 +47,8 @@ pub record IsActive (base : Map) (line : List Slot) (clock : ℕ) (r : Running) 
 pub record IsPreparing (base : Map) (line : List Slot) (x : Slot) : Type 0 where
   pub resting : x.doom ≡ None → IsResting base line x.id x.told x.rests
   pub below : AllByRecursion (λ d. d < x.id) x.rests
-  pub checked : AllByRecursion (IsUnchanged line x.id x.stop) (take x.checked (entries x.told))
-  pub valid : x.valid ≡ true → AllByRecursion (IsUnchanged line x.id x.stop) (entries x.told)
+  pub checked : AllByRecursion (IsUnchanged line x.id x.stop) (take x.checked (entry_keys x.told))
+  pub valid : x.valid ≡ true → AllByRecursion (IsUnchanged line x.id x.stop) (entry_keys x.told)
 
 pub record IsPlaced (line : List Slot) (clock : ℕ) (x : Slot) : Type 0 where
   pub begun : x.id < x.stop

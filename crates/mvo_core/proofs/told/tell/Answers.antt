@@ -1,6 +1,6 @@
 use Rattle.std.proofs.Common.{◌≡◌, ◌++◌, ◌∷◌, [], sym, ap, ◌∙◌, subst}
 use Rattle.mvo_types.specs.Said.{said}
-use Rattle.mvo_state.specs.Entries.{noted, noted_key, entries, written_keys}
+use Rattle.mvo_state.specs.Entries.{noted, noted_key, entry_keys, written_keys}
 use Rattle.mvo_state.specs.Line.{Running}
 use Rattle.mvo_core.proofs.Writes.{entries_told, written_told}
 use Rattle.mvo_core.proofs.Limits.{told_now}
@@ -13,7 +13,7 @@ invariant_of-tx-2 c =
     let items : c.push_reserved.new.items.items ≡ c.tx.inside.ops.items ++ (c.args.op, c.args.answer) ∷ [] = c.push_reserved.ensures.items ∙ ap (λ xs. xs ++ (c.args.op, c.args.answer) ∷ []) c.in_ok-reserve.ensures.items in (
       c.note.ensures
           ∙ ap (λ ks. noted ks c.args.key) (c.in_ok-reserve-2.ensures.items ∙ c.tx.invariant.0)
-          ∙ ap (noted (entries (told_view c.tx.inside.ops.items))) c.requires.key
+          ∙ ap (noted (entry_keys (told_view c.tx.inside.ops.items))) c.requires.key
           ∙ sym (entries_told c.tx.inside.ops.items c.push_reserved.new.items.items c.args.op c.args.answer items),
       c.note_write.ensures
           ∙ ap (λ ks. noted_key ks c.key_written.result) (c.in_ok-reserve-3.ensures.items ∙ c.tx.invariant.1)

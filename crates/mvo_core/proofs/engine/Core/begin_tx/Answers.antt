@@ -10,7 +10,8 @@ use Rattle.mvo_state.specs.Causes.{IsRefusal, if_stands, why_not_begun}
 use Rattle.mvo_core.specs.View.{state_of}
 use Rattle.mvo_core.specs.Kept.{IsKept, count_one}
 use Rattle.mvo_core.proofs.Grouped.{grouped_drawn}
-use Rattle.mvo_core.proofs.Calls.{refuse, no_memory, stands_now, stands_not, why_begun, unfinished_is, kept_began}
+use Rattle.mvo_core.proofs.Refusing.{refuse, no_memory, stands_now, stands_not}
+use Rattle.mvo_core.proofs.Calls.{why_begun, unfinished_is, kept_began}
 use Rattle.mvo_core.proofs.engine.Core.begin_tx.Goals as goal
 use Rattle.mvo_core.proofs.engine.Core.begin_tx.Goals.{Then-count_unfinished-ge-MAX_UNFINISHED, Then-self-ge-MAX_STAMP, After-from_residual, After-self-1}
 

@@ -11,7 +11,7 @@ use Rattle.mvo_core.specs.View.{state_of}
 use Rattle.mvo_core.specs.Writers.{is_writing, at_places}
 use Rattle.mvo_core.specs.Kept.{IsKept, IsIndexed, IsGrouped}
 use Rattle.mvo_core.specs.Groups.{IsNextGroup, end_in, why_not_closed}
-use Rattle.mvo_core.proofs.Calls.{refuse, no_memory, stands_now, stands_not}
+use Rattle.mvo_core.proofs.Refusing.{refuse, no_memory, stands_now, stands_not}
 use Rattle.mvo_core.proofs.Closing.{IsDue, IsMade, part_is, why_closed, due_now, kept_closed, group_made}
 use Rattle.mvo_core.proofs.engine.Core.close_group.Goals as goal
 use Rattle.mvo_core.proofs.engine.Core.close_group.Goals.{Then-eq, Then-is_some-2, After-next_records-arg-1, After-new, After-self-1}

@@ -14,7 +14,8 @@ use Rattle.mvo_core.specs.Limits.{AreLimited}
 use Rattle.mvo_core.proofs.Limits.{found_twice, limited_insert}
 use Rattle.mvo_core.specs.Writers.{at_places}
 use Rattle.mvo_core.specs.View.{state_of, one_is, told_view}
-use Rattle.mvo_core.proofs.Calls.{refuse, no_memory, not_active_by, IsMine, mine_at, shown_at, insert_refusal_by, insert_here, insert_quiet, insert_absent, IsTold, kept_told}
+use Rattle.mvo_core.proofs.Refusing.{refuse, no_memory}
+use Rattle.mvo_core.proofs.Calls.{not_active_by, IsMine, mine_at, shown_at, insert_refusal_by, insert_here, insert_quiet, insert_absent, IsTold, kept_told}
 use Rattle.mvo_core.proofs.engine.Core.insert.Goals as goal
 use Rattle.mvo_core.proofs.engine.Core.insert.Goals.{After-insert_answer-2}
 

@@ -12,7 +12,8 @@ use Rattle.mvo_core.specs.View.{state_of}
 use Rattle.mvo_core.specs.Kept.{IsKept, IsIndexed, IsGrouped}
 use Rattle.mvo_core.proofs.Indexed.{indexed_with}
 use Rattle.mvo_core.proofs.Grouped.{grouped_prepared}
-use Rattle.mvo_core.proofs.Calls.{refuse, no_memory, stands_now, stands_not, not_active_by, precommit_absent, precommit_at, IsPrecommitted, kept_prepared}
+use Rattle.mvo_core.proofs.Refusing.{refuse, no_memory, stands_now, stands_not}
+use Rattle.mvo_core.proofs.Calls.{not_active_by, precommit_absent, precommit_at, IsPrecommitted, kept_prepared}
 use Rattle.mvo_core.proofs.engine.Core.precommit.Goals as goal
 use Rattle.mvo_core.proofs.engine.Core.precommit.Goals.{After-self-2-1}
 

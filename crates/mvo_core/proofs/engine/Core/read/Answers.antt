@@ -14,7 +14,8 @@ use Rattle.mvo_core.specs.Limits.{AreLimited}
 use Rattle.mvo_core.proofs.Limits.{found_twice, limited_read}
 use Rattle.mvo_core.specs.Writers.{at_places}
 use Rattle.mvo_core.specs.View.{state_of, one_is, told_view}
-use Rattle.mvo_core.proofs.Calls.{refuse, no_memory, not_active_by, IsMine, mine_at, shown_at, read_refusal_by, read_here, read_quiet, read_absent, IsTold, kept_told}
+use Rattle.mvo_core.proofs.Refusing.{refuse, no_memory}
+use Rattle.mvo_core.proofs.Calls.{not_active_by, IsMine, mine_at, shown_at, read_refusal_by, read_here, read_quiet, read_absent, IsTold, kept_told}
 use Rattle.mvo_core.proofs.engine.Core.read.Goals as goal
 use Rattle.mvo_core.proofs.engine.Core.read.Goals.{In_ok-tell, In-Some-read_refusal}
 

@@ -13,7 +13,8 @@ use Rattle.mvo_core.specs.Kept.{IsKept, IsIndexed, IsGrouped}
 use Rattle.mvo_core.specs.declared.reply.Settlement.TheVariants.{Committed}
 use Rattle.mvo_core.proofs.Indexed.{indexed_push}
 use Rattle.mvo_core.proofs.Grouped.{grouped_push}
-use Rattle.mvo_core.proofs.Calls.{stands_now, stands_not, not_preparing_by, settle_other, not_one, no_one, why_settled, prepared_one, kept_with, IsCommit, kept_committed}
+use Rattle.mvo_core.proofs.Refusing.{stands_now, stands_not}
+use Rattle.mvo_core.proofs.Calls.{not_preparing_by, settle_other, not_one, no_one, why_settled, prepared_one, kept_with, IsCommit, kept_committed}
 use Rattle.mvo_core.proofs.engine.Core.settle.Goals as goal
 use Rattle.mvo_core.proofs.engine.Core.settle.Goals.{After-push_reserved-2, Joined-self-2}
 

@@ -1,21 +1,22 @@
 use Rattle.std.proofs.Common.{rules, arith, ◌≡◌, ◌+◌, ◌<◌, ◌≤◌, ◌++◌, ◌∷◌, [], not, ◌||◌, ℕ, Bool, true, false, cond, List, Option, None, Some, length, refl, ap, ◌∙◌, sym, subst}
 use Rattle.std.specs.Prelude.{◌==◌, nat_le, is_some, vec_capacity, slice_get, option_and_then}
+use Rattle.std.specs.List.{AllByRecursion}
 use Rattle.std.proofs.lemmas.Bool.{eqb-true}
-use Rattle.mvo_types.specs.declared.row.RowKey.{RowKey}
 use Rattle.mvo_types.specs.declared.refusal.Refusal.{Refusal}
 use Rattle.mvo_types.specs.declared.refusal.Refusal.TheVariants.{ValidationFailed}
 use Rattle.mvo_state.specs.declared.over.OverTx.{OverTx}
-use Rattle.mvo_state.specs.Entries.{entries}
+use Rattle.mvo_state.specs.Entries.{IsKeyed, entries, entry_keys}
 use Rattle.mvo_state.specs.Line.{State, Running, Slot, aborted_tx, checked}
-use Rattle.mvo_state.specs.Causes.{preparing_of, why_not_checked, change_of, differs, entry_differs}
+use Rattle.mvo_state.specs.Causes.{preparing_of, why_not_checked, key_change, differs, entry_differs}
 use Rattle.mvo_state.specs.Steps.{now_aborted, aborted_at, now_checked, checked_at, is_valid_now, is_valid_at}
+use Rattle.mvo_state.proofs.Entries.{count_keyed}
 use Rattle.mvo_core.specs.View.{line_of, state_of}
 use Rattle.mvo_core.specs.Writers.{at_places}
 use Rattle.mvo_core.specs.Kept.{IsKept, IsIndexed, IsGrouped}
 use Rattle.mvo_core.specs.declared.reply.Validation.TheVariants.{Valid, More}
 use Rattle.mvo_core.proofs.Indexed.{indexed_with, indexed_without}
 use Rattle.mvo_core.proofs.Grouped.{grouped_without, grouped_again}
-use Rattle.mvo_core.proofs.Calls.{not_preparing_by, check_other, not_one, no_one, why_checked, change_is, prepared_one, kept_with, IsUndone, kept_undone, IsCounted, kept_checked}
+use Rattle.mvo_core.proofs.Calls.{not_preparing_by, check_other, not_one, no_one, why_checked, keyed_one, change_is, prepared_one, kept_with, IsUndone, kept_undone, IsCounted, kept_checked}
 use Rattle.mvo_core.proofs.engine.Core.validate_one.Goals as goal
 use Rattle.mvo_core.proofs.engine.Core.validate_one.Goals.{Joined-self-2, After-drop-own-inside-in-Some-next_change-2, After-checked_answer}
 
@@ -57,7 +58,7 @@ returns-then-is_valid-clause-refused c =
     let x = c.in-Some.own in
     ap (λ (s : State). why_not_checked s c.args.tx.0) (sym (before1 c))
     ∙ why_checked (state_of f.base f.marks f.clock f.running.items f.tale.items (Some x) f.over.items) c.args.tx.0 x (found1 c) (kept1 c).open'.doom
-    ∙ ap (λ (b : Bool). cond b None (entry_differs (line_of f.tale.items (Some x)) x (slice_get (entries x.told) x.checked))) (sym c.if-is_valid.ensures)
+    ∙ ap (λ (b : Bool). cond b None (entry_differs f.base (line_of f.tale.items (Some x)) x (slice_get (entries x.told) x.checked))) (sym c.if-is_valid.ensures)
 
 pub returns-then-is_valid-clause-answer : goal.returns-then-is_valid-clause-answer
 returns-then-is_valid-clause-answer c =
@@ -80,6 +81,11 @@ kept2 : (c : After-drop-own-inside-in-Some-next_change-2) → IsKept (state_of c
 kept2 c =
     let f = c.self.inside in
     kept_with f.base f.marks f.clock f.running.items f.tale.items f.preparing (Some c.in-Some.own) f.over.items (vec_capacity f.tale) (vec_capacity f.over) (sym c.in-Some.ensures.value) c.self.invariant.kept
+
+keyed2 : (c : After-drop-own-inside-in-Some-next_change-2) → AllByRecursion (λ o. IsKeyed o.0) c.in-Some.own.told
+keyed2 c =
+    let f = c.self.inside in
+    keyed_one f.base f.marks f.clock f.running.items f.tale.items c.in-Some.own f.over.items (vec_capacity f.tale) (vec_capacity f.over) (kept2 c)
 
 before2 : (c : After-drop-own-inside-in-Some-next_change-2) → state_of c.self.inside.base c.self.inside.marks c.self.inside.clock c.self.inside.running.items c.self.inside.tale.items (Some c.in-Some.own) c.self.inside.over.items ≡ c.args.self.now
 before2 c =
@@ -116,10 +122,10 @@ returns-in-Some-next_change-clause-refused c =
     let x = c.in-Some.own in
     ap (λ (s : State). why_not_checked s c.args.tx.0) (sym (before2 c))
     ∙ why_checked (state_of f.base f.marks f.clock f.running.items f.tale.items (Some x) f.over.items) c.args.tx.0 x (found2 c) (kept2 c).open'.doom
-    ∙ ap (λ (b : Bool). cond b None (entry_differs (line_of f.tale.items (Some x)) x (slice_get (entries x.told) x.checked))) (sym c.if-is_valid.ensures)
-    ∙ change_is f.tale.items f.writers.items x (slice_get (entries x.told) x.checked) c.self.invariant.indexed.places
-    ∙ ap (λ (ws : List ℕ). differs (option_and_then (λ k. change_of x.id x.stop k (at_places f.tale.items ws)) (slice_get (entries x.told) x.checked))) (sym c.deref-3.ensures.value)
-    ∙ ap (λ (tale : List Slot). differs (option_and_then (λ k. change_of x.id x.stop k (at_places tale c.deref-3.result.now)) (slice_get (entries x.told) x.checked))) (sym c.deref-2.ensures.value)
+    ∙ ap (λ (b : Bool). cond b None (entry_differs f.base (line_of f.tale.items (Some x)) x (slice_get (entries x.told) x.checked))) (sym c.if-is_valid.ensures)
+    ∙ change_is f.base f.tale.items f.writers.items x (keyed2 c) c.self.invariant.indexed.places
+    ∙ ap (λ (ws : List ℕ). differs (option_and_then (λ k. key_change x.id x.stop k (at_places f.tale.items ws)) (slice_get (entry_keys x.told) x.checked))) (sym c.deref-3.ensures.value)
+    ∙ ap (λ (tale : List Slot). differs (option_and_then (λ k. key_change x.id x.stop k (at_places tale c.deref-3.result.now)) (slice_get (entry_keys x.told) x.checked))) (sym c.deref-2.ensures.value)
     ∙ ap differs (sym c.next_change.ensures ∙ c.in-Some-next_change.is)
 
 pub returns-in-Some-next_change-clause-err : goal.returns-in-Some-next_change-clause-err
@@ -138,6 +144,11 @@ kept3 c =
     let f = c.self.inside in
     kept_with f.base f.marks f.clock f.running.items f.tale.items f.preparing (Some c.in-Some.own) f.over.items (vec_capacity f.tale) (vec_capacity f.over) (sym c.in-Some.ensures.value) c.self.invariant.kept
 
+keyed3 : (c : After-checked_answer) → AllByRecursion (λ o. IsKeyed o.0) c.in-Some.own.told
+keyed3 c =
+    let f = c.self.inside in
+    keyed_one f.base f.marks f.clock f.running.items f.tale.items c.in-Some.own f.over.items (vec_capacity f.tale) (vec_capacity f.over) (kept3 c)
+
 before3 : (c : After-checked_answer) → state_of c.self.inside.base c.self.inside.marks c.self.inside.clock c.self.inside.running.items c.self.inside.tale.items (Some c.in-Some.own) c.self.inside.over.items ≡ c.args.self.now
 before3 c =
     let f = c.self.inside in
@@ -146,12 +157,12 @@ before3 c =
 found3 : (c : After-checked_answer) → preparing_of c.args.tx.0 (line_of c.self.inside.tale.items (Some c.in-Some.own)) ≡ Some c.in-Some.own
 found3 c = prepared_one c.args.tx.0 c.self.inside.tale.items c.in-Some.own (sym c.if-not-is.ensures) (kept3 c).stored (kept3 c).open'
 
-same : (c : After-checked_answer) → entry_differs (line_of c.self.inside.tale.items (Some c.in-Some.own)) c.in-Some.own (slice_get (entries c.in-Some.own.told) c.in-Some.own.checked) ≡ None
+same : (c : After-checked_answer) → entry_differs c.self.inside.base (line_of c.self.inside.tale.items (Some c.in-Some.own)) c.in-Some.own (slice_get (entries c.in-Some.own.told) c.in-Some.own.checked) ≡ None
 same c =
     let x = c.in-Some.own in
-    change_is c.self.inside.tale.items c.self.inside.writers.items x (slice_get (entries x.told) x.checked) c.self.invariant.indexed.places
-    ∙ ap (λ (ws : List ℕ). differs (option_and_then (λ k. change_of x.id x.stop k (at_places c.self.inside.tale.items ws)) (slice_get (entries x.told) x.checked))) (sym c.deref-3.ensures.value)
-    ∙ ap (λ (tale : List Slot). differs (option_and_then (λ k. change_of x.id x.stop k (at_places tale c.deref-3.result.now)) (slice_get (entries x.told) x.checked))) (sym c.deref-2.ensures.value)
+    change_is c.self.inside.base c.self.inside.tale.items c.self.inside.writers.items x (keyed3 c) c.self.invariant.indexed.places
+    ∙ ap (λ (ws : List ℕ). differs (option_and_then (λ k. key_change x.id x.stop k (at_places c.self.inside.tale.items ws)) (slice_get (entry_keys x.told) x.checked))) (sym c.deref-3.ensures.value)
+    ∙ ap (λ (tale : List Slot). differs (option_and_then (λ k. key_change x.id x.stop k (at_places tale c.deref-3.result.now)) (slice_get (entry_keys x.told) x.checked))) (sym c.deref-2.ensures.value)
     ∙ ap differs (sym c.next_change.ensures ∙ c.in_default-next_change.is)
 
 counted : (c : After-checked_answer) → IsCounted c.self.inside.base c.self.inside.marks c.self.inside.clock c.self.inside.running.items c.self.inside.tale.items c.self.inside.over.items (vec_capacity c.self.inside.tale) (vec_capacity c.self.inside.over) c.in-Some.own c.count_check-valid.new.self c.count_check-valid.result
@@ -174,14 +185,18 @@ returns-clause-refused c =
     let x = c.in-Some.own in
     ap (λ (s : State). why_not_checked s c.args.tx.0) (sym (before3 c))
     ∙ why_checked (state_of f.base f.marks f.clock f.running.items f.tale.items (Some x) f.over.items) c.args.tx.0 x (found3 c) (kept3 c).open'.doom
-    ∙ ap (λ (b : Bool). cond b None (entry_differs (line_of f.tale.items (Some x)) x (slice_get (entries x.told) x.checked))) (sym c.if-is_valid.ensures)
+    ∙ ap (λ (b : Bool). cond b None (entry_differs f.base (line_of f.tale.items (Some x)) x (slice_get (entries x.told) x.checked))) (sym c.if-is_valid.ensures)
     ∙ same c
+
+-- whether it was the last entry
+last : (c : After-checked_answer) → c.count_check-valid.result ≡ nat_le (length (entries c.in-Some.own.told)) (c.in-Some.own.checked + 1)
+last c = c.count_check-valid.ensures.last ∙ ap (λ (n : ℕ). nat_le n (c.in-Some.own.checked + 1)) (sym (count_keyed c.in-Some.own.told (keyed3 c)))
 
 pub returns-clause-answer : goal.returns-clause-answer
 returns-clause-answer c =
     c.checked_answer.ensures
     ∙ ap (λ (b : Bool). cond b Valid More) (
-    c.count_check-valid.ensures.last
+    last c
     ∙ ap (λ (b : Bool). b || nat_le (length (entries c.in-Some.own.told)) (c.in-Some.own.checked + 1)) c.if-is_valid.ensures
     ∙ ap is_valid_at (sym (found3 c))
     ∙ ap (λ (s : State). is_valid_now s c.args.tx.0) (before3 c))
@@ -192,7 +207,7 @@ returns-clause-ok c =
     let x = c.in-Some.own in
     let s = state_of f.base f.marks f.clock f.running.items f.tale.items (Some x) f.over.items in
     (counted c).state
-    ∙ ap (checked s x.stop) c.count_check-valid.ensures.last
+    ∙ ap (checked s x.stop) (last c)
     ∙ ap (λ (b : Bool). cond b s (checked s x.stop (nat_le (length (entries x.told)) (x.checked + 1)))) c.if-is_valid.ensures
     ∙ ap (checked_at s) (sym (found3 c))
     ∙ ap (λ (s' : State). now_checked s' c.args.tx.0) (before3 c)
