@@ -1,6 +1,6 @@
 -- What each event makes of a world that stands for the events before it.
-use Rattle.std.proofs.Common.{◌≡◌, ◌≢◌, ◌⊎◌, inl, inr, ℕ, ◌<◌, ◌≤◌, ◌+◌, Bool, true, false, cond, List, [], ◌∷◌, ◌++◌, Option, None, Some, map, refl, sym, ap, ◌∙◌, subst, arith, append_assoc, append-nil}
-use Rattle.std.specs.Prelude.{⊤, nat_le}
+use Rattle.std.proofs.Common.{◌≡◌, ◌≢◌, ◌⊎◌, inl, inr, ℕ, ◌<◌, ◌≤◌, ◌+◌, Bool, true, false, cond, List, [], ◌∷◌, ◌++◌, Option, None, Some, Result, Ok, Err, map, refl, sym, ap, ◌∙◌, subst, arith, append_assoc, append-nil}
+use Rattle.std.specs.Prelude.{⊤, nat_le, is_some, IfSome, IsErrAnd, MatchResult}
 use Rattle.std.specs.Option.{option_to_list}
 use Rattle.std.specs.List.{AllByRecursion}
 use Rattle.std.proofs.lemmas.Bool.{true≢false, false≢true}
@@ -14,13 +14,13 @@ use Rattle.mvo_group.specs.Rules.{KeepsRules}
 use Rattle.mvo_state.specs.Line.{State, Slot, Running, checked, opened}
 use Rattle.mvo_state.proofs.Stood.{stands_opened}
 use Rattle.mvo_types.specs.declared.ids.Stamp.{Stamp}
-use Rattle.mvo_state.specs.Sound.{IsSound}
+use Rattle.mvo_state.specs.Sound.{IsSound, IsRising}
 use Rattle.mvo_state.specs.Marks.{IsClosedAt, StaysBelow, settled_to}
 use Rattle.mvo_state.specs.Stands.{Stands}
-use Rattle.mvo_state.specs.Causes.{is_failure, running_of, preparing_of}
+use Rattle.mvo_state.specs.Causes.{if_stands, is_failure, running_of, preparing_of}
 use Rattle.mvo_state.specs.Steps.{prepared_at, checked_at, committed_at, aborted_at, now_prepared, now_checked, now_committed, now_aborted, after_refusal}
 use Rattle.mvo_state.proofs.Each.{each_weaker, each_append}
-use Rattle.mvo_core.specs.Groups.{IsNextGroup, closed_at}
+use Rattle.mvo_core.specs.Groups.{IsNextGroup, closed_at, why_not_closed}
 use Rattle.mvo_core.specs.Replies.{IsReplyTo, IsAccepted, left_by_refusal}
 use Rattle.mvo_core.specs.declared.event.Event as asked
 use Rattle.mvo_core.specs.declared.event.Event.TheVariants.{Begin, Read, Insert, Precommit, Validate, Settle, Rollback, Finish}
@@ -28,15 +28,18 @@ use Rattle.mvo_core.specs.declared.reply.Reply as answered
 use Rattle.mvo_core.specs.declared.reply.Reply.TheVariants as reply
 use Rattle.mvo_store.specs.Frames.{mark_after}
 use Rattle.mvo_store.specs.Recovery.{rows_of, mark_of}
-use Rattle.mvo_store.specs.Standing.{IsSafe, with_taken}
-use Rattle.mvo_store.specs.Steps.{LeftBy}
+use Rattle.mvo_disk.specs.Disk.{AllOf, LeavesOnly}
+use Rattle.mvo_disk.specs.Moments.{weaker}
+use Rattle.mvo_store.specs.Images.{safe_unmoved}
+use Rattle.mvo_store.specs.Standing.{IsSafe, HasWithOrWithout, with_taken, opening}
+use Rattle.mvo_store.specs.Steps.{LeftBy, IsMarkOf}
 use Rattle.mvo_store.specs.declared.log.Log.{Log}
 use Rattle.mvo_world.specs.Whole.{Whole, waiting, Follow, IsLinked}
 use Rattle.mvo_world.specs.Groups.{IsGroupOf, AreGroupsOf}
-use Rattle.mvo_world.specs.Standing.{StandsOver}
+use Rattle.mvo_world.specs.Standing.{IsGood, StandsOver}
 use Rattle.mvo_world.proofs.Chain.{groups_stay}
 use Rattle.mvo_world.proofs.Closed.{group_of_next}
-use Rattle.mvo_world.proofs.Stood.{mark_after-append, groups_front, groups_back, groups_push, marks_rise, follow_to, log_mark}
+use Rattle.mvo_world.proofs.Stood.{mark_after-append, groups_front, groups_back, groups_push, marks_rise, follow_to, log_mark, good_image}
 
 -- ---- a step of the core keeps its marks
 failed_marks : (s : State) (t : ℕ) (b : Bool) → (cond b (now_aborted s t) s).marks ≡ s.marks
@@ -163,6 +166,28 @@ groups_closed : (s : State) (n m : ℕ) (gs : List GroupData) → AreGroupsOf s 
 groups_closed s n m [] h = tt
 groups_closed s n m (g ∷ gs) h = (h.0, record { closed = record { drawn = h.1.closed.drawn; above = h.1.closed.above }; records = h.1.records; rules = h.1.rules }, groups_closed s n g.mark gs h.2)
 
+-- ---- what a call answered
+pub none_closed : (s : State) (o : Option GroupData) → why_not_closed s (is_some o) ≡ None → o ≡ None
+none_closed s None e = refl
+none_closed s (Some g) e = absurd (go _ _ e)
+  where
+    go : (a b : Bool) → if_stands a Busy (if_stands b NothingToDo (if_stands true RingFull None)) ≡ None → ⊥
+    go true b f = cc
+    go false true f = cc
+    go false false f = cc
+
+pub group_there : (o : Option GroupData) (P : GroupData → Type 0) → is_some o ≡ true → IfSome o P → (g : GroupData) × (o ≡ Some g) × P g
+group_there None P e h = absurd (false≢true e)
+group_there (Some g) P e h = (g, refl, h)
+
+pub match_err : {T E : Type 0} (P : E → Type 0) (r : Result T E) (R : T → Type 0) (Q : Type 0) → IsErrAnd r P → Q → MatchResult r R (λ _. Q)
+match_err P (Ok x) R Q e q = absurd e
+match_err P (Err x) R Q e q = q
+
+pub taken_of : (p : Option GroupData) (d : ℕ) → IsMarkOf p d → (g : GroupData) × (p ≡ Some g) × (d ≡ g.mark)
+taken_of None d h = absurd h
+taken_of (Some g) d h = (g, refl, h)
+
 module _ {D : Type 0} (content : D → ℕ → List ℕ) (may_leave : D → ℕ → List ℕ → Type 0) (fault_count : D → ℕ) where
   pub nothing_more : (old : List GroupData) (steps : List Step) (acked closed : List ℕ) (w : Whole D) → StandsOver content may_leave fault_count old steps acked closed w → StandsOver content may_leave fault_count old (steps ++ []) (acked ++ []) (closed ++ []) w
   nothing_more old steps acked closed w h =
@@ -226,9 +251,9 @@ module _ {D : Type 0} (content : D → ℕ → List ℕ) (may_leave : D → ℕ 
   }
 
   -- a group becomes durable
-  pub stands_opened : (old : List GroupData) (steps : List Step) (acked closed : List ℕ) (w w' : Whole D) (g : GroupData) → w'.core ≡ w.core → w'.place ≡ w.place → w.log.pending ≡ Some g → w'.log.pending ≡ None → w'.log.mark.0 ≡ g.mark →
+  pub stands_durable : (old : List GroupData) (steps : List Step) (acked closed : List ℕ) (w w' : Whole D) (g : GroupData) → w'.core ≡ w.core → w'.place ≡ w.place → w.log.pending ≡ Some g → w'.log.pending ≡ None → w'.log.mark.0 ≡ g.mark →
       (h : StandsOver content may_leave fault_count old steps acked closed w) → IsSafe content may_leave fault_count w'.log (with_taken (old ++ h.sent) w.log.pending) → StandsOver content may_leave fault_count old steps (acked ++ g.mark ∷ []) closed w'
-  stands_opened old steps acked closed w w' g core place pending none mark h safe =
+  stands_durable old steps acked closed w w' g core place pending none mark h safe =
       let before : waiting w ≡ g ∷ option_to_list w.place = ap (λ (q : Option GroupData). option_to_list q ++ option_to_list w.place) pending in
       let after : waiting w' ≡ option_to_list w.place = ap (λ (q : Option GroupData). option_to_list q ++ option_to_list w'.place) none ∙ ap option_to_list place in
       let list : h.sent ++ waiting w ≡ (h.sent ++ g ∷ []) ++ waiting w' = ap (λ gs. h.sent ++ gs) before ∙ sym (append_assoc h.sent (g ∷ []) (option_to_list w.place)) ∙ ap (λ gs. (h.sent ++ g ∷ []) ++ gs) (sym after) in
@@ -273,3 +298,12 @@ module _ {D : Type 0} (content : D → ℕ → List ℕ) (may_leave : D → ℕ 
         marks = ap (map (λ x. x.mark)) wait;
         covers = (omega (arith, mark_is, ap (λ (m : Stamp). m.0) at), tt);
       }
+
+  -- ---- what a stop leaves meanwhile
+  module _ (moment : D → ℕ) (left_since : D → ℕ → (ℕ → List ℕ) → Type 0) where
+    pub good_meanwhile : (old : List GroupData) (steps : List Step) (acked closed : List ℕ) (w : Whole D) (new : D) → IsRising w.core.line → (h : StandsOver content may_leave fault_count old steps acked closed w) → LeavesOnly moment left_since w.log.disk new (λ image. HasWithOrWithout (old ++ h.sent) (opening w.log) (image 2)) → LeavesOnly moment left_since w.log.disk new (λ image. IsGood (rows_of old) (mark_of old) steps acked closed (image 2))
+    good_meanwhile old steps acked closed w new rise h only = weaker moment left_since w.log.disk new _ _ (λ image has. good_image content may_leave fault_count old steps acked closed w (image 2) rise h has) only
+
+    pub good_still : ((d : D) (image : ℕ → List ℕ) → left_since d (moment d) image → AllOf (may_leave d) image) → (old : List GroupData) (steps : List Step) (acked closed : List ℕ) (w : Whole D) (new : D) → new ≡ w.log.disk → IsRising w.core.line → StandsOver content may_leave fault_count old steps acked closed w → LeavesOnly moment left_since w.log.disk new (λ image. IsGood (rows_of old) (mark_of old) steps acked closed (image 2))
+    good_still only_now old steps acked closed w new same rise h = subst (λ (d : D). LeavesOnly moment left_since w.log.disk d (λ image. IsGood (rows_of old) (mark_of old) steps acked closed (image 2))) (sym same)
+        (good_meanwhile old steps acked closed w w.log.disk rise h (safe_unmoved content may_leave fault_count moment left_since only_now w.log (old ++ h.sent) h.log))

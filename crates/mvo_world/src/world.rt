@@ -1,8 +1,6 @@
-ghost use Rattle.std.specs.Prelude.{◌≡◌, ◌++◌, ◌∷◌, [], ◌<◌, ◌≤◌, vec_len, vec_capacity};
-
 use crate::event::Event;
 use crate::reply::Reply;
-use mvo_core::Core;
+use mvo_core::{Closed, Core};
 use mvo_disk::Disk;
 use mvo_group::Group;
 use mvo_store::Store;
@@ -40,7 +38,8 @@ impl<D: Disk> Model for World<D> {
 }
 
 impl<D: Disk> World<D> {
-    ghost use Rattle.std.specs.Prelude.{◌≡◌, ◌++◌, ℕ, List, [], ◌∷◌, length, IfOk, IfErr, OnErr, nat_le};
+    ghost use Rattle.std.specs.Prelude.{◌≡◌, ◌++◌, ℕ, List, [], ◌∷◌, length, IfOk, IfErr, OnErr, MatchResult};
+    ghost use Rattle.mvo_core.specs.Events as core;
     ghost use Rattle.mvo_model.specs.Trace.{Step, IsSerial};
     ghost use Rattle.mvo_disk.specs.Disk.{AllOf, LeavesOnly};
     ghost use Rattle.mvo_group.specs.Data.{GroupData};
@@ -99,9 +98,11 @@ impl<D: Disk> World<D> {
     /// Refused: 51, 52 where one is pending, 56 where none is closed; then nothing changes.
     fn take_group(&mut self) -> Result<(), Refusal>
         ensures stands { (old : List GroupData) (steps : List Step) (acked closed : List ℕ) → StandsOver D.content D.may_leave D.fault_count old steps acked closed self.old → StandsOver D.content D.may_leave D.fault_count old steps acked closed self.new }
-        ensures disk { self.new.log.disk ≡ self.old.log.disk }
+        ensures any_moment { (old : List GroupData) (steps : List Step) (acked closed : List ℕ) → StandsOver D.content D.may_leave D.fault_count old steps acked closed self.old →
+            LeavesOnly D.moment D.left_since self.old.log.disk self.new.log.disk (λ image. IsGood (rows_of old) (mark_of old) steps acked closed (image 2)) }
         ensures err { OnErr result (self.new ≡ self.old) }
     {
+        let _clock = self.core.clock();
         if let Some(refusal) = self.store.can_take() {
             return Err(refusal);
         }
@@ -117,6 +118,52 @@ impl<D: Disk> World<D> {
         }
     }
 
+    /// One step of a transaction.
+    fn ask(&mut self, event: mvo_core::Event) -> mvo_core::Reply
+        ensures stands { (old : List GroupData) (steps : List Step) (acked closed : List ℕ) → StandsOver D.content D.may_leave D.fault_count old steps acked closed self.old →
+            StandsOver D.content D.may_leave D.fault_count old (steps ++ core.happened event result) acked closed self.new }
+        ensures any_moment { (old : List GroupData) (steps : List Step) (acked closed : List ℕ) → StandsOver D.content D.may_leave D.fault_count old steps acked closed self.old →
+            LeavesOnly D.moment D.left_since self.old.log.disk self.new.log.disk (λ image. IsGood (rows_of old) (mark_of old) steps acked closed (image 2)) }
+    {
+        let _clock = self.core.clock();
+        self.core.step(event)
+    }
+
+    /// Refused: 52 while one is Preparing, 56 if the mark wouldn't rise, 36 if the place is taken, 90.
+    fn close_group(&mut self) -> Result<Closed, Refusal>
+        ensures stands { (old : List GroupData) (steps : List Step) (acked closed : List ℕ) → StandsOver D.content D.may_leave D.fault_count old steps acked closed self.old →
+            MatchResult result (λ c. StandsOver D.content D.may_leave D.fault_count old steps acked (closed ++ c.mark.0 ∷ []) self.new) (λ _. StandsOver D.content D.may_leave D.fault_count old steps acked closed self.new) }
+        ensures any_moment { (old : List GroupData) (steps : List Step) (acked closed : List ℕ) → StandsOver D.content D.may_leave D.fault_count old steps acked closed self.old →
+            LeavesOnly D.moment D.left_since self.old.log.disk self.new.log.disk (λ image. IsGood (rows_of old) (mark_of old) steps acked closed (image 2)) }
+    {
+        let _clock = self.core.clock();
+        let closed = self.core.close_group(&mut self.place)?;
+        Ok(closed)
+    }
+
+    /// Refused as the store's.
+    fn append_body(&mut self) -> Result<(), Refusal>
+        ensures stands { (old : List GroupData) (steps : List Step) (acked closed : List ℕ) → StandsOver D.content D.may_leave D.fault_count old steps acked closed self.old → StandsOver D.content D.may_leave D.fault_count old steps acked closed self.new }
+        ensures any_moment { (old : List GroupData) (steps : List Step) (acked closed : List ℕ) → StandsOver D.content D.may_leave D.fault_count old steps acked closed self.old →
+            LeavesOnly D.moment D.left_since self.old.log.disk self.new.log.disk (λ image. IsGood (rows_of old) (mark_of old) steps acked closed (image 2)) }
+    {
+        let _clock = self.core.clock();
+        self.store.append_body()?;
+        Ok(())
+    }
+
+    /// The mark that is durable now. Refused as the store's.
+    fn append_open(&mut self) -> Result<Stamp, Refusal>
+        ensures stands { (old : List GroupData) (steps : List Step) (acked closed : List ℕ) → StandsOver D.content D.may_leave D.fault_count old steps acked closed self.old →
+            MatchResult result (λ m. StandsOver D.content D.may_leave D.fault_count old steps (acked ++ m.0 ∷ []) closed self.new) (λ _. StandsOver D.content D.may_leave D.fault_count old steps acked closed self.new) }
+        ensures any_moment { (old : List GroupData) (steps : List Step) (acked closed : List ℕ) → StandsOver D.content D.may_leave D.fault_count old steps acked closed self.old →
+            LeavesOnly D.moment D.left_since self.old.log.disk self.new.log.disk (λ image. IsGood (rows_of old) (mark_of old) steps acked closed (image 2)) }
+    {
+        let _clock = self.core.clock();
+        let durable = self.store.append_open()?;
+        Ok(durable.mark())
+    }
+
     /// One step. It leads from a world that stands for its events to one that stands for these and
     /// this one, with its reply; and a stop at any moment of it leaves an image that is good for the
     /// events before it.
@@ -128,8 +175,8 @@ impl<D: Disk> World<D> {
     {
         let _clock = self.core.clock();
         match event {
-            Event::Core(event) => Reply::Core(self.core.step(event)),
-            Event::CloseGroup => match self.core.close_group(&mut self.place) {
+            Event::Core(event) => Reply::Core(self.ask(event)),
+            Event::CloseGroup => match self.close_group() {
                 Ok(closed) => Reply::Closed(closed),
                 Err(refusal) => Reply::Refused(refusal),
             },
@@ -137,16 +184,25 @@ impl<D: Disk> World<D> {
                 Ok(()) => Reply::Taken,
                 Err(refusal) => Reply::Refused(refusal),
             },
-            Event::AppendBody => match self.store.append_body() {
+            Event::AppendBody => match self.append_body() {
                 Ok(()) => Reply::Written,
                 Err(refusal) => Reply::Refused(refusal),
             },
-            Event::AppendOpen => match self.store.append_open() {
-                Ok(durable) => Reply::Durable(durable.mark()),
+            Event::AppendOpen => match self.append_open() {
+                Ok(mark) => Reply::Durable(mark),
                 Err(refusal) => Reply::Refused(refusal),
             },
             Event::Poll(stamp) => Reply::Polled(self.store.mark() >= stamp),
         }
+    }
+
+    // Nothing happens: what a stop may leave stays as it is.
+    fn stay(&mut self)
+        ensures same { self.new ≡ self.old }
+        ensures any_moment { (old : List GroupData) (steps : List Step) (acked closed : List ℕ) → StandsOver D.content D.may_leave D.fault_count old steps acked closed self.old →
+            LeavesOnly D.moment D.left_since self.old.log.disk self.new.log.disk (λ image. IsGood (rows_of old) (mark_of old) steps acked closed (image 2)) }
+    {
+        let _clock = self.core.clock();
     }
 
     /// One step, of an event that is kept: an event whose copy is refused replies 90 and does nothing.
@@ -158,35 +214,10 @@ impl<D: Disk> World<D> {
     {
         match event.copy() {
             Ok(event) => self.step(event),
-            Err(_) => Reply::Refused(Refusal::OutOfMemory),
+            Err(_) => {
+                self.stay();
+                Reply::Refused(Refusal::OutOfMemory)
+            }
         }
     }
-
-    /// Runs the events, one after another. It takes room for its replies first: refused with 90, it
-    /// has run nothing. An event whose copy is refused replies 90 and does nothing.
-    pub fn run(&mut self, events: &[Event]) -> Result<Vec<Reply>, Refusal>
-        ensures replies { IfOk result (λ replies. length replies.items ≡ length events.now) }
-        ensures serial { IfOk result (λ replies. (old : List GroupData) (acked closed : List ℕ) → StandsOver D.content D.may_leave D.fault_count old [] acked closed self.old → IsSerial (rows_of old) (trace_of events.now replies.items)) }
-        ensures stands { IfOk result (λ replies. (old : List GroupData) (acked closed : List ℕ) → StandsOver D.content D.may_leave D.fault_count old [] acked closed self.old →
-            StandsOver D.content D.may_leave D.fault_count old (trace_of events.now replies.items) (acked ++ all_acknowledged events.now replies.items) (closed ++ all_closed events.now replies.items) self.new) }
-        ensures memory { IfErr result (λ r. r ≡ Refusal.OutOfMemory) }
-        ensures err { OnErr result (self.new ≡ self.old) }
-    {
-        let mut replies = Vec::new(self.alloc);
-        replies.reserve(events.len())?;
-        for event in events {
-            let reply = self.step_copy(event);
-            push_reserved(&mut replies, reply);
-        }
-        Ok(replies)
-    }
-}
-
-/// Adds an item where there is room.
-fn push_reserved<T: Drop>(items: &mut Vec<T>, item: T)
-    requires { vec_len items.old < vec_capacity items.old }
-    ensures items { items.new.items ≡ items.old.items ++ item ∷ [] }
-    ensures room { vec_capacity items.old ≤ vec_capacity items.new }
-{
-    items.push(item).unwrap();
 }

@@ -2,7 +2,7 @@ use Rattle.std.proofs.Common.{inl}
 use Rattle.mvo_world.proofs.Moves.{stands_begun}
 use Rattle.mvo_world.proofs.world.World.open.Goals as goal
 
-pub returns-clause-stands : goal.returns-in-Ok-clause-stands
+pub returns-clause-stands : goal.returns-clause-stands
 returns-clause-stands g c = λ old has.
     let st = c.in-Ok.ensures.stands old has in
     let b = c.in-Ok.ensures.begins in

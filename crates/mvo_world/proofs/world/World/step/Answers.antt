@@ -1,54 +1,15 @@
-use Rattle.std.proofs.Common.{rules, ◌≡◌, ◌++◌, ◌∷◌, [], ◌<◌, ◌≤◌, vec_len, vec_capacity, ℕ, List, length, IfOk, IfErr, OnErr, nat_le, ◌+◌, ◌-◌, ◌*◌, ◌/◌, ◌%◌, Bool, true, false, nat_eq, nat_lt, slice_index_or, slice_set, bit_and, bit_or, Fits, w8, w32, w64, Bor, MutBor}
-use Rattle.mvo_model.specs.Trace.{Step, IsSerial}
-use Rattle.mvo_disk.specs.Disk.{AllOf, LeavesOnly}
+use Rattle.std.proofs.Common.{◌≡◌, ◌++◌, ◌∷◌, [], List, ℕ, Option, Result, Ok, Err, Some, None, Bool, true, false, cond, refl, ap, ◌∙◌, subst, sym}
+use Rattle.std.specs.Prelude.{is_some, IfSome, MatchResult, IsErrAnd}
+use Rattle.std.specs.Option.{option_to_list}
 use Rattle.mvo_group.specs.Data.{GroupData}
-use Rattle.mvo_store.specs.Frames.{HasGroups}
+use Rattle.mvo_state.specs.Sound.{IsRising}
 use Rattle.mvo_store.specs.Recovery.{rows_of, mark_of}
-use Rattle.mvo_store.specs.Steps.{IsOpenRefusal}
-use Rattle.mvo_world.specs.Steps.{happened, acknowledged, closed_by, trace_of, all_acknowledged, all_closed}
+use Rattle.mvo_disk.specs.Disk.{LeavesOnly}
+use Rattle.mvo_world.specs.Whole.{Whole}
 use Rattle.mvo_world.specs.Standing.{IsGood, StandsOver}
+use Rattle.mvo_world.proofs.Moves.{good_still}
 use Rattle.mvo_world.proofs.world.World.step.Goals as goal
 
--- src/world.rt:123:5
-pub returns-in-Core-clause-stands : goal.returns-in-Core-clause-stands
-returns-in-Core-clause-stands g c = ?
-
--- src/world.rt:123:5
-pub returns-in-Core-clause-any_moment : goal.returns-in-Core-clause-any_moment
-returns-in-Core-clause-any_moment g c = ?
-
--- src/world.rt:123:5
-pub returns-after-close_group-clause-stands : goal.returns-after-close_group-clause-stands
-returns-after-close_group-clause-stands g c = ?
-
--- src/world.rt:123:5
-pub returns-after-close_group-clause-any_moment : goal.returns-after-close_group-clause-any_moment
-returns-after-close_group-clause-any_moment g c = ?
-
--- src/world.rt:123:5
-pub returns-in-Ok-take_group-clause-any_moment : goal.returns-in-Ok-take_group-clause-any_moment
-returns-in-Ok-take_group-clause-any_moment g c = ?
-
--- src/world.rt:123:5
-pub returns-in-Err-take_group-clause-any_moment : goal.returns-in-Err-take_group-clause-any_moment
-returns-in-Err-take_group-clause-any_moment g c = ?
-
--- src/world.rt:123:5
-pub returns-after-append_body-clause-stands : goal.returns-after-append_body-clause-stands
-returns-after-append_body-clause-stands g c = ?
-
--- src/world.rt:123:5
-pub returns-after-append_body-clause-any_moment : goal.returns-after-append_body-clause-any_moment
-returns-after-append_body-clause-any_moment g c = ?
-
--- src/world.rt:123:5
-pub returns-after-append_open-clause-stands : goal.returns-after-append_open-clause-stands
-returns-after-append_open-clause-stands g c = ?
-
--- src/world.rt:123:5
-pub returns-after-append_open-clause-any_moment : goal.returns-after-append_open-clause-any_moment
-returns-after-append_open-clause-any_moment g c = ?
-
--- src/world.rt:123:5
 pub returns-in-Poll-clause-any_moment : goal.returns-in-Poll-clause-any_moment
-returns-in-Poll-clause-any_moment g c = ?
+returns-in-Poll-clause-any_moment g c = λ old steps acked closed h.
+    good_still g.D.Disk.content g.D.Disk.may_leave g.D.Disk.fault_count g.D.Disk.moment g.D.Disk.left_since g.met.D.Disk.only_now old steps acked closed c.args.self.now _ refl (subst (λ w. IsRising w.core.line) c.self.view_is c.clock-clock.ensures.sound.rising) h

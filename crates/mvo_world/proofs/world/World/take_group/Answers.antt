@@ -9,7 +9,8 @@ use Rattle.mvo_store.specs.Steps.{why_taken, why_not_take}
 use Rattle.mvo_store.specs.declared.log.Log.{Log}
 use Rattle.mvo_world.specs.Whole.{Whole, waiting}
 use Rattle.mvo_world.specs.Standing.{StandsOver}
-use Rattle.mvo_world.proofs.Moves.{stands_moved}
+use Rattle.mvo_state.specs.Sound.{IsRising}
+use Rattle.mvo_world.proofs.Moves.{stands_moved, good_still}
 use Rattle.mvo_world.proofs.world.World.take_group.Goals as goal
 
 some_none : (r : Refusal) → ◌≡◌ {A = Option Refusal} (Some r) None → ⊥
@@ -32,3 +33,15 @@ returns-in-Ok-clause-stands g c = λ old steps acked closed h.
     stands_moved g.D.Disk.content g.D.Disk.may_leave g.D.Disk.fault_count old steps acked closed before _ refl
     (ap (λ (l : Log _). option_to_list l.pending ++ option_to_list c.take.new.self) is ∙ ap (λ p. group ∷ option_to_list p) c.take.ensures.after ∙ sym (ap (λ p. option_to_list p ++ option_to_list c.self.inside.place) none ∙ ap option_to_list place))
     (ap (λ (l : Log _). l.mark) is) safe (c.in-Ok.ensures.safe _ safe.log)
+
+pub returns-in-Some-clause-any_moment : goal.returns-in-Some-clause-any_moment
+returns-in-Some-clause-any_moment g c = λ old steps acked closed h.
+    good_still g.D.Disk.content g.D.Disk.may_leave g.D.Disk.fault_count g.D.Disk.moment g.D.Disk.left_since g.met.D.Disk.only_now old steps acked closed c.args.self.now _ refl (subst (λ w. IsRising w.core.line) c.self.view_is c.clock-clock.ensures.sound.rising) h
+
+pub returns-in_default-take-clause-any_moment : goal.returns-in_default-take-clause-any_moment
+returns-in_default-take-clause-any_moment g c = λ old steps acked closed h.
+    good_still g.D.Disk.content g.D.Disk.may_leave g.D.Disk.fault_count g.D.Disk.moment g.D.Disk.left_since g.met.D.Disk.only_now old steps acked closed c.args.self.now _ (ap (λ w. w.log.disk) c.self.view_is) (subst (λ w. IsRising w.core.line) c.self.view_is c.clock-clock.ensures.sound.rising) h
+
+pub returns-in-Ok-clause-any_moment : goal.returns-in-Ok-clause-any_moment
+returns-in-Ok-clause-any_moment g c = λ old steps acked closed h.
+    good_still g.D.Disk.content g.D.Disk.may_leave g.D.Disk.fault_count g.D.Disk.moment g.D.Disk.left_since g.met.D.Disk.only_now old steps acked closed c.args.self.now _ (ap (λ (l : Log _). l.disk) c.in-Ok.ensures.ok ∙ ap (λ w. w.log.disk) c.self.view_is) (subst (λ w. IsRising w.core.line) c.self.view_is c.clock-clock.ensures.sound.rising) h
