@@ -28,6 +28,10 @@ number_or_none (Some n) = n
 abbrev pub first_or_none : List ℕ → ℕ
 first_or_none ns = number_or_none (newest_of ns)
 
+-- the heads once a link goes, which may be that of the newest number of the key
+abbrev pub beheaded : Map → RowKey → Link → Map
+beheaded heads key gone = cond (eqb gone.newer no_number) (cond (eqb gone.older no_number) (finite_map.remove heads key) (finite_map.insert heads key gone.older)) heads
+
 -- at most so many numbers, from this one on to ever older ones
 abbrev pub walk : List Link → ℕ → ℕ → List ℕ
 walk ls zero n = []

@@ -1,5 +1,5 @@
 -- The numbers of each key, newest first.
-use Rattle.std.specs.Prelude.{◌≡◌, ℕ, List, [], ◌∷◌, Bool, false, not, cond, eqb, IsTrue, Option, None, Some}
+use Rattle.std.specs.Prelude.{◌≡◌, ℕ, List, [], ◌∷◌, Bool, true, false, not, cond, eqb, IsTrue, Option, None, Some}
 use Rattle.std.specs.List.{filter, list_any}
 use Rattle.std.specs.Coded.{Coded, coded_ℕ, coded_list}
 use Rattle.std.specs.FinMap as map
@@ -49,3 +49,7 @@ IsHeld lists n = (key : RowKey) × IsTrue (is_among n (numbers_of lists key))
 -- no key has the number
 pub record IsFresh (lists : Lists) (n : ℕ) : Type 0 where
   pub at : (key : RowKey) → is_among n (numbers_of lists key) ≡ false
+
+-- the answer is the number behind this one, with whichever key has it
+pub record IsOlder (lists : Lists) (n : ℕ) (answer : Option ℕ) : Type 0 where
+  pub at : (key : RowKey) → is_among n (numbers_of lists key) ≡ true → answer ≡ older_of n (numbers_of lists key)

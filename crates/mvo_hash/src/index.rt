@@ -1,10 +1,10 @@
-ghost use Rattle.std.specs.Prelude.{◌≡◌, ◌==◌, ◌∷◌, map, OnOk, OnErr, IfOk, IsTrue, IsSome, if◌then◌else◌};
+ghost use Rattle.std.specs.Prelude.{◌≡◌, ◌∷◌, map, OnOk, OnErr, IfOk, IsTrue, IsSome};
 ghost use Rattle.std.specs.Bool.{OnTrue, OnFalse};
 ghost use Rattle.std.specs.Option.{option_map};
 ghost use Rattle.std.specs.FinMap as finite_map;
-ghost use Rattle.mvo_types.specs.declared.row.RowKey.{RowKey};
-ghost use Rattle.mvo_hash.specs.Links.{no_number};
-ghost use Rattle.mvo_hash.specs.Lists.{numbers_of, with_numbers, newest_of, older_of, without, is_among, IsFresh, IsHeld};
+ghost use Rattle.mvo_hash.specs.Links.{beheaded};
+ghost use Rattle.mvo_hash.specs.Lists.{numbers_of, with_numbers, newest_of, without};
+ghost use Rattle.mvo_hash.specs.Lists.{is_among, IsFresh, IsHeld, IsOlder};
 
 use crate::heads::Heads;
 use crate::link::{Link, NONE, UNHELD, or_none};
@@ -18,8 +18,9 @@ use std::marker::Model;
 /// version to the list of the numbers of its versions.
 ///
 /// Every call takes constant time, or constant time a version that it answers, but for the growth in
-/// `add`, which alone takes memory. A version takes 8 bytes, by its number, and a key its slot in
-/// `Heads`. The last two of the 2^32 numbers are refused as for want of memory.
+/// `add`, which alone takes memory besides the list that `versions_of` makes. Each number up to the
+/// largest takes 8 bytes, and each key its slots in `Heads`. The last two of the 2^32 numbers are
+/// refused as for want of memory.
 #[derive(Drop)]
 pub struct HashIndex {
     heads: Heads,
@@ -72,7 +73,7 @@ impl HashIndex {
     /// The next older version of the same key, whichever key the version has.
     pub fn older(&self, version: VersionNo) -> Option<VersionNo>
         requires { IsHeld self.now version.0 }
-        ensures { (key : RowKey) → IsTrue (is_among version.0 (numbers_of self.now key)) → option_map (λ v. v.0) result ≡ older_of version.0 (numbers_of self.now key) }
+        ensures { IsOlder self.now version.0 (option_map (λ v. v.0) result) }
     {
         let number = self.links[version.index()].older;
         if number == NONE {
@@ -118,7 +119,7 @@ impl HashIndex {
 // Gives a key another newest number, or none, where what goes was its newest.
 fn behead(heads: &mut Heads, key: RowKey, gone: Link)
     requires { IsSome (finite_map.get heads.old key) }
-    ensures { heads.new ≡ (if gone.newer == no_number then (if gone.older == no_number then finite_map.remove heads.old key else finite_map.insert heads.old key gone.older) else heads.old) }
+    ensures { heads.new ≡ beheaded heads.old key gone }
 {
     if gone.newer != NONE {
         return;

@@ -1,3 +1,7 @@
+ghost use Rattle.std.specs.Prelude.{◌≡◌, ◌==◌, IfOk};
+ghost use Rattle.std.specs.List.{list_any};
+ghost use Rattle.mvo_hash.specs.Lists.{numbers_of, is_among};
+
 use crate::HashIndex;
 use mvo_chain::VersionNo;
 use mvo_types::RowKey;
@@ -16,6 +20,10 @@ impl Numbers {
         self.state ^= self.state >> 7;
         self.state ^= self.state << 17;
         if end == 0 { 0 } else { self.state % end }
+    }
+
+    fn version(&mut self) -> VersionNo {
+        VersionNo((self.below(300) & 0xffff) as u32)
     }
 
     fn key(&mut self) -> RowKey {
@@ -40,6 +48,25 @@ fn listed(
     Ok(versions)
 }
 
+fn holds(versions: &[VersionNo], version: VersionNo) -> bool
+    ensures { result ≡ list_any (λ v. version.0 == v.0) versions.now }
+{
+    versions.iter().any(|v| version.0 == v.0)
+}
+
+// Whether the key has the version, by its list.
+fn has(
+    alloc: Global,
+    index: &HashIndex,
+    key: RowKey,
+    version: VersionNo,
+) -> Result<bool, AllocError>
+    ensures { IfOk result (λ b. b ≡ is_among version.0 (numbers_of index.now key)) }
+{
+    let versions = index.versions_of(alloc, key)?;
+    Ok(holds(versions.as_slice(), version))
+}
+
 #[test]
 fn agrees_with_a_plain_list(rt: HostRuntime) -> Result<(), Fail> {
     let alloc = rt.alloc();
@@ -51,14 +78,18 @@ fn agrees_with_a_plain_list(rt: HostRuntime) -> Result<(), Fail> {
         let mut list: Vec<(RowKey, VersionNo)> = Vec::new(alloc);
         for step in 0u32..4000 {
             let key = numbers.key();
-            let number = VersionNo(numbers.below(300) as u32);
+            let number = numbers.version();
             match list.iter().position(|entry| entry.1 == number) {
                 Some(at) if at < list.len() => {
-                    let entry = list.remove(at);
-                    index.remove(entry.0, number);
+                    let owner = list.remove(at).0;
+                    let there = has(alloc, &index, owner, number)?;
+                    assert!(rt; there, "at step {step}");
+                    index.remove(owner, number);
                 }
                 _ => {
                     list.push((key, number))?;
+                    let held = index.is_held(number);
+                    assert!(rt; !held, "at step {step}");
                     index.add(key, number)?;
                 }
             }
@@ -72,11 +103,10 @@ fn agrees_with_a_plain_list(rt: HostRuntime) -> Result<(), Fail> {
                     "at step {step}"
                 );
                 for (i, version) in want.iter().enumerate() {
-                    assert_eq!(rt;
-                        index.older(*version),
-                        want.get(i + 1).copied(),
-                        "at step {step}"
-                    );
+                    let held = index.is_held(*version);
+                    assert!(rt; held, "at step {step}");
+                    let behind = want.get(i + 1).copied();
+                    assert_eq!(rt; index.older(*version), behind, "at step {step}");
                 }
             }
         }
@@ -85,16 +115,24 @@ fn agrees_with_a_plain_list(rt: HostRuntime) -> Result<(), Fail> {
 }
 
 #[test]
-fn the_last_number_is_refused(rt: HostRuntime) -> Result<(), Fail> {
+fn the_last_two_numbers_are_refused(rt: HostRuntime) -> Result<(), Fail> {
     let alloc = rt.alloc();
     let mut index = HashIndex::new(alloc, 1);
     let key = RowKey { table: 3, key: 4 };
-    assert_eq!(rt; index.add(key, VersionNo(u32::MAX - 1)), Err(AllocError));
-    assert_eq!(rt; index.newest(key), None);
-    assert_eq!(rt; index.add(key, VersionNo(9)), Ok(()));
-    assert_eq!(rt; index.newest(key), Some(VersionNo(9)));
-    assert_eq!(rt; index.older(VersionNo(9)), None);
-    index.remove(key, VersionNo(9));
+    for number in [VersionNo(u32::MAX - 1), VersionNo(u32::MAX)] {
+        let held = index.is_held(number);
+        assert!(rt; !held);
+        assert_eq!(rt; index.add(key, number), Err(AllocError));
+        assert_eq!(rt; index.newest(key), None);
+    }
+    let number = VersionNo(9);
+    let held = index.is_held(number);
+    assert!(rt; !held);
+    assert_eq!(rt; index.add(key, number), Ok(()));
+    assert_eq!(rt; index.newest(key), Some(number));
+    let there = has(alloc, &index, key, number)?;
+    assert!(rt; there);
+    index.remove(key, number);
     assert_eq!(rt; index.newest(key), None);
     assert_eq!(rt; index.versions_of(alloc, key)?.len(), 0);
     Ok(())

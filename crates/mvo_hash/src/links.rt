@@ -1,5 +1,6 @@
 ghost use Rattle.std.specs.Prelude.{◌≡◌, ◌≢◌, ◌<◌, ◌≤◌, OnOk, IfOk, length, map};
-ghost use Rattle.mvo_hash.specs.Links.{no_number, unheld, link, first_or_none, walk, IsChain, IsGrown, HasNewer, HasOlder, IsJoined, IsUnlinked};
+ghost use Rattle.mvo_hash.specs.Links.{no_number, unheld, link, first_or_none, walk, IsChain};
+ghost use Rattle.mvo_hash.specs.Links.{IsGrown, HasNewer, HasOlder, IsJoined, IsUnlinked};
 
 use crate::link::{Link, NONE};
 use mvo_chain::VersionNo;

@@ -12,13 +12,17 @@ index-requires-2 c =
     omega (arith, within, c.index.ensures, c.self.inside.links.ok)
 
 pub returns-then-number : goal.returns-then-number
-returns-then-number c key a =
-    let o = c.index-2.result.now.older in
-    sym (read_older c.self.inside.heads c.self.inside.links.items c.args.self.now c.self.invariant c.self.view_is key c.args.version.0 c.index.result c.index-2.result.now c.index.ensures c.index-2.ensures a
-    ∙ cond-true (eqb o no_number) None (Some o) (eq-eqb o no_number c.if-number.true))
+returns-then-number c = record {
+  at = λ key a.
+      let o = c.index-2.result.now.older in
+      sym (read_older c.self.inside.heads c.self.inside.links.items c.args.self.now c.self.invariant c.self.view_is key c.args.version.0 c.index.result c.index-2.result.now c.index.ensures c.index-2.ensures a
+      ∙ cond-true (eqb o no_number) None (Some o) (eq-eqb o no_number c.if-number.true));
+}
 
 pub returns : goal.returns
-returns c key a =
-    let o = c.index-2.result.now.older in
-    sym (read_older c.self.inside.heads c.self.inside.links.items c.args.self.now c.self.invariant c.self.view_is key c.args.version.0 c.index.result c.index-2.result.now c.index.ensures c.index-2.ensures a
-    ∙ cond-false (eqb o no_number) None (Some o) (ne_eqb o no_number c.if-number.false))
+returns c = record {
+  at = λ key a.
+      let o = c.index-2.result.now.older in
+      sym (read_older c.self.inside.heads c.self.inside.links.items c.args.self.now c.self.invariant c.self.view_is key c.args.version.0 c.index.result c.index-2.result.now c.index.ensures c.index-2.ensures a
+      ∙ cond-false (eqb o no_number) None (Some o) (ne_eqb o no_number c.if-number.false));
+}
