@@ -5,3 +5,4 @@ pub mod Puts
 pub mod Tables
 pub mod Unlinks
 pub mod Views
+pub mod Walks

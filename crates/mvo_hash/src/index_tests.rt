@@ -3,9 +3,11 @@ ghost use Rattle.std.specs.List.{list_any};
 ghost use Rattle.mvo_hash.specs.Lists.{numbers_of, is_among};
 
 use crate::HashIndex;
-use mvo_chain::VersionNo;
+use crate::link::Link;
+use mvo_chain::{Version, VersionNo};
 use mvo_types::RowKey;
 use std::alloc::{AllocError, Global};
+use std::mem::size_of;
 use std::test::Fail;
 
 // A generator of pseudo-random numbers with a fixed start.
@@ -136,4 +138,10 @@ fn the_last_two_numbers_are_refused(rt: HostRuntime) -> Result<(), Fail> {
     assert_eq!(rt; index.newest(key), None);
     assert_eq!(rt; index.versions_of(alloc, key)?.len(), 0);
     Ok(())
+}
+
+#[test]
+fn a_version_with_its_links_takes_at_most_96_bytes(rt: HostRuntime) {
+    let slot = size_of::<Option<Version>>() + size_of::<VersionNo>();
+    assert!(rt; slot + size_of::<Link>() <= 96);
 }
