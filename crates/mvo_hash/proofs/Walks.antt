@@ -1,5 +1,5 @@
 -- For callers that go from the newest number of a key to ever older ones: each is among the key's.
-use Rattle.std.proofs.Common.{◌≡◌, ℕ, ◌||◌, eqb, inl, inr, Bool, List, [], ◌∷◌, true, false, Option, None, Some, refl, sym, ap, ◌∙◌}
+use Rattle.std.proofs.Common.{◌≡◌, ℕ, eqb, inl, inr, List, [], ◌∷◌, true, Some, sym, ◌∙◌}
 use Rattle.std.proofs.lemmas.Bool.{cond-true, cond-false, cases_Bool, eq-eqb, or_left, or_right}
 use Rattle.mvo_hash.specs.Lists.{newest_of, older_of, is_among}
 
