@@ -10,7 +10,7 @@ use anyhow::Result;
 use mvo_chain::Chains;
 use slab::Slab;
 use table::Slabs;
-use timing::{Times, time_calls, time_links};
+use timing::{Times, time_calls};
 
 /// How many versions there are at a time.
 const SIZES: [u32; 3] = [10_000, 100_000, 1_000_000];
@@ -35,16 +35,6 @@ fn main(rt: HostRuntime) -> Result<()> {
         }
         report(&rt, "chains", size, &chains)?;
         report(&rt, "slab", size, &slabs)?;
-        let mut steps = Times::new();
-        for _ in 0..rounds {
-            time_links(&rt, rt.alloc(), size, &mut steps)?;
-        }
-        println!(rt; "links {size}: {}", steps.sum)?;
-        eprintln!(rt;
-            "links {size}: linking {} ns, a step {} ns",
-            steps.add / 1_000_000,
-            steps.walk / 1_000_000
-        )?;
     }
     Ok(())
 }

@@ -47,8 +47,6 @@ impl Table for Slabs {
             row,
             begin: Word::stamp(Stamp(7)),
             end: Word::INFINITY,
-            newer: None,
-            older: None,
         })?;
         u32::try_from(number).map_err(|_| AllocError)
     }

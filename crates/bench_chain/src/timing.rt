@@ -2,9 +2,7 @@ ghost use Rattle.std.specs.Prelude.{◌<◌};
 
 use crate::table::Table;
 use anyhow::Result;
-use mvo_chain::{Chains, VersionNo};
-use mvo_types::{Row, RowKey, Stamp};
-use mvo_word::Word;
+use mvo_types::{Row, RowKey};
 use std::alloc::{AllocError, Global};
 use std::rt::Clock;
 use std::time::Instant;
@@ -115,42 +113,4 @@ pub fn time_calls<T: Table>(
     }
     times.refill = since(clock, &start, times.refill)?;
     Ok(())
-}
-
-/// Links the versions of 100 keys, each with its newest last, and goes down each chain.
-pub fn time_links(clock: &impl Clock, alloc: Global, size: u32, times: &mut Times) -> Result<()> {
-    const KEYS: u32 = 100;
-    let mut chains = Chains::new(alloc);
-    for row in rows(alloc, size)? {
-        chains.add(row, Word::stamp(Stamp(7)))?;
-    }
-    let start = Instant::now(clock)?;
-    for number in KEYS..size {
-        link(&mut chains, VersionNo(number), VersionNo(number - KEYS));
-    }
-    times.add = since(clock, &start, times.add)?;
-
-    let start = Instant::now(clock)?;
-    for key in 0..KEYS {
-        let mut next = size.checked_sub(key + 1).map(VersionNo);
-        for _ in 0..size {
-            let Some(number) = next else { break };
-            let Some(version) = chains.get(number) else {
-                break
-            };
-            times.note(version.row.sort);
-            next = version.older;
-        }
-    }
-    times.walk = since(clock, &start, times.walk)?;
-    Ok(())
-}
-
-fn link(chains: &mut Chains, newer: VersionNo, older: VersionNo) {
-    if chains.get(newer).is_some() {
-        chains.set_older(newer, Some(older));
-    }
-    if chains.get(older).is_some() {
-        chains.set_newer(older, Some(newer));
-    }
 }

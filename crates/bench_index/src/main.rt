@@ -5,6 +5,7 @@
 mod keys;
 mod ranges;
 mod stalls;
+mod versions;
 mod watch;
 
 use anyhow::Result;
@@ -14,6 +15,7 @@ const SIZES: [u64; 3] = [10_000, 100_000, 1_000_000];
 fn main(rt: HostRuntime) -> Result<()> {
     for count in SIZES {
         keys::run(&rt, count)?;
+        versions::run(&rt, count)?;
         ranges::run(&rt, count)?;
     }
     stalls::run(&rt, 1_000_000)

@@ -26,9 +26,9 @@ hole_count slots = count_by is_none slots
 abbrev pub with_room : Slots → Slots
 with_room slots = if hole_count slots == 0 then slots ++ None ∷ [] else slots
 
--- a version that was just added: nobody has ended it, and it has no neighbours yet
+-- a version that was just added: nobody has ended it
 abbrev pub added : Line → Held → Version
-added line held = record { row = line; begin = held; end = Infinity; newer = None; older = None }
+added line held = record { row = line; begin = held; end = Infinity }
 
 -- the slots with this at the number
 abbrev pub with_slot : Slots → VersionNo → Option Version → Slots

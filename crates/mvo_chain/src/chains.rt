@@ -81,7 +81,7 @@ impl Chains {
         Ok(())
     }
 
-    /// Puts a version that nobody has ended, without neighbours, into an empty slot.
+    /// Puts a version that nobody has ended into an empty slot.
     pub fn fill(&mut self, row: Row, begin: Word) -> VersionNo
         requires { 0 < hole_count self.old }
         ensures hole { IsHole self.old result }
@@ -92,7 +92,7 @@ impl Chains {
         number
     }
 
-    /// Adds a version that nobody has ended, without neighbours: `make_room`, and then `fill`.
+    /// Adds a version that nobody has ended: `make_room`, and then `fill`.
     pub fn add(&mut self, row: Row, begin: Word) -> Result<VersionNo, AllocError>
         ensures hole { IfOk result (λ number. IsHole (with_room self.old) number) }
         ensures ok { IfOk result (λ number. self.new ≡ with_slot (with_room self.old) number (Some (added row begin))) }
@@ -141,28 +141,6 @@ impl Chains {
     {
         match &mut self.slots[number.index()] {
             Some(version) => version.end = end,
-            None => unreachable!(),
-        }
-    }
-
-    /// Says which version of the key is the next newer one, or that there is none.
-    pub fn set_newer(&mut self, number: VersionNo, newer: Option<VersionNo>)
-        requires { IsSome (version_at self.old number) }
-        ensures { self.new ≡ with_change self.old number (λ version. record version { newer = newer }) }
-    {
-        match &mut self.slots[number.index()] {
-            Some(version) => version.newer = newer,
-            None => unreachable!(),
-        }
-    }
-
-    /// Says which version of the key is the next older one, or that there is none.
-    pub fn set_older(&mut self, number: VersionNo, older: Option<VersionNo>)
-        requires { IsSome (version_at self.old number) }
-        ensures { self.new ≡ with_change self.old number (λ version. record version { older = older }) }
-    {
-        match &mut self.slots[number.index()] {
-            Some(version) => version.older = older,
             None => unreachable!(),
         }
     }

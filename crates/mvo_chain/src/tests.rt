@@ -11,8 +11,6 @@ struct Plain {
     key: u64,
     begin: Held,
     end: Held,
-    newer: Option<VersionNo>,
-    older: Option<VersionNo>,
 }
 
 /// A generator of numbers, by a seed.
@@ -35,14 +33,6 @@ impl Draws {
     fn number(&mut self) -> VersionNo {
         VersionNo(self.below(40).min(39) as u32)
     }
-
-    fn neighbour(&mut self) -> Option<VersionNo> {
-        if self.below(3) == 0 {
-            None
-        } else {
-            Some(self.number())
-        }
-    }
 }
 
 fn row(alloc: Global, key: u64) -> Result<Row, AllocError> {
@@ -58,8 +48,6 @@ fn plain_of(version: &Version) -> Plain {
         key: version.row.key.key,
         begin: version.begin.read(),
         end: version.end.read(),
-        newer: version.newer,
-        older: version.older,
     }
 }
 
@@ -86,8 +74,6 @@ fn add(
         key,
         begin: Held::At(begin),
         end: Held::Infinity,
-        newer: None,
-        older: None,
     };
     if list.iter().any(|slot| slot.is_none()) {
         assert!(rt; list.get(number.index()).is_some_and(|slot| slot.is_none()));
@@ -117,7 +103,7 @@ fn change(
         assert!(rt; false, "the list lacks {number:?}");
         return;
     };
-    match draws.below(5) {
+    match draws.below(3) {
         0 => {
             let by = TxId(draws.below(1000).min(1000));
             chains.claim_end(number, by);
@@ -127,20 +113,10 @@ fn change(
             chains.set_begin(number, Word::INFINITY);
             plain.begin = Held::Infinity;
         }
-        2 => {
+        _ => {
             let stamp = Stamp(draws.below(1000).min(1000));
             chains.set_end(number, Word::stamp(stamp));
             plain.end = Held::At(stamp);
-        }
-        3 => {
-            let newer = draws.neighbour();
-            chains.set_newer(number, newer);
-            plain.newer = newer;
-        }
-        _ => {
-            let older = draws.neighbour();
-            chains.set_older(number, older);
-            plain.older = older;
         }
     }
 }
@@ -192,8 +168,8 @@ fn random_calls_do_what_they_do_to_a_plain_list(rt: HostRuntime) -> Result<(), F
 }
 
 #[test]
-fn a_version_takes_at_most_96_bytes(rt: HostRuntime) {
-    assert!(rt; size_of::<Option<Version>>() + size_of::<VersionNo>() <= 96);
+fn a_version_takes_at_most_88_bytes(rt: HostRuntime) {
+    assert!(rt; size_of::<Option<Version>>() + size_of::<VersionNo>() <= 88);
 }
 
 fn shared<T: Send + Sync>(value: T) -> T {

@@ -16,7 +16,7 @@ impl VersionNo {
     }
 }
 
-/// A version of a row, with its neighbours among the versions of the same key.
+/// A version of a row.
 #[derive(Debug, Drop)]
 pub struct Version {
     /// What the version holds, which never changes.
@@ -25,16 +25,12 @@ pub struct Version {
     pub begin: Word,
     /// Who ended it, and when.
     pub end: Word,
-    /// The next newer version of its key.
-    pub newer: Option<VersionNo>,
-    /// The next older version of its key.
-    pub older: Option<VersionNo>,
 }
 
 impl Version {
     ghost use Rattle.mvo_chain.specs.Slots.{added};
 
-    /// A version that nobody has ended, without neighbours.
+    /// A version that nobody has ended.
     pub(crate) fn added(row: Row, begin: Word) -> Version
         ensures { result ≡ added row begin }
     {
@@ -42,8 +38,6 @@ impl Version {
             row,
             begin,
             end: Word::INFINITY,
-            newer: None,
-            older: None,
         }
     }
 }

@@ -1,3 +1,5 @@
 pub mod Home
+pub mod Links
+pub mod Lists
 pub mod Slots
 pub mod Table

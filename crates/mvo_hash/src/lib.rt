@@ -2,11 +2,17 @@
 #![tactic(auto)]
 
 mod heads;
+mod index;
+mod link;
+mod links;
 mod probe;
 mod seeds;
 mod slot;
 
 pub use heads::Heads;
+pub use index::HashIndex;
 
+#[cfg(test)]
+mod index_tests;
 #[cfg(test)]
 mod tests;

@@ -1,0 +1,55 @@
+-- The numbers of each key, newest first.
+use Rattle.std.specs.Prelude.{◌≡◌, ℕ, List, [], ◌∷◌, Bool, true, false, not, cond, eqb, IsTrue, Option, None, Some}
+use Rattle.std.specs.List.{filter, list_any}
+use Rattle.std.specs.Coded.{Coded, coded_ℕ, coded_list}
+use Rattle.std.specs.FinMap as map
+use Rattle.mvo_types.specs.declared.row.RowKey.{RowKey}
+use Rattle.mvo_types.specs.Keys.{key_cmp, coded_key}
+
+-- a finite map from keys to the numbers of their versions, newest first, where each key has one at least
+abbrev pub Lists : Type 0
+Lists = map.FinMap key_cmp (List ℕ)
+
+abbrev pub coded_lists : Coded Lists
+coded_lists = map.code coded_key (coded_list coded_ℕ)
+
+abbrev pub or_empty : Option (List ℕ) → List ℕ
+or_empty None = []
+or_empty (Some ns) = ns
+
+-- the numbers of a key, newest first
+abbrev pub numbers_of : Lists → RowKey → List ℕ
+numbers_of lists key = or_empty (map.get lists key)
+
+-- the lists with this one at the key, which goes with its last number
+abbrev pub with_numbers : Lists → RowKey → List ℕ → Lists
+with_numbers lists key [] = map.remove lists key
+with_numbers lists key (n ∷ ns) = map.insert lists key (n ∷ ns)
+
+abbrev pub newest_of : List ℕ → Option ℕ
+newest_of [] = None
+newest_of (n ∷ ns) = Some n
+
+abbrev pub is_among : ℕ → List ℕ → Bool
+is_among n ns = list_any (eqb n) ns
+
+-- the numbers without this one, in their order
+abbrev pub without : ℕ → List ℕ → List ℕ
+without n ns = filter (λ m. not (eqb n m)) ns
+
+-- the number that stands behind this one
+abbrev pub older_of : ℕ → List ℕ → Option ℕ
+older_of n [] = None
+older_of n (m ∷ ns) = cond (eqb n m) (newest_of ns) (older_of n ns)
+
+-- some key has the number
+abbrev pub IsHeld : Lists → ℕ → Type 0
+IsHeld lists n = (key : RowKey) × IsTrue (is_among n (numbers_of lists key))
+
+-- no key has the number
+pub record IsFresh (lists : Lists) (n : ℕ) : Type 0 where
+  pub at : (key : RowKey) → is_among n (numbers_of lists key) ≡ false
+
+-- the answer is the number behind this one, with whichever key has it
+pub record IsOlder (lists : Lists) (n : ℕ) (answer : Option ℕ) : Type 0 where
+  pub at : (key : RowKey) → is_among n (numbers_of lists key) ≡ true → answer ≡ older_of n (numbers_of lists key)

@@ -1,0 +1,147 @@
+ghost use Rattle.std.specs.Prelude.{◌≡◌, ◌==◌, IfOk};
+ghost use Rattle.std.specs.List.{list_any};
+ghost use Rattle.mvo_hash.specs.Lists.{numbers_of, is_among};
+
+use crate::HashIndex;
+use crate::link::Link;
+use mvo_chain::{Version, VersionNo};
+use mvo_types::RowKey;
+use std::alloc::{AllocError, Global};
+use std::mem::size_of;
+use std::test::Fail;
+
+// A generator of pseudo-random numbers with a fixed start.
+#[derive(Drop)]
+struct Numbers {
+    state: u64,
+}
+
+impl Numbers {
+    fn below(&mut self, end: u64) -> u64 {
+        self.state ^= self.state << 13;
+        self.state ^= self.state >> 7;
+        self.state ^= self.state << 17;
+        if end == 0 { 0 } else { self.state % end }
+    }
+
+    fn version(&mut self) -> VersionNo {
+        VersionNo((self.below(300) & 0xffff) as u32)
+    }
+
+    fn key(&mut self) -> RowKey {
+        let table = if self.below(2) == 0 { 0 } else { 15 };
+        let key = self.below(4) << 60;
+        RowKey { table, key }
+    }
+}
+
+// The versions of a key in a list with the newest last.
+fn listed(
+    alloc: Global,
+    list: &[(RowKey, VersionNo)],
+    key: RowKey,
+) -> Result<Vec<VersionNo>, AllocError> {
+    let mut versions = Vec::new(alloc);
+    for entry in list.iter().rev() {
+        if entry.0 == key {
+            versions.push(entry.1)?;
+        }
+    }
+    Ok(versions)
+}
+
+fn holds(versions: &[VersionNo], version: VersionNo) -> bool
+    ensures { result ≡ list_any (λ v. version.0 == v.0) versions.now }
+{
+    versions.iter().any(|v| version.0 == v.0)
+}
+
+// Whether the key has the version, by its list.
+fn has(
+    alloc: Global,
+    index: &HashIndex,
+    key: RowKey,
+    version: VersionNo,
+) -> Result<bool, AllocError>
+    ensures { IfOk result (λ b. b ≡ is_among version.0 (numbers_of index.now key)) }
+{
+    let versions = index.versions_of(alloc, key)?;
+    Ok(holds(versions.as_slice(), version))
+}
+
+#[test]
+fn agrees_with_a_plain_list(rt: HostRuntime) -> Result<(), Fail> {
+    let alloc = rt.alloc();
+    for seed in 0u64..3 {
+        let mut numbers = Numbers {
+            state: 88172645463325252,
+        };
+        let mut index = HashIndex::new(alloc, seed);
+        let mut list: Vec<(RowKey, VersionNo)> = Vec::new(alloc);
+        for step in 0u32..4000 {
+            let key = numbers.key();
+            let number = numbers.version();
+            match list.iter().position(|entry| entry.1 == number) {
+                Some(at) if at < list.len() => {
+                    let owner = list.remove(at).0;
+                    let there = has(alloc, &index, owner, number)?;
+                    assert!(rt; there, "at step {step}");
+                    index.remove(owner, number);
+                }
+                _ => {
+                    list.push((key, number))?;
+                    let held = index.is_held(number);
+                    assert!(rt; !held, "at step {step}");
+                    index.add(key, number)?;
+                }
+            }
+            for shown in [key, numbers.key()] {
+                let want = listed(alloc, list.as_slice(), shown)?;
+                let versions = index.versions_of(alloc, shown)?;
+                assert_eq!(rt; versions.as_slice(), want.as_slice(), "at step {step}");
+                assert_eq!(rt;
+                    index.newest(shown),
+                    want.first().copied(),
+                    "at step {step}"
+                );
+                for (i, version) in want.iter().enumerate() {
+                    let held = index.is_held(*version);
+                    assert!(rt; held, "at step {step}");
+                    let behind = want.get(i + 1).copied();
+                    assert_eq!(rt; index.older(*version), behind, "at step {step}");
+                }
+            }
+        }
+    }
+    Ok(())
+}
+
+#[test]
+fn the_last_two_numbers_are_refused(rt: HostRuntime) -> Result<(), Fail> {
+    let alloc = rt.alloc();
+    let mut index = HashIndex::new(alloc, 1);
+    let key = RowKey { table: 3, key: 4 };
+    for number in [VersionNo(u32::MAX - 1), VersionNo(u32::MAX)] {
+        let held = index.is_held(number);
+        assert!(rt; !held);
+        assert_eq!(rt; index.add(key, number), Err(AllocError));
+        assert_eq!(rt; index.newest(key), None);
+    }
+    let number = VersionNo(9);
+    let held = index.is_held(number);
+    assert!(rt; !held);
+    assert_eq!(rt; index.add(key, number), Ok(()));
+    assert_eq!(rt; index.newest(key), Some(number));
+    let there = has(alloc, &index, key, number)?;
+    assert!(rt; there);
+    index.remove(key, number);
+    assert_eq!(rt; index.newest(key), None);
+    assert_eq!(rt; index.versions_of(alloc, key)?.len(), 0);
+    Ok(())
+}
+
+#[test]
+fn a_version_with_its_links_takes_at_most_96_bytes(rt: HostRuntime) {
+    let slot = size_of::<Option<Version>>() + size_of::<VersionNo>();
+    assert!(rt; slot + size_of::<Link>() <= 96);
+}
