@@ -144,7 +144,7 @@ returns-clause-group c =
     let is : c.unwrap.result ≡ group_of f.marks.closed.0 c.mark_of-mark.result.0 c.in_ok-records.records.items = some_same _ _ (sym c.unwrap.ensures ∙ some_group c.new.result _ _ c.new.ensures (made_now c).rules) in (
       subst (λ (s : State). IsNextGroup s c.unwrap.result) (before c)
           (subst (IsNextGroup (state_of f.base f.marks f.clock f.running.items f.tale.items None f.over.items)) (sym is) (made_now c).next),
-    subst KeepsRules (sym is) (made_now c).rules,
+      subst KeepsRules (sym is) (made_now c).rules,
       ap (λ (g : GroupData). g.prev) is,
       ap (λ (g : GroupData). g.mark) is,
     )
