@@ -3,3 +3,4 @@ pub mod Chain
 pub mod Closed
 pub mod Stood
 pub mod Moves
+pub mod Runs

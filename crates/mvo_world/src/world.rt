@@ -1,3 +1,5 @@
+ghost use Rattle.std.specs.Prelude.{◌≡◌, ◌++◌, ◌∷◌, [], ◌<◌, ◌≤◌, vec_len, vec_capacity};
+
 use crate::event::Event;
 use crate::reply::Reply;
 use mvo_core::{Closed, Core};
@@ -220,4 +222,33 @@ impl<D: Disk> World<D> {
             }
         }
     }
+
+    /// Runs the events, one after another. It takes room for its replies first: refused with 90, it
+    /// has run nothing. An event whose copy is refused replies 90 and does nothing.
+    pub fn run(&mut self, events: &[Event]) -> Result<Vec<Reply>, Refusal>
+        ensures replies { IfOk result (λ replies. length replies.items ≡ length events.now) }
+        ensures serial { IfOk result (λ replies. (old : List GroupData) (acked closed : List ℕ) → StandsOver D.content D.may_leave D.fault_count old [] acked closed self.old → IsSerial (rows_of old) (trace_of events.now replies.items)) }
+        ensures stands { IfOk result (λ replies. (old : List GroupData) (acked closed : List ℕ) → StandsOver D.content D.may_leave D.fault_count old [] acked closed self.old →
+            StandsOver D.content D.may_leave D.fault_count old (trace_of events.now replies.items) (acked ++ all_acknowledged events.now replies.items) (closed ++ all_closed events.now replies.items) self.new) }
+        ensures memory { IfErr result (λ r. r ≡ Refusal.OutOfMemory) }
+        ensures err { OnErr result (self.new ≡ self.old) }
+    {
+        let mut replies = Vec::new(self.alloc);
+        replies.reserve(events.len())?;
+        for event in events {
+            let reply = self.step_copy(event);
+            push_reserved(&mut replies, reply);
+        }
+        let _clock = self.core.clock();
+        Ok(replies)
+    }
+}
+
+/// Adds an item where there is room.
+fn push_reserved<T: Drop>(items: &mut Vec<T>, item: T)
+    requires { vec_len items.old < vec_capacity items.old }
+    ensures items { items.new.items ≡ items.old.items ++ item ∷ [] }
+    ensures room { vec_capacity items.old ≤ vec_capacity items.new }
+{
+    items.push(item).unwrap();
 }
