@@ -1,4 +1,4 @@
-ghost use Rattle.std.specs.Prelude.{◌≡◌, IfNone, IfErr};
+ghost use Rattle.std.specs.Prelude.{◌≡◌, false, IfNone, IfErr};
 
 use crate::bound::BoundTx;
 use crate::flush::flush;
@@ -177,7 +177,9 @@ impl Driver {
     }
 
     /// Whether the store's mark is at least the end of the transaction, which may be none yet.
-    fn poll(&mut self, bound: BoundTx) -> Reply {
+    fn poll(&mut self, bound: BoundTx) -> Reply
+        ensures { bound.end ≡ None → result ≡ Reply.Polled false }
+    {
         match bound.end {
             Some(end) => self.world.step(Event::Poll(end)),
             None => Reply::Polled(false),

@@ -1,6 +1,5 @@
 ghost use Rattle.std.specs.Prelude.{◌≡◌, ℕ, List, OnErr};
 ghost use Rattle.mvo_types.specs.declared.ids.TxId.{TxId};
-ghost use Rattle.mvo_types.specs.declared.refusal.Refusal.{Refusal};
 ghost use Rattle.mvo_cli.specs.Bound.{bound_by, Binds, Ends, KeepsBound};
 
 use crate::bound::BoundTx;
@@ -41,7 +40,6 @@ impl Names {
     /// nothing.
     pub fn begin<D: Disk>(&mut self, name: &str, world: &mut World<D>) -> Result<Reply, AllocError>
         ensures began { (tx : TxId) → result ≡ Ok (Reply.Core (CoreReply.Began tx)) → Binds self.old self.new name.now tx }
-        ensures refused { (r : Refusal) → result ≡ Ok (Reply.Core (CoreReply.Refused r)) → KeepsBound self.old self.new }
         ensures err { OnErr result (KeepsBound self.old self.new) }
         ensures world { OnErr result (world.new ≡ world.old) }
     {
