@@ -190,7 +190,7 @@ fn a_group_has_1024_records_at_most(rt: HostRuntime) -> Result<(), Fail> {
     let alloc = rt.alloc();
     let mut script = Vec::new(alloc);
     let mut expected = Vec::new(alloc);
-    for place in 1..=1_025 {
+    for place in 1..1_026_u64 {
         let (begin, end) = (2 * place - 1, 2 * place);
         writeln!(
             script,
