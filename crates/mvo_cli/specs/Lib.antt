@@ -1,4 +1,5 @@
 pub mod Words
 pub mod Asked
+pub mod Begun
 pub mod Bound
 pub mod Status

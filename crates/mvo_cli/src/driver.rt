@@ -1,30 +1,40 @@
-ghost use Rattle.std.specs.Prelude.{◌≡◌, IfNone};
+ghost use Rattle.std.specs.Prelude.{◌≡◌, false, IfNone, IfErr};
 
+use crate::bound::BoundTx;
+use crate::flush::flush;
 use crate::line::{Line, RowText};
 use crate::names::Names;
 use crate::reply::LineReply;
-use mvo_core::{Core, Event, Reply};
-use mvo_types::{Refusal, Row, Rows, Stamp, TxId};
+use mvo_core::{Event as CoreEvent, Reply as CoreReply};
+use mvo_disk::MemDisk;
+use mvo_store::format;
+use mvo_types::{Refusal, Row, TxId};
+use mvo_world::{Event, Reply, World};
 use std::alloc::Global;
 
-/// Answers the lines of a script, one after another, over a fresh store in memory.
+/// Answers the lines of a script, one after another, over a fresh store on a disk in memory.
 #[derive(Drop)]
 pub struct Driver {
     alloc: Global,
-    core: Core,
+    world: World<MemDisk>,
     names: Names,
 }
 
 impl Driver {
     /// A driver with the clock at 0, no rows and no names. Refused with 90 alone.
-    pub fn new(alloc: Global) -> Result<Driver, Refusal> {
-        let core = Core::open(alloc, Rows::new(alloc), Stamp(0))?;
+    pub fn new(alloc: Global) -> Result<Driver, Refusal>
+        ensures { IfErr result (λ r. r ≡ Refusal.OutOfMemory) }
+    {
+        let world = fresh_world(alloc)?;
         let names = Names::new(alloc);
-        Ok(Driver { alloc, core, names })
+        Ok(Driver {
+            alloc,
+            world,
+            names,
+        })
     }
 
-    /// The reply to a line, without its line feed. A bad line changes nothing, and so does one
-    /// for which memory is refused: its reply is `refused 90`.
+    /// The reply to a line, without its line feed. A bad line changes nothing.
     pub fn answer(&mut self, bytes: &[u8]) -> LineReply
         ensures { result ≡ LineReply.BadLine → self.new ≡ self.old }
     {
@@ -45,7 +55,7 @@ impl Driver {
             Line::Begin(name) => Some(self.begin(name)),
             Line::Read(name, key) => {
                 let tx = self.tx_of(name)?;
-                Some(self.core.step(Event::Read(tx, key)))
+                Some(self.step(CoreEvent::Read(tx, key)))
             }
             Line::Insert(name, row) => {
                 let tx = self.tx_of(name)?;
@@ -53,38 +63,53 @@ impl Driver {
             }
             Line::Precommit(name) => {
                 let tx = self.tx_of(name)?;
-                Some(self.core.step(Event::Precommit(tx)))
+                Some(self.step(CoreEvent::Precommit(tx)))
             }
             Line::Validate(name) => {
                 let tx = self.tx_of(name)?;
-                Some(self.core.step(Event::Validate(tx)))
+                Some(self.step(CoreEvent::Validate(tx)))
             }
             Line::Settle(name) => {
                 let tx = self.tx_of(name)?;
-                Some(self.core.step(Event::Settle(tx)))
+                Some(self.settle(name, tx))
             }
             Line::Rollback(name) => {
                 let tx = self.tx_of(name)?;
-                Some(self.core.step(Event::Rollback(tx)))
+                Some(self.step(CoreEvent::Rollback(tx)))
             }
             Line::Finish(name) => {
                 let tx = self.tx_of(name)?;
-                Some(self.core.step(Event::Finish(tx)))
+                Some(self.step(CoreEvent::Finish(tx)))
             }
             Line::Commit(name) => {
                 let tx = self.tx_of(name)?;
-                Some(self.commit(tx))
+                Some(self.commit(name, tx))
             }
+            Line::Poll(name) => {
+                let bound = self.names.get(name)?;
+                Some(self.poll(bound))
+            }
+            Line::Group => Some(self.world.step(Event::CloseGroup)),
+            Line::Take => Some(self.world.step(Event::TakeGroup)),
+            Line::Body => Some(self.world.step(Event::AppendBody)),
+            Line::Open => Some(self.world.step(Event::AppendOpen)),
+            Line::Flush => Some(flush(&mut self.world)),
         }
     }
 
     /// The transaction that the name is bound to.
     fn tx_of(&self, name: &str) -> Option<TxId> {
-        self.names.get(name)
+        let bound = self.names.get(name)?;
+        Some(bound.tx)
+    }
+
+    /// One step of a transaction.
+    fn step(&mut self, event: CoreEvent) -> Reply {
+        self.world.step(Event::Core(event))
     }
 
     fn begin(&mut self, name: &str) -> Reply {
-        match self.names.begin(name, &mut self.core) {
+        match self.names.begin(name, &mut self.world) {
             Ok(reply) => reply,
             Err(_) => Reply::Refused(Refusal::OutOfMemory),
         }
@@ -94,28 +119,37 @@ impl Driver {
         let RowText { key, sort, digits } = row;
         // The digits are even in number and hexadecimal, so only memory can be lacking.
         match hex::decode(self.alloc, digits) {
-            Ok(bytes) => self.core.step(Event::Insert(tx, Row { key, sort, bytes })),
+            Ok(bytes) => self.step(CoreEvent::Insert(tx, Row { key, sort, bytes })),
             Err(_) => Reply::Refused(Refusal::OutOfMemory),
         }
     }
 
+    /// Settles the transaction that the name is bound to, and notes its end for the name.
+    fn settle(&mut self, name: &str, tx: TxId) -> Reply {
+        let settled = self.step(CoreEvent::Settle(tx));
+        if let Reply::Core(CoreReply::Committed(end)) = settled {
+            self.names.note_end(name, end);
+        }
+        settled
+    }
+
     /// Precommit, validation to Valid, one settle, and after a commit finishing to Done. It stops
     /// at the first refusal.
-    fn commit(&mut self, tx: TxId) -> Reply {
-        match self.core.step(Event::Precommit(tx)) {
-            Reply::Preparing(_) => {}
+    fn commit(&mut self, name: &str, tx: TxId) -> Reply {
+        match self.step(CoreEvent::Precommit(tx)) {
+            Reply::Core(CoreReply::Preparing(_)) => {}
             refused => return refused,
         }
         match self.validate(tx) {
-            Reply::Valid => {}
+            Reply::Core(CoreReply::Valid) => {}
             refused => return refused,
         }
-        let settled = self.core.step(Event::Settle(tx));
-        let Reply::Committed(_) = settled else {
+        let settled = self.settle(name, tx);
+        let Reply::Core(CoreReply::Committed(_)) = settled else {
             return settled;
         };
         match self.finish(tx) {
-            Reply::Done => settled,
+            Reply::Core(CoreReply::Done) => settled,
             refused => refused,
         }
     }
@@ -123,22 +157,46 @@ impl Driver {
     /// Checks entries while more are left.
     fn validate(&mut self, tx: TxId) -> Reply {
         for _ in 0..u64::MAX {
-            match self.core.step(Event::Validate(tx)) {
-                Reply::More => {}
+            match self.step(CoreEvent::Validate(tx)) {
+                Reply::Core(CoreReply::More) => {}
                 reply => return reply,
             }
         }
-        Reply::More
+        Reply::Core(CoreReply::More)
     }
 
     /// Finishes while more is left.
     fn finish(&mut self, tx: TxId) -> Reply {
         for _ in 0..u64::MAX {
-            match self.core.step(Event::Finish(tx)) {
-                Reply::More => {}
+            match self.step(CoreEvent::Finish(tx)) {
+                Reply::Core(CoreReply::More) => {}
                 reply => return reply,
             }
         }
-        Reply::More
+        Reply::Core(CoreReply::More)
+    }
+
+    /// Whether the store's mark is at least the end of the transaction, which may be none yet.
+    fn poll(&mut self, bound: BoundTx) -> Reply
+        ensures { bound.end ≡ None → result ≡ Reply.Polled false }
+    {
+        match bound.end {
+            Some(end) => self.world.step(Event::Poll(end)),
+            None => Reply::Polled(false),
+        }
+    }
+}
+
+/// A world over a fresh disk in memory. Such a disk fails for want of memory alone.
+fn fresh_world(alloc: Global) -> Result<World<MemDisk>, Refusal>
+    ensures { IfErr result (λ r. r ≡ Refusal.OutOfMemory) }
+{
+    let disk = MemDisk::new(alloc)?;
+    let Ok(disk) = format(disk) else {
+        return Err(Refusal::OutOfMemory);
+    };
+    match World::open(alloc, disk) {
+        Ok(world) => Ok(world),
+        Err(_) => Err(Refusal::OutOfMemory),
     }
 }

@@ -3,8 +3,10 @@
 #![tactic(auto)]
 
 mod asked;
+mod bound;
 mod driver;
 mod fault;
+mod flush;
 mod line;
 mod names;
 mod program;

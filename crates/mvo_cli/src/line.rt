@@ -26,6 +26,18 @@ pub enum Line<'a> {
     Finish(&'a str),
     /// `commit NAME`
     Commit(&'a str),
+    /// `poll NAME`
+    Poll(&'a str),
+    /// `group`
+    Group,
+    /// `take`
+    Take,
+    /// `body`
+    Body,
+    /// `open`
+    Open,
+    /// `flush`
+    Flush,
 }
 
 /// A row as a line gives it.
@@ -55,6 +67,18 @@ impl<'a> Line<'a> {
 
 /// The line with this first word, from the words after it.
 fn line_of<'a>(first: &str, rest: &mut str::Split<'a, char>) -> Option<Line<'a>> {
+    match first {
+        "group" => Some(Line::Group),
+        "take" => Some(Line::Take),
+        "body" => Some(Line::Body),
+        "open" => Some(Line::Open),
+        "flush" => Some(Line::Flush),
+        _ => named_line_of(first, rest),
+    }
+}
+
+/// The line of a transaction with this first word, from the words after it.
+fn named_line_of<'a>(first: &str, rest: &mut str::Split<'a, char>) -> Option<Line<'a>> {
     let name = name_of(rest.next()?)?;
     match first {
         "begin" => Some(Line::Begin(name)),
@@ -66,6 +90,7 @@ fn line_of<'a>(first: &str, rest: &mut str::Split<'a, char>) -> Option<Line<'a>>
         "rollback" => Some(Line::Rollback(name)),
         "finish" => Some(Line::Finish(name)),
         "commit" => Some(Line::Commit(name)),
+        "poll" => Some(Line::Poll(name)),
         _ => None,
     }
 }

@@ -1,9 +1,12 @@
 ghost use Rattle.std.specs.Prelude.{◌≡◌, ℕ, List, OnErr};
 ghost use Rattle.mvo_types.specs.declared.ids.TxId.{TxId};
-ghost use Rattle.mvo_cli.specs.Bound.{tx_by, Binds, KeepsBound};
+ghost use Rattle.mvo_cli.specs.Bound.{bound_by, Binds, Ends, KeepsBound};
 
-use mvo_core::{Core, Event, Reply};
-use mvo_types::TxId;
+use crate::bound::BoundTx;
+use mvo_core::Reply as CoreReply;
+use mvo_disk::Disk;
+use mvo_types::{Stamp, TxId};
+use mvo_world::{Event, Reply, World};
 use std::alloc::{AllocError, Global};
 use std::collections::BTreeMap;
 
@@ -11,13 +14,13 @@ use std::collections::BTreeMap;
 #[derive(Drop)]
 pub struct Names {
     alloc: Global,
-    bound: BTreeMap<String, TxId>,
+    bound: BTreeMap<String, BoundTx>,
 }
 
 impl Names {
     /// No names.
     pub fn new(alloc: Global) -> Names
-        ensures { (q : List ℕ) → tx_by result q ≡ None }
+        ensures { (q : List ℕ) → bound_by result q ≡ None }
     {
         Names {
             alloc,
@@ -25,27 +28,38 @@ impl Names {
         }
     }
 
-    /// The transaction that the name is bound to, if there is one.
-    pub fn get(&self, name: &str) -> Option<TxId>
-        ensures { result ≡ tx_by self.now name.now }
+    /// What the name is bound to, if it is bound.
+    pub fn get(&self, name: &str) -> Option<BoundTx>
+        ensures { result ≡ bound_by self.now name.now }
     {
         self.bound.get(name).copied()
     }
 
-    /// Begins a transaction, and binds the name to it. Where that is refused, the name stays as
-    /// it was. Room for the name is taken first: an error has begun nothing.
-    pub fn begin(&mut self, name: &str, core: &mut Core) -> Result<Reply, AllocError>
-        ensures began { (tx : TxId) → result ≡ Ok (Reply.Began tx) → Binds self.old self.new name.now tx }
+    /// Begins a transaction, and binds the name to it, as one that isn't Committed. Where that is
+    /// refused, the name stays as it was. Room for the name is taken first: an error has begun
+    /// nothing.
+    pub fn begin<D: Disk>(&mut self, name: &str, world: &mut World<D>) -> Result<Reply, AllocError>
+        ensures began { (tx : TxId) → result ≡ Ok (Reply.Core (CoreReply.Began tx)) → Binds self.old self.new name.now tx }
         ensures err { OnErr result (KeepsBound self.old self.new) }
-        ensures core { OnErr result (core.new ≡ core.old) }
+        ensures world { OnErr result (world.new ≡ world.old) }
     {
         let name = String::from_str(self.alloc, name)?;
         let place = self.bound.entry(name)?;
-        let reply = core.step(Event::Begin);
-        let Reply::Began(tx) = reply else {
+        let reply = world.step(Event::Core(mvo_core::Event::Begin));
+        let Reply::Core(CoreReply::Began(tx)) = reply else {
             return Ok(reply);
         };
-        *place.or_insert(tx) = tx;
-        Ok(Reply::Began(tx))
+        let bound = BoundTx::begun(tx);
+        *place.or_insert(bound) = bound;
+        Ok(Reply::Core(CoreReply::Began(tx)))
+    }
+
+    /// Notes the end timestamp of the transaction that the name is bound to, which is Committed.
+    pub fn note_end(&mut self, name: &str, end: Stamp)
+        ensures { Ends self.old self.new name.now end }
+    {
+        if let Some(bound) = self.bound.get_mut(name) {
+            bound.end = Some(end);
+        }
     }
 }

@@ -1,5 +1,6 @@
-use mvo_core::Reply;
+use mvo_core::Closed;
 use mvo_types::{Answer, Row};
+use mvo_world::Reply;
 use std::fmt;
 
 /// What is answered to a line of a script. It is printed as the reply line, without a line feed.
@@ -22,6 +23,24 @@ impl fmt::Display for LineReply {
 
 /// Writes the text of a reply.
 fn write_reply<W: fmt::Write>(f: &mut fmt::Formatter<W>, reply: &Reply) -> fmt::Result {
+    match reply {
+        Reply::Core(reply) => write_core_reply(f, reply),
+        Reply::Closed(Closed { prev, mark }) => write!(f, "closed {prev} {mark}"),
+        Reply::Taken => write!(f, "taken"),
+        Reply::Written => write!(f, "written"),
+        Reply::Durable(mark) => write!(f, "durable {mark}"),
+        Reply::Polled(true) => write!(f, "yes"),
+        Reply::Polled(false) => write!(f, "no"),
+        Reply::Refused(refusal) => write!(f, "{refusal}"),
+    }
+}
+
+/// Writes the text of a reply to a step of a transaction.
+fn write_core_reply<W: fmt::Write>(
+    f: &mut fmt::Formatter<W>,
+    reply: &mvo_core::Reply,
+) -> fmt::Result {
+    use mvo_core::Reply;
     match reply {
         Reply::Began(id) => write!(f, "began {id}"),
         Reply::Answered(answer) => write_answer(f, answer),

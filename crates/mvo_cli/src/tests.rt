@@ -1,3 +1,5 @@
+mod durable;
+
 use crate::{Fault, ScriptError, Task, command, run_script};
 use clap::error::ErrorKind;
 use std::alloc::{AllocError, Global};
@@ -47,7 +49,7 @@ fn a_commit_stops_at_the_first_refusal(rt: HostRuntime) -> Result<(), Fail> {
 }
 
 /// Lines that are none of a script, where t1 was begun.
-const BAD_LINES: [&[u8]; 46] = [
+const BAD_LINES: [&[u8]; 57] = [
     b"",
     b" ",
     b"begin",
@@ -94,6 +96,17 @@ const BAD_LINES: [&[u8]; 46] = [
     b"insert t1 0 5 50 61 61",
     b"delete t1 0 5",
     b"# a comment",
+    b"poll",
+    b"poll t2",
+    b"poll t1 0",
+    b"group t1",
+    b"group ",
+    b"take t1",
+    b"body t1",
+    b"open t1",
+    b"flush t1",
+    b"Flush",
+    b"durable",
 ];
 
 #[test]
