@@ -14,8 +14,8 @@ use crate::look::{copy_of, is_shown, next_change, shown};
 use crate::next_records::{mark_of, next_records};
 use crate::preparing::PreparingTx;
 use crate::refuse::{
-    count_unfinished, insert_refusal, is_preparing, not_active, not_ended, not_preparing, place_of,
-    place_over, read_refusal,
+    count_unfinished, has_preparing, insert_refusal, is_preparing, not_active, not_ended,
+    not_preparing, place_of, place_over, read_refusal,
 };
 use crate::reply::{Finishing, Settlement, Validation, checked_answer, insert_answer};
 use crate::tale::Tale;
@@ -269,7 +269,7 @@ impl Core {
         ensures ok { IfOk result (λ closed. self.new ≡ closed_at self.old closed.mark.0) }
         ensures err { OnErr result ((self.new ≡ self.old) × (place.new ≡ place.old)) }
     {
-        if self.preparing.is_some() {
+        if has_preparing(&self.preparing) {
             return Err(Refusal::Busy);
         }
         let prev = self.marks.closed;

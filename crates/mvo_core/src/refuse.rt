@@ -40,6 +40,13 @@ pub fn is_over(over: &[OverTx], id: u64) -> bool
     over.iter().any(|tx| tx.id.0 == id)
 }
 
+/// Whether any transaction is Preparing.
+pub fn has_preparing(preparing: &Option<PreparingTx>) -> bool
+    ensures { result ≡ is_some preparing.now }
+{
+    preparing.is_some()
+}
+
 /// Whether a transaction is Preparing.
 pub fn is_preparing(preparing: &Option<PreparingTx>, id: u64) -> bool
     ensures { result ≡ one_is (λ p. p.id == id) preparing.now }

@@ -8,3 +8,6 @@ mod world;
 pub use event::Event;
 pub use reply::Reply;
 pub use world::World;
+
+#[cfg(test)]
+mod tests;

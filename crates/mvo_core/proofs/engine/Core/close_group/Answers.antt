@@ -14,7 +14,7 @@ use Rattle.mvo_core.specs.Groups.{IsNextGroup, end_in, why_not_closed}
 use Rattle.mvo_core.proofs.Refusing.{refuse, no_memory, stands_now, stands_not}
 use Rattle.mvo_core.proofs.Closing.{IsDue, IsMade, part_is, why_closed, due_now, kept_closed, group_made}
 use Rattle.mvo_core.proofs.engine.Core.close_group.Goals as goal
-use Rattle.mvo_core.proofs.engine.Core.close_group.Goals.{Then-eq, Then-is_some-2, After-next_records-arg-1, After-new, After-self-1}
+use Rattle.mvo_core.proofs.engine.Core.close_group.Goals.{Then-eq, Then-is_some, After-next_records-arg-1, After-new, After-self-1}
 
 is_none : {X : Type 0} (o : Option X) → is_some o ≡ false → o ≡ None
 is_none None e = refl
@@ -26,26 +26,26 @@ returns-then-eq-clause-refused c =
     let full = is_some c.args.place.now in
     refuse (why_not_closed c.args.self.now full) NothingToDo
     (ap (λ (s : State). why_not_closed s full) (sym c.self.view_is)
-    ∙ ap (λ (o : Option Slot). why_not_closed (state_of f.base f.marks f.clock f.running.items f.tale.items o f.over.items) full) (is_none f.preparing (sym c.if-is_some.ensures))
+    ∙ ap (λ (o : Option Slot). why_not_closed (state_of f.base f.marks f.clock f.running.items f.tale.items o f.over.items) full) (is_none f.preparing (sym c.if-has_preparing.ensures))
     ∙ why_closed f.base f.marks f.clock f.running.items f.tale.items f.over.items full c.self.invariant.kept.stored
     ∙ stands_now (f.clock == f.marks.closed.0) NothingToDo _ (sym c.if-eq.ensures))
 
-pub returns-then-is_some-2-clause-refused : goal.returns-then-is_some-2-clause-refused
-returns-then-is_some-2-clause-refused c =
+pub returns-then-is_some-clause-refused : goal.returns-then-is_some-clause-refused
+returns-then-is_some-clause-refused c =
     let f = c.self.inside in
     let full = is_some c.args.place.now in
     refuse (why_not_closed c.args.self.now full) RingFull
     (ap (λ (s : State). why_not_closed s full) (sym c.self.view_is)
-    ∙ ap (λ (o : Option Slot). why_not_closed (state_of f.base f.marks f.clock f.running.items f.tale.items o f.over.items) full) (is_none f.preparing (sym c.if-is_some.ensures))
+    ∙ ap (λ (o : Option Slot). why_not_closed (state_of f.base f.marks f.clock f.running.items f.tale.items o f.over.items) full) (is_none f.preparing (sym c.if-has_preparing.ensures))
     ∙ why_closed f.base f.marks f.clock f.running.items f.tale.items f.over.items full c.self.invariant.kept.stored
     ∙ stands_not (f.clock == f.marks.closed.0) NothingToDo _ (sym c.if-eq.ensures)
-    ∙ stands_now full RingFull None (sym c.if-is_some-2.ensures))
+    ∙ stands_now full RingFull None (sym c.if-is_some.ensures))
 
 -- the commits that are due
 due : (c : After-next_records-arg-1) → IsDue (state_of c.self.inside.base c.self.inside.marks c.self.inside.clock c.self.inside.running.items c.self.inside.tale.items None c.self.inside.over.items) c.self.inside.clock c.self.inside.tale.items c.self.inside.writers.items c.self.inside.grouped
 due c =
     let f = c.self.inside in
-    let none = is_none f.preparing (sym c.if-is_some.ensures) in
+    let none = is_none f.preparing (sym c.if-has_preparing.ensures) in
     due_now f.base f.marks f.clock f.running.items f.tale.items f.writers.items f.grouped f.over.items (vec_capacity f.tale) (vec_capacity f.writers) (vec_capacity f.over)
     (subst (λ (o : Option Slot). IsKept (state_of f.base f.marks f.clock f.running.items f.tale.items o f.over.items) f.tale.items o (vec_capacity f.tale) (vec_capacity f.over)) none c.self.invariant.kept)
     (subst (λ (o : Option Slot). IsIndexed f.tale.items f.writers.items o (vec_capacity f.writers)) none c.self.invariant.indexed)
@@ -73,10 +73,10 @@ returns-in_err-records-clause-refused c =
     let full = is_some c.args.place.now in
     no_memory (why_not_closed c.args.self.now full) c.from_residual.result
     (ap (λ (s : State). why_not_closed s full) (sym c.self.view_is)
-    ∙ ap (λ (o : Option Slot). why_not_closed (state_of f.base f.marks f.clock f.running.items f.tale.items o f.over.items) full) (is_none f.preparing (sym c.if-is_some.ensures))
+    ∙ ap (λ (o : Option Slot). why_not_closed (state_of f.base f.marks f.clock f.running.items f.tale.items o f.over.items) full) (is_none f.preparing (sym c.if-has_preparing.ensures))
     ∙ why_closed f.base f.marks f.clock f.running.items f.tale.items f.over.items full c.self.invariant.kept.stored
     ∙ stands_not (f.clock == f.marks.closed.0) NothingToDo _ (sym c.if-eq.ensures)
-    ∙ stands_not full RingFull None (sym c.if-is_some-2.ensures)) c.from_residual.ensures.1
+    ∙ stands_not full RingFull None (sym c.if-is_some.ensures)) c.from_residual.ensures.1
 
 -- the group that is made of the records
 made_then : (c : After-new) → IsMade c.self.inside.base c.self.inside.marks c.self.inside.clock c.self.inside.running.items c.self.inside.tale.items c.self.inside.writers.items c.self.inside.grouped c.self.inside.over.items c.in_ok-records.records.items c.len.result c.mark_of-mark.result.0
@@ -84,14 +84,14 @@ made_then c =
     let f = c.self.inside in
     let i = c.self.invariant in
     group_made f.base f.marks f.clock f.running.items f.tale.items c.deref.result.now f.writers.items c.deref-2.result.now f.grouped f.preparing f.over.items (vec_capacity f.tale) (vec_capacity f.writers) (vec_capacity f.over) c.in_ok-records.records.items c.len.result c.len-2.result c.mark_of-mark.result.0
-    (is_none f.preparing (sym c.if-is_some.ensures)) (sym c.if-eq.ensures) i.kept i.indexed i.groups c.deref.ensures.value c.deref-2.ensures.value c.in_ok-records.ensures.longest c.in_ok-records.ensures.rules c.in_ok-records.ensures.some (search rules) (search rules) (c.mark_of-mark.ensures ∙ ap (λ (rs : List RecordData). cond (nat_eq (f.grouped + c.len.result) c.len-2.result) f.clock (end_in f.clock rs)) c.deref-3.ensures.value)
+    (is_none f.preparing (sym c.if-has_preparing.ensures)) (sym c.if-eq.ensures) i.kept i.indexed i.groups c.deref.ensures.value c.deref-2.ensures.value c.in_ok-records.ensures.longest c.in_ok-records.ensures.rules c.in_ok-records.ensures.some (search rules) (search rules) (c.mark_of-mark.ensures ∙ ap (λ (rs : List RecordData). cond (nat_eq (f.grouped + c.len.result) c.len-2.result) f.clock (end_in f.clock rs)) c.deref-3.ensures.value)
 
 made_now : (c : After-self-1) → IsMade c.self.inside.base c.self.inside.marks c.self.inside.clock c.self.inside.running.items c.self.inside.tale.items c.self.inside.writers.items c.self.inside.grouped c.self.inside.over.items c.in_ok-records.records.items c.len.result c.mark_of-mark.result.0
 made_now c =
     let f = c.self.inside in
     let i = c.self.invariant in
     group_made f.base f.marks f.clock f.running.items f.tale.items c.deref.result.now f.writers.items c.deref-2.result.now f.grouped f.preparing f.over.items (vec_capacity f.tale) (vec_capacity f.writers) (vec_capacity f.over) c.in_ok-records.records.items c.len.result c.len-2.result c.mark_of-mark.result.0
-    (is_none f.preparing (sym c.if-is_some.ensures)) (sym c.if-eq.ensures) i.kept i.indexed i.groups c.deref.ensures.value c.deref-2.ensures.value c.in_ok-records.ensures.longest c.in_ok-records.ensures.rules c.in_ok-records.ensures.some (search rules) (search rules) (c.mark_of-mark.ensures ∙ ap (λ (rs : List RecordData). cond (nat_eq (f.grouped + c.len.result) c.len-2.result) f.clock (end_in f.clock rs)) c.deref-3.ensures.value)
+    (is_none f.preparing (sym c.if-has_preparing.ensures)) (sym c.if-eq.ensures) i.kept i.indexed i.groups c.deref.ensures.value c.deref-2.ensures.value c.in_ok-records.ensures.longest c.in_ok-records.ensures.rules c.in_ok-records.ensures.some (search rules) (search rules) (c.mark_of-mark.ensures ∙ ap (λ (rs : List RecordData). cond (nat_eq (f.grouped + c.len.result) c.len-2.result) f.clock (end_in f.clock rs)) c.deref-3.ensures.value)
 
 some_group : (o : Option GroupData) (P : Type 0) (g : GroupData) → SomeIff o P g → P → o ≡ Some g
 some_group None P g h p = absurd (h p)
@@ -112,7 +112,7 @@ invariant_of-self c =
     record {
       kept = kept_closed f.base f.marks (record { opening = f.marks.opening; closed = c.mark_of-mark.result }) f.clock f.running.items f.tale.items f.preparing f.over.items (vec_capacity f.tale) (vec_capacity f.over) c.self.invariant.kept;
       indexed = c.self.invariant.indexed;
-      groups = subst (λ (o : Option Slot). IsGrouped c.mark_of-mark.result.0 f.clock f.tale.items f.writers.items (f.grouped + c.len.result) o) (sym (is_none f.preparing (sym c.if-is_some.ensures))) (made_now c).groups;
+      groups = subst (λ (o : Option Slot). IsGrouped c.mark_of-mark.result.0 f.clock f.tale.items f.writers.items (f.grouped + c.len.result) o) (sym (is_none f.preparing (sym c.if-has_preparing.ensures))) (made_now c).groups;
     }
 
 pub returns-clause-refused : goal.returns-clause-refused
@@ -120,16 +120,16 @@ returns-clause-refused c =
     let f = c.self.inside in
     let full = is_some c.args.place.now in
     ap (λ (s : State). why_not_closed s full) (sym c.self.view_is)
-    ∙ ap (λ (o : Option Slot). why_not_closed (state_of f.base f.marks f.clock f.running.items f.tale.items o f.over.items) full) (is_none f.preparing (sym c.if-is_some.ensures))
+    ∙ ap (λ (o : Option Slot). why_not_closed (state_of f.base f.marks f.clock f.running.items f.tale.items o f.over.items) full) (is_none f.preparing (sym c.if-has_preparing.ensures))
     ∙ why_closed f.base f.marks f.clock f.running.items f.tale.items f.over.items full c.self.invariant.kept.stored
     ∙ stands_not (f.clock == f.marks.closed.0) NothingToDo _ (sym c.if-eq.ensures)
-    ∙ stands_not full RingFull None (sym c.if-is_some-2.ensures)
+    ∙ stands_not full RingFull None (sym c.if-is_some.ensures)
 
 -- the state before the call
 before : (c : After-self-1) → state_of c.self.inside.base c.self.inside.marks c.self.inside.clock c.self.inside.running.items c.self.inside.tale.items None c.self.inside.over.items ≡ c.args.self.now
 before c =
     let f = c.self.inside in
-    ap (λ (o : Option Slot). state_of f.base f.marks f.clock f.running.items f.tale.items o f.over.items) (sym (is_none f.preparing (sym c.if-is_some.ensures))) ∙ c.self.view_is
+    ap (λ (o : Option Slot). state_of f.base f.marks f.clock f.running.items f.tale.items o f.over.items) (sym (is_none f.preparing (sym c.if-has_preparing.ensures))) ∙ c.self.view_is
 
 some_same : (x y : GroupData) → ◌≡◌ {A = Option GroupData} (Some x) (Some y) → x ≡ y
 some_same x y e = ap (get x) e

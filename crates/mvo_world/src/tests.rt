@@ -1,0 +1,192 @@
+use crate::{Event, Reply, World};
+use mvo_core::{Event as Step, Reply as Answered};
+use mvo_disk::{Disk, Left, MemDisk};
+use mvo_store::format;
+use mvo_types::{Answer, Row, RowKey, Stamp, TxId};
+use std::alloc::Global;
+use std::test::Fail;
+
+// The segment with one group (0, 2]: one record, end 2, one put at table 0, key 5, sort 50, data 61.
+const SEGMENT: [u8; 63] = [
+    0x4d, 0x56, 0x4f, 0x4c, 1, 0, 0, 0, 0xa5, 0x31, 0, 0, 0, 0, 0, 0, 0, 0, 0, 0, 0, 2, 0, 0, 0, 0,
+    0, 0, 0, 1, 0, 2, 0, 0, 0, 0, 0, 0, 0, 1, 0, 1, 0, 5, 0, 0, 0, 0, 0, 0, 0, 0x32, 0, 0, 0, 0, 0,
+    0, 0, 1, 0, 0x61, 0,
+];
+
+const KEY: RowKey = RowKey { table: 0, key: 5 };
+
+fn opened(alloc: Global, disk: MemDisk) -> Result<World<MemDisk>, Fail> {
+    match World::open(alloc, disk) {
+        Ok(world) => Ok(world),
+        Err((refusal, _)) => Err(Fail::from(refusal)),
+    }
+}
+
+fn fresh(alloc: Global) -> Result<World<MemDisk>, Fail> {
+    match format(MemDisk::new(alloc)?) {
+        Ok(disk) => opened(alloc, disk),
+        Err((refusal, _)) => Err(Fail::from(refusal)),
+    }
+}
+
+// The steps of a transaction that begins at 1 and puts the row at 2.
+fn one_put(alloc: Global) -> Result<Vec<Event>, Fail> {
+    let tx = TxId(1);
+    let row = Row {
+        key: KEY,
+        sort: 50,
+        bytes: [0x61].to_vec(alloc)?,
+    };
+    let events = vec![in alloc;
+        Event::Core(Step::Begin),
+        Event::Core(Step::Insert(tx, row)),
+        Event::Core(Step::Precommit(tx)),
+        Event::Core(Step::Validate(tx)),
+        Event::Core(Step::Settle(tx)),
+        Event::Core(Step::Finish(tx)),
+        Event::Poll(Stamp(2)),
+        Event::CloseGroup,
+        Event::TakeGroup,
+        Event::AppendBody,
+    ]?;
+    Ok(events)
+}
+
+// A world in which the row is put and its group's body is written.
+fn with_body(alloc: Global) -> Result<World<MemDisk>, Fail> {
+    let mut world = fresh(alloc)?;
+    let replies = world.run(&one_put(alloc)?)?;
+    if replies.len() != 10 {
+        return Err(Fail::from("ten replies"));
+    }
+    Ok(world)
+}
+
+// The mark that the disk opens at, and how long the data of the row is there.
+fn found(alloc: Global, disk: MemDisk) -> Result<(u64, Option<usize>), Fail> {
+    let mut world = opened(alloc, disk)?;
+    let mark = world.mark();
+    let _ = world.step(Event::Core(Step::Begin));
+    let reply = world.step(Event::Core(Step::Read(TxId(mark.0.saturating_add(1)), KEY)));
+    match reply {
+        Reply::Core(Answered::Answered(Answer::Found(row))) => {
+            Ok((mark.0, row.map(|row| row.data_len())))
+        }
+        _ => Err(Fail::from("a read that is answered")),
+    }
+}
+
+#[test]
+fn one_put_is_durable(rt: HostRuntime) -> Result<(), Fail> {
+    let alloc = rt.alloc();
+    let mut world = fresh(alloc)?;
+    let replies = world.run(&one_put(alloc)?)?;
+    let texts = [
+        "Core(Began(TxId(1)))",
+        "Core(Answered(Inserted))",
+        "Core(Preparing(Stamp(2)))",
+        "Core(Valid)",
+        "Core(Committed(Stamp(2)))",
+        "Core(Done)",
+        "Polled(false)",
+        "Closed(Closed { prev: Stamp(0), mark: Stamp(2) })",
+        "Taken",
+        "Written",
+    ];
+    assert_eq!(rt; replies.len(), texts.len());
+    for (reply, text) in replies.iter().zip(texts) {
+        assert_eq!(rt; format!(in alloc; "{reply:?}")?.as_str(), text);
+    }
+    assert_eq!(rt; world.mark(), Stamp(0));
+    let opened = world.step(Event::AppendOpen);
+    assert_eq!(rt;
+        format!(in alloc; "{opened:?}")?.as_str(),
+        "Durable(Stamp(2))"
+    );
+    let polled = world.step(Event::Poll(Stamp(2)));
+    assert_eq!(rt; format!(in alloc; "{polled:?}")?.as_str(), "Polled(true)");
+    assert_eq!(rt; world.mark(), Stamp(2));
+    let disk = world.into_disk();
+    assert_eq!(rt; disk.bytes(2), SEGMENT.as_slice());
+    assert_eq!(rt; found(alloc, disk)?, (2, Some(1)));
+    Ok(())
+}
+
+#[test]
+fn refuses_steps_out_of_turn(rt: HostRuntime) -> Result<(), Fail> {
+    let alloc = rt.alloc();
+    let mut world = fresh(alloc)?;
+    for event in [
+        Event::CloseGroup,
+        Event::TakeGroup,
+        Event::AppendBody,
+        Event::AppendOpen,
+    ] {
+        let reply = world.step(event);
+        assert_eq!(rt;
+            format!(in alloc; "{reply:?}")?.as_str(),
+            "Refused(NothingToDo)"
+        );
+    }
+    // With nothing written, the group is empty and its mark goes on.
+    let _ = world.step(Event::Core(Step::Begin));
+    let closed = world.step(Event::CloseGroup);
+    assert_eq!(rt;
+        format!(in alloc; "{closed:?}")?.as_str(),
+        "Closed(Closed { prev: Stamp(0), mark: Stamp(1) })"
+    );
+    let again = world.step(Event::CloseGroup);
+    assert_eq!(rt;
+        format!(in alloc; "{again:?}")?.as_str(),
+        "Refused(NothingToDo)"
+    );
+    let _ = world.step(Event::Core(Step::Begin));
+    let full = world.step(Event::CloseGroup);
+    assert_eq!(rt;
+        format!(in alloc; "{full:?}")?.as_str(),
+        "Refused(RingFull)"
+    );
+    let taken = world.step(Event::TakeGroup);
+    assert_eq!(rt; format!(in alloc; "{taken:?}")?.as_str(), "Taken");
+    let busy = world.step(Event::TakeGroup);
+    assert_eq!(rt; format!(in alloc; "{busy:?}")?.as_str(), "Refused(Busy)");
+    Ok(())
+}
+
+#[test]
+fn stops_after_the_body(rt: HostRuntime) -> Result<(), Fail> {
+    let alloc = rt.alloc();
+    let mut disk = with_body(alloc)?.into_disk();
+    disk.stop(&[])?;
+    assert_eq!(rt; disk.bytes(2).len(), 63);
+    assert_eq!(rt; found(alloc, disk)?, (0, None));
+    Ok(())
+}
+
+// What is found after a stop within the write of the gate, which leaves it so.
+fn found_at_gate(alloc: Global, gate: u8) -> Result<(u64, Option<usize>), Fail> {
+    let mut disk = with_body(alloc)?.into_disk();
+    if disk.faults() != 0 || disk.bytes(2).len() < 9 {
+        return Err(Fail::from("the body is written"));
+    }
+    // What opening the gate does first.
+    disk.write_at(2, 8, &[0xa5])?;
+    let mut bytes = SEGMENT.to_vec(alloc)?;
+    bytes[8] = gate;
+    disk.stop(&[Left { file: 2, bytes }])?;
+    found(alloc, disk)
+}
+
+#[test]
+fn stops_within_the_write_of_a_gate(rt: HostRuntime) -> Result<(), Fail> {
+    let alloc = rt.alloc();
+    for gate in 0..=255u8 {
+        let wanted = if gate == 0xa5 {
+            (2, Some(1))
+        } else {
+            (0, None)
+        };
+        assert_eq!(rt; found_at_gate(alloc, gate)?, wanted, "at {gate}");
+    }
+    Ok(())
+}
