@@ -46,7 +46,7 @@ impl<D: Disk> World<D> {
     ghost use Rattle.mvo_disk.specs.Disk.{AllOf, LeavesOnly};
     ghost use Rattle.mvo_group.specs.Data.{GroupData};
     ghost use Rattle.mvo_store.specs.Frames.{HasGroups};
-    ghost use Rattle.mvo_store.specs.Recovery.{rows_of, mark_of};
+    ghost use Rattle.mvo_store.specs.Recovery.{Recovers, rows_of, mark_of};
     ghost use Rattle.mvo_store.specs.Steps.{IsOpenRefusal};
     ghost use Rattle.mvo_world.specs.Steps.{happened, acknowledged, closed_by, trace_of, all_acknowledged, all_closed};
     ghost use Rattle.mvo_world.specs.Standing.{IsGood, StandsOver};
@@ -55,6 +55,7 @@ impl<D: Disk> World<D> {
     /// with 90; the disk comes back.
     pub fn open(alloc: Global, disk: D) -> Result<World<D>, (Refusal, D)>
         ensures stands { IfOk result (λ w. (old : List GroupData) → HasGroups 0 old (D.content disk 2) → StandsOver D.content D.may_leave D.fault_count old [] (mark_of old ∷ []) [] w) }
+        ensures recovers { IfOk result (λ w. Recovers (D.content disk 2) w.core.base w.log.mark.0) }
         ensures content { IfOk result (λ w. (n : ℕ) → D.content w.log.disk n ≡ D.content disk n) }
         ensures any_moment { IfOk result (λ w. LeavesOnly D.moment D.left_since disk w.log.disk (AllOf (D.may_leave disk))) }
         ensures refused { IfErr result (λ e. IsOpenRefusal e.0 (D.fault_count disk) (D.fault_count e.1) (D.content disk 2)) }

@@ -1,4 +1,8 @@
-use Rattle.std.proofs.Common.{inl}
+use Rattle.std.proofs.Common.{inl, ap, subst, sym}
+use Rattle.mvo_types.specs.Keys.{Map}
+use Rattle.mvo_types.specs.declared.ids.Stamp.{Stamp}
+use Rattle.mvo_state.specs.Line.{State}
+use Rattle.mvo_store.specs.Recovery.{Recovers}
 use Rattle.mvo_world.proofs.Moves.{stands_begun}
 use Rattle.mvo_world.proofs.world.World.open.Goals as goal
 
@@ -7,3 +11,9 @@ returns-clause-stands g c = λ old has.
     let st = c.in-Ok.ensures.stands old has in
     let b = c.in-Ok.ensures.begins in
     stands_begun g.D.Disk.content g.D.Disk.may_leave g.D.Disk.fault_count old c.in-Ok.opened.1 c.in-Ok.opened.2 c.in-Ok-open.core c.in-Ok.opened.0 c.in-Ok-open.ensures.ok st.1 st.2 b.2 b.3 (inl st.0)
+
+pub returns-clause-recovers : goal.returns-clause-recovers
+returns-clause-recovers g c =
+    let bytes = g.D.Disk.content c.args.disk 2 in
+    subst (λ (rows : Map). Recovers bytes rows c.in-Ok.opened.0.mark.0) (sym (ap (λ (s : State). s.base) c.in-Ok-open.ensures.ok))
+    (subst (λ (m : Stamp). Recovers bytes c.in-Ok.opened.1 m.0) (sym c.in-Ok.ensures.begins.3) c.in-Ok.ensures.recovers)
