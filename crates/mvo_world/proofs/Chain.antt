@@ -1,21 +1,21 @@
 -- The groups of a world hold the commits up to the last one's mark.
-use Rattle.std.proofs.Common.{◌≡◌, ℕ, ◌<◌, ◌≤◌, ◌+◌, Bool, true, false, cond, not, List, [], ◌∷◌, ◌++◌, Option, None, Some, map, refl, sym, ap, ◌∙◌, subst, arith}
-use Rattle.std.specs.Prelude.{⊤, nat_lt, nat_le, ◌==◌, ◌&&◌}
+use Rattle.std.proofs.Common.{◌≡◌, ℕ, ◌<◌, ◌≤◌, Bool, true, false, cond, List, [], ◌∷◌, ◌++◌, refl, sym, ap, ◌∙◌, subst, arith}
+use Rattle.std.specs.Prelude.{nat_lt, nat_le, ◌&&◌}
 use Rattle.std.specs.List.{AllByRecursion, filter}
-use Rattle.std.proofs.lemmas.Bool.{true≢false, false≢true, lt-ltb, ltb-true, ltb-false, le-leb, leb-true, le-ltb, lt-leb}
+use Rattle.std.proofs.lemmas.Bool.{true≢false, lt-ltb, ltb-true, ltb-false, le-leb, leb-true, le-ltb, lt-leb}
 use Rattle.mvo_types.specs.Keys.{Map}
 use Rattle.mvo_model.specs.Told.{Told, left_by}
-use Rattle.mvo_model.specs.Trace.{Step, told_to, committed, rows_of_commits, rows_up_to}
-use Rattle.mvo_group.specs.Data.{RecordData, GroupData}
+use Rattle.mvo_model.specs.Trace.{Step, told_to, rows_of_commits, rows_up_to}
+use Rattle.mvo_group.specs.Data.{GroupData}
 use Rattle.mvo_state.specs.Line.{State, Slot}
 use Rattle.mvo_state.specs.Sound.{IsRising}
-use Rattle.mvo_state.specs.Marks.{IsClosedAt, StaysBelow, settled_to}
+use Rattle.mvo_state.specs.Marks.{StaysBelow, settled_to}
 use Rattle.mvo_state.specs.Stands.{Stands, pairs}
 use Rattle.mvo_state.proofs.Each.{each_weaker}
 use Rattle.mvo_core.specs.Groups.{AreRecordsOf}
 use Rattle.mvo_store.specs.Frames.{mark_after}
-use Rattle.mvo_store.specs.Recovery.{after_records, after_groups}
-use Rattle.mvo_world.specs.Groups.{is_due, IsGroupOf, AreGroupsOf}
+use Rattle.mvo_store.specs.Recovery.{after_groups}
+use Rattle.mvo_world.specs.Groups.{is_due, AreGroupsOf}
 use Rattle.mvo_world.proofs.Rows.{left_by_all, left_by_all-append, is_after, records_rows}
 
 -- ---- rows up to a mark, by the line

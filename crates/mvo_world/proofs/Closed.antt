@@ -1,19 +1,17 @@
 -- The group that a core closes holds the commits up to its mark.
-use Rattle.std.proofs.Common.{◌≡◌, ℕ, zero, suc, ◌<◌, ◌≤◌, ◌+◌, ◌-◌, Bool, true, false, cond, not, List, [], ◌∷◌, ◌++◌, Option, None, Some, map, take, drop, length, refl, sym, ap, ◌∙◌, subst, arith, take-append-drop}
+use Rattle.std.proofs.Common.{◌≡◌, ℕ, ◌<◌, ◌≤◌, ◌-◌, Bool, true, false, cond, List, [], ◌∷◌, ◌++◌, Option, None, Some, take, drop, length, refl, sym, ap, ◌∙◌, subst, arith, take-append-drop}
 use Rattle.std.specs.Prelude.{⊤, nat_lt, nat_le, ◌&&◌}
 use Rattle.std.specs.List.{AllByRecursion, filter}
-use Rattle.std.proofs.lemmas.Bool.{true≢false, le-leb, leb-true, lt-leb, and_parts}
-use Rattle.std.proofs.lemmas.List.{take_all}
+use Rattle.std.proofs.lemmas.Bool.{true≢false, le-leb, leb-true, lt-leb}
 use Rattle.mvo_model.specs.Told.{Told}
 use Rattle.mvo_group.specs.Data.{RecordData, GroupData}
 use Rattle.mvo_group.specs.Rules.{KeepsRules}
-use Rattle.mvo_state.specs.Entries.{written_keys}
 use Rattle.mvo_state.specs.Line.{State, Slot}
 use Rattle.mvo_state.specs.Sound.{IsSound, IsRising, IsPlaced}
 use Rattle.mvo_state.specs.Marks.{IsClosedAt, settled_to, least_open, below_open, low_water}
 use Rattle.mvo_state.proofs.Each.{each_weaker, each_front, each_back}
-use Rattle.mvo_core.specs.Writers.{is_there, is_writing}
-use Rattle.mvo_core.specs.Groups.{IsRecordOf, AreRecordsOf, IsNextGroup, commits_in, due, end_in, mark_by}
+use Rattle.mvo_core.specs.Writers.{is_writing}
+use Rattle.mvo_core.specs.Groups.{AreRecordsOf, IsNextGroup, commits_in, due, end_in, mark_by}
 use Rattle.mvo_world.specs.Groups.{is_due, IsGroupOf}
 
 -- ---- the low-water

@@ -1,6 +1,6 @@
 -- What each event makes of a world that stands for the events before it.
-use Rattle.std.proofs.Common.{◌≡◌, ◌≢◌, ◌⊎◌, inl, inr, ℕ, ◌<◌, ◌≤◌, ◌+◌, Bool, true, false, cond, List, [], ◌∷◌, ◌++◌, Option, None, Some, Result, Ok, Err, map, refl, sym, ap, ◌∙◌, subst, arith, append_assoc, append-nil}
-use Rattle.std.specs.Prelude.{⊤, nat_le, is_some, IfSome, IsErrAnd, MatchResult}
+use Rattle.std.proofs.Common.{◌≡◌, ℕ, ◌≤◌, Bool, true, false, cond, List, [], ◌∷◌, ◌++◌, Option, None, Some, Result, Ok, Err, map, refl, sym, ap, ◌∙◌, subst, arith, append_assoc, append-nil}
+use Rattle.std.specs.Prelude.{is_some, IfSome, IsErrAnd, MatchResult}
 use Rattle.std.specs.Option.{option_to_list}
 use Rattle.std.specs.List.{AllByRecursion}
 use Rattle.std.proofs.lemmas.Bool.{true≢false, false≢true}
@@ -18,7 +18,7 @@ use Rattle.mvo_state.specs.Sound.{IsSound, IsRising}
 use Rattle.mvo_state.specs.Marks.{IsClosedAt, StaysBelow, settled_to}
 use Rattle.mvo_state.specs.Stands.{Stands}
 use Rattle.mvo_state.specs.Causes.{if_stands, is_failure, running_of, preparing_of}
-use Rattle.mvo_state.specs.Steps.{prepared_at, checked_at, committed_at, aborted_at, now_prepared, now_checked, now_committed, now_aborted, after_refusal}
+use Rattle.mvo_state.specs.Steps.{prepared_at, checked_at, committed_at, aborted_at, now_aborted}
 use Rattle.mvo_state.proofs.Each.{each_weaker, each_append}
 use Rattle.mvo_core.specs.Groups.{IsNextGroup, closed_at, why_not_closed}
 use Rattle.mvo_core.specs.Replies.{IsReplyTo, IsAccepted, left_by_refusal}
@@ -35,7 +35,7 @@ use Rattle.mvo_store.specs.Standing.{IsSafe, HasWithOrWithout, with_taken, openi
 use Rattle.mvo_store.specs.Steps.{LeftBy, IsMarkOf}
 use Rattle.mvo_store.specs.declared.log.Log.{Log}
 use Rattle.mvo_world.specs.Whole.{Whole, waiting, Follow, IsLinked}
-use Rattle.mvo_world.specs.Groups.{IsGroupOf, AreGroupsOf}
+use Rattle.mvo_world.specs.Groups.{AreGroupsOf}
 use Rattle.mvo_world.specs.Standing.{IsGood, StandsOver}
 use Rattle.mvo_world.proofs.Chain.{groups_stay}
 use Rattle.mvo_world.proofs.Closed.{group_of_next}

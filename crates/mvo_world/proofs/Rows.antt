@@ -1,6 +1,6 @@
 -- The rows after the records of commits are those after what the commits were told.
-use Rattle.std.proofs.Common.{◌≡◌, ℕ, ◌<◌, ◌≤◌, ◌+◌, Bool, true, false, cond, not, List, [], ◌∷◌, ◌++◌, Option, None, Some, map, refl, sym, ap, ◌∙◌, subst, arith}
-use Rattle.std.specs.Prelude.{⊤, nat_lt, nat_le, ◌&&◌}
+use Rattle.std.proofs.Common.{◌≡◌, ℕ, Bool, true, false, cond, List, [], ◌∷◌, ◌++◌, Option, None, Some, map, refl, sym, ap, ◌∙◌}
+use Rattle.std.specs.Prelude.{nat_lt, ◌&&◌}
 use Rattle.std.specs.Option.{option_map, unwrap_or}
 use Rattle.std.specs.List.{AllByRecursion, filter}
 use Rattle.std.specs.List.Sorted.{IsStrictlySortedBy}
@@ -8,19 +8,16 @@ use Rattle.std.specs.Ordering.{eq_by_cmp}
 use Rattle.std.specs.declared.cmp.Ordering.{Ordering}
 use Rattle.std.specs.declared.cmp.Ordering.TheVariants.{Less, Equal, Greater}
 use Rattle.std.specs.FinMap as fin
-use Rattle.std.proofs.lemmas.Bool.{true≢false, false≢true, lt-ltb, ltb-true, ltb-false, le-leb, leb-true, le-ltb, lt-leb}
+use Rattle.std.proofs.lemmas.Bool.{true≢false, false≢true}
 use Rattle.mvo_types.specs.declared.row.RowKey.{RowKey}
 use Rattle.mvo_types.specs.Line.{Held}
 use Rattle.mvo_types.specs.Keys.{Map, key_cmp}
 use Rattle.mvo_types.proofs.Maps.{keys_total, exact_keys}
-use Rattle.mvo_model.specs.Told.{Told, Write, write_of, written, put_at, left_by, net_write}
+use Rattle.mvo_model.specs.Told.{Told, Write, write_of, written, put_at, left_by}
 use Rattle.mvo_model.proofs.Serials.{get-left_by}
-use Rattle.mvo_group.specs.Data.{NetWrite, RecordData, GroupData}
+use Rattle.mvo_group.specs.Data.{NetWrite, RecordData}
 use Rattle.mvo_state.specs.Entries.{noted, noted_key, written_from, written_keys}
-use Rattle.mvo_state.specs.Line.{State, Slot}
-use Rattle.mvo_state.specs.Sound.{IsRising}
-use Rattle.mvo_state.specs.Marks.{settled_to}
-use Rattle.mvo_store.specs.Recovery.{after_writes, after_records, after_groups}
+use Rattle.mvo_store.specs.Recovery.{after_writes, after_records}
 use Rattle.mvo_core.specs.Writers.{is_there}
 use Rattle.mvo_core.specs.Groups.{IsRecordOf, AreRecordsOf, write_in}
 

@@ -1,31 +1,25 @@
 -- A world that stands for its events: what a stop leaves of it, and what each event makes of it.
-use Rattle.std.proofs.Common.{◌≡◌, ◌⊎◌, inl, inr, ℕ, ◌<◌, ◌≤◌, ◌+◌, Bool, true, false, cond, List, [], ◌∷◌, ◌++◌, Option, None, Some, map, refl, sym, ap, ◌∙◌, subst, arith, append_assoc, append-nil}
-use Rattle.std.specs.Prelude.{⊤, nat_le}
+use Rattle.std.proofs.Common.{◌≡◌, inl, inr, ℕ, ◌≤◌, Bool, true, false, cond, List, [], ◌∷◌, ◌++◌, Option, None, Some, map, refl, sym, ap, ◌∙◌, subst, arith, append_assoc}
 use Rattle.std.specs.Option.{option_to_list}
 use Rattle.std.specs.List.{AllByRecursion}
-use Rattle.std.proofs.lemmas.List.{map-append}
 use Rattle.mvo_types.specs.Keys.{Map}
 use Rattle.mvo_model.specs.Trace.{Step, rows_up_to}
-use Rattle.mvo_disk.specs.Disk.{AllOf}
 use Rattle.mvo_group.specs.Data.{GroupData}
-use Rattle.mvo_group.specs.Rules.{KeepsRules}
 use Rattle.mvo_state.specs.Line.{State}
-use Rattle.mvo_state.specs.Sound.{IsSound, IsRising}
-use Rattle.mvo_state.specs.Marks.{IsClosedAt, StaysBelow, settled_to}
+use Rattle.mvo_state.specs.Sound.{IsRising}
+use Rattle.mvo_state.specs.Marks.{settled_to}
 use Rattle.mvo_state.specs.Stands.{Stands}
-use Rattle.mvo_state.proofs.Each.{each_weaker, each_append}
-use Rattle.mvo_core.specs.Groups.{AreRecordsOf, IsNextGroup, closed_at}
+use Rattle.mvo_state.proofs.Each.{each_weaker}
 use Rattle.mvo_store.specs.Frames.{HasGroups, mark_after}
-use Rattle.mvo_store.specs.Recovery.{Recovers, after_groups, rows_of, mark_of}
+use Rattle.mvo_store.specs.Recovery.{after_groups, rows_of, mark_of}
 use Rattle.mvo_store.specs.Standing.{IsSafe, HasWithOrWithout, with_taken, opening}
 use Rattle.mvo_store.specs.declared.log.Log.{Log}
 use Rattle.mvo_store.proofs.Walk.{behind_header}
-use Rattle.mvo_world.specs.Whole.{Whole, waiting, Follow, IsLinked}
-use Rattle.mvo_world.specs.Groups.{is_due, IsGroupOf, AreGroupsOf}
+use Rattle.mvo_world.specs.Whole.{Whole, waiting, Follow}
+use Rattle.mvo_world.specs.Groups.{IsGroupOf, AreGroupsOf}
 use Rattle.mvo_world.specs.Standing.{IsOneOf, IsGood, StandsOver}
 use Rattle.mvo_world.proofs.Rows.{left_by_all}
-use Rattle.mvo_world.proofs.Chain.{rows_up_to_is, chain_rows, groups_stay}
-use Rattle.mvo_world.proofs.Closed.{group_of_next}
+use Rattle.mvo_world.proofs.Chain.{rows_up_to_is, chain_rows}
 
 -- ---- lists of groups
 pub mark_after-append : (m : ℕ) (gs hs : List GroupData) → mark_after m (gs ++ hs) ≡ mark_after (mark_after m gs) hs

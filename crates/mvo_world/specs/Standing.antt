@@ -4,7 +4,6 @@ use Rattle.std.specs.List.{AllByRecursion}
 use Rattle.mvo_types.specs.Keys.{Map}
 use Rattle.mvo_model.specs.Trace.{Step, rows_up_to}
 use Rattle.mvo_group.specs.Data.{GroupData}
-use Rattle.mvo_state.specs.Line.{State}
 use Rattle.mvo_state.specs.Marks.{IsClosedAt, settled_to}
 use Rattle.mvo_state.specs.Stands.{Stands}
 use Rattle.mvo_store.specs.Recovery.{Recovers, rows_of, mark_of}

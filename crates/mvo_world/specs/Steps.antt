@@ -1,11 +1,11 @@
 -- What an event with its reply is in the trace, what it acknowledges, and which group it closes.
-use Rattle.std.specs.Prelude.{ℕ, true, false, List, [], ◌∷◌, ◌++◌}
+use Rattle.std.specs.Prelude.{ℕ, true, List, [], ◌∷◌, ◌++◌}
 use Rattle.mvo_model.specs.Trace.{Step}
 use Rattle.mvo_core.specs.Events as core
 use Rattle.mvo_world.specs.declared.event.Event.{Event}
-use Rattle.mvo_world.specs.declared.event.Event.TheVariants.{Core as Asked, CloseGroup, TakeGroup, AppendBody, AppendOpen, Poll}
+use Rattle.mvo_world.specs.declared.event.Event.TheVariants.{Core as Asked, CloseGroup, AppendOpen, Poll}
 use Rattle.mvo_world.specs.declared.reply.Reply.{Reply}
-use Rattle.mvo_world.specs.declared.reply.Reply.TheVariants.{Core as Answered, Closed, Taken, Written, Durable, Polled, Refused}
+use Rattle.mvo_world.specs.declared.reply.Reply.TheVariants.{Core as Answered, Closed, Durable, Polled}
 
 abbrev pub happened : Event → Reply → List Step
 happened (Asked e) (Answered r) = core.happened e r

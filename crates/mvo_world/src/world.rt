@@ -40,9 +40,10 @@ impl<D: Disk> Model for World<D> {
 }
 
 impl<D: Disk> World<D> {
-    ghost use Rattle.std.specs.Prelude.{◌≡◌, ◌++◌, ℕ, List, [], ◌∷◌, length, IfOk, IfErr, OnErr, MatchResult};
+    ghost use Rattle.std.specs.Prelude.{◌≡◌, ◌≢◌, ◌++◌, ℕ, List, [], ◌∷◌, length, false, None, IfOk, IfErr, OnErr, MatchResult};
     ghost use Rattle.mvo_core.specs.Events as core;
     ghost use Rattle.mvo_model.specs.Trace.{Step, IsSerial};
+    ghost use Rattle.mvo_state.specs.Line.{opened};
     ghost use Rattle.mvo_disk.specs.Disk.{AllOf, LeavesOnly};
     ghost use Rattle.mvo_group.specs.Data.{GroupData};
     ghost use Rattle.mvo_store.specs.Frames.{HasGroups};
@@ -50,12 +51,15 @@ impl<D: Disk> World<D> {
     ghost use Rattle.mvo_store.specs.Steps.{IsOpenRefusal};
     ghost use Rattle.mvo_world.specs.Steps.{happened, acknowledged, closed_by, trace_of, all_acknowledged, all_closed};
     ghost use Rattle.mvo_world.specs.Standing.{IsGood, StandsOver};
+    ghost use Rattle.mvo_world.specs.Replies.{IsReplyTo, IsCopiedReplyTo};
+    ghost use Rattle.mvo_world.specs.Runs.{IsStep, AreSteps};
 
     /// A world over what is on the disk. It writes and cuts nothing. Refused as `Store::open` is, or
     /// with 90; the disk comes back.
     pub fn open(alloc: Global, disk: D) -> Result<World<D>, (Refusal, D)>
         ensures stands { IfOk result (λ w. (old : List GroupData) → HasGroups 0 old (D.content disk 2) → StandsOver D.content D.may_leave D.fault_count old [] (mark_of old ∷ []) [] w) }
         ensures recovers { IfOk result (λ w. Recovers (D.content disk 2) w.core.base w.log.mark.0) }
+        ensures begins { IfOk result (λ w. (w.core ≡ opened w.core.base w.log.mark.0) × (w.place ≡ None) × (w.log.down ≡ false) × (w.log.pending ≡ None) × (w.log.written ≡ false)) }
         ensures content { IfOk result (λ w. (n : ℕ) → D.content w.log.disk n ≡ D.content disk n) }
         ensures any_moment { IfOk result (λ w. LeavesOnly D.moment D.left_since disk w.log.disk (AllOf (D.may_leave disk))) }
         ensures refused { IfErr result (λ e. IsOpenRefusal e.0 (D.fault_count disk) (D.fault_count e.1) (D.content disk 2)) }
@@ -100,6 +104,7 @@ impl<D: Disk> World<D> {
 
     /// Refused: 51, 52 where one is pending, 56 where none is closed; then nothing changes.
     fn take_group(&mut self) -> Result<(), Refusal>
+        ensures reply { MatchResult result (λ _. IsReplyTo D.fault_count self.old Event.TakeGroup Reply.Taken self.new) (λ e. IsReplyTo D.fault_count self.old Event.TakeGroup (Reply.Refused e) self.new) }
         ensures stands { (old : List GroupData) (steps : List Step) (acked closed : List ℕ) → StandsOver D.content D.may_leave D.fault_count old steps acked closed self.old → StandsOver D.content D.may_leave D.fault_count old steps acked closed self.new }
         ensures any_moment { (old : List GroupData) (steps : List Step) (acked closed : List ℕ) → StandsOver D.content D.may_leave D.fault_count old steps acked closed self.old →
             LeavesOnly D.moment D.left_since self.old.log.disk self.new.log.disk (λ image. IsGood (rows_of old) (mark_of old) steps acked closed (image 2)) }
@@ -123,6 +128,7 @@ impl<D: Disk> World<D> {
 
     /// One step of a transaction.
     fn ask(&mut self, event: mvo_core::Event) -> mvo_core::Reply
+        ensures reply { IsReplyTo D.fault_count self.old (Event.Core event) (Reply.Core result) self.new }
         ensures stands { (old : List GroupData) (steps : List Step) (acked closed : List ℕ) → StandsOver D.content D.may_leave D.fault_count old steps acked closed self.old →
             StandsOver D.content D.may_leave D.fault_count old (steps ++ core.happened event result) acked closed self.new }
         ensures any_moment { (old : List GroupData) (steps : List Step) (acked closed : List ℕ) → StandsOver D.content D.may_leave D.fault_count old steps acked closed self.old →
@@ -134,6 +140,7 @@ impl<D: Disk> World<D> {
 
     /// Refused: 52 while one is Preparing, 56 if the mark wouldn't rise, 36 if the place is taken, 90.
     fn close_group(&mut self) -> Result<Closed, Refusal>
+        ensures reply { MatchResult result (λ c. IsReplyTo D.fault_count self.old Event.CloseGroup (Reply.Closed c) self.new) (λ e. IsReplyTo D.fault_count self.old Event.CloseGroup (Reply.Refused e) self.new) }
         ensures stands { (old : List GroupData) (steps : List Step) (acked closed : List ℕ) → StandsOver D.content D.may_leave D.fault_count old steps acked closed self.old →
             MatchResult result (λ c. StandsOver D.content D.may_leave D.fault_count old steps acked (closed ++ c.mark.0 ∷ []) self.new) (λ _. StandsOver D.content D.may_leave D.fault_count old steps acked closed self.new) }
         ensures any_moment { (old : List GroupData) (steps : List Step) (acked closed : List ℕ) → StandsOver D.content D.may_leave D.fault_count old steps acked closed self.old →
@@ -146,6 +153,8 @@ impl<D: Disk> World<D> {
 
     /// Refused as the store's.
     fn append_body(&mut self) -> Result<(), Refusal>
+        ensures reply { MatchResult result (λ _. IsReplyTo D.fault_count self.old Event.AppendBody Reply.Written self.new) (λ e. IsReplyTo D.fault_count self.old Event.AppendBody (Reply.Refused e) self.new) }
+        ensures others { (n : ℕ) → n ≢ 2 → D.content self.new.log.disk n ≡ D.content self.old.log.disk n }
         ensures stands { (old : List GroupData) (steps : List Step) (acked closed : List ℕ) → StandsOver D.content D.may_leave D.fault_count old steps acked closed self.old → StandsOver D.content D.may_leave D.fault_count old steps acked closed self.new }
         ensures any_moment { (old : List GroupData) (steps : List Step) (acked closed : List ℕ) → StandsOver D.content D.may_leave D.fault_count old steps acked closed self.old →
             LeavesOnly D.moment D.left_since self.old.log.disk self.new.log.disk (λ image. IsGood (rows_of old) (mark_of old) steps acked closed (image 2)) }
@@ -157,6 +166,8 @@ impl<D: Disk> World<D> {
 
     /// The mark that is durable now. Refused as the store's.
     fn append_open(&mut self) -> Result<Stamp, Refusal>
+        ensures reply { MatchResult result (λ m. IsReplyTo D.fault_count self.old Event.AppendOpen (Reply.Durable m) self.new) (λ e. IsReplyTo D.fault_count self.old Event.AppendOpen (Reply.Refused e) self.new) }
+        ensures others { (n : ℕ) → n ≢ 2 → D.content self.new.log.disk n ≡ D.content self.old.log.disk n }
         ensures stands { (old : List GroupData) (steps : List Step) (acked closed : List ℕ) → StandsOver D.content D.may_leave D.fault_count old steps acked closed self.old →
             MatchResult result (λ m. StandsOver D.content D.may_leave D.fault_count old steps (acked ++ m.0 ∷ []) closed self.new) (λ _. StandsOver D.content D.may_leave D.fault_count old steps acked closed self.new) }
         ensures any_moment { (old : List GroupData) (steps : List Step) (acked closed : List ℕ) → StandsOver D.content D.may_leave D.fault_count old steps acked closed self.old →
@@ -167,10 +178,14 @@ impl<D: Disk> World<D> {
         Ok(durable.mark())
     }
 
-    /// One step. It leads from a world that stands for its events to one that stands for these and
-    /// this one, with its reply; and a stop at any moment of it leaves an image that is good for the
-    /// events before it.
+    /// One step. Its reply is the first refusal whose cause stands, and else the event's own answer;
+    /// a step of the store that is not refused so may still meet want of memory or a fault of the
+    /// disk. It leads from a world that stands for its events to one that stands for these and this
+    /// one, with its reply; and a stop at any moment of it leaves an image that is good for the events
+    /// before it.
     pub fn step(&mut self, event: Event) -> Reply
+        ensures reply { IsReplyTo D.fault_count self.old event result self.new }
+        ensures others { (n : ℕ) → n ≢ 2 → D.content self.new.log.disk n ≡ D.content self.old.log.disk n }
         ensures stands { (old : List GroupData) (steps : List Step) (acked closed : List ℕ) → StandsOver D.content D.may_leave D.fault_count old steps acked closed self.old →
             StandsOver D.content D.may_leave D.fault_count old (steps ++ happened event result) (acked ++ acknowledged event result) (closed ++ closed_by event result) self.new }
         ensures any_moment { (old : List GroupData) (steps : List Step) (acked closed : List ℕ) → StandsOver D.content D.may_leave D.fault_count old steps acked closed self.old →
@@ -210,6 +225,8 @@ impl<D: Disk> World<D> {
 
     /// One step, of an event that is kept: an event whose copy is refused replies 90 and does nothing.
     fn step_copy(&mut self, event: &Event) -> Reply
+        ensures reply { IsCopiedReplyTo D.fault_count self.old event.now result self.new }
+        ensures others { (n : ℕ) → n ≢ 2 → D.content self.new.log.disk n ≡ D.content self.old.log.disk n }
         ensures stands { (old : List GroupData) (steps : List Step) (acked closed : List ℕ) → StandsOver D.content D.may_leave D.fault_count old steps acked closed self.old →
             StandsOver D.content D.may_leave D.fault_count old (steps ++ happened event.now result) (acked ++ acknowledged event.now result) (closed ++ closed_by event.now result) self.new }
         ensures any_moment { (old : List GroupData) (steps : List Step) (acked closed : List ℕ) → StandsOver D.content D.may_leave D.fault_count old steps acked closed self.old →
@@ -224,11 +241,13 @@ impl<D: Disk> World<D> {
         }
     }
 
-    /// Runs the events, one after another. It takes room for its replies first: refused with 90, it
-    /// has run nothing. An event whose copy is refused replies 90 and does nothing.
+    /// Runs the events, one after another, each as `step` does. It takes room for its replies first:
+    /// refused with 90, it has run nothing. An event whose copy is refused replies 90 and does nothing.
     pub fn run(&mut self, events: &[Event]) -> Result<Vec<Reply>, Refusal>
+        ensures each { IfOk result (λ replies. AreSteps (IsStep D.content D.may_leave D.fault_count D.moment D.left_since) self.old events.now replies.items self.new) }
         ensures replies { IfOk result (λ replies. length replies.items ≡ length events.now) }
         ensures serial { IfOk result (λ replies. (old : List GroupData) (acked closed : List ℕ) → StandsOver D.content D.may_leave D.fault_count old [] acked closed self.old → IsSerial (rows_of old) (trace_of events.now replies.items)) }
+        ensures others { (n : ℕ) → n ≢ 2 → D.content self.new.log.disk n ≡ D.content self.old.log.disk n }
         ensures stands { IfOk result (λ replies. (old : List GroupData) (acked closed : List ℕ) → StandsOver D.content D.may_leave D.fault_count old [] acked closed self.old →
             StandsOver D.content D.may_leave D.fault_count old (trace_of events.now replies.items) (acked ++ all_acknowledged events.now replies.items) (closed ++ all_closed events.now replies.items) self.new) }
         ensures memory { IfErr result (λ r. r ≡ Refusal.OutOfMemory) }

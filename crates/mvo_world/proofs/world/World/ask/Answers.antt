@@ -1,12 +1,8 @@
-use Rattle.std.proofs.Common.{◌≡◌, ◌++◌, ◌∷◌, [], List, ℕ, Option, Result, Ok, Err, Some, None, Bool, true, false, cond, refl, ap, ◌∙◌, subst, sym}
-use Rattle.std.specs.Prelude.{is_some, IfSome, MatchResult, IsErrAnd}
-use Rattle.std.specs.Option.{option_to_list}
-use Rattle.mvo_group.specs.Data.{GroupData}
+use Rattle.std.proofs.Common.{refl, ap, subst, sym}
 use Rattle.mvo_state.specs.Sound.{IsRising}
-use Rattle.mvo_store.specs.Recovery.{rows_of, mark_of}
-use Rattle.mvo_disk.specs.Disk.{LeavesOnly}
+use Rattle.mvo_store.specs.Recovery.{rows_of}
 use Rattle.mvo_world.specs.Whole.{Whole}
-use Rattle.mvo_world.specs.Standing.{IsGood, StandsOver}
+use Rattle.mvo_world.specs.Standing.{StandsOver}
 use Rattle.mvo_world.proofs.Moves.{stands_asked, good_still}
 use Rattle.mvo_world.proofs.world.World.ask.Goals as goal
 

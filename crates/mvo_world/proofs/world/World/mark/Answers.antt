@@ -1,7 +1,6 @@
-use Rattle.std.proofs.Common.{ap, subst}
+use Rattle.std.proofs.Common.{subst}
 use Rattle.mvo_state.specs.Sound.{IsRising}
 use Rattle.mvo_store.specs.Images.{safe_now}
-use Rattle.mvo_world.specs.Whole.{Whole}
 use Rattle.mvo_world.proofs.Stood.{good_image}
 use Rattle.mvo_world.proofs.world.World.mark.Goals as goal
 

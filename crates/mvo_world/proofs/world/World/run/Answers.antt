@@ -1,22 +1,24 @@
-use Rattle.std.proofs.Common.{rules, arith, ◌≡◌, ◌++◌, ◌∷◌, ◌+◌, [], ℕ, List, length, take, ap, ◌∙◌, sym, subst, length-append, append_assoc}
+use Rattle.std.proofs.Common.{arith, ◌≡◌, ◌++◌, ◌∷◌, ◌+◌, [], ℕ, List, length, take, refl, ap, ◌∙◌, sym, subst, length-append, append_assoc}
 use Rattle.std.proofs.lemmas.List.{take_more, take_all, length-take-le}
 use Rattle.mvo_model.specs.Trace.{Step, IsSerial}
-use Rattle.mvo_group.specs.Data.{GroupData}
 use Rattle.mvo_state.specs.Sound.{IsSound}
 use Rattle.mvo_state.proofs.Tales.{stands_serializable}
 use Rattle.mvo_store.specs.Recovery.{rows_of}
 use Rattle.mvo_world.specs.Steps.{happened, acknowledged, closed_by, trace_of, all_acknowledged, all_closed}
 use Rattle.mvo_world.specs.Standing.{StandsOver}
+use Rattle.mvo_world.specs.Runs.{IsStep, AreSteps}
 use Rattle.mvo_world.specs.declared.event.Event.{Event}
 use Rattle.mvo_world.specs.declared.reply.Reply.{Reply}
 use Rattle.mvo_world.proofs.Moves.{same_marks}
-use Rattle.mvo_world.proofs.Runs.{trace_of-push, all_acknowledged-push, all_closed-push}
+use Rattle.mvo_world.proofs.Runs.{trace_of-push, all_acknowledged-push, all_closed-push, steps-push}
 use Rattle.mvo_world.proofs.world.World.run.Goals as goal
 
 pub loop-event-init : goal.loop-event-init
 loop-event-init g c = record {
   many = ap length (c.in_ok-reserve.ensures.items ∙ c.new-replies.ensures.items);
   room = let room = c.in_ok-reserve.ensures.ok in omega arith;
+  each = subst (λ (rs : List Reply). AreSteps (IsStep g.D.Disk.content g.D.Disk.may_leave g.D.Disk.fault_count g.D.Disk.moment g.D.Disk.left_since) c.args.self.now [] rs c.args.self.now) (sym (c.in_ok-reserve.ensures.items ∙ c.new-replies.ensures.items)) refl;
+  others = λ n other. refl;
   stands = λ old acked closed h. same_marks g.D.Disk.content g.D.Disk.may_leave g.D.Disk.fault_count old [] acked closed c.args.self.now h;
 }
 
@@ -39,6 +41,10 @@ loop-event-preserved g c =
     record {
       many = ap length pushed ∙ length-append rs (r ∷ []) ∙ ap (λ n. n + 1) c.loop-event.invariant.many;
       room = let a = c.loop-event.invariant.room in let b = c.push_reserved.ensures.room in omega arith;
+      each = subst (λ (xs : List Event). AreSteps (IsStep g.D.Disk.content g.D.Disk.may_leave g.D.Disk.fault_count g.D.Disk.moment g.D.Disk.left_since) c.args.self.now xs c.push_reserved.new.items.items c.step_copy-reply.new.self) (sym events)
+          (subst (λ (xs : List Reply). AreSteps (IsStep g.D.Disk.content g.D.Disk.may_leave g.D.Disk.fault_count g.D.Disk.moment g.D.Disk.left_since) c.args.self.now (take i es ++ e ∷ []) xs c.step_copy-reply.new.self) (sym pushed)
+          (steps-push (IsStep g.D.Disk.content g.D.Disk.may_leave g.D.Disk.fault_count g.D.Disk.moment g.D.Disk.left_since) c.args.self.now (take i es) rs c.loop-event.self e r c.step_copy-reply.new.self c.loop-event.invariant.each (record { reply = c.step_copy-reply.ensures.reply; stands = c.step_copy-reply.ensures.stands; any_moment = c.step_copy-reply.ensures.any_moment })));
+      others = λ n other. c.step_copy-reply.ensures.others n other ∙ c.loop-event.invariant.others n other;
       stands = λ old acked closed h.
           subst (λ (xs : List Step). StandsOver g.D.Disk.content g.D.Disk.may_leave g.D.Disk.fault_count old xs (acked ++ all_acknowledged (take (i + 1) es) c.push_reserved.new.items.items) (closed ++ all_closed (take (i + 1) es) c.push_reserved.new.items.items) c.step_copy-reply.new.self) (sym traces)
           (subst (λ (xs : List ℕ). StandsOver g.D.Disk.content g.D.Disk.may_leave g.D.Disk.fault_count old (trace_of (take i es) rs ++ happened e r) xs (closed ++ all_closed (take (i + 1) es) c.push_reserved.new.items.items) c.step_copy-reply.new.self) (append_assoc acked (all_acknowledged (take i es) rs) (acknowledged e r) ∙ ap (λ xs. acked ++ xs) (sym acks))
@@ -60,3 +66,7 @@ returns-clause-serial g c = λ old acked closed h.
     let s = c.loop-event.invariant.stands old acked closed h in
     subst (λ (es : List Event). IsSerial (rows_of old) (trace_of es c.loop-event.replies.items)) (take_all i c.args.events.now (omega arith))
     (stands_serializable (rows_of old) (trace_of (take i c.args.events.now) c.loop-event.replies.items) c.loop-event.self.core (subst (λ w. IsSound w.core) c.self-2.view_is c.clock-clock.ensures.sound) s.core)
+
+pub returns-clause-each : goal.returns-clause-each
+returns-clause-each g c =
+    subst (λ (es : List Event). AreSteps (IsStep g.D.Disk.content g.D.Disk.may_leave g.D.Disk.fault_count g.D.Disk.moment g.D.Disk.left_since) c.args.self.now es c.loop-event.replies.items c.loop-event.self) (take_all c.loop-event.event-index c.args.events.now (omega arith)) c.loop-event.invariant.each

@@ -1,13 +1,11 @@
-use Rattle.std.proofs.Common.{◌≡◌, ◌++◌, ◌∷◌, List, Option, Some, None, true, false, Bool, cond, refl, ap, ◌∙◌, subst, sym}
+use Rattle.std.proofs.Common.{◌≡◌, ◌++◌, ◌∷◌, Option, Some, None, true, false, Bool, cond, refl, ap, ◌∙◌, subst, sym}
 use Rattle.std.specs.Option.{option_to_list}
-use Rattle.std.proofs.lemmas.Bool.{true≢false}
 use Rattle.mvo_types.specs.declared.refusal.Refusal.{Refusal}
 use Rattle.mvo_types.specs.declared.refusal.Refusal.TheVariants.{Busy, Down}
 use Rattle.mvo_group.specs.Data.{GroupData}
-use Rattle.mvo_store.specs.Standing.{IsSafe}
-use Rattle.mvo_store.specs.Steps.{why_taken, why_not_take}
+use Rattle.mvo_store.specs.Steps.{why_taken}
 use Rattle.mvo_store.specs.declared.log.Log.{Log}
-use Rattle.mvo_world.specs.Whole.{Whole, waiting}
+use Rattle.mvo_world.specs.Whole.{Whole}
 use Rattle.mvo_world.specs.Standing.{StandsOver}
 use Rattle.mvo_state.specs.Sound.{IsRising}
 use Rattle.mvo_world.proofs.Moves.{stands_moved, good_still}
