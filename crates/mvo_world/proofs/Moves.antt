@@ -195,11 +195,6 @@ module _ {D : Type 0} (content : D → ℕ → List ℕ) (may_leave : D → ℕ 
       (subst (λ (ms : List ℕ). StandsOver content may_leave fault_count old steps ms (closed ++ []) w) (sym (append-nil acked))
       (subst (λ (ms : List ℕ). StandsOver content may_leave fault_count old steps acked ms w) (sym (append-nil closed)) h))
 
-  pub same_marks : (old : List GroupData) (steps : List Step) (acked closed : List ℕ) (w : Whole D) → StandsOver content may_leave fault_count old steps acked closed w → StandsOver content may_leave fault_count old steps (acked ++ []) (closed ++ []) w
-  same_marks old steps acked closed w h =
-      subst (λ (ms : List ℕ). StandsOver content may_leave fault_count old steps ms (closed ++ []) w) (sym (append-nil acked))
-      (subst (λ (ms : List ℕ). StandsOver content may_leave fault_count old steps acked ms w) (sym (append-nil closed)) h)
-
   -- a step of the core
   pub stands_asked : (old : List GroupData) (steps more : List Step) (acked closed : List ℕ) (w w' : Whole D) → w'.place ≡ w.place → w'.log ≡ w.log → Stands (rows_of old) (steps ++ more) w'.core → StaysBelow w.core w'.core → StandsOver content may_leave fault_count old steps acked closed w → StandsOver content may_leave fault_count old (steps ++ more) acked closed w'
   stands_asked old steps more acked closed w w' place log core stays h =

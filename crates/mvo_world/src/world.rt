@@ -246,10 +246,10 @@ impl<D: Disk> World<D> {
     pub fn run(&mut self, events: &[Event]) -> Result<Vec<Reply>, Refusal>
         ensures each { IfOk result (λ replies. AreSteps (IsStep D.content D.may_leave D.fault_count D.moment D.left_since) self.old events.now replies.items self.new) }
         ensures replies { IfOk result (λ replies. length replies.items ≡ length events.now) }
-        ensures serial { IfOk result (λ replies. (old : List GroupData) (acked closed : List ℕ) → StandsOver D.content D.may_leave D.fault_count old [] acked closed self.old → IsSerial (rows_of old) (trace_of events.now replies.items)) }
+        ensures serial { IfOk result (λ replies. (old : List GroupData) (steps : List Step) (acked closed : List ℕ) → StandsOver D.content D.may_leave D.fault_count old steps acked closed self.old → IsSerial (rows_of old) (steps ++ trace_of events.now replies.items)) }
         ensures others { (n : ℕ) → n ≢ 2 → D.content self.new.log.disk n ≡ D.content self.old.log.disk n }
-        ensures stands { IfOk result (λ replies. (old : List GroupData) (acked closed : List ℕ) → StandsOver D.content D.may_leave D.fault_count old [] acked closed self.old →
-            StandsOver D.content D.may_leave D.fault_count old (trace_of events.now replies.items) (acked ++ all_acknowledged events.now replies.items) (closed ++ all_closed events.now replies.items) self.new) }
+        ensures stands { IfOk result (λ replies. (old : List GroupData) (steps : List Step) (acked closed : List ℕ) → StandsOver D.content D.may_leave D.fault_count old steps acked closed self.old →
+            StandsOver D.content D.may_leave D.fault_count old (steps ++ trace_of events.now replies.items) (acked ++ all_acknowledged events.now replies.items) (closed ++ all_closed events.now replies.items) self.new) }
         ensures memory { IfErr result (λ r. r ≡ Refusal.OutOfMemory) }
         ensures err { OnErr result (self.new ≡ self.old) }
     {

@@ -9,7 +9,7 @@ use Rattle.mvo_world.specs.Standing.{StandsOver}
 use Rattle.mvo_world.specs.Runs.{IsStep, AreSteps}
 use Rattle.mvo_world.specs.declared.event.Event.{Event}
 use Rattle.mvo_world.specs.declared.reply.Reply.{Reply}
-use Rattle.mvo_world.proofs.Moves.{same_marks}
+use Rattle.mvo_world.proofs.Moves.{nothing_more}
 use Rattle.mvo_world.proofs.Runs.{trace_of-push, all_acknowledged-push, all_closed-push, steps-push}
 use Rattle.mvo_world.proofs.world.World.run.Goals as goal
 
@@ -19,7 +19,7 @@ loop-event-init g c = record {
   room = let room = c.in_ok-reserve.ensures.ok in omega arith;
   each = subst (λ (rs : List Reply). AreSteps (IsStep g.D.Disk.content g.D.Disk.may_leave g.D.Disk.fault_count g.D.Disk.moment g.D.Disk.left_since) c.args.self.now [] rs c.args.self.now) (sym (c.in_ok-reserve.ensures.items ∙ c.new-replies.ensures.items)) refl;
   others = λ n other. refl;
-  stands = λ old acked closed h. same_marks g.D.Disk.content g.D.Disk.may_leave g.D.Disk.fault_count old [] acked closed c.args.self.now h;
+  stands = λ old steps acked closed h. nothing_more g.D.Disk.content g.D.Disk.may_leave g.D.Disk.fault_count old steps acked closed c.args.self.now h;
 }
 
 pub push_reserved-requires : goal.push_reserved-requires
@@ -45,27 +45,28 @@ loop-event-preserved g c =
           (subst (λ (xs : List Reply). AreSteps (IsStep g.D.Disk.content g.D.Disk.may_leave g.D.Disk.fault_count g.D.Disk.moment g.D.Disk.left_since) c.args.self.now (take i es ++ e ∷ []) xs c.step_copy-reply.new.self) (sym pushed)
           (steps-push (IsStep g.D.Disk.content g.D.Disk.may_leave g.D.Disk.fault_count g.D.Disk.moment g.D.Disk.left_since) c.args.self.now (take i es) rs c.loop-event.self e r c.step_copy-reply.new.self c.loop-event.invariant.each (record { reply = c.step_copy-reply.ensures.reply; stands = c.step_copy-reply.ensures.stands; any_moment = c.step_copy-reply.ensures.any_moment })));
       others = λ n other. c.step_copy-reply.ensures.others n other ∙ c.loop-event.invariant.others n other;
-      stands = λ old acked closed h.
-          subst (λ (xs : List Step). StandsOver g.D.Disk.content g.D.Disk.may_leave g.D.Disk.fault_count old xs (acked ++ all_acknowledged (take (i + 1) es) c.push_reserved.new.items.items) (closed ++ all_closed (take (i + 1) es) c.push_reserved.new.items.items) c.step_copy-reply.new.self) (sym traces)
-          (subst (λ (xs : List ℕ). StandsOver g.D.Disk.content g.D.Disk.may_leave g.D.Disk.fault_count old (trace_of (take i es) rs ++ happened e r) xs (closed ++ all_closed (take (i + 1) es) c.push_reserved.new.items.items) c.step_copy-reply.new.self) (append_assoc acked (all_acknowledged (take i es) rs) (acknowledged e r) ∙ ap (λ xs. acked ++ xs) (sym acks))
-          (subst (λ (xs : List ℕ). StandsOver g.D.Disk.content g.D.Disk.may_leave g.D.Disk.fault_count old (trace_of (take i es) rs ++ happened e r) ((acked ++ all_acknowledged (take i es) rs) ++ acknowledged e r) xs c.step_copy-reply.new.self) (append_assoc closed (all_closed (take i es) rs) (closed_by e r) ∙ ap (λ xs. closed ++ xs) (sym marks))
-          (c.step_copy-reply.ensures.stands old (trace_of (take i es) rs) (acked ++ all_acknowledged (take i es) rs) (closed ++ all_closed (take i es) rs) (c.loop-event.invariant.stands old acked closed h))));
+      stands = λ old steps acked closed h.
+          let before = trace_of (take i es) rs in
+          subst (λ (xs : List Step). StandsOver g.D.Disk.content g.D.Disk.may_leave g.D.Disk.fault_count old xs (acked ++ all_acknowledged (take (i + 1) es) c.push_reserved.new.items.items) (closed ++ all_closed (take (i + 1) es) c.push_reserved.new.items.items) c.step_copy-reply.new.self) (append_assoc steps before (happened e r) ∙ ap (λ xs. steps ++ xs) (sym traces))
+          (subst (λ (xs : List ℕ). StandsOver g.D.Disk.content g.D.Disk.may_leave g.D.Disk.fault_count old ((steps ++ before) ++ happened e r) xs (closed ++ all_closed (take (i + 1) es) c.push_reserved.new.items.items) c.step_copy-reply.new.self) (append_assoc acked (all_acknowledged (take i es) rs) (acknowledged e r) ∙ ap (λ xs. acked ++ xs) (sym acks))
+          (subst (λ (xs : List ℕ). StandsOver g.D.Disk.content g.D.Disk.may_leave g.D.Disk.fault_count old ((steps ++ before) ++ happened e r) ((acked ++ all_acknowledged (take i es) rs) ++ acknowledged e r) xs c.step_copy-reply.new.self) (append_assoc closed (all_closed (take i es) rs) (closed_by e r) ∙ ap (λ xs. closed ++ xs) (sym marks))
+          (c.step_copy-reply.ensures.stands old (steps ++ before) (acked ++ all_acknowledged (take i es) rs) (closed ++ all_closed (take i es) rs) (c.loop-event.invariant.stands old steps acked closed h))));
     }
 
 pub returns-clause-replies : goal.returns-clause-replies
 returns-clause-replies g c = c.loop-event.invariant.many ∙ (let done = c.loop-event-test.false in omega arith)
 
 pub returns-clause-stands : goal.returns-clause-stands
-returns-clause-stands g c = λ old acked closed h.
-    subst (λ (es : List Event). StandsOver g.D.Disk.content g.D.Disk.may_leave g.D.Disk.fault_count old (trace_of es c.loop-event.replies.items) (acked ++ all_acknowledged es c.loop-event.replies.items) (closed ++ all_closed es c.loop-event.replies.items) c.loop-event.self) (take_all c.loop-event.event-index c.args.events.now (omega arith))
-    (c.loop-event.invariant.stands old acked closed h)
+returns-clause-stands g c = λ old steps acked closed h.
+    subst (λ (es : List Event). StandsOver g.D.Disk.content g.D.Disk.may_leave g.D.Disk.fault_count old (steps ++ trace_of es c.loop-event.replies.items) (acked ++ all_acknowledged es c.loop-event.replies.items) (closed ++ all_closed es c.loop-event.replies.items) c.loop-event.self) (take_all c.loop-event.event-index c.args.events.now (omega arith))
+    (c.loop-event.invariant.stands old steps acked closed h)
 
 pub returns-clause-serial : goal.returns-clause-serial
-returns-clause-serial g c = λ old acked closed h.
+returns-clause-serial g c = λ old steps acked closed h.
     let i = c.loop-event.event-index in
-    let s = c.loop-event.invariant.stands old acked closed h in
-    subst (λ (es : List Event). IsSerial (rows_of old) (trace_of es c.loop-event.replies.items)) (take_all i c.args.events.now (omega arith))
-    (stands_serializable (rows_of old) (trace_of (take i c.args.events.now) c.loop-event.replies.items) c.loop-event.self.core (subst (λ w. IsSound w.core) c.self-2.view_is c.clock-clock.ensures.sound) s.core)
+    let s = c.loop-event.invariant.stands old steps acked closed h in
+    subst (λ (es : List Event). IsSerial (rows_of old) (steps ++ trace_of es c.loop-event.replies.items)) (take_all i c.args.events.now (omega arith))
+    (stands_serializable (rows_of old) (steps ++ trace_of (take i c.args.events.now) c.loop-event.replies.items) c.loop-event.self.core (subst (λ w. IsSound w.core) c.self-2.view_is c.clock-clock.ensures.sound) s.core)
 
 pub returns-clause-each : goal.returns-clause-each
 returns-clause-each g c =
