@@ -6,3 +6,4 @@ pub mod Safety
 pub mod Header
 pub mod Replays
 pub mod Opens
+pub mod Openings

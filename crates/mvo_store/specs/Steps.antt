@@ -65,6 +65,10 @@ IsOpenRefusal DiskFault faults later bytes = (faults < 2 ^ 63) × (later ≡ fau
 IsOpenRefusal OutOfMemory faults later bytes = (faults < 2 ^ 63) × (later ≡ faults)
 IsOpenRefusal _ faults later bytes = ⊥
 
+-- refusals that say nothing of the bytes
+abbrev pub IsNotOfBytes : Refusal → Type 0
+IsNotOfBytes e = (e ≡ ClockSpent) ⊎ ((e ≡ DiskFault) ⊎ (e ≡ OutOfMemory))
+
 abbrev pub IsFormatRefusal : Refusal → ℕ → ℕ → List ℕ → Type 0
 IsFormatRefusal ClockSpent faults later bytes = (2 ^ 63 ≤ faults) × (later ≡ faults)
 IsFormatRefusal AlreadyFormatted faults later bytes = (faults < 2 ^ 63) × (bytes ≢ []) × (later ≡ faults)

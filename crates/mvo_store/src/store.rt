@@ -36,9 +36,9 @@ impl<D: Disk> Store<D> {
     ghost use Rattle.mvo_disk.specs.Disk.{LeavesOnly, AllOf, Only};
     ghost use Rattle.mvo_group.specs.Data.{GroupData};
     ghost use Rattle.mvo_store.specs.Frames.{HasGroups};
-    ghost use Rattle.mvo_store.specs.Recovery.{Recovers, rows_of, mark_of};
+    ghost use Rattle.mvo_store.specs.Recovery.{IsWellFormed, Recovers, rows_of, mark_of};
     ghost use Rattle.mvo_store.specs.Standing.{Stands, IsSafe, HasWithOrWithout, opening, with_taken, groups_after};
-    ghost use Rattle.mvo_store.specs.Steps.{why_not_take, why_not_append_body, why_not_append_open, RefusedFor, GivenBackFor, LeftBy, IsMarkOf, IsOpenRefusal};
+    ghost use Rattle.mvo_store.specs.Steps.{why_not_take, why_not_append_body, why_not_append_open, RefusedFor, GivenBackFor, LeftBy, IsMarkOf, IsOpenRefusal, IsNotOfBytes};
 
     /// Opens what is on the disk, and answers its rows and mark. It writes and cuts nothing, and
     /// syncs what it read before it answers Ok. Refused, the disk comes back.
@@ -57,6 +57,7 @@ impl<D: Disk> Store<D> {
         ensures content { IfOk result (λ x. (n : ℕ) → D.content x.0.disk n ≡ D.content disk n) }
         ensures any_moment { IfOk result (λ x. LeavesOnly D.moment D.left_since disk x.0.disk (AllOf (D.may_leave disk))) }
         ensures refused { IfErr result (λ e. IsOpenRefusal e.0 (D.fault_count disk) (D.fault_count e.1) (D.content disk 2)) }
+        ensures well_formed { IfErr result (λ e. IsWellFormed (D.content disk 2) → IsNotOfBytes e.0) }
         ensures content_err { IfErr result (λ e. (n : ℕ) → D.content e.1 n ≡ D.content disk n) }
         ensures any_moment_err { IfErr result (λ e. LeavesOnly D.moment D.left_since disk e.1 (AllOf (D.may_leave disk))) }
     {

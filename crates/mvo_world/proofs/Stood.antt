@@ -69,13 +69,15 @@ module _ {D : Type 0} (content : D → ℕ → List ℕ) (may_leave : D → ℕ 
         rows = rows_of (old ++ gs);
         mark = mark_of (old ++ gs);
         recovers = record { groups = old ++ gs; has = has; frames = behind_header bytes (old ++ gs) has; rows_are = refl; mark_is = refl };
-        up_to = after-append old gs _
-            ∙ ap (λ cs. after_groups gs (left_by_all cs (rows_of old))) (sym none)
-            ∙ chain_rows w.core (mark_of old) gs (rows_of old) rise (groups_front w.core (mark_of old) gs hs groups)
-            ∙ sym (rows_up_to_is (mark_after (mark_of old) gs) (rows_of old) steps w.core core)
-            ∙ ap (λ (m : ℕ). rows_up_to m (rows_of old) steps) (sym mark);
-        known = subst (λ (ms : List ℕ). IsOneOf (mark_of (old ++ gs)) (mark_of old ∷ ms)) marks (subst (λ (m : ℕ). IsOneOf m (mark_of old ∷ map (λ g. g.mark) (gs ++ hs))) (sym mark) (one_after (mark_of old) gs hs));
-        covers = covers;
+        up_to = record {
+          rows_are = after-append old gs _
+              ∙ ap (λ cs. after_groups gs (left_by_all cs (rows_of old))) (sym none)
+              ∙ chain_rows w.core (mark_of old) gs (rows_of old) rise (groups_front w.core (mark_of old) gs hs groups)
+              ∙ sym (rows_up_to_is (mark_after (mark_of old) gs) (rows_of old) steps w.core core)
+              ∙ ap (λ (m : ℕ). rows_up_to m (rows_of old) steps) (sym mark);
+          known = subst (λ (ms : List ℕ). IsOneOf (mark_of (old ++ gs)) (mark_of old ∷ ms)) marks (subst (λ (m : ℕ). IsOneOf m (mark_of old ∷ map (λ g. g.mark) (gs ++ hs))) (sym mark) (one_after (mark_of old) gs hs));
+          covers = covers;
+        };
       }
 
   pub good_image : (old : List GroupData) (steps : List Step) (acked closed : List ℕ) (w : Whole D) (bytes : List ℕ) → IsRising w.core.line → (h : StandsOver content may_leave fault_count old steps acked closed w) → HasWithOrWithout (old ++ h.sent) (opening w.log) bytes → IsGood (rows_of old) (mark_of old) steps acked closed bytes

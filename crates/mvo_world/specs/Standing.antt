@@ -16,14 +16,18 @@ abbrev pub IsOneOf : ℕ → List ℕ → Type 0
 IsOneOf m [] = ⊥
 IsOneOf m (n ∷ ns) = (m ≡ n) ⊎ IsOneOf m ns
 
--- The recovered rows are those up to the recovered mark: the opening one or that of a closed group, and at least each acknowledged timestamp.
+-- The rows are those up to the mark: the opening one or that of a closed group, and at least each acknowledged timestamp.
+pub record IsUpTo (opening : Map) (start : ℕ) (steps : List Step) (acknowledged closed : List ℕ) (rows : Map) (mark : ℕ) : Type 0 where
+  pub rows_are : rows ≡ rows_up_to mark opening steps
+  pub known : IsOneOf mark (start ∷ closed)
+  pub covers : AllByRecursion (λ m. m ≤ mark) acknowledged
+
+-- so are the recovered rows and the recovered mark
 pub record IsGood (opening : Map) (start : ℕ) (steps : List Step) (acknowledged closed : List ℕ) (bytes : List ℕ) : Type 0 where
   pub rows : Map
   pub mark : ℕ
   pub recovers : Recovers bytes rows mark
-  pub up_to : rows ≡ rows_up_to mark opening steps
-  pub known : IsOneOf mark (start ∷ closed)
-  pub covers : AllByRecursion (λ m. m ≤ mark) acknowledged
+  pub up_to : IsUpTo opening start steps acknowledged closed rows mark
 
 -- the world that was opened over these groups stands for the steps
 pub record StandsOver {D : Type 0} (content : D → ℕ → List ℕ) (may_leave : D → ℕ → List ℕ → Type 0) (fault_count : D → ℕ) (old : List GroupData) (steps : List Step) (acknowledged closed : List ℕ) (w : Whole D) : Type 0 where

@@ -42,15 +42,16 @@ impl<D: Disk> Model for World<D> {
 impl<D: Disk> World<D> {
     ghost use Rattle.std.specs.Prelude.{◌≡◌, ◌≢◌, ◌++◌, ℕ, List, [], ◌∷◌, length, false, None, IfOk, IfErr, OnErr, MatchResult};
     ghost use Rattle.mvo_core.specs.Events as core;
+    ghost use Rattle.mvo_types.specs.Keys.{Map};
     ghost use Rattle.mvo_model.specs.Trace.{Step, IsSerial};
     ghost use Rattle.mvo_state.specs.Line.{opened};
     ghost use Rattle.mvo_disk.specs.Disk.{AllOf, LeavesOnly};
     ghost use Rattle.mvo_group.specs.Data.{GroupData};
     ghost use Rattle.mvo_store.specs.Frames.{HasGroups};
-    ghost use Rattle.mvo_store.specs.Recovery.{Recovers, rows_of, mark_of};
-    ghost use Rattle.mvo_store.specs.Steps.{IsOpenRefusal};
+    ghost use Rattle.mvo_store.specs.Recovery.{IsWellFormed, Recovers, rows_of, mark_of};
+    ghost use Rattle.mvo_store.specs.Steps.{IsOpenRefusal, IsNotOfBytes};
     ghost use Rattle.mvo_world.specs.Steps.{happened, acknowledged, closed_by, trace_of, all_acknowledged, all_closed};
-    ghost use Rattle.mvo_world.specs.Standing.{IsGood, StandsOver};
+    ghost use Rattle.mvo_world.specs.Standing.{IsUpTo, IsGood, StandsOver};
     ghost use Rattle.mvo_world.specs.Replies.{IsReplyTo, IsCopiedReplyTo};
     ghost use Rattle.mvo_world.specs.Runs.{IsStep, AreSteps};
 
@@ -59,10 +60,13 @@ impl<D: Disk> World<D> {
     pub fn open(alloc: Global, disk: D) -> Result<World<D>, (Refusal, D)>
         ensures stands { IfOk result (λ w. (old : List GroupData) → HasGroups 0 old (D.content disk 2) → StandsOver D.content D.may_leave D.fault_count old [] (mark_of old ∷ []) [] w) }
         ensures recovers { IfOk result (λ w. Recovers (D.content disk 2) w.core.base w.log.mark.0) }
+        ensures good { IfOk result (λ w. (opening : Map) (start : ℕ) (steps : List Step) (acked closed : List ℕ) →
+            IsGood opening start steps acked closed (D.content disk 2) → IsUpTo opening start steps acked closed w.core.base w.log.mark.0) }
         ensures begins { IfOk result (λ w. (w.core ≡ opened w.core.base w.log.mark.0) × (w.place ≡ None) × (w.log.down ≡ false) × (w.log.pending ≡ None) × (w.log.written ≡ false)) }
         ensures content { IfOk result (λ w. (n : ℕ) → D.content w.log.disk n ≡ D.content disk n) }
         ensures any_moment { IfOk result (λ w. LeavesOnly D.moment D.left_since disk w.log.disk (AllOf (D.may_leave disk))) }
         ensures refused { IfErr result (λ e. IsOpenRefusal e.0 (D.fault_count disk) (D.fault_count e.1) (D.content disk 2)) }
+        ensures well_formed { IfErr result (λ e. IsWellFormed (D.content disk 2) → IsNotOfBytes e.0) }
         ensures content_err { IfErr result (λ e. (n : ℕ) → D.content e.1 n ≡ D.content disk n) }
         ensures any_moment_err { IfErr result (λ e. LeavesOnly D.moment D.left_since disk e.1 (AllOf (D.may_leave disk))) }
     {
