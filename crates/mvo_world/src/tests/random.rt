@@ -199,7 +199,7 @@ impl Trial {
         let mut before = 0;
         for (number, known) in run.known.iter().enumerate() {
             let is_end = number == run.events.len();
-            if number != 0 && !is_end && !run.is_at_append(number) && self.draws.below(8) != 0 {
+            if number != 0 && !is_end && !run.is_at_append(number) && self.draws.below(24) != 0 {
                 continue;
             }
             let disk = run.disk_after(number)?;
