@@ -1,3 +1,10 @@
+mod draws;
+mod events;
+mod images;
+mod observed;
+mod random;
+mod runs;
+
 use crate::{Event, Reply, World};
 use mvo_core::{Event as Step, Reply as Answered};
 use mvo_disk::{Disk, Left, MemDisk};

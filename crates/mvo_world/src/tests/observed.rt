@@ -1,0 +1,309 @@
+//! What happened in a run, as its events and their replies tell.
+
+use crate::{Event, Reply};
+use mvo_core::{Event as Step, Reply as Answered};
+use mvo_types::{Answer, Op, Refusal, Stamp, TxId};
+use std::alloc::{AllocError, Global};
+use std::mem;
+
+#[derive(Clone, Copy)]
+pub enum Phase {
+    Active,
+    Preparing,
+    /// Preparing, and every entry is checked.
+    Valid,
+    Over,
+}
+
+/// An unfinished transaction, with what it asked for and what it was told.
+#[derive(Drop)]
+pub struct Open {
+    pub id: TxId,
+    pub phase: Phase,
+    ops: Vec<Op>,
+    answers: Vec<Answer>,
+}
+
+/// A committed transaction. So many events were answered before the one that settled it.
+#[derive(Drop)]
+pub struct Commit {
+    pub event: usize,
+    pub end: Stamp,
+    pub ops: Vec<Op>,
+    pub answers: Vec<Answer>,
+}
+
+/// A group that was closed. So many events were answered before the one that closed it.
+#[derive(Clone, Copy)]
+pub struct ClosedGroup {
+    pub event: usize,
+    pub mark: Stamp,
+}
+
+/// What is known of the groups at a moment.
+#[derive(Clone, Copy)]
+pub struct Known {
+    /// The greatest of the opening mark, those answered durable and those polled with yes.
+    pub acknowledged: Stamp,
+    /// The mark that was answered durable last, or the opening mark.
+    pub durable: Stamp,
+    /// The mark of the group in the place of closed groups.
+    pub closed: Option<Stamp>,
+    /// The mark of the group that the store took, and whether its body is written.
+    pub taken: Option<Stamp>,
+    pub written: bool,
+}
+
+/// How often things happened.
+#[derive(Clone, Copy, Debug)]
+pub struct Counts {
+    pub commits: u64,
+    pub failed: u64,
+    pub busy: u64,
+    pub early: u64,
+    pub rolled_back: u64,
+    pub out_of_turn: u64,
+    pub groups: u64,
+    pub polled_yes: u64,
+    pub polled_no: u64,
+    pub strange: u64,
+}
+
+impl Counts {
+    pub fn new() -> Counts {
+        Counts {
+            commits: 0,
+            failed: 0,
+            busy: 0,
+            early: 0,
+            rolled_back: 0,
+            out_of_turn: 0,
+            groups: 0,
+            polled_yes: 0,
+            polled_no: 0,
+            strange: 0,
+        }
+    }
+}
+
+/// What happened since a world was opened.
+#[derive(Drop)]
+pub struct Observed {
+    alloc: Global,
+    /// How many events were answered.
+    events: usize,
+    /// The greatest timestamp that was told.
+    pub latest: u64,
+    pub open: Vec<Open>,
+    /// By end timestamp.
+    pub commits: Vec<Commit>,
+    pub groups: Vec<ClosedGroup>,
+    pub known: Known,
+    pub counts: Counts,
+}
+
+pub fn count(number: &mut u64) {
+    *number = number.saturating_add(1);
+}
+
+fn id_of(step: &Step) -> Option<TxId> {
+    match step {
+        Step::Begin => None,
+        Step::Read(id, _) => Some(*id),
+        Step::Insert(id, _) => Some(*id),
+        Step::Precommit(id) => Some(*id),
+        Step::Validate(id) => Some(*id),
+        Step::Settle(id) => Some(*id),
+        Step::Rollback(id) => Some(*id),
+        Step::Finish(id) => Some(*id),
+    }
+}
+
+fn op_of(step: &Step) -> Result<Option<Op>, AllocError> {
+    match step {
+        Step::Read(_, key) => Ok(Some(Op::Read(*key))),
+        Step::Insert(_, row) => Ok(Some(Op::Insert(row.copy()?))),
+        _ => Ok(None),
+    }
+}
+
+impl Observed {
+    pub fn new(alloc: Global, mark: Stamp, counts: Counts) -> Observed {
+        Observed {
+            alloc,
+            events: 0,
+            latest: mark.0,
+            open: Vec::new(alloc),
+            commits: Vec::new(alloc),
+            groups: Vec::new(alloc),
+            known: Known {
+                acknowledged: mark,
+                durable: mark,
+                closed: None,
+                taken: None,
+                written: false,
+            },
+            counts,
+        }
+    }
+
+    /// Notes an event and its reply.
+    pub fn note(&mut self, event: &Event, reply: Reply) -> Result<(), AllocError> {
+        match reply {
+            Reply::Core(reply) => self.note_core(event, reply)?,
+            Reply::Closed(closed) => {
+                self.known.closed = Some(closed.mark);
+                self.groups.push(ClosedGroup {
+                    event: self.events,
+                    mark: closed.mark,
+                })?;
+            }
+            Reply::Taken => self.known.taken = self.known.closed.take(),
+            Reply::Written => self.known.written = true,
+            Reply::Durable(mark) => self.note_durable(mark),
+            Reply::Polled(yes) => self.note_poll(event, yes),
+            Reply::Refused(refusal) => self.note_refusal(refusal),
+        }
+        self.events = self.events.saturating_add(1);
+        Ok(())
+    }
+
+    fn note_durable(&mut self, mark: Stamp) {
+        count(&mut self.counts.groups);
+        self.known.durable = mark;
+        self.known.taken = None;
+        self.known.written = false;
+        self.acknowledge(mark);
+    }
+
+    fn note_poll(&mut self, event: &Event, yes: bool) {
+        match event {
+            Event::Poll(stamp) if yes => {
+                count(&mut self.counts.polled_yes);
+                self.acknowledge(*stamp);
+            }
+            Event::Poll(_) => count(&mut self.counts.polled_no),
+            _ => count(&mut self.counts.strange),
+        }
+    }
+
+    fn acknowledge(&mut self, stamp: Stamp) {
+        if self.known.acknowledged < stamp {
+            self.known.acknowledged = stamp;
+        }
+    }
+
+    fn note_core(&mut self, event: &Event, reply: Answered) -> Result<(), AllocError> {
+        let Event::Core(step) = event else {
+            count(&mut self.counts.strange);
+            return Ok(());
+        };
+        match self.place_of(step) {
+            Some(at) if at < self.open.len() => {
+                let tx = self.open.swap_remove(at);
+                self.note_step(tx, step, reply)
+            }
+            _ => self.note_begin(reply),
+        }
+    }
+
+    fn place_of(&self, step: &Step) -> Option<usize> {
+        let id = id_of(step)?;
+        self.open.iter().position(|tx: &Open| tx.id == id)
+    }
+
+    /// A reply to a begin, or to a step of a transaction that isn't there.
+    fn note_begin(&mut self, reply: Answered) -> Result<(), AllocError> {
+        match reply {
+            Answered::Began(id) => {
+                self.latest = id.0;
+                self.open.push(Open {
+                    id,
+                    phase: Phase::Active,
+                    ops: Vec::new(self.alloc),
+                    answers: Vec::new(self.alloc),
+                })?;
+            }
+            Answered::Refused(Refusal::NoSuchTransaction) => count(&mut self.counts.out_of_turn),
+            _ => count(&mut self.counts.strange),
+        }
+        Ok(())
+    }
+
+    /// A reply to a step of an unfinished transaction, which goes back unless it left.
+    fn note_step(&mut self, tx: Open, step: &Step, reply: Answered) -> Result<(), AllocError> {
+        let mut tx = tx;
+        match reply {
+            Answered::Answered(answer) => self.note_answer(&mut tx, step, answer)?,
+            Answered::Preparing(end) => {
+                self.latest = end.0;
+                tx.phase = Phase::Preparing;
+            }
+            Answered::More => {}
+            Answered::Valid => tx.phase = Phase::Valid,
+            Answered::Committed(end) => self.keep(&mut tx, end)?,
+            Answered::RolledBack => {
+                tx.phase = Phase::Over;
+                count(&mut self.counts.rolled_back);
+            }
+            Answered::Done => return Ok(()),
+            Answered::Refused(Refusal::ValidationFailed(_)) => {
+                tx.phase = Phase::Over;
+                count(&mut self.counts.failed);
+            }
+            Answered::Refused(refusal) => self.note_refusal(refusal),
+            _ => count(&mut self.counts.strange),
+        }
+        self.open.push(tx)?;
+        Ok(())
+    }
+
+    fn note_answer(
+        &mut self,
+        tx: &mut Open,
+        step: &Step,
+        answer: Answer,
+    ) -> Result<(), AllocError> {
+        match op_of(step)? {
+            Some(op) => {
+                tx.ops.push(op)?;
+                tx.answers.push(answer)?;
+            }
+            None => count(&mut self.counts.strange),
+        }
+        Ok(())
+    }
+
+    fn note_refusal(&mut self, refusal: Refusal) {
+        let counts = &mut self.counts;
+        match refusal {
+            Refusal::Busy => count(&mut counts.busy),
+            Refusal::NotValidated => count(&mut counts.early),
+            Refusal::Ended | Refusal::NotActive | Refusal::NotPreparing | Refusal::NotEnded => {
+                count(&mut counts.out_of_turn)
+            }
+            Refusal::NothingToDo | Refusal::RingFull => count(&mut counts.out_of_turn),
+            _ => count(&mut counts.strange),
+        }
+    }
+
+    /// Keeps a committed transaction, in its place by end timestamp.
+    fn keep(&mut self, tx: &mut Open, end: Stamp) -> Result<(), AllocError> {
+        let commit = Commit {
+            event: self.events,
+            end,
+            ops: mem::replace(&mut tx.ops, Vec::new(self.alloc)),
+            answers: mem::replace(&mut tx.answers, Vec::new(self.alloc)),
+        };
+        tx.phase = Phase::Over;
+        count(&mut self.counts.commits);
+        let before = |other: &&Commit| other.end < end;
+        let at = self.commits.iter().filter(before).count();
+        if at > self.commits.len() {
+            count(&mut self.counts.strange);
+            return Ok(());
+        }
+        self.commits.insert(at, commit)?;
+        Ok(())
+    }
+}

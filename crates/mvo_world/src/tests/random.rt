@@ -1,0 +1,383 @@
+//! Random events over a disk that stops at each of its calls, against one map that runs the
+//! committed transactions one after another.
+
+use super::draws::Draws;
+use super::images::{Loose, OPEN, SEGMENT, disk_after, last_write};
+use super::observed::{Counts, Known, count};
+use super::runs::{RUNS, Run, Start, all_keys, opened};
+use crate::{Event, Reply, World};
+use mvo_core::{Event as Step, Reply as Answered};
+use mvo_disk::{Call, Disk, Left, MemDisk};
+use mvo_store::format;
+use mvo_types::{Answer, Op, Row, RowKey, Rows, Stamp, TxId};
+use std::alloc::{AllocError, Global};
+use std::process::Abort;
+use std::test::Fail;
+
+const SEEDS: [u64; 3] = [1, 0x9e37_79b9_7f4a_7c15, 2_026];
+
+/// So many images are drawn at a moment that may leave more than one.
+const IMAGES: u64 = 4;
+
+/// How often the stops met things.
+#[derive(Clone, Copy, Debug)]
+struct Met {
+    between: u64,
+    in_body: u64,
+    after_body: u64,
+    gate_left_open: u64,
+    gate_left_closed: u64,
+    after_gate: u64,
+    torn: u64,
+    rows: u64,
+
+    old_answers: u64,
+    reopened: u64,
+    strange: u64,
+}
+
+/// A moment within an event: so many events are answered before it, so many calls of the disk were
+/// made before it, and so many are made.
+#[derive(Clone, Copy)]
+struct Moment {
+    answered: usize,
+    before: usize,
+    made: usize,
+}
+
+/// The stops of runs that follow one another.
+#[derive(Drop)]
+struct Trial {
+    alloc: Global,
+    draws: Draws,
+    keys: Vec<RowKey>,
+    met: Met,
+    /// What the next run starts from.
+    next: Option<Start>,
+}
+
+impl Met {
+    fn new() -> Met {
+        Met {
+            between: 0,
+            in_body: 0,
+            after_body: 0,
+            gate_left_open: 0,
+            gate_left_closed: 0,
+            after_gate: 0,
+            torn: 0,
+            rows: 0,
+            old_answers: 0,
+            reopened: 0,
+            strange: 0,
+        }
+    }
+
+    /// Notes a stop within an event.
+    fn note_within(&mut self, event: &Event, is_synced: bool, is_open: bool) {
+        match event {
+            Event::AppendBody if is_synced => count(&mut self.after_body),
+            Event::AppendBody => count(&mut self.in_body),
+            Event::AppendOpen if is_synced => count(&mut self.after_gate),
+            Event::AppendOpen if is_open => count(&mut self.gate_left_open),
+            Event::AppendOpen => count(&mut self.gate_left_closed),
+            _ => count(&mut self.strange),
+        }
+    }
+}
+
+/// The mark that is due after a stop within an event, by what it left of the gate.
+fn mark_within(known: &Known, event: &Event, is_open: bool) -> Stamp {
+    match (event, known.taken) {
+        (Event::AppendOpen, Some(mark)) if is_open => mark,
+        _ => known.durable,
+    }
+}
+
+fn is_same(answer: &Answer, other: &Answer) -> bool {
+    match (answer, other) {
+        (Answer::Found(Some(row)), Answer::Found(Some(other))) => row.same(other),
+        (Answer::Found(None), Answer::Found(None)) => true,
+        (Answer::Inserted, Answer::Inserted) => true,
+        (Answer::Exists, Answer::Exists) => true,
+        _ => false,
+    }
+}
+
+fn key_of(op: &Op) -> Option<RowKey> {
+    match op {
+        Op::Read(key) => Some(*key),
+        Op::Insert(row) => Some(row.key),
+        _ => None,
+    }
+}
+
+fn begin(world: &mut World<MemDisk>) -> Result<TxId, Fail> {
+    match world.step(Event::Core(Step::Begin)) {
+        Reply::Core(Answered::Began(id)) => Ok(id),
+        _ => Err(Fail::from("a transaction that begins")),
+    }
+}
+
+fn read(world: &mut World<MemDisk>, id: TxId, key: RowKey) -> Result<Answer, Fail> {
+    match world.step(Event::Core(Step::Read(id, key))) {
+        Reply::Core(Answered::Answered(answer)) => Ok(answer),
+        _ => Err(Fail::from("a read that is answered")),
+    }
+}
+
+/// Copies of all rows, by table and key.
+fn all_rows(alloc: Global, rows: &Rows) -> Result<Vec<Row>, AllocError> {
+    let mut all = rows.within(alloc, 0, 0, u64::MAX)?;
+    for row in rows.within(alloc, 1, 0, u64::MAX)? {
+        all.push(row)?;
+    }
+    Ok(all)
+}
+
+/// A fresh segment.
+fn fresh(alloc: Global) -> Result<Start, Fail> {
+    let disk = match format(MemDisk::new(alloc)?) {
+        Ok(disk) => disk,
+        Err((refusal, _)) => return Err(Fail::from(refusal)),
+    };
+    Ok(Start {
+        bytes: disk.bytes(SEGMENT).to_vec(alloc)?,
+        rows: Vec::new(alloc),
+        mark: Stamp(0),
+    })
+}
+
+impl Trial {
+    fn new(alloc: Global, seed: u64, met: Met) -> Result<Trial, AllocError> {
+        Ok(Trial {
+            alloc,
+            draws: Draws::new(alloc, seed),
+            keys: all_keys(alloc)?,
+            met,
+            next: None,
+        })
+    }
+
+    /// Runs from a fresh segment, and on from what stops left.
+    fn go(&mut self, rt: &impl Abort, counts: Counts) -> Result<Counts, Fail> {
+        let mut counts = counts;
+        let mut start = fresh(self.alloc)?;
+        for number in 0..RUNS {
+            if start.mark > Stamp(0) && !start.rows.is_empty() {
+                count(&mut self.met.reopened);
+            }
+            let run = Run::of(start, &mut self.draws, counts, number)?;
+            counts = run.observed.counts;
+            self.compare_answers(rt, &run)?;
+            self.stop_everywhere(rt, &run)?;
+            start = self.next.take().ok_or("a start of the next run")?;
+        }
+        Ok(counts)
+    }
+
+    /// Compares what the committed transactions of the run were told.
+    fn compare_answers(&mut self, rt: &impl Abort, run: &Run) -> Result<(), Fail> {
+        let old = run.serial()?;
+        let mut serial = run.serial()?;
+        for commit in &run.observed.commits {
+            let wanted = serial.run_one(&commit.ops)?;
+            assert_eq!(rt; commit.answers.len(), wanted.len());
+            for (answer, other) in commit.answers.iter().zip(wanted.iter()) {
+                assert!(rt; is_same(answer, other), "{answer:?}, and not {other:?}");
+            }
+            let is_old = |op: &&Op| key_of(op).is_some_and(|key| old.rows().contains(key));
+            let more = commit.ops.iter().filter(is_old).count() as u64;
+            self.met.old_answers = self.met.old_answers.saturating_add(more);
+        }
+        Ok(())
+    }
+
+    /// Stops the run after each call of the disk, before and after the events that make them, and
+    /// between some others.
+    fn stop_everywhere(&mut self, rt: &impl Abort, run: &Run) -> Result<(), Fail> {
+        let mut before = 0;
+        for (number, known) in run.known.iter().enumerate() {
+            let is_end = number == run.events.len();
+            if number != 0 && !is_end && !run.is_at_append(number) && self.draws.below(24) != 0 {
+                continue;
+            }
+            let disk = run.disk_after(number)?;
+            let calls = disk.calls().len();
+            if number != 0 {
+                self.stop_after_calls(rt, run, number, before, disk.calls())?;
+            }
+            before = calls;
+            self.stop_between(rt, run, number, known.durable, disk)?;
+        }
+        Ok(())
+    }
+
+    /// Stops after each call past the first ones, which the event before made.
+    fn stop_after_calls(
+        &mut self,
+        rt: &impl Abort,
+        run: &Run,
+        number: usize,
+        before: usize,
+        calls: &[Call],
+    ) -> Result<(), Fail> {
+        let answered = number.saturating_sub(1);
+        for earlier in before..calls.len() {
+            let made = earlier.saturating_add(1);
+            let moment = Moment {
+                answered,
+                before,
+                made,
+            };
+            self.stop_within(rt, run, moment, calls)?;
+        }
+        Ok(())
+    }
+
+    /// A stop when the first events are answered.
+    fn stop_between(
+        &mut self,
+        rt: &impl Abort,
+        run: &Run,
+        answered: usize,
+        wanted: Stamp,
+        disk: MemDisk,
+    ) -> Result<(), Fail> {
+        let loose = Loose::after(self.alloc, disk.calls())?;
+        let bytes = self.draws.image(disk.bytes(SEGMENT), &loose)?;
+        count(&mut self.met.between);
+        self.check(rt, run, answered, wanted, disk, bytes)
+    }
+
+    /// Stops within an event: some, with other images, where there is more than one.
+    fn stop_within(
+        &mut self,
+        rt: &impl Abort,
+        run: &Run,
+        moment: Moment,
+        calls: &[Call],
+    ) -> Result<(), Fail> {
+        let Moment {
+            answered,
+            before,
+            made,
+        } = moment;
+        let (Some(known), Some(event)) = (run.known.get(answered), run.events.get(answered)) else {
+            return Err(Fail::from("an event of the run"));
+        };
+        let written = last_write(calls, before, made);
+        for _ in 0..IMAGES {
+            let disk = disk_after(self.alloc, calls, made)?;
+            let loose = Loose::after(self.alloc, disk.calls())?;
+            let bytes = self.draws.image(disk.bytes(SEGMENT), &loose)?;
+            let is_open = written.is_some_and(|at| bytes.get(at) == Some(&OPEN));
+            self.met.note_within(event, loose.is_none(), is_open);
+            let wanted = mark_within(known, event, is_open);
+            self.check(rt, run, answered, wanted, disk, bytes)?;
+            if loose.is_none() {
+                break;
+            }
+        }
+        Ok(())
+    }
+
+    /// Stops the disk with the image, opens it, and compares its mark and its rows.
+    fn check(
+        &mut self,
+        rt: &impl Abort,
+        run: &Run,
+        answered: usize,
+        wanted: Stamp,
+        disk: MemDisk,
+        bytes: Vec<u8>,
+    ) -> Result<(), Fail> {
+        let mut disk = disk;
+        if disk.bytes(SEGMENT) != bytes.as_slice() {
+            count(&mut self.met.torn);
+        }
+        let copy = bytes.clone()?;
+        disk.stop(&[Left {
+            file: SEGMENT,
+            bytes: copy,
+        }])?;
+        let mut world = opened(self.alloc, disk)?;
+        let mark = world.mark();
+        assert_eq!(rt; mark, wanted, "after {answered} events");
+        assert!(rt; run.is_mark(answered, mark), "after {answered} events");
+        assert!(rt;
+            run.is_acknowledged(answered, mark),
+            "after {answered} events"
+        );
+        let serial = run.serial_up_to(answered, mark)?;
+        self.compare_rows(rt, &mut world, serial.rows())?;
+        if self.next.is_none() || self.draws.below(16) == 0 {
+            let rows = all_rows(self.alloc, serial.rows())?;
+            self.next = Some(Start { bytes, rows, mark });
+        }
+        Ok(())
+    }
+
+    /// Compares all rows of a world that was opened.
+    fn compare_rows(
+        &mut self,
+        rt: &impl Abort,
+        world: &mut World<MemDisk>,
+        rows: &Rows,
+    ) -> Result<(), Fail> {
+        let id = begin(world)?;
+        for key in &self.keys {
+            let answer = read(world, id, *key)?;
+            let wanted = Answer::Found(rows.get(*key)?);
+            assert!(rt; is_same(&answer, &wanted), "{answer:?}, and not {wanted:?}");
+            if matches!(wanted, Answer::Found(Some(_))) {
+                count(&mut self.met.rows);
+            }
+        }
+        Ok(())
+    }
+}
+
+/// None of the things that are to happen is rare.
+fn assert_counts(rt: &impl Abort, counts: &Counts) {
+    assert_eq!(rt; counts.strange, 0);
+    assert!(rt; counts.commits > 100, "{counts:?}");
+    assert!(rt; counts.failed > 15, "{counts:?}");
+    assert!(rt; counts.busy > 80, "{counts:?}");
+    assert!(rt; counts.early > 20, "{counts:?}");
+    assert!(rt; counts.rolled_back > 40, "{counts:?}");
+    assert!(rt; counts.out_of_turn > 80, "{counts:?}");
+    assert!(rt; counts.groups > 60, "{counts:?}");
+    assert!(rt; counts.polled_yes > 50, "{counts:?}");
+    assert!(rt; counts.polled_no > 30, "{counts:?}");
+}
+
+/// Nor is any kind of stop.
+fn assert_met(rt: &impl Abort, met: &Met) {
+    assert_eq!(rt; met.strange, 0);
+    assert!(rt; met.between > 300, "{met:?}");
+    assert!(rt; met.in_body > 200, "{met:?}");
+    assert!(rt; met.after_body > 60, "{met:?}");
+    assert!(rt; met.gate_left_open > 100, "{met:?}");
+    assert!(rt; met.gate_left_closed > 60, "{met:?}");
+    assert!(rt; met.after_gate > 60, "{met:?}");
+    assert!(rt; met.torn > 300, "{met:?}");
+    assert!(rt; met.rows > 5_000, "{met:?}");
+    assert!(rt; met.old_answers > 25, "{met:?}");
+    assert!(rt; met.reopened > 6, "{met:?}");
+}
+
+#[test]
+fn stops_leave_the_rows_of_serial(rt: HostRuntime) -> Result<(), Fail> {
+    let alloc = rt.alloc();
+    let mut counts = Counts::new();
+    let mut met = Met::new();
+    for seed in SEEDS {
+        let mut trial = Trial::new(alloc, seed, met)?;
+        counts = trial.go(&rt, counts)?;
+        met = trial.met;
+    }
+    assert_counts(&rt, &counts);
+    assert_met(&rt, &met);
+    Ok(())
+}

@@ -1,0 +1,145 @@
+//! A run of random events, and what is due after a stop of it.
+
+use super::draws::Draws;
+use super::events::{KEYS, key_at};
+use super::images::disk_of;
+use super::observed::{Counts, Known, Observed};
+use crate::{Event, World};
+use mvo_disk::MemDisk;
+use mvo_model::Serial;
+use mvo_types::{Row, RowKey, Rows, Stamp};
+use std::alloc::{AllocError, Global};
+use std::test::Fail;
+
+/// So many runs follow one another, each from an image that a stop of the one before left.
+pub const RUNS: u64 = 4;
+
+/// The events of a run.
+const EVENTS: u64 = 256;
+
+/// The keys in use move on by one after so many events: rows are inserted alone.
+const EVENTS_OF_A_KEY: u64 = 16;
+
+/// The keys of a run begin where those of the one before were after so many events.
+const EVENTS_APART: u64 = 80;
+
+/// As many keys as are ever in use, and some more.
+const KEYS_IN_ALL: u64 = (RUNS * EVENTS_APART + EVENTS) / EVENTS_OF_A_KEY + KEYS;
+
+/// What a run starts from: the bytes of the segment, and the rows and the mark that they hold.
+#[derive(Drop)]
+pub struct Start {
+    pub bytes: Vec<u8>,
+    pub rows: Vec<Row>,
+    pub mark: Stamp,
+}
+
+/// A run: its events, and what was known before each of them and after the last.
+#[derive(Drop)]
+pub struct Run {
+    alloc: Global,
+    pub start: Start,
+    pub events: Vec<Event>,
+    pub known: Vec<Known>,
+    pub observed: Observed,
+}
+
+pub fn opened(alloc: Global, disk: MemDisk) -> Result<World<MemDisk>, Fail> {
+    match World::open(alloc, disk) {
+        Ok(world) => Ok(world),
+        Err((refusal, _)) => Err(Fail::from(refusal)),
+    }
+}
+
+/// All keys that may hold a row.
+pub fn all_keys(alloc: Global) -> Result<Vec<RowKey>, AllocError> {
+    (0..KEYS_IN_ALL).map(key_at).collect(alloc)
+}
+
+impl Run {
+    /// The run of this number, counted from 0.
+    pub fn of(start: Start, draws: &mut Draws, counts: Counts, run: u64) -> Result<Run, Fail> {
+        let alloc = draws.alloc;
+        let mut observed = Observed::new(alloc, start.mark, counts);
+        let mut world = opened(alloc, disk_of(alloc, &start.bytes)?)?;
+        let mut events = Vec::new(alloc);
+        let mut known = Vec::new(alloc);
+        for number in 0..EVENTS {
+            let now = run.saturating_mul(EVENTS_APART).saturating_add(number);
+            let event = draws.event(&observed, now / EVENTS_OF_A_KEY)?;
+            known.push(observed.known)?;
+            let reply = world.step(event.copy()?);
+            observed.note(&event, reply)?;
+            events.push(event)?;
+        }
+        known.push(observed.known)?;
+        Ok(Run {
+            alloc,
+            start,
+            events,
+            known,
+            observed,
+        })
+    }
+
+    /// The disk after the first events: the run again, up to there.
+    pub fn disk_after(&self, number: usize) -> Result<MemDisk, Fail> {
+        let mut world = opened(self.alloc, disk_of(self.alloc, &self.start.bytes)?)?;
+        for event in self.events.iter().take(number) {
+            let _ = world.step(event.copy()?);
+        }
+        Ok(world.into_disk())
+    }
+
+    /// Whether the event before or after the first ones wrote a body or opened a gate.
+    pub fn is_at_append(&self, number: usize) -> bool {
+        self.is_append(number)
+            || number
+                .checked_sub(1)
+                .is_some_and(|event| self.is_append(event))
+    }
+
+    /// Whether the event of this number wrote a body or opened a gate.
+    pub fn is_append(&self, event: usize) -> bool {
+        let after = event.saturating_add(1);
+        match (self.known.get(event), self.known.get(after)) {
+            (Some(known), Some(later)) => known.written != later.written,
+            _ => false,
+        }
+    }
+
+    /// The slow program at the start of the run.
+    pub fn serial(&self) -> Result<Serial, AllocError> {
+        let mut rows = Rows::new(self.alloc);
+        for row in &self.start.rows {
+            rows.put(row.copy()?)?;
+        }
+        Ok(Serial::new(self.alloc, rows))
+    }
+
+    /// The slow program after those transactions that the first events committed with an end up to
+    /// the mark.
+    pub fn serial_up_to(&self, number: usize, mark: Stamp) -> Result<Serial, AllocError> {
+        let mut serial = self.serial()?;
+        for commit in &self.observed.commits {
+            if commit.event < number && commit.end <= mark {
+                let _ = serial.run_one(&commit.ops)?;
+            }
+        }
+        Ok(serial)
+    }
+
+    /// Whether the mark is at least each timestamp that the first events acknowledged.
+    pub fn is_acknowledged(&self, number: usize, mark: Stamp) -> bool {
+        match self.known.get(number) {
+            Some(known) => known.acknowledged <= mark,
+            None => false,
+        }
+    }
+
+    /// Whether the mark is the opening mark, or that of a group that the first events closed.
+    pub fn is_mark(&self, number: usize, mark: Stamp) -> bool {
+        let mut groups = self.observed.groups.iter();
+        mark == self.start.mark || groups.any(|group| group.event < number && group.mark == mark)
+    }
+}
