@@ -20,6 +20,12 @@ const SEGMENT: [u8; 63] = [
     0, 0, 1, 0, 0x61, 0,
 ];
 
+// The segment with the empty group (0, 2], whose body is 18 bytes.
+const EMPTY: [u8; 32] = [
+    0x4d, 0x56, 0x4f, 0x4c, 1, 0, 0, 0, 0xa5, 0x12, 0, 0, 0, 0, 0, 0, 0, 0, 0, 0, 0, 2, 0, 0, 0, 0,
+    0, 0, 0, 0, 0, 0,
+];
+
 const KEY: RowKey = RowKey { table: 0, key: 5 };
 
 fn opened(alloc: Global, disk: MemDisk) -> Result<World<MemDisk>, Fail> {
@@ -116,6 +122,50 @@ fn one_put_is_durable(rt: HostRuntime) -> Result<(), Fail> {
     let disk = world.into_disk();
     assert_eq!(rt; disk.bytes(2), SEGMENT.as_slice());
     assert_eq!(rt; found(alloc, disk)?, (2, Some(1)));
+    Ok(())
+}
+
+#[test]
+fn a_commit_that_wrote_nothing_is_polled_yes(rt: HostRuntime) -> Result<(), Fail> {
+    let alloc = rt.alloc();
+    let mut world = fresh(alloc)?;
+    let tx = TxId(1);
+    let events = vec![in alloc;
+        Event::Core(Step::Begin),
+        Event::Core(Step::Read(tx, KEY)),
+        Event::Core(Step::Precommit(tx)),
+        Event::Core(Step::Validate(tx)),
+        Event::Core(Step::Settle(tx)),
+        Event::Poll(Stamp(2)),
+        Event::CloseGroup,
+        Event::TakeGroup,
+        Event::AppendBody,
+        Event::AppendOpen,
+        Event::Poll(Stamp(2)),
+        Event::Poll(Stamp(3)),
+    ]?;
+    let replies = world.run(&events)?;
+    let texts = [
+        "Core(Began(TxId(1)))",
+        "Core(Answered(Found(None)))",
+        "Core(Preparing(Stamp(2)))",
+        "Core(Valid)",
+        "Core(Committed(Stamp(2)))",
+        "Polled(false)",
+        "Closed(Closed { prev: Stamp(0), mark: Stamp(2) })",
+        "Taken",
+        "Written",
+        "Durable(Stamp(2))",
+        "Polled(true)",
+        "Polled(false)",
+    ];
+    assert_eq!(rt; replies.len(), texts.len());
+    for (reply, text) in replies.iter().zip(texts) {
+        assert_eq!(rt; format!(in alloc; "{reply:?}")?.as_str(), text);
+    }
+    let disk = world.into_disk();
+    assert_eq!(rt; disk.bytes(2), EMPTY.as_slice());
+    assert_eq!(rt; found(alloc, disk)?, (2, None));
     Ok(())
 }
 
