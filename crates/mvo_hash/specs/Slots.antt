@@ -38,6 +38,18 @@ is_used s = is_used_state s.state
 abbrev pub used_count : List Slot → ℕ
 used_count ss = count_by is_used ss
 
+abbrev pub is_live_state : State → Bool
+is_live_state Empty = false
+is_live_state Left = false
+is_live_state Live = true
+
+abbrev pub is_live : Slot → Bool
+is_live s = is_live_state s.state
+
+-- how many keys stand in slots
+abbrev pub live_count : List Slot → ℕ
+live_count ss = count_by is_live ss
+
 abbrev pub held_by : State → RowKey × ℕ → Option (RowKey × ℕ)
 held_by Empty e = None
 held_by Left e = None

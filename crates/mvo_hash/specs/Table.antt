@@ -6,7 +6,7 @@ use Rattle.mvo_types.specs.declared.row.RowKey.{RowKey}
 use Rattle.mvo_types.specs.Keys.{key_cmp, coded_key}
 use Rattle.mvo_hash.specs.declared.slot.Slot.{Slot}
 use Rattle.mvo_hash.specs.Home.{home_of}
-use Rattle.mvo_hash.specs.Slots.{slot, slot_key, IsLive, IsReached, entries_of, used_count}
+use Rattle.mvo_hash.specs.Slots.{slot, slot_key, IsLive, IsReached, entries_of, used_count, live_count}
 
 -- a finite map from keys to numbers
 abbrev pub Map : Type 0
@@ -40,8 +40,9 @@ pub record IsTable (first second homes : ℕ) (ss : List Slot) : Type 0 where
   pub reached : (key : RowKey) → IsReached ss (home_of first second homes key) key
   pub apart : (i j : ℕ) → IsLive (slot ss i) → IsLive (slot ss j) → slot_key (slot ss i) ≡ slot_key (slot ss j) → i ≡ j
 
--- a table whose used slots are counted, and leave room
-pub record IsHeads (first second homes used : ℕ) (ss : List Slot) : Type 0 where
+-- a table whose used slots and keys are counted, with at most half as many used slots as homes
+pub record IsHeads (first second homes used keys : ℕ) (ss : List Slot) : Type 0 where
   pub table : IsTable first second homes ss
   pub counted : used ≡ used_count ss
+  pub live : keys ≡ live_count ss
   pub half : used ≤ homes / 2

@@ -20,11 +20,15 @@ const LEAST_ROOM: usize = 8;
 /// A search begins at the key's home and goes on to the first slot that was never used. At most
 /// half as many slots as there are homes are ever used, those of removed keys among them. The
 /// homes come from a seed, so that who chooses the keys without knowing it can't make them meet.
+///
+/// A move to another table frees the slots of removed keys, and takes a larger one only where the
+/// keys are too many, so that keys that come and go don't take ever more memory.
 #[derive(Drop)]
 pub struct Heads {
     seeds: Seeds,
     homes: usize,
     used: usize,
+    keys: usize,
     slots: Vec<Slot>,
 }
 
@@ -39,7 +43,7 @@ impl Model for Heads {
 
     ghost view = { λ t. table_of t.homes t.used t.slots.items };
 
-    ghost invariant = { λ t. IsHeads t.seeds.first t.seeds.second t.homes t.used t.slots.items };
+    ghost invariant = { λ t. IsHeads t.seeds.first t.seeds.second t.homes t.used t.keys t.slots.items };
 }
 
 impl Heads {
@@ -52,6 +56,7 @@ impl Heads {
             seeds: Seeds::new(seed),
             homes: 0,
             used: 0,
+            keys: 0,
             slots: Vec::new(alloc),
         }
     }
@@ -103,6 +108,7 @@ impl Heads {
         };
         let before = self.slots[at].number;
         self.slots[at] = Slot::left();
+        self.keys -= 1;
         Some(before)
     }
 
@@ -117,6 +123,7 @@ impl Heads {
         let home = self.seeds.home(key, self.homes);
         let at = free(&self.slots, home);
         if at < self.slots.len() {
+            self.keys += 1;
             if self.slots[at].is_empty() {
                 self.used += 1;
             }
@@ -125,6 +132,7 @@ impl Heads {
         }
         self.slots.push(Slot::live(key, number))?;
         self.used += 1;
+        self.keys += 1;
         Ok(())
     }
 
@@ -138,6 +146,7 @@ impl Heads {
             seeds,
             homes,
             used: 0,
+            keys: 0,
             slots: vec![in alloc; Slot::empty(); count]?,
         })
     }
@@ -148,8 +157,9 @@ impl Heads {
         ensures numbers { IfOk result (λ t. t.numbers ≡ self.now.numbers) }
         ensures room { IfOk result (λ t. keys ≤ t.room) }
     {
-        let more = keys.max(self.used).max(LEAST_ROOM);
-        let all = self.used.checked_add(more).ok_or(AllocError)?;
+        let more = keys.max(self.keys).max(LEAST_ROOM);
+        let enough = self.keys.checked_add(more).ok_or(AllocError)?;
+        let all = enough.max(self.homes / 2);
         let mut larger = Heads::with_room(*self.slots.allocator(), self.seeds, all)?;
         for slot in &self.slots {
             if slot.is_live() {
@@ -182,8 +192,9 @@ impl Heads {
         Ok(None)
     }
 
-    /// Makes room for so many more keys, so that no key is moved while they are put. What it takes
-    /// is 32 bytes for each, and the time of moving every key where the room is short.
+    /// Makes room for so many more keys, so that no key is moved while they are put. Where the room
+    /// is short it takes the time of moving every key, and 32 bytes or more for each of them and of
+    /// those that are to come.
     pub fn reserve(&mut self, keys: usize) -> Result<(), AllocError>
         ensures numbers { self.new.numbers ≡ self.old.numbers }
         ensures ok { OnOk result (keys ≤ self.new.room) }

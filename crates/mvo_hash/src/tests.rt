@@ -184,3 +184,22 @@ fn room_beyond_memory_is_refused(rt: HostRuntime) -> Result<(), Fail> {
     }
     Ok(())
 }
+
+#[test]
+fn keys_that_come_and_go_take_no_more_memory(rt: HostRuntime) -> Result<(), Fail> {
+    let mut heads = Heads::new(rt.alloc(), 14);
+    for step in 0u32..20_000 {
+        let key = RowKey {
+            table: 2,
+            key: step as u64,
+        };
+        assert_eq!(rt; heads.put(key, step)?, None);
+        assert!(rt; heads.room() <= 64);
+        let old = RowKey {
+            table: 2,
+            key: (step as u64).saturating_sub(4),
+        };
+        assert!(rt; heads.remove(old).is_some() || step < 5);
+    }
+    Ok(())
+}

@@ -1,9 +1,9 @@
-use Rattle.std.proofs.Common.{◌≡◌, ℕ, ◌+◌, ◌<◌, ◌≤◌, ◌^◌, Option, Some, take, sym, ap, ◌∙◌, subst, arith}
+use Rattle.std.proofs.Common.{◌≡◌, ℕ, ◌+◌, ◌<◌, ◌^◌, Option, Some, take, sym, ap, ◌∙◌, subst, arith}
 use Rattle.std.specs.FinMap as map
 use Rattle.std.specs.Option.{SomeIff}
-use Rattle.mvo_hash.specs.Slots.{slot, used_count}
+use Rattle.mvo_hash.specs.Slots.{slot, live_count}
 use Rattle.mvo_hash.specs.Table.{Table, map_of}
-use Rattle.mvo_hash.proofs.Counts.{used_next, used_next_live, used_front}
+use Rattle.mvo_hash.proofs.Counts.{live_next, live_next_free, live_front}
 use Rattle.mvo_hash.proofs.Puts.{Apart}
 use Rattle.mvo_hash.proofs.Tables.{next_free, next_new, next_live}
 use Rattle.mvo_hash.proofs.heads.Heads.moved.Goals.{then-is_live+in_ok-place, else-is_live}
@@ -21,12 +21,12 @@ pub place-requires-clause-room : goal.place-requires-clause-room
 place-requires-clause-room c =
     let xs = c.deref-slot-items.result.now in
     let i = c.loop-slot.slot-index in
-    let next = used_next_live xs i c.loop-slot-test.true (c.is_live.ensures.0 c.if-is_live.true) in
-    let counted : c.self.inside.used ≡ used_count xs = c.self.invariant.counted ∙ ap used_count (sym c.deref-slot-items.ensures.value) in
-    let used = c.self.inside.used in
+    let next = live_next xs i c.loop-slot-test.true (c.is_live.ensures.0 c.if-is_live.true) in
+    let counted : c.self.inside.keys ≡ live_count xs = c.self.invariant.live ∙ ap live_count (sym c.deref-slot-items.ensures.value) in
+    let keys = c.self.inside.keys in
     let more = c.max-more.result in
-    let sum : SomeIff (Some c.in_ok-all.all) (used + more < 2 ^ 64) (used + more) = subst (λ (o : Option ℕ). SomeIff o (used + more < 2 ^ 64) (used + more)) c.in_ok-all.ensures.ok_part c.checked_add.ensures in
-    omega (arith, next, counted, used_front xs (i + 1), c.loop-slot.invariant.room, sum.1)
+    let sum : SomeIff (Some c.in_ok-enough.enough) (keys + more < 2 ^ 64) (keys + more) = subst (λ (o : Option ℕ). SomeIff o (keys + more < 2 ^ 64) (keys + more)) c.in_ok-enough.ensures.ok_part c.checked_add.ensures in
+    omega (arith, next, counted, live_front xs (i + 1), c.loop-slot.invariant.room, sum.1)
 
 pub loop-slot-preserved : goal.loop-slot-preserved
 loop-slot-preserved c =
@@ -35,7 +35,7 @@ loop-slot-preserved c =
     let apart : Apart xs = subst Apart (sym c.deref-slot-items.ensures.value) c.self.invariant.table.apart in
     elim c.if-is_live.branch [
       | then-is_live+in_ok-place w ↦
-          let next = used_next_live xs i c.loop-slot-test.true (c.is_live.ensures.0 w.if-is_live.true) in
+          let next = live_next xs i c.loop-slot-test.true (c.is_live.ensures.0 w.if-is_live.true) in
           record {
             same =
                 ap (λ (t : Table). t.numbers) w.larger-is ∙ w.in_ok-place.ensures.ok ∙ ap (λ m. map.insert m w.row_key.result (slot xs i).number) c.loop-slot.invariant.same
@@ -44,7 +44,7 @@ loop-slot-preserved c =
             room = omega (arith, next, w.in_ok-place.ensures.room, ap (λ (t : Table). t.room) w.larger-is, c.loop-slot.invariant.room);
           }
       | else-is_live w ↦
-          let next = used_next xs i c.loop-slot-test.true in
+          let next = live_next_free xs i c.loop-slot-test.true (λ l. let t = c.is_live.ensures.1 l in let f = w.if-is_live.false in cc) in
           record {
             same = ap (λ (t : Table). t.numbers) w.larger-is ∙ c.loop-slot.invariant.same ∙ sym (next_free xs i c.loop-slot-test.true (λ l. let t = c.is_live.ensures.1 l in let f = w.if-is_live.false in cc));
             room = omega (arith, next, ap (λ (t : Table). t.room) w.larger-is, c.loop-slot.invariant.room);

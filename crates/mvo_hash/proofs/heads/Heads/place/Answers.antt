@@ -23,14 +23,14 @@ invariant_of-self c =
     let read : c.index.result.now ≡ slot ss i = slot_read ss i c.index.result.now within c.index.ensures in
     elim c.if-is_empty.branch [
       | then-is_empty w ↦
-          subst (λ (f : Inside). IsHeads f.seeds.first f.seeds.second f.homes f.used (set f.slots.items i c.live.result)) (sym w.self-inside-is)
-          (subst (λ s. IsHeads c.self.inside.seeds.first c.self.inside.seeds.second c.self.inside.homes (c.self.inside.used + 1) (set ss i s)) (sym c.live.ensures)
-          (heads_fresh _ _ _ _ ss h key c.args.number i none c.home-home.result c.home-home.ensures.at free within
+          subst (λ (f : Inside). IsHeads f.seeds.first f.seeds.second f.homes f.used f.keys (set f.slots.items i c.live.result)) (sym w.self-inside-is)
+          (subst (λ s. IsHeads c.self.inside.seeds.first c.self.inside.seeds.second c.self.inside.homes (c.self.inside.used + 1) (c.self.inside.keys + 1) (set ss i s)) (sym c.live.ensures)
+          (heads_fresh _ _ _ _ _ ss h key c.args.number i none c.home-home.result c.home-home.ensures.at free within
           (sym (ap (λ (s : Slot). s.state) read) ∙ c.is_empty.ensures.0 w.if-is_empty.true) (omega (arith, room))))
       | else-is_empty w ↦
-          subst (λ (f : Inside). IsHeads f.seeds.first f.seeds.second f.homes f.used (set f.slots.items i c.live.result)) (sym w.self-inside-is)
-          (subst (λ s. IsHeads c.self.inside.seeds.first c.self.inside.seeds.second c.self.inside.homes c.self.inside.used (set ss i s)) (sym c.live.ensures)
-          (heads_again _ _ _ _ ss h key c.args.number i none c.home-home.result c.home-home.ensures.at free within
+          subst (λ (f : Inside). IsHeads f.seeds.first f.seeds.second f.homes f.used f.keys (set f.slots.items i c.live.result)) (sym w.self-inside-is)
+          (subst (λ s. IsHeads c.self.inside.seeds.first c.self.inside.seeds.second c.self.inside.homes c.self.inside.used (c.self.inside.keys + 1) (set ss i s)) (sym c.live.ensures)
+          (heads_again _ _ _ _ _ ss h key c.args.number i none c.home-home.result c.home-home.ensures.at free within
           (λ e. let t = c.is_empty.ensures.1 (ap (λ (s : Slot). s.state) read ∙ e) in let f = w.if-is_empty.false in cc)))
     ]
 
@@ -72,5 +72,5 @@ invariant_of-self-2 c =
     let none : map.get (map_of ss) key ≡ None = ap (λ (m : Table). map.get m.numbers key) c.self.view_is ∙ c.requires.new in
     let room : 0 < c.self.inside.homes / 2 - c.self.inside.used = omega (arith, c.requires.room, ap (λ (m : Table). m.room) c.self.view_is) in
     let end : i ≡ length ss = omega (arith, free.within, c.if-at-len.false, c.len.ensures, c.self.inside.slots.ok) in
-    subst (IsHeads c.self.inside.seeds.first c.self.inside.seeds.second c.self.inside.homes (c.self.inside.used + 1)) (sym (c.in_ok-push.ensures.items ∙ ap (λ s. ss ++ s ∷ []) c.live-2.ensures))
-    (heads_push _ _ _ _ ss c.self.invariant key c.args.number i none c.home-home.result c.home-home.ensures.at free end (omega (arith, room)))
+    subst (IsHeads c.self.inside.seeds.first c.self.inside.seeds.second c.self.inside.homes (c.self.inside.used + 1) (c.self.inside.keys + 1)) (sym (c.in_ok-push.ensures.items ∙ ap (λ s. ss ++ s ∷ []) c.live-2.ensures))
+    (heads_push _ _ _ _ _ ss c.self.invariant key c.args.number i none c.home-home.result c.home-home.ensures.at free end (omega (arith, room)))

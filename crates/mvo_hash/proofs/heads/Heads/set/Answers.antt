@@ -2,9 +2,10 @@ use Rattle.std.proofs.Common.{◌≡◌, None, Some, set, sym, ap, ◌∙◌, su
 use Rattle.std.specs.FinMap as map
 use Rattle.mvo_hash.specs.declared.slot.Slot.{Slot}
 use Rattle.mvo_hash.specs.Slots.{IsFoundAt, IsNowhere}
-use Rattle.mvo_hash.specs.Table.{Table, map_of}
+use Rattle.mvo_hash.specs.Table.{Table, map_of, IsHeads}
 use Rattle.mvo_hash.proofs.Finds.{get_missing, slot_read}
 use Rattle.mvo_hash.proofs.Tables.{get_at, map_set}
+use Rattle.mvo_hash.proofs.Uses.{heads_set}
 use Rattle.mvo_hash.proofs.heads.Heads.set.Goals as goal
 
 pub returns-in_default-clause-before : goal.returns-in_default-clause-before
@@ -32,3 +33,11 @@ returns-clause-set c =
     let found : IsFoundAt ss key c.in-Some.at = subst (λ xs. IsFoundAt xs key c.in-Some.at) c.deref.ensures.value c.in-Some.ensures.found in
     ap (λ s. map_of (set ss c.in-Some.at s)) c.live.ensures ∙ map_set _ _ _ ss t key c.args.number c.in-Some.at found
     ∙ ap (λ (m : Table). map.insert m.numbers key c.args.number) c.self.view_is
+
+pub invariant_of-self : goal.invariant_of-self
+invariant_of-self c =
+    let ss = c.self.inside.slots.items in
+    let key = c.args.key in
+    let found : IsFoundAt ss key c.in-Some.at = subst (λ xs. IsFoundAt xs key c.in-Some.at) c.deref.ensures.value c.in-Some.ensures.found in
+    subst (λ s. IsHeads c.self.inside.seeds.first c.self.inside.seeds.second c.self.inside.homes c.self.inside.used c.self.inside.keys (set ss c.in-Some.at s)) (sym c.live.ensures)
+    (heads_set _ _ _ _ _ ss c.self.invariant key c.in-Some.at found c.args.number)
