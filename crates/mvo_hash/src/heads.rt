@@ -1,4 +1,4 @@
-ghost use Rattle.std.specs.Prelude.{◌≡◌, ◌<◌, ◌≤◌, ◌+◌, OnOk, OnErr, OnSome, IfNone, IfOk, None};
+ghost use Rattle.std.specs.Prelude.{◌≡◌, ◌<◌, ◌≤◌, ◌+◌, OnOk, OnErr, OnSome, IsSome, IfNone, IfOk, None};
 ghost use Rattle.std.specs.FinMap as map;
 ghost use Rattle.mvo_hash.specs.Table.{no_keys};
 
@@ -176,6 +176,7 @@ impl Heads {
         ensures ok { OnOk result (self.new.numbers ≡ map.insert self.old.numbers key number) }
         ensures before { IfOk result (λ r. r ≡ map.get self.old.numbers key) }
         ensures room { self.old.room ≤ self.new.room + 1 }
+        ensures again { IsSome (map.get self.old.numbers key) → self.new.room ≡ self.old.room }
         ensures err { OnErr result (self.new ≡ self.old) }
         ensures absent { OnErr result (map.get self.old.numbers key ≡ None) }
     {

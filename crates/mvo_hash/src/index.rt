@@ -111,11 +111,13 @@ impl HashIndex {
         listed(alloc, &self.links, newest)
     }
 
-    /// Adds a version in front of those of its key.
+    /// Adds a version in front of those of its key. It takes room for one version at most, and none
+    /// where its key has versions; where there is none, it takes the time of moving every key.
     pub fn add(&mut self, key: RowKey, version: VersionNo) -> Result<(), AllocError>
         requires { IsFresh self.old.versions version.0 }
         ensures ok { OnOk result (self.new.versions ≡ with_numbers self.old.versions key (version.0 ∷ numbers_of self.old.versions key)) }
         ensures room { self.old.room ≤ self.new.room + 1 }
+        ensures again { IsSome (newest_of (numbers_of self.old.versions key)) → self.new.room ≡ self.old.room }
         ensures err { OnErr result (self.new ≡ self.old) }
     {
         if version.0 >= UNHELD {

@@ -1,8 +1,9 @@
-use Rattle.std.proofs.Common.{sym, ap, ◌∙◌, subst, arith}
-use Rattle.mvo_hash.specs.Lists.{Index}
+use Rattle.std.proofs.Common.{◌≡◌, IsSome, sym, ap, ◌∙◌, subst, arith}
+use Rattle.std.specs.FinMap.{get}
+use Rattle.mvo_hash.specs.Lists.{Index, newest_of, numbers_of}
 use Rattle.mvo_hash.specs.Table.{Table}
 use Rattle.mvo_hash.specs.Links.{number_or_none, lists_of, index_of, IsIndex, IsJoined}
-use Rattle.mvo_hash.proofs.Views.{grown_is, grown_same, on_err, given_back}
+use Rattle.mvo_hash.proofs.Views.{shown_newest, grown_is, grown_same, on_err, given_back}
 use Rattle.mvo_hash.proofs.Joins.{not_newest, added_index, added_lists}
 use Rattle.mvo_hash.proofs.index.HashIndex.add.Goals as goal
 
@@ -46,3 +47,11 @@ returns-clause-ok c =
     ∙ added_lists c.self.inside.heads.numbers c.put.new.self.numbers c.self.inside.links.items old c.join.new.links c.args.self.now.versions c.args.key c.args.version.0 c.or_none-older.result
     c.self.invariant (ap (λ (i : Index). i.versions) c.self.view_is) c.in_ok-reach.ensures.kept c.in_ok-reach.ensures.within c.requires (c.or_none-older.ensures ∙ ap number_or_none c.in_ok-put.ensures.before)
     c.in_ok-put.ensures.ok j
+
+pub returns-clause-again : goal.returns-clause-again
+returns-clause-again c =
+    λ some.
+    let newest : get c.self.inside.heads.numbers c.args.key ≡ newest_of (numbers_of c.args.self.now.versions c.args.key) =
+    shown_newest c.self.inside.heads.numbers c.self.inside.links.items c.self.invariant c.args.key
+    ∙ ap (λ (i : Index). newest_of (numbers_of i.versions c.args.key)) c.self.view_is in
+    c.in_ok-put.ensures.again (subst IsSome (sym newest) some) ∙ ap (λ (i : Index). i.room) c.self.view_is
