@@ -1,8 +1,10 @@
 pub mod Chains
+pub mod Counts
 pub mod Finds
 pub mod Joins
 pub mod Puts
 pub mod Tables
 pub mod Unlinks
+pub mod Uses
 pub mod Views
 pub mod Walks

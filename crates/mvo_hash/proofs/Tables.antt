@@ -38,7 +38,7 @@ module _ (first second homes : ℕ) (ss : List Slot) (t : IsTable first second h
     -- another number at a key that stands there
     pub table_set : IsTable first second homes (set ss i (live_slot key number))
     table_set = record {
-      room = let e = length-set ss i (live_slot key number) in omega (arith, t.room, e);
+      long = let e = length-set ss i (live_slot key number) in omega (arith, t.long, e);
       reached = reached_put ss _ i _ put_found home (λ e. cc) (λ _. ((t.reached key).ahead i found.live found.same, (t.reached key).filled i found.live found.same)) t.reached;
       apart = apart_put ss _ i _ put_found refl only_key t.apart;
     }
@@ -52,7 +52,7 @@ module _ (first second homes : ℕ) (ss : List Slot) (t : IsTable first second h
     -- a slot that a key left
     pub table_take : IsTable first second homes (set ss i left_slot)
     table_take = record {
-      room = let e = length-set ss i left_slot in omega (arith, t.room, e);
+      long = let e = length-set ss i left_slot in omega (arith, t.long, e);
       reached = reached_put ss _ i _ put_left home (λ e. cc) (λ l. absurd (let e : Left ≡ Live = l in cc)) t.reached;
       apart = apart_take ss _ i _ put_left (λ e. cc) found.live t.apart;
     }
@@ -78,7 +78,7 @@ module _ (first second homes : ℕ) (ss : List Slot) (t : IsTable first second h
     table_place within =
         let put : Puts ss (set ss i (live_slot key number)) i (live_slot key number) = Puts-set ss i (live_slot key number) within in
         record {
-          room = let e = length-set ss i (live_slot key number) in omega (arith, t.room, e);
+          long = let e = length-set ss i (live_slot key number) in omega (arith, t.long, e);
           reached = reached_put ss _ i _ put home (λ e. cc) (λ _. ahead) t.reached;
           apart = apart_put ss _ i _ put refl new_key t.apart;
         }
@@ -92,7 +92,7 @@ module _ (first second homes : ℕ) (ss : List Slot) (t : IsTable first second h
     -- a new key behind the last slot
     pub table_push : i ≡ length ss → IsTable first second homes (ss ++ live_slot key number ∷ [])
     table_push e = record {
-      room = let l = length_push ss (live_slot key number) in omega (arith, t.room, l);
+      long = let l = length_push ss (live_slot key number) in omega (arith, t.long, l);
       reached = reached_put ss _ i _ (put_end e) home (λ e. cc) (λ _. ahead) t.reached;
       apart = apart_put ss _ i _ (put_end e) refl new_key t.apart;
     }

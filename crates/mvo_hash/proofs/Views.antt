@@ -11,9 +11,9 @@ use Rattle.mvo_types.specs.declared.row.RowKey.{RowKey}
 use Rattle.mvo_types.specs.Keys.{key_cmp}
 use Rattle.mvo_types.proofs.Maps.{keys_total, exact_keys}
 use Rattle.mvo_hash.specs.declared.link.Link.{Link}
-use Rattle.mvo_hash.specs.Table.{Map}
-use Rattle.mvo_hash.specs.Lists.{Lists, newest_of, older_of, is_among, numbers_of, or_empty, with_numbers, IsHeld, IsFresh}
-use Rattle.mvo_hash.specs.Links.{unheld, no_link, link, number_or_none, walk, numbers, listed, lists_of, first_or_none, some_unless_none, IsIndexOf, IsIndex, IsGrown}
+use Rattle.mvo_hash.specs.Table.{Map, Table, no_keys}
+use Rattle.mvo_hash.specs.Lists.{Lists, no_versions, newest_of, older_of, is_among, numbers_of, or_empty, with_numbers, IsHeld, IsFresh}
+use Rattle.mvo_hash.specs.Links.{unheld, no_link, link, number_or_none, walk, numbers, listed, lists_of, index_of, first_or_none, some_unless_none, IsIndexOf, IsIndex, IsGrown}
 use Rattle.mvo_hash.proofs.Finds.{same_key, other_key}
 use Rattle.mvo_hash.proofs.Chains.{walk_chain, chain_short, chain_kept, among_held, among_within, older_is}
 
@@ -155,9 +155,12 @@ grown_index heads old new at g t = record {
 pub grown_is : (heads : Map) (old new : List Link) → IsGrown old new → IsIndex heads old → IsIndex heads new
 grown_is heads old new g t = to_index heads new (numbers heads old) (grown_index heads old new (numbers heads old) g t)
 
-pub grown_same : (heads : Map) (old new : List Link) → IsGrown old new → IsIndex heads old → lists_of heads new ≡ lists_of heads old
-grown_same heads old new g t =
+grown_lists : (heads : Map) (old new : List Link) → IsGrown old new → IsIndex heads old → lists_of heads new ≡ lists_of heads old
+grown_lists heads old new g t =
     same_lists heads heads old new (numbers heads old) (numbers heads old) t (grown_index heads old new (numbers heads old) g t) (λ _. refl)
+
+pub grown_same : (heads : Table) (old new : List Link) → IsGrown old new → IsIndex heads.numbers old → index_of heads new ≡ index_of heads old
+grown_same heads old new g t = let e = grown_lists heads.numbers old new g t in cc
 
 pub on_err : {T E P : Type 0} (r : Result T E) → P → OnErr r P
 on_err (Ok x) p = tt
@@ -178,6 +181,9 @@ empty_index = record {
   held = λ n h. absurd (h refl);
 }
 
-pub empty_lists : lists_of (empty {R = key_cmp}) [] ≡ empty
+empty_lists : lists_of (empty {R = key_cmp}) [] ≡ empty
 unfolding none_if_empty
 empty_lists = same_map keys_total exact_keys _ _ (λ q. get_lists (empty {R = key_cmp}) [] (λ _. []) empty_index q ∙ sym (get-empty key_cmp q))
+
+pub new_index : index_of (no_keys 0) [] ≡ no_versions
+new_index = let e = empty_lists in cc

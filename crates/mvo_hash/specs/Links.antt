@@ -3,8 +3,8 @@ use Rattle.std.specs.Prelude.{◌≡◌, ◌≢◌, ℕ, zero, suc, ◌<◌, ◌
 use Rattle.std.specs.FinMap as finite_map
 use Rattle.mvo_types.specs.declared.row.RowKey.{RowKey}
 use Rattle.mvo_hash.specs.declared.link.Link.{Link}
-use Rattle.mvo_hash.specs.Table.{Map}
-use Rattle.mvo_hash.specs.Lists.{Lists, newest_of, is_among}
+use Rattle.mvo_hash.specs.Table.{Map, Table}
+use Rattle.mvo_hash.specs.Lists.{Lists, Index, newest_of, is_among}
 
 -- what stands for no version
 abbrev pub no_number : ℕ
@@ -46,6 +46,9 @@ listed ls e = (e.0, walk ls (length ls) e.1)
 
 abbrev pub lists_of : Map → List Link → Lists
 lists_of heads ls = finite_map.from_entries (map (listed ls) (finite_map.entries heads))
+
+abbrev pub index_of : Table → List Link → Index
+index_of heads ls = record { versions = lists_of heads.numbers ls; room = heads.room }
 
 -- each number's links lead to its neighbours, where this one is newer than the first
 abbrev pub IsChain : List Link → ℕ → List ℕ → Type 0

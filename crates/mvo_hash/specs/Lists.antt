@@ -1,7 +1,7 @@
 -- The numbers of each key, newest first.
-use Rattle.std.specs.Prelude.{◌≡◌, ℕ, List, [], ◌∷◌, Bool, true, false, not, cond, eqb, IsTrue, Option, None, Some}
+use Rattle.std.specs.Prelude.{◌≡◌, ℕ, List, [], ◌∷◌, Bool, true, false, not, cond, eqb, IsTrue, Option, None, Some, refl}
 use Rattle.std.specs.List.{filter, list_any}
-use Rattle.std.specs.Coded.{Coded, coded_ℕ, coded_list}
+use Rattle.std.specs.Coded.{Coded, code_by, coded×, coded_ℕ, coded_list}
 use Rattle.std.specs.FinMap as map
 use Rattle.mvo_types.specs.declared.row.RowKey.{RowKey}
 use Rattle.mvo_types.specs.Keys.{key_cmp, coded_key}
@@ -12,6 +12,18 @@ Lists = map.FinMap key_cmp (List ℕ)
 
 abbrev pub coded_lists : Coded Lists
 coded_lists = map.code coded_key (coded_list coded_ℕ)
+
+-- the versions of each key, and how many more can be added before every key is moved
+pub record Index : Type 0 where
+  pub versions : Lists
+  pub room : ℕ
+
+abbrev pub coded_index : Coded Index
+coded_index = code_by (Lists × ℕ) (coded× coded_lists coded_ℕ) (λ i. (i.versions, i.room)) (λ p. record { versions = p.0; room = p.1 }) (λ _. refl)
+
+-- no version yet, and no room
+abbrev pub no_versions : Index
+no_versions = record { versions = map.empty; room = 0 }
 
 abbrev pub or_empty : Option (List ℕ) → List ℕ
 or_empty None = []

@@ -1,5 +1,5 @@
 -- The slots of an open table.
-use Rattle.std.specs.Prelude.{◌≡◌, ◌≢◌, ℕ, ◌<◌, ◌≤◌, Option, None, Some, List, length, slice_index_or}
+use Rattle.std.specs.Prelude.{◌≡◌, ◌≢◌, ℕ, ◌<◌, ◌≤◌, Bool, true, false, count_by, Option, None, Some, List, length, slice_index_or}
 use Rattle.std.specs.List.{filter_map}
 use Rattle.mvo_types.specs.declared.row.RowKey.{RowKey}
 use Rattle.mvo_hash.specs.declared.slot.Slot.{Slot}
@@ -24,6 +24,31 @@ IsLive s = s.state ≡ Live
 -- the slot at a place, which is empty past the end
 abbrev pub slot : List Slot → ℕ → Slot
 slot ss i = slice_index_or ss i empty_slot
+
+abbrev pub is_used_state : State → Bool
+is_used_state Empty = false
+is_used_state Left = true
+is_used_state Live = true
+
+-- whether the slot has held a key since the table was made, so that a search goes on behind it
+abbrev pub is_used : Slot → Bool
+is_used s = is_used_state s.state
+
+-- how many slots are used
+abbrev pub used_count : List Slot → ℕ
+used_count ss = count_by is_used ss
+
+abbrev pub is_live_state : State → Bool
+is_live_state Empty = false
+is_live_state Left = false
+is_live_state Live = true
+
+abbrev pub is_live : Slot → Bool
+is_live s = is_live_state s.state
+
+-- how many keys stand in slots
+abbrev pub live_count : List Slot → ℕ
+live_count ss = count_by is_live ss
 
 abbrev pub held_by : State → RowKey × ℕ → Option (RowKey × ℕ)
 held_by Empty e = None

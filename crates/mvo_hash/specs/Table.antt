@@ -1,12 +1,12 @@
 -- An open table as a finite map.
-use Rattle.std.specs.Prelude.{◌≡◌, ℕ, ◌≤◌, List, length}
-use Rattle.std.specs.Coded.{Coded, coded_ℕ}
+use Rattle.std.specs.Prelude.{◌≡◌, ℕ, ◌≤◌, ◌-◌, ◌/◌, List, length, refl}
+use Rattle.std.specs.Coded.{Coded, code_by, coded×, coded_ℕ}
 use Rattle.std.specs.FinMap as map
 use Rattle.mvo_types.specs.declared.row.RowKey.{RowKey}
 use Rattle.mvo_types.specs.Keys.{key_cmp, coded_key}
 use Rattle.mvo_hash.specs.declared.slot.Slot.{Slot}
 use Rattle.mvo_hash.specs.Home.{home_of}
-use Rattle.mvo_hash.specs.Slots.{slot, slot_key, IsLive, IsReached, entries_of}
+use Rattle.mvo_hash.specs.Slots.{slot, slot_key, IsLive, IsReached, entries_of, used_count, live_count}
 
 -- a finite map from keys to numbers
 abbrev pub Map : Type 0
@@ -18,8 +18,31 @@ coded_map = map.code coded_key coded_ℕ
 abbrev pub map_of : List Slot → Map
 map_of ss = map.from_entries (entries_of ss)
 
+-- the number of each key, and how many more keys can be put before every key is moved
+pub record Table : Type 0 where
+  pub numbers : Map
+  pub room : ℕ
+
+abbrev pub coded_table : Coded Table
+coded_table = code_by (Map × ℕ) (coded× coded_map coded_ℕ) (λ t. (t.numbers, t.room)) (λ p. record { numbers = p.0; room = p.1 }) (λ _. refl)
+
+-- no key yet, and room for so many
+abbrev pub no_keys : ℕ → Table
+no_keys room = record { numbers = map.empty; room = room }
+
+-- at most half as many slots are to be used as there are homes
+abbrev pub table_of : ℕ → ℕ → List Slot → Table
+table_of homes used ss = record { numbers = map_of ss; room = homes / 2 - used }
+
 -- each key stands once, where a search finds it
 pub record IsTable (first second homes : ℕ) (ss : List Slot) : Type 0 where
-  pub room : homes ≤ length ss
+  pub long : homes ≤ length ss
   pub reached : (key : RowKey) → IsReached ss (home_of first second homes key) key
   pub apart : (i j : ℕ) → IsLive (slot ss i) → IsLive (slot ss j) → slot_key (slot ss i) ≡ slot_key (slot ss j) → i ≡ j
+
+-- a table whose used slots and keys are counted, with at most half as many used slots as homes
+pub record IsHeads (first second homes used keys : ℕ) (ss : List Slot) : Type 0 where
+  pub table : IsTable first second homes ss
+  pub counted : used ≡ used_count ss
+  pub live : keys ≡ live_count ss
+  pub half : used ≤ homes / 2

@@ -1,5 +1,6 @@
-ghost use Rattle.std.specs.Prelude.{◌≡◌, OnOk, OnErr, OnSome, IfNone, IfOk, None};
+ghost use Rattle.std.specs.Prelude.{◌≡◌, ◌<◌, ◌≤◌, ◌+◌, OnOk, OnErr, OnSome, IsSome, IfNone, IfOk, None};
 ghost use Rattle.std.specs.FinMap as map;
+ghost use Rattle.mvo_hash.specs.Table.{no_keys};
 
 use crate::probe::{find, free};
 use crate::seeds::Seeds;
@@ -11,50 +12,65 @@ use std::marker::Model;
 // Slots behind the last home, for keys whose search runs past it.
 const TAIL: usize = 64;
 
-const LEAST_HOMES: usize = 16;
+const LEAST_ROOM: usize = 8;
 
-/// One number for each key, in one open table of slots of 16 bytes. Contracts see a finite map.
+/// One number for each key, in one open table of slots of 16 bytes. Contracts see a finite map,
+/// and the room: how many more keys can be put before every key is moved to a larger table.
 ///
-/// A search begins at the key's home and goes on to the first slot that was never used. The homes come
-/// from a seed, so that who chooses the keys without knowing it can't make them meet.
+/// A search begins at the key's home and goes on to the first slot that was never used. At most
+/// half as many slots as there are homes are ever used, those of removed keys among them. The
+/// homes come from a seed, so that who chooses the keys without knowing it can't make them meet.
+///
+/// A move to another table frees the slots of removed keys, and takes a larger one only where the
+/// keys are too many, so that keys that come and go don't take ever more memory.
 #[derive(Drop)]
 pub struct Heads {
     seeds: Seeds,
     homes: usize,
     used: usize,
+    keys: usize,
     slots: Vec<Slot>,
 }
 
 impl Model for Heads {
-    ghost use Rattle.mvo_hash.specs.Table.{Map, coded_map};
+    ghost use Rattle.mvo_hash.specs.Table.{Table, coded_table};
 
-    ghost Value = { Map };
+    ghost Value = { Table };
 
-    ghost coded = { coded_map };
+    ghost coded = { coded_table };
 
-    ghost use Rattle.mvo_hash.specs.Table.{map_of, IsTable};
+    ghost use Rattle.mvo_hash.specs.Table.{table_of, IsHeads};
 
-    ghost view = { λ t. map_of t.slots.items };
+    ghost view = { λ t. table_of t.homes t.used t.slots.items };
 
-    ghost invariant = { λ t. IsTable t.seeds.first t.seeds.second t.homes t.slots.items };
+    ghost invariant = { λ t. IsHeads t.seeds.first t.seeds.second t.homes t.used t.keys t.slots.items };
 }
 
 impl Heads {
-    /// No keys. It takes no memory. The seed is one that who chooses the keys can't know.
+    /// No keys, and no room. It takes no memory. The seed is one that who chooses the keys can't
+    /// know.
     pub fn new(alloc: Global, seed: u64) -> Heads
-        ensures { result ≡ map.empty }
+        ensures { result ≡ no_keys 0 }
     {
         Heads {
             seeds: Seeds::new(seed),
             homes: 0,
             used: 0,
+            keys: 0,
             slots: Vec::new(alloc),
         }
     }
 
+    /// How many more keys can be put before every key is moved.
+    pub fn room(&self) -> usize
+        ensures { result ≡ self.now.room }
+    {
+        self.homes / 2 - self.used
+    }
+
     /// The number of a key.
     pub fn get(&self, key: RowKey) -> Option<u32>
-        ensures { result ≡ map.get self.now key }
+        ensures { result ≡ map.get self.now.numbers key }
     {
         let home = self.seeds.home(key, self.homes);
         match find(&self.slots, home, key) {
@@ -63,12 +79,13 @@ impl Heads {
         }
     }
 
-    /// Gives the key another number, and answers the one that it had. It takes no memory; a key that
-    /// isn't there stays away.
+    /// Gives the key another number, and answers the one that it had. It takes no memory and no
+    /// room; a key that isn't there stays away.
     pub fn set(&mut self, key: RowKey, number: u32) -> Option<u32>
-        ensures before { result ≡ map.get self.old key }
-        ensures set { OnSome result (self.new ≡ map.insert self.old key number) }
-        ensures absent { IfNone result (self.new ≡ self.old) }
+        ensures before { result ≡ map.get self.old.numbers key }
+        ensures set { OnSome result (self.new.numbers ≡ map.insert self.old.numbers key number) }
+        ensures absent { IfNone result (self.new.numbers ≡ self.old.numbers) }
+        ensures room { self.new.room ≡ self.old.room }
     {
         let home = self.seeds.home(key, self.homes);
         let Some(at) = find(&self.slots, home, key) else {
@@ -79,10 +96,11 @@ impl Heads {
         Some(before)
     }
 
-    /// Removes the key, and answers its number. It takes no memory.
+    /// Removes the key, and answers its number. It takes no memory, and gives no room back.
     pub fn remove(&mut self, key: RowKey) -> Option<u32>
-        ensures before { result ≡ map.get self.old key }
-        ensures gone { self.new ≡ map.remove self.old key }
+        ensures before { result ≡ map.get self.old.numbers key }
+        ensures gone { self.new.numbers ≡ map.remove self.old.numbers key }
+        ensures room { self.new.room ≡ self.old.room }
     {
         let home = self.seeds.home(key, self.homes);
         let Some(at) = find(&self.slots, home, key) else {
@@ -90,82 +108,103 @@ impl Heads {
         };
         let before = self.slots[at].number;
         self.slots[at] = Slot::left();
+        self.keys -= 1;
         Some(before)
     }
 
     // Puts a key that isn't there at the first free slot from its home.
     fn place(&mut self, key: RowKey, number: u32) -> Result<(), AllocError>
-        requires { map.get self.old key ≡ None }
-        ensures ok { OnOk result (self.new ≡ map.insert self.old key number) }
+        requires new { map.get self.old.numbers key ≡ None }
+        requires room { 0 < self.old.room }
+        ensures ok { OnOk result (self.new.numbers ≡ map.insert self.old.numbers key number) }
+        ensures room { self.old.room ≤ self.new.room + 1 }
         ensures err { OnErr result (self.new ≡ self.old) }
     {
         let home = self.seeds.home(key, self.homes);
         let at = free(&self.slots, home);
-        self.used = self.used.saturating_add(1);
         if at < self.slots.len() {
+            self.keys += 1;
+            if self.slots[at].is_empty() {
+                self.used += 1;
+            }
             self.slots[at] = Slot::live(key, number);
             return Ok(());
         }
         self.slots.push(Slot::live(key, number))?;
+        self.used += 1;
+        self.keys += 1;
         Ok(())
     }
 
-    // No keys, and room for so many homes.
-    fn with_homes(alloc: Global, seeds: Seeds, homes: usize) -> Result<Heads, AllocError>
-        ensures { IfOk result (λ t. t ≡ map.empty) }
+    // No keys, and room for so many.
+    fn with_room(alloc: Global, seeds: Seeds, keys: usize) -> Result<Heads, AllocError>
+        ensures { IfOk result (λ t. t ≡ no_keys keys) }
     {
-        let slots = vec![in alloc; Slot::empty(); homes.saturating_add(TAIL)]?;
+        let homes = keys.checked_mul(2).ok_or(AllocError)?;
+        let count = homes.checked_add(TAIL).ok_or(AllocError)?;
         Ok(Heads {
             seeds,
-            homes: homes.min(slots.len()),
+            homes,
             used: 0,
-            slots,
+            keys: 0,
+            slots: vec![in alloc; Slot::empty(); count]?,
         })
     }
 
-    // Moves every key to a table of so many homes.
-    fn grow(&mut self, homes: usize) -> Result<(), AllocError>
-        ensures { self.new ≡ self.old }
+    // The same keys in another table, with room for so many more, and so much at least that the
+    // time of all moves stays in proportion to the keys that were put.
+    fn moved(&self, keys: usize) -> Result<Heads, AllocError>
+        ensures numbers { IfOk result (λ t. t.numbers ≡ self.now.numbers) }
+        ensures room { IfOk result (λ t. keys ≤ t.room) }
     {
-        let mut larger = Heads::with_homes(*self.slots.allocator(), self.seeds, homes)?;
+        let more = keys.max(self.keys).max(LEAST_ROOM);
+        let enough = self.keys.checked_add(more).ok_or(AllocError)?;
+        let all = enough.max(self.homes / 2);
+        let mut larger = Heads::with_room(*self.slots.allocator(), self.seeds, all)?;
         for slot in &self.slots {
             if slot.is_live() {
                 larger.place(slot.row_key(), slot.number)?;
             }
         }
-        *self = larger;
-        Ok(())
+        Ok(larger)
     }
 
-    fn is_crowded(&self) -> bool {
-        self.used >= self.homes / 2
-    }
-
-    /// Gives the key the number, and answers the one that it had. A key that is there takes no memory;
-    /// one that isn't may take the time of moving every key, unless room was reserved.
+    /// Gives the key the number, and answers the one that it had. A key that is there takes no
+    /// memory and no room. One that isn't takes room for one key at most; where there is none, it
+    /// takes the time of moving every key.
     pub fn put(&mut self, key: RowKey, number: u32) -> Result<Option<u32>, AllocError>
-        ensures ok { OnOk result (self.new ≡ map.insert self.old key number) }
-        ensures before { IfOk result (λ r. r ≡ map.get self.old key) }
+        ensures ok { OnOk result (self.new.numbers ≡ map.insert self.old.numbers key number) }
+        ensures before { IfOk result (λ r. r ≡ map.get self.old.numbers key) }
+        ensures room { self.old.room ≤ self.new.room + 1 }
+        ensures again { IsSome (map.get self.old.numbers key) → self.new.room ≡ self.old.room }
         ensures err { OnErr result (self.new ≡ self.old) }
-        ensures absent { OnErr result (map.get self.old key ≡ None) }
+        ensures absent { OnErr result (map.get self.old.numbers key ≡ None) }
     {
         if let Some(before) = self.set(key, number) {
             return Ok(Some(before));
         }
-        if self.is_crowded() {
-            self.grow(self.homes.saturating_mul(2).max(LEAST_HOMES))?;
+        if self.room() > 0 {
+            self.place(key, number)?;
+            return Ok(None);
         }
-        self.place(key, number)?;
+        let mut larger = self.moved(1)?;
+        larger.place(key, number)?;
+        *self = larger;
         Ok(None)
     }
 
-    /// Makes room for so many keys in all, so that no key is moved while there are no more.
+    /// Makes room for so many more keys, so that no key is moved while they are put. Where the room
+    /// is short it takes the time of moving every key, and 32 bytes or more for each of them and of
+    /// those that are to come.
     pub fn reserve(&mut self, keys: usize) -> Result<(), AllocError>
-        ensures { self.new ≡ self.old }
+        ensures numbers { self.new.numbers ≡ self.old.numbers }
+        ensures ok { OnOk result (keys ≤ self.new.room) }
+        ensures more { self.old.room ≤ self.new.room }
+        ensures err { OnErr result (self.new ≡ self.old) }
+        ensures short { OnErr result (self.old.room < keys) }
     {
-        let homes = keys.saturating_mul(2).max(LEAST_HOMES);
-        if homes > self.homes {
-            self.grow(homes)?;
+        if self.room() < keys {
+            *self = self.moved(keys)?;
         }
         Ok(())
     }

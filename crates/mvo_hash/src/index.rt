@@ -1,9 +1,9 @@
-ghost use Rattle.std.specs.Prelude.{◌≡◌, ◌∷◌, map, OnOk, OnErr, IfOk, IsTrue, IsSome};
+ghost use Rattle.std.specs.Prelude.{◌≡◌, ◌≤◌, ◌+◌, ◌∷◌, map, OnOk, OnErr, IfOk, IsTrue, IsSome};
 ghost use Rattle.std.specs.Bool.{OnTrue, OnFalse};
 ghost use Rattle.std.specs.Option.{option_map};
 ghost use Rattle.std.specs.FinMap as finite_map;
 ghost use Rattle.mvo_hash.specs.Links.{beheaded};
-ghost use Rattle.mvo_hash.specs.Lists.{numbers_of, with_numbers, newest_of, without};
+ghost use Rattle.mvo_hash.specs.Lists.{no_versions, numbers_of, with_numbers, newest_of, without};
 ghost use Rattle.mvo_hash.specs.Lists.{is_among, IsFresh, IsHeld, IsOlder};
 
 use crate::heads::Heads;
@@ -15,12 +15,13 @@ use std::alloc::{AllocError, Global};
 use std::marker::Model;
 
 /// The versions of each key, newest first. Contracts see a finite map from each key that has a
-/// version to the list of the numbers of its versions.
+/// version to the list of the numbers of its versions, and the room: how many more versions can be
+/// added before every key is moved to a larger table.
 ///
-/// Every call takes constant time, or constant time a version that it answers, but for the growth in
-/// `add`, which alone takes memory besides the list that `versions_of` makes. Each number up to the
-/// largest takes 8 bytes, and each key its slots in `Heads`. The last two of the 2^32 numbers are
-/// refused as for want of memory.
+/// Every call takes constant time, or constant time a version that it answers, but for the growth
+/// in `add` and `reserve`. These two alone take memory, besides the list that `versions_of` makes:
+/// 8 bytes for each number up to the largest, and the slots of each key in `Heads`. The last two of
+/// the 2^32 numbers are refused as for want of memory.
 #[derive(Drop)]
 pub struct HashIndex {
     heads: Heads,
@@ -28,23 +29,24 @@ pub struct HashIndex {
 }
 
 impl Model for HashIndex {
-    ghost use Rattle.mvo_hash.specs.Lists.{Lists, coded_lists};
+    ghost use Rattle.mvo_hash.specs.Lists.{Index, coded_index};
 
-    ghost Value = { Lists };
+    ghost Value = { Index };
 
-    ghost coded = { coded_lists };
+    ghost coded = { coded_index };
 
-    ghost use Rattle.mvo_hash.specs.Links.{lists_of, IsIndex};
+    ghost use Rattle.mvo_hash.specs.Links.{index_of, IsIndex};
 
-    ghost view = { λ t. lists_of t.heads t.links.items };
+    ghost view = { λ t. index_of t.heads t.links.items };
 
-    ghost invariant = { λ t. IsIndex t.heads t.links.items };
+    ghost invariant = { λ t. IsIndex t.heads.numbers t.links.items };
 }
 
 impl HashIndex {
-    /// No versions. It takes no memory. The seed is one that who chooses the keys can't know.
+    /// No versions, and no room. It takes no memory. The seed is one that who chooses the keys
+    /// can't know.
     pub fn new(alloc: Global, seed: u64) -> HashIndex
-        ensures { result ≡ finite_map.empty }
+        ensures { result ≡ no_versions }
     {
         HashIndex {
             heads: Heads::new(alloc, seed),
@@ -52,9 +54,28 @@ impl HashIndex {
         }
     }
 
+    /// How many more versions can be added before every key is moved.
+    pub fn room(&self) -> usize
+        ensures { result ≡ self.now.room }
+    {
+        self.heads.room()
+    }
+
+    /// Makes room for so many more versions, so that no key is moved while they are added. It takes
+    /// memory for as many numbers behind the largest so far, too.
+    pub fn reserve(&mut self, versions: usize) -> Result<(), AllocError>
+        ensures same { self.new.versions ≡ self.old.versions }
+        ensures ok { OnOk result (versions ≤ self.new.room) }
+        ensures more { self.old.room ≤ self.new.room }
+        ensures err { OnErr result (self.new ≡ self.old) }
+    {
+        self.links.reserve(versions)?;
+        self.heads.reserve(versions)
+    }
+
     /// The newest version of a key.
     pub fn newest(&self, key: RowKey) -> Option<VersionNo>
-        ensures { option_map (λ v. v.0) result ≡ newest_of (numbers_of self.now key) }
+        ensures { option_map (λ v. v.0) result ≡ newest_of (numbers_of self.now.versions key) }
     {
         match self.heads.get(key) {
             Some(number) => Some(VersionNo(number)),
@@ -64,16 +85,16 @@ impl HashIndex {
 
     /// Whether some key has the version.
     pub fn is_held(&self, version: VersionNo) -> bool
-        ensures held { OnTrue result (IsHeld self.now version.0) }
-        ensures fresh { OnFalse result (IsFresh self.now version.0) }
+        ensures held { OnTrue result (IsHeld self.now.versions version.0) }
+        ensures fresh { OnFalse result (IsFresh self.now.versions version.0) }
     {
         version.index() < self.links.len() && self.links[version.index()].newer != UNHELD
     }
 
     /// The next older version of the same key, whichever key the version has.
     pub fn older(&self, version: VersionNo) -> Option<VersionNo>
-        requires { IsHeld self.now version.0 }
-        ensures { IsOlder self.now version.0 (option_map (λ v. v.0) result) }
+        requires { IsHeld self.now.versions version.0 }
+        ensures { IsOlder self.now.versions version.0 (option_map (λ v. v.0) result) }
     {
         let number = self.links[version.index()].older;
         if number == NONE {
@@ -84,16 +105,19 @@ impl HashIndex {
 
     /// The versions of a key, newest first.
     pub fn versions_of(&self, alloc: Global, key: RowKey) -> Result<Vec<VersionNo>, AllocError>
-        ensures { IfOk result (λ versions. map (λ v. v.0) versions.items ≡ numbers_of self.now key) }
+        ensures { IfOk result (λ versions. map (λ v. v.0) versions.items ≡ numbers_of self.now.versions key) }
     {
         let newest = or_none(self.heads.get(key));
         listed(alloc, &self.links, newest)
     }
 
-    /// Adds a version in front of those of its key.
+    /// Adds a version in front of those of its key. It takes room for one version at most, and none
+    /// where its key has versions; where there is none, it takes the time of moving every key.
     pub fn add(&mut self, key: RowKey, version: VersionNo) -> Result<(), AllocError>
-        requires { IsFresh self.old version.0 }
-        ensures ok { OnOk result (self.new ≡ with_numbers self.old key (version.0 ∷ numbers_of self.old key)) }
+        requires { IsFresh self.old.versions version.0 }
+        ensures ok { OnOk result (self.new.versions ≡ with_numbers self.old.versions key (version.0 ∷ numbers_of self.old.versions key)) }
+        ensures room { self.old.room ≤ self.new.room + 1 }
+        ensures again { IsSome (newest_of (numbers_of self.old.versions key)) → self.new.room ≡ self.old.room }
         ensures err { OnErr result (self.new ≡ self.old) }
     {
         if version.0 >= UNHELD {
@@ -105,10 +129,11 @@ impl HashIndex {
         Ok(())
     }
 
-    /// Removes a version of the key. It takes no memory.
+    /// Removes a version of the key. It takes no memory and no room, and gives none back.
     pub fn remove(&mut self, key: RowKey, version: VersionNo)
-        requires { IsTrue (is_among version.0 (numbers_of self.old key)) }
-        ensures { self.new ≡ with_numbers self.old key (without version.0 (numbers_of self.old key)) }
+        requires { IsTrue (is_among version.0 (numbers_of self.old.versions key)) }
+        ensures gone { self.new.versions ≡ with_numbers self.old.versions key (without version.0 (numbers_of self.old.versions key)) }
+        ensures room { self.new.room ≡ self.old.room }
     {
         let gone = self.links[version.index()];
         behead(&mut self.heads, key, gone);
@@ -118,8 +143,9 @@ impl HashIndex {
 
 // Gives a key another newest number, or none, where what goes was its newest.
 fn behead(heads: &mut Heads, key: RowKey, gone: Link)
-    requires { IsSome (finite_map.get heads.old key) }
-    ensures { heads.new ≡ beheaded heads.old key gone }
+    requires { IsSome (finite_map.get heads.old.numbers key) }
+    ensures head { heads.new.numbers ≡ beheaded heads.old.numbers key gone }
+    ensures room { heads.new.room ≡ heads.old.room }
 {
     if gone.newer != NONE {
         return;

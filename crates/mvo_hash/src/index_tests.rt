@@ -63,7 +63,7 @@ fn has(
     key: RowKey,
     version: VersionNo,
 ) -> Result<bool, AllocError>
-    ensures { IfOk result (λ b. b ≡ is_among version.0 (numbers_of index.now key)) }
+    ensures { IfOk result (λ b. b ≡ is_among version.0 (numbers_of index.now.versions key)) }
 {
     let versions = index.versions_of(alloc, key)?;
     Ok(holds(versions.as_slice(), version))
@@ -144,4 +144,37 @@ fn the_last_two_numbers_are_refused(rt: HostRuntime) -> Result<(), Fail> {
 fn a_version_with_its_links_takes_at_most_96_bytes(rt: HostRuntime) {
     let slot = size_of::<Option<Version>>() + size_of::<VersionNo>();
     assert!(rt; slot + size_of::<Link>() <= 96);
+}
+
+#[test]
+fn reserved_room_lasts_for_so_many_versions(rt: HostRuntime) -> Result<(), Fail> {
+    let alloc = rt.alloc();
+    let mut index = HashIndex::new(alloc, 5);
+    assert_eq!(rt; index.room(), 0);
+    index.reserve(500)?;
+    let reserved = index.room();
+    assert!(rt; reserved >= 500);
+    assert_eq!(rt; index.reserve(usize::MAX), Err(AllocError));
+    assert_eq!(rt; index.room(), reserved);
+    for step in 0u32..500 {
+        let key = RowKey {
+            table: 1,
+            key: (step / 2) as u64,
+        };
+        let number = VersionNo(step);
+        let held = index.is_held(number);
+        assert!(rt; !held);
+        let room = index.room();
+        index.add(key, number)?;
+        assert!(rt; index.room() >= room.saturating_sub(1));
+        assert_eq!(rt; index.newest(key), Some(number));
+    }
+    let room = index.room();
+    let key = RowKey { table: 1, key: 7 };
+    let there = has(alloc, &index, key, VersionNo(14))?;
+    assert!(rt; there);
+    index.remove(key, VersionNo(14));
+    assert_eq!(rt; index.room(), room);
+    assert_eq!(rt; index.newest(key), Some(VersionNo(15)));
+    Ok(())
 }

@@ -7,5 +7,5 @@ use Rattle.bench_index.proofs.versions.remove_newest.Goals as goal
 
 pub remove-requires : goal.remove-requires
 remove-requires c =
-    newest_among (numbers_of c.args.index.now c.args.key) c.in-Some.version.0
+    newest_among (numbers_of c.args.index.now.versions c.args.key) c.in-Some.version.0
     (sym c.newest.ensures ∙ ap (option_map (λ (v : VersionNo). v.0)) c.in-Some.is)

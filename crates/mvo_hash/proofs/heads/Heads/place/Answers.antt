@@ -1,52 +1,76 @@
-use Rattle.std.proofs.Common.{◌≡◌, ◌<◌, ◌∷◌, [], ◌++◌, None, length, set, sym, ap, ◌∙◌, subst, arith}
+use Rattle.std.proofs.Common.{◌≡◌, ◌+◌, ◌-◌, ◌/◌, ◌<◌, ◌∷◌, [], ◌++◌, List, None, length, set, sym, ap, ◌∙◌, subst, arith}
 use Rattle.std.specs.FinMap as map
-use Rattle.mvo_hash.specs.Slots.{IsFreeFrom}
-use Rattle.mvo_hash.specs.Table.{map_of, IsTable}
-use Rattle.mvo_hash.proofs.Tables.{table_place, map_place, table_push, map_push}
+use Rattle.mvo_hash.specs.declared.heads.Heads.TheInside.{Inside}
+use Rattle.mvo_hash.specs.declared.slot.Slot.{Slot}
+use Rattle.mvo_hash.specs.Slots.{slot, IsFreeFrom}
+use Rattle.mvo_hash.specs.Table.{Table, map_of, IsHeads}
+use Rattle.mvo_hash.proofs.Finds.{slot_read}
+use Rattle.mvo_hash.proofs.Tables.{map_place, map_push}
+use Rattle.mvo_hash.proofs.Uses.{heads_fresh, heads_again, heads_push}
+use Rattle.mvo_hash.proofs.heads.Heads.place.Goals.{then-is_empty, else-is_empty}
 use Rattle.mvo_hash.proofs.heads.Heads.place.Goals as goal
 
 pub invariant_of-self : goal.invariant_of-self
 invariant_of-self c =
     let ss = c.self.inside.slots.items in
-    let t = c.self.invariant in
+    let h = c.self.invariant in
+    let i = c.free-at.result in
     let key = c.args.key in
-    let free : IsFreeFrom ss c.home-home.result c.free-at.result = subst (λ xs. IsFreeFrom xs c.home-home.result c.free-at.result) c.deref.ensures.value c.free-at.ensures in
-    let none : map.get (map_of ss) key ≡ None = ap (λ m. map.get m key) c.self.view_is ∙ c.requires in
-    let within : c.free-at.result < length ss = omega (arith, c.if-at-len.true, c.len.ensures, c.self.inside.slots.ok) in
-    subst (λ s. IsTable c.self.inside.seeds.first c.self.inside.seeds.second c.self.inside.homes (set ss c.free-at.result s)) (sym c.live.ensures)
-    (table_place _ _ _ ss t key c.args.number c.free-at.result none c.home-home.result c.home-home.ensures.at free within)
+    let free : IsFreeFrom ss c.home-home.result i = subst (λ xs. IsFreeFrom xs c.home-home.result i) c.deref.ensures.value c.free-at.ensures in
+    let none : map.get (map_of ss) key ≡ None = ap (λ (m : Table). map.get m.numbers key) c.self.view_is ∙ c.requires.new in
+    let room : 0 < c.self.inside.homes / 2 - c.self.inside.used = omega (arith, c.requires.room, ap (λ (m : Table). m.room) c.self.view_is) in
+    let within : i < length ss = omega (arith, c.if-at-len.true, c.len.ensures, c.self.inside.slots.ok) in
+    let read : c.index.result.now ≡ slot ss i = slot_read ss i c.index.result.now within c.index.ensures in
+    elim c.if-is_empty.branch [
+      | then-is_empty w ↦
+          subst (λ (f : Inside). IsHeads f.seeds.first f.seeds.second f.homes f.used f.keys (set f.slots.items i c.live.result)) (sym w.self-inside-is)
+          (subst (λ s. IsHeads c.self.inside.seeds.first c.self.inside.seeds.second c.self.inside.homes (c.self.inside.used + 1) (c.self.inside.keys + 1) (set ss i s)) (sym c.live.ensures)
+          (heads_fresh _ _ _ _ _ ss h key c.args.number i none c.home-home.result c.home-home.ensures.at free within
+          (sym (ap (λ (s : Slot). s.state) read) ∙ c.is_empty.ensures.0 w.if-is_empty.true) (omega (arith, room))))
+      | else-is_empty w ↦
+          subst (λ (f : Inside). IsHeads f.seeds.first f.seeds.second f.homes f.used f.keys (set f.slots.items i c.live.result)) (sym w.self-inside-is)
+          (subst (λ s. IsHeads c.self.inside.seeds.first c.self.inside.seeds.second c.self.inside.homes c.self.inside.used (c.self.inside.keys + 1) (set ss i s)) (sym c.live.ensures)
+          (heads_again _ _ _ _ _ ss h key c.args.number i none c.home-home.result c.home-home.ensures.at free within
+          (λ e. let t = c.is_empty.ensures.1 (ap (λ (s : Slot). s.state) read ∙ e) in let f = w.if-is_empty.false in cc)))
+    ]
 
 pub returns-then-at-len-clause-ok : goal.returns-then-at-len-clause-ok
 returns-then-at-len-clause-ok c =
     let ss = c.self.inside.slots.items in
-    let t = c.self.invariant in
+    let i = c.free-at.result in
     let key = c.args.key in
-    let free : IsFreeFrom ss c.home-home.result c.free-at.result = subst (λ xs. IsFreeFrom xs c.home-home.result c.free-at.result) c.deref.ensures.value c.free-at.ensures in
-    let none : map.get (map_of ss) key ≡ None = ap (λ m. map.get m key) c.self.view_is ∙ c.requires in
-    let within : c.free-at.result < length ss = omega (arith, c.if-at-len.true, c.len.ensures, c.self.inside.slots.ok) in
-    ap (λ s. map_of (set ss c.free-at.result s)) c.live.ensures
-    ∙ map_place _ _ _ ss t key c.args.number c.free-at.result none c.home-home.result c.home-home.ensures.at free within
-    ∙ ap (λ m. map.insert m key c.args.number) c.self.view_is
+    let free : IsFreeFrom ss c.home-home.result i = subst (λ xs. IsFreeFrom xs c.home-home.result i) c.deref.ensures.value c.free-at.ensures in
+    let none : map.get (map_of ss) key ≡ None = ap (λ (m : Table). map.get m.numbers key) c.self.view_is ∙ c.requires.new in
+    let within : i < length ss = omega (arith, c.if-at-len.true, c.len.ensures, c.self.inside.slots.ok) in
+    let same : c.if-is_empty.self-inside.slots.items ≡ ss = elim c.if-is_empty.branch [
+      | then-is_empty w ↦ ap (λ (f : Inside). f.slots.items) w.self-inside-is
+      | else-is_empty w ↦ ap (λ (f : Inside). f.slots.items) w.self-inside-is
+    ] in
+    ap (λ (xs : List Slot). map_of (set xs i c.live.result)) same
+    ∙ ap (λ s. map_of (set ss i s)) c.live.ensures
+    ∙ map_place _ _ _ ss c.self.invariant.table key c.args.number i none c.home-home.result c.home-home.ensures.at free within
+    ∙ ap (λ (m : Table). map.insert m.numbers key c.args.number) c.self.view_is
 
 pub returns-clause-ok : goal.returns-clause-ok
 returns-clause-ok c =
     let ss = c.self.inside.slots.items in
-    let t = c.self.invariant in
+    let i = c.free-at.result in
     let key = c.args.key in
-    let free : IsFreeFrom ss c.home-home.result c.free-at.result = subst (λ xs. IsFreeFrom xs c.home-home.result c.free-at.result) c.deref.ensures.value c.free-at.ensures in
-    let none : map.get (map_of ss) key ≡ None = ap (λ m. map.get m key) c.self.view_is ∙ c.requires in
-    let end : c.free-at.result ≡ length ss = omega (arith, free.within, c.if-at-len.false, c.len.ensures, c.self.inside.slots.ok) in
+    let free : IsFreeFrom ss c.home-home.result i = subst (λ xs. IsFreeFrom xs c.home-home.result i) c.deref.ensures.value c.free-at.ensures in
+    let none : map.get (map_of ss) key ≡ None = ap (λ (m : Table). map.get m.numbers key) c.self.view_is ∙ c.requires.new in
+    let end : i ≡ length ss = omega (arith, free.within, c.if-at-len.false, c.len.ensures, c.self.inside.slots.ok) in
     ap map_of (c.in_ok-push.ensures.items ∙ ap (λ s. ss ++ s ∷ []) c.live-2.ensures)
-    ∙ map_push _ _ _ ss t key c.args.number c.free-at.result none c.home-home.result c.home-home.ensures.at free end
-    ∙ ap (λ m. map.insert m key c.args.number) c.self.view_is
+    ∙ map_push _ _ _ ss c.self.invariant.table key c.args.number i none c.home-home.result c.home-home.ensures.at free end
+    ∙ ap (λ (m : Table). map.insert m.numbers key c.args.number) c.self.view_is
 
 pub invariant_of-self-2 : goal.invariant_of-self-2
 invariant_of-self-2 c =
     let ss = c.self.inside.slots.items in
-    let t = c.self.invariant in
+    let i = c.free-at.result in
     let key = c.args.key in
-    let free : IsFreeFrom ss c.home-home.result c.free-at.result = subst (λ xs. IsFreeFrom xs c.home-home.result c.free-at.result) c.deref.ensures.value c.free-at.ensures in
-    let none : map.get (map_of ss) key ≡ None = ap (λ m. map.get m key) c.self.view_is ∙ c.requires in
-    let end : c.free-at.result ≡ length ss = omega (arith, free.within, c.if-at-len.false, c.len.ensures, c.self.inside.slots.ok) in
-    subst (IsTable c.self.inside.seeds.first c.self.inside.seeds.second c.self.inside.homes) (sym (c.in_ok-push.ensures.items ∙ ap (λ s. ss ++ s ∷ []) c.live-2.ensures))
-    (table_push _ _ _ ss t key c.args.number c.free-at.result none c.home-home.result c.home-home.ensures.at free end)
+    let free : IsFreeFrom ss c.home-home.result i = subst (λ xs. IsFreeFrom xs c.home-home.result i) c.deref.ensures.value c.free-at.ensures in
+    let none : map.get (map_of ss) key ≡ None = ap (λ (m : Table). map.get m.numbers key) c.self.view_is ∙ c.requires.new in
+    let room : 0 < c.self.inside.homes / 2 - c.self.inside.used = omega (arith, c.requires.room, ap (λ (m : Table). m.room) c.self.view_is) in
+    let end : i ≡ length ss = omega (arith, free.within, c.if-at-len.false, c.len.ensures, c.self.inside.slots.ok) in
+    subst (IsHeads c.self.inside.seeds.first c.self.inside.seeds.second c.self.inside.homes (c.self.inside.used + 1) (c.self.inside.keys + 1)) (sym (c.in_ok-push.ensures.items ∙ ap (λ s. ss ++ s ∷ []) c.live-2.ensures))
+    (heads_push _ _ _ _ _ ss c.self.invariant key c.args.number i none c.home-home.result c.home-home.ensures.at free end (omega (arith, room)))

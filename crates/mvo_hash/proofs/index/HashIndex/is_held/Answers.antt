@@ -2,7 +2,7 @@ use Rattle.std.proofs.Common.{◌≡◌, ◌≢◌, ◌<◌, ◌≤◌, not, nat
 use Rattle.std.proofs.lemmas.Bool.{OnTrue_from, OnFalse_from, not-true, not-false, eqb-true, eqb-false}
 use Rattle.std.proofs.lemmas.List.{get_or_past}
 use Rattle.mvo_hash.specs.declared.link.Link.{Link}
-use Rattle.mvo_hash.specs.Lists.{IsHeld, IsFresh}
+use Rattle.mvo_hash.specs.Lists.{Index, IsHeld, IsFresh}
 use Rattle.mvo_hash.specs.Links.{unheld, no_link, link, numbers}
 use Rattle.mvo_hash.proofs.Views.{shown_held, shown_fresh, link_read}
 use Rattle.mvo_hash.proofs.index.HashIndex.is_held.Goals as goal
@@ -13,10 +13,10 @@ returns-then-index-len-clause-held c =
     let n = c.args.version.0 in
     let within : n < length ls = omega (arith, c.if-index-len.true, c.index.ensures, c.len.ensures, c.self.inside.links.ok) in
     let read : c.index-then-index-len-2.result.now ≡ link ls n = link_read ls c.index-then-index-len.result n c.index-then-index-len-2.result.now c.index-then-index-len.ensures within c.index-then-index-len-2.ensures in
-    OnTrue_from (not (nat_eq c.index-then-index-len-2.result.now.newer 4294967294)) (IsHeld c.args.self.now n) (λ b.
+    OnTrue_from (not (nat_eq c.index-then-index-len-2.result.now.newer 4294967294)) (IsHeld c.args.self.now.versions n) (λ b.
     let other : c.index-then-index-len-2.result.now.newer ≢ unheld = eqb-false _ _ (not-true _ b) in
-    subst (λ m. IsHeld m n) c.self.view_is
-    (shown_held c.self.inside.heads ls (numbers c.self.inside.heads ls) c.self.invariant n (λ e. other (ap (λ (l : Link). l.newer) read ∙ e))))
+    subst (λ m. IsHeld m n) (ap (λ (i : Index). i.versions) c.self.view_is)
+    (shown_held c.self.inside.heads.numbers ls (numbers c.self.inside.heads.numbers ls) c.self.invariant n (λ e. other (ap (λ (l : Link). l.newer) read ∙ e))))
 
 pub returns-then-index-len-clause-fresh : goal.returns-then-index-len-clause-fresh
 returns-then-index-len-clause-fresh c =
@@ -24,16 +24,16 @@ returns-then-index-len-clause-fresh c =
     let n = c.args.version.0 in
     let within : n < length ls = omega (arith, c.if-index-len.true, c.index.ensures, c.len.ensures, c.self.inside.links.ok) in
     let read : c.index-then-index-len-2.result.now ≡ link ls n = link_read ls c.index-then-index-len.result n c.index-then-index-len-2.result.now c.index-then-index-len.ensures within c.index-then-index-len-2.ensures in
-    OnFalse_from (not (nat_eq c.index-then-index-len-2.result.now.newer 4294967294)) (IsFresh c.args.self.now n) (λ b.
+    OnFalse_from (not (nat_eq c.index-then-index-len-2.result.now.newer 4294967294)) (IsFresh c.args.self.now.versions n) (λ b.
     let same : c.index-then-index-len-2.result.now.newer ≡ unheld = eqb-true _ _ (not-false _ b) in
-    subst (λ m. IsFresh m n) c.self.view_is
-    (shown_fresh c.self.inside.heads ls (numbers c.self.inside.heads ls) c.self.invariant n (ap (λ (l : Link). l.newer) (sym read) ∙ same)))
+    subst (λ m. IsFresh m n) (ap (λ (i : Index). i.versions) c.self.view_is)
+    (shown_fresh c.self.inside.heads.numbers ls (numbers c.self.inside.heads.numbers ls) c.self.invariant n (ap (λ (l : Link). l.newer) (sym read) ∙ same)))
 
 pub returns-else-index-len-clause-fresh : goal.returns-else-index-len-clause-fresh
 returns-else-index-len-clause-fresh c =
     let ls = c.self.inside.links.items in
     let n = c.args.version.0 in
     let past : length ls ≤ n = omega (arith, c.if-index-len.false, c.index.ensures, c.len.ensures, c.self.inside.links.ok) in
-    OnFalse_from _ (IsFresh c.args.self.now n) (λ b.
-    subst (λ m. IsFresh m n) c.self.view_is
-    (shown_fresh c.self.inside.heads ls (numbers c.self.inside.heads ls) c.self.invariant n (ap (λ (l : Link). l.newer) (get_or_past ls n no_link past))))
+    OnFalse_from _ (IsFresh c.args.self.now.versions n) (λ b.
+    subst (λ m. IsFresh m n) (ap (λ (i : Index). i.versions) c.self.view_is)
+    (shown_fresh c.self.inside.heads.numbers ls (numbers c.self.inside.heads.numbers ls) c.self.invariant n (ap (λ (l : Link). l.newer) (get_or_past ls n no_link past))))

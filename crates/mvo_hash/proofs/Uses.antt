@@ -1,0 +1,70 @@
+-- A new table, and changes of one key, which keep the used slots and the keys counted.
+use Rattle.std.proofs.Common.{◌≡◌, ◌≢◌, ℕ, ◌+◌, ◌-◌, ◌*◌, ◌/◌, ◌<◌, List, [], ◌∷◌, ◌++◌, None, length, set, replicate, refl, ap, ◌∙◌, arith}
+use Rattle.std.specs.FinMap.{get, empty, from_entries}
+use Rattle.mvo_types.specs.declared.row.RowKey.{RowKey}
+use Rattle.mvo_types.specs.Keys.{key_cmp}
+use Rattle.mvo_hash.specs.declared.slot.Slot.{Slot}
+use Rattle.mvo_hash.specs.declared.slot.State.TheVariants.{Empty}
+use Rattle.mvo_hash.specs.Home.{home_of}
+use Rattle.mvo_hash.specs.Slots.{slot, empty_slot, left_slot, live_slot, IsFreeFrom, IsFoundAt}
+use Rattle.mvo_hash.specs.Table.{map_of, table_of, no_keys, IsHeads}
+use Rattle.mvo_hash.proofs.Counts.{used_kept, used_more, used_push, live_kept, live_more, live_less, live_push}
+use Rattle.mvo_hash.proofs.Finds.{entries_of-replicate}
+use Rattle.mvo_hash.proofs.Tables.{table_set, table_take, table_place, table_push}
+
+module _ (first second homes used keys : ℕ) (ss : List Slot) (h : IsHeads first second homes used keys ss) (key : RowKey) (number : ℕ) (i : ℕ) (none : get (map_of ss) key ≡ None) (from : ℕ) (at_home : from ≡ home_of first second homes key) (free : IsFreeFrom ss from i) where
+  -- in a slot that was never used
+  pub heads_fresh : i < length ss → (slot ss i).state ≡ Empty → used < homes / 2 → IsHeads first second homes (used + 1) (keys + 1) (set ss i (live_slot key number))
+  heads_fresh within empty room = record {
+    table = table_place first second homes ss h.table key number i none from at_home free within;
+    live = let e = live_more ss i (live_slot key number) within free.free refl in omega (arith, e, h.live);
+    counted = let e = used_more ss i (live_slot key number) within empty (λ e. cc) in omega (arith, e, h.counted);
+    half = omega (arith, room);
+  }
+
+  -- in one that another key has left
+  pub heads_again : i < length ss → (slot ss i).state ≢ Empty → IsHeads first second homes used (keys + 1) (set ss i (live_slot key number))
+  heads_again within full = record {
+    table = table_place first second homes ss h.table key number i none from at_home free within;
+    live = let e = live_more ss i (live_slot key number) within free.free refl in omega (arith, e, h.live);
+    counted = let e = used_kept ss i (live_slot key number) within full (λ e. cc) in omega (arith, e, h.counted);
+    half = h.half;
+  }
+
+  -- behind the last slot
+  pub heads_push : i ≡ length ss → used < homes / 2 → IsHeads first second homes (used + 1) (keys + 1) (ss ++ live_slot key number ∷ [])
+  heads_push end room = record {
+    table = table_push first second homes ss h.table key number i none from at_home free end;
+    live = let e = live_push ss (live_slot key number) refl in omega (arith, e, h.live);
+    counted = let e = used_push ss (live_slot key number) (λ e. cc) in omega (arith, e, h.counted);
+    half = omega (arith, room);
+  }
+
+module _ (first second homes used keys : ℕ) (ss : List Slot) (h : IsHeads first second homes used keys ss) (key : RowKey) (i : ℕ) (found : IsFoundAt ss key i) where
+  full : (slot ss i).state ≢ Empty
+  full e = let l = found.live in cc
+
+  -- another number at a key
+  pub heads_set : (number : ℕ) → IsHeads first second homes used keys (set ss i (live_slot key number))
+  heads_set number = record {
+    table = table_set first second homes ss h.table key number i found;
+    counted = let e = used_kept ss i (live_slot key number) found.within full (λ e. cc) in omega (arith, e, h.counted);
+    live = let e = live_kept ss i (live_slot key number) found.within found.live refl in omega (arith, e, h.live);
+    half = h.half;
+  }
+
+  -- a key less
+  pub heads_left : IsHeads first second homes used (keys - 1) (set ss i left_slot)
+  heads_left = record {
+    table = table_take first second homes ss h.table key 0 i found;
+    counted = let e = used_kept ss i left_slot found.within full (λ e. cc) in omega (arith, e, h.counted);
+    live = let e = live_less ss i left_slot found.within found.live (λ e. cc) in omega (arith, e, h.live);
+    half = h.half;
+  }
+
+-- a table that was just made
+pub new_table : (homes keys count : ℕ) (ss : List Slot) → homes ≡ keys * 2 → ss ≡ replicate count empty_slot → table_of homes 0 ss ≡ no_keys keys
+new_table homes keys count ss twice is =
+    let numbers : map_of ss ≡ empty = ap map_of is ∙ ap (from_entries {R = key_cmp}) (entries_of-replicate count) in
+    let room : homes / 2 - 0 ≡ keys = omega (arith, twice) in
+    cc
