@@ -115,11 +115,15 @@ impl Draws {
         }
     }
 
+    /// Often a gate's values, or one that differs from them in a bit.
     fn byte_of_image(&mut self, written: u8) -> u8 {
+        let bit = 1u8.wrapping_shl((self.draw() & 7) as u32);
         match self.below(8) {
             0..=1 => written,
-            2..=3 => 0,
-            4..=5 => OPEN,
+            2 => 0,
+            3..=4 => OPEN,
+            5 => bit,
+            6 => OPEN ^ bit,
             _ => self.byte(),
         }
     }
