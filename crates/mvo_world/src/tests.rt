@@ -11,6 +11,7 @@ use mvo_disk::{Disk, Left, MemDisk};
 use mvo_store::format;
 use mvo_types::{Answer, Row, RowKey, Stamp, TxId};
 use std::alloc::Global;
+use std::process::Abort;
 use std::test::Fail;
 
 // The segment with one group (0, 2]: one record, end 2, one put at table 0, key 5, sort 50, data 61.
@@ -89,11 +90,26 @@ fn found(alloc: Global, disk: MemDisk) -> Result<(u64, Option<usize>), Fail> {
     }
 }
 
+/// Runs the events, and compares what is replied to each.
+fn assert_replies(
+    rt: &impl Abort,
+    world: &mut World<MemDisk>,
+    events: &[Event],
+    texts: &[&str],
+) -> Result<(), Fail> {
+    let replies = world.run(events)?;
+    let alloc = *replies.allocator();
+    assert_eq!(rt; replies.len(), texts.len());
+    for (reply, text) in replies.iter().zip(texts) {
+        assert_eq!(rt; format!(in alloc; "{reply:?}")?.as_str(), *text);
+    }
+    Ok(())
+}
+
 #[test]
 fn one_put_is_durable(rt: HostRuntime) -> Result<(), Fail> {
     let alloc = rt.alloc();
     let mut world = fresh(alloc)?;
-    let replies = world.run(&one_put(alloc)?)?;
     let texts = [
         "Core(Began(TxId(1)))",
         "Core(Answered(Inserted))",
@@ -106,10 +122,7 @@ fn one_put_is_durable(rt: HostRuntime) -> Result<(), Fail> {
         "Taken",
         "Written",
     ];
-    assert_eq!(rt; replies.len(), texts.len());
-    for (reply, text) in replies.iter().zip(texts) {
-        assert_eq!(rt; format!(in alloc; "{reply:?}")?.as_str(), text);
-    }
+    assert_replies(&rt, &mut world, &one_put(alloc)?, &texts)?;
     assert_eq!(rt; world.mark(), Stamp(0));
     let opened = world.step(Event::AppendOpen);
     assert_eq!(rt;
@@ -144,7 +157,6 @@ fn a_commit_that_wrote_nothing_is_polled_yes(rt: HostRuntime) -> Result<(), Fail
         Event::Poll(Stamp(2)),
         Event::Poll(Stamp(3)),
     ]?;
-    let replies = world.run(&events)?;
     let texts = [
         "Core(Began(TxId(1)))",
         "Core(Answered(Found(None)))",
@@ -159,10 +171,7 @@ fn a_commit_that_wrote_nothing_is_polled_yes(rt: HostRuntime) -> Result<(), Fail
         "Polled(true)",
         "Polled(false)",
     ];
-    assert_eq!(rt; replies.len(), texts.len());
-    for (reply, text) in replies.iter().zip(texts) {
-        assert_eq!(rt; format!(in alloc; "{reply:?}")?.as_str(), text);
-    }
+    assert_replies(&rt, &mut world, &events, &texts)?;
     let disk = world.into_disk();
     assert_eq!(rt; disk.bytes(2), EMPTY.as_slice());
     assert_eq!(rt; found(alloc, disk)?, (2, None));
@@ -173,41 +182,34 @@ fn a_commit_that_wrote_nothing_is_polled_yes(rt: HostRuntime) -> Result<(), Fail
 fn refuses_steps_out_of_turn(rt: HostRuntime) -> Result<(), Fail> {
     let alloc = rt.alloc();
     let mut world = fresh(alloc)?;
-    for event in [
+    // With nothing written, a group is empty and its mark goes on.
+    let events = vec![in alloc;
         Event::CloseGroup,
         Event::TakeGroup,
         Event::AppendBody,
         Event::AppendOpen,
-    ] {
-        let reply = world.step(event);
-        assert_eq!(rt;
-            format!(in alloc; "{reply:?}")?.as_str(),
-            "Refused(NothingToDo)"
-        );
-    }
-    // With nothing written, the group is empty and its mark goes on.
-    let _ = world.step(Event::Core(Step::Begin));
-    let closed = world.step(Event::CloseGroup);
-    assert_eq!(rt;
-        format!(in alloc; "{closed:?}")?.as_str(),
-        "Closed(Closed { prev: Stamp(0), mark: Stamp(1) })"
-    );
-    let again = world.step(Event::CloseGroup);
-    assert_eq!(rt;
-        format!(in alloc; "{again:?}")?.as_str(),
-        "Refused(NothingToDo)"
-    );
-    let _ = world.step(Event::Core(Step::Begin));
-    let full = world.step(Event::CloseGroup);
-    assert_eq!(rt;
-        format!(in alloc; "{full:?}")?.as_str(),
-        "Refused(RingFull)"
-    );
-    let taken = world.step(Event::TakeGroup);
-    assert_eq!(rt; format!(in alloc; "{taken:?}")?.as_str(), "Taken");
-    let busy = world.step(Event::TakeGroup);
-    assert_eq!(rt; format!(in alloc; "{busy:?}")?.as_str(), "Refused(Busy)");
-    Ok(())
+        Event::Core(Step::Begin),
+        Event::CloseGroup,
+        Event::CloseGroup,
+        Event::Core(Step::Begin),
+        Event::CloseGroup,
+        Event::TakeGroup,
+        Event::TakeGroup,
+    ]?;
+    let texts = [
+        "Refused(NothingToDo)",
+        "Refused(NothingToDo)",
+        "Refused(NothingToDo)",
+        "Refused(NothingToDo)",
+        "Core(Began(TxId(1)))",
+        "Closed(Closed { prev: Stamp(0), mark: Stamp(1) })",
+        "Refused(NothingToDo)",
+        "Core(Began(TxId(2)))",
+        "Refused(RingFull)",
+        "Taken",
+        "Refused(Busy)",
+    ];
+    assert_replies(&rt, &mut world, &events, &texts)
 }
 
 #[test]
