@@ -1,7 +1,7 @@
 -- Slots by number, each with a version or empty.
 use Rattle.std.specs.Prelude.{◌≡◌, ℕ, ◌==◌, List, [], ◌∷◌, ◌++◌, count_by, is_none, slice_get, slice_index_or, slice_set, if◌then◌else◌, Option, None, Some}
 use Rattle.std.specs.Option.{option_map}
-use Rattle.mvo_types.specs.Line.{Line}
+use Rattle.mvo_types.specs.RowData.{RowData}
 use Rattle.mvo_word.specs.declared.held.Held.{Held}
 use Rattle.mvo_word.specs.declared.held.Held.TheVariants.{Infinity}
 use Rattle.mvo_chain.specs.declared.version.Version.{Version}
@@ -27,7 +27,7 @@ abbrev pub with_room : Slots → Slots
 with_room slots = if hole_count slots == 0 then slots ++ None ∷ [] else slots
 
 -- a version that was just added: nobody has ended it
-abbrev pub added : Line → Held → Version
+abbrev pub added : RowData → Held → Version
 added line held = record { row = line; begin = held; end = Infinity }
 
 -- the slots with this at the number

@@ -11,11 +11,11 @@ use Rattle.mvo_types.specs.declared.row.RowKey.{RowKey}
 use Rattle.mvo_types.specs.declared.op.Op.{Op}
 use Rattle.mvo_types.specs.declared.refusal.Refusal.{Refusal}
 use Rattle.mvo_types.specs.declared.refusal.Refusal.TheVariants.{NoSuchTransaction, Ended, NotActive, NotPreparing, NotValidated, ValidationFailed, TableFull, TooManyWrites, TooManyReads, DataTooLong, BadTable, ClockSpent, Busy}
-use Rattle.mvo_types.specs.Line.{Line}
+use Rattle.mvo_types.specs.RowData.{RowData}
 use Rattle.mvo_types.specs.Keys.{Map}
-use Rattle.mvo_types.specs.Said.{Said}
+use Rattle.mvo_types.specs.AnswerData.{AnswerData}
 use Rattle.mvo_model.specs.Serial.{answer_to}
-use Rattle.mvo_model.specs.Told.{Told, left_by}
+use Rattle.mvo_model.specs.History.{History, after_history}
 use Rattle.mvo_state.specs.declared.over.OverTx.{OverTx}
 use Rattle.mvo_state.specs.declared.marks.Marks.{Marks}
 use Rattle.mvo_state.specs.Entries.{IsKeyed, key_of, entries, entry_keys}
@@ -90,7 +90,7 @@ why_read s t k mine b f d h o =
     ∙ ap (λ (m : Bool). if_stands (nat_lt MAX_TABLE k.table) BadTable (if_stands m TooManyReads (busy_at s t k))) (too_many_keyed mine.told k h)
     ∙ ap (λ (c : Bool). if_stands (nat_lt MAX_TABLE k.table) BadTable (if_stands (is_read_key_too_many mine.told k) TooManyReads (if_stands c Busy None))) o
 
-pub why_inserted : (s : State) (t : ℕ) (row : Line) (mine : Running) (b : Bool) → running_of t s.running ≡ Some mine → mine.doom ≡ None → AllByRecursion (λ o. IsKeyed o.0) mine.told → is_open (last_writer row.key t s.line) ≡ b →
+pub why_inserted : (s : State) (t : ℕ) (row : RowData) (mine : Running) (b : Bool) → running_of t s.running ≡ Some mine → mine.doom ≡ None → AllByRecursion (λ o. IsKeyed o.0) mine.told → is_open (last_writer row.key t s.line) ≡ b →
     why_not_inserted s t row ≡ if_stands (nat_lt MAX_TABLE row.key.table) BadTable (if_stands (nat_lt MAX_DATA_LEN (length row.bytes)) DataTooLong (if_stands (is_read_key_too_many mine.told row.key) TooManyReads (if_stands (is_write_too_many mine.told row.key) TooManyWrites (if_stands b Busy None))))
 why_inserted s t row mine b f d h o =
     ap (not_inserted_at s t row) f ∙ undoomed mine.doom _ d
@@ -109,14 +109,14 @@ told_of_each t (r ∷ rs) h = (
     others_told t' r' rs' false e n k = k
 
 -- an answer from the snapshot keeps the core sound
-pub sound_answer : (s : State) (t : ℕ) (op : Op) (a : Said) → IsKeyed op → a ≡ answer_to op (snapshot s t) → IsNumbered s → IsSound s → IsSound (told s t op a)
+pub sound_answer : (s : State) (t : ℕ) (op : Op) (a : AnswerData) → IsKeyed op → a ≡ answer_to op (snapshot s t) → IsNumbered s → IsSound s → IsSound (told s t op a)
 sound_answer s t op a k e n h =
     sound_told s t op a k
     (each_weaker (λ r. r.id ≡ t → r.told ≡ told_of t s.running) (IsAnswer s.base s.line t op a)
-    (λ r same is _. e ∙ ap (λ (x : Told × ℕ). answer_to op (left_by x.0 (seen_by s.base s.line x.1))) (λ i. (sym (same is) i, sym is i)))
+    (λ r same is _. e ∙ ap (λ (x : History × ℕ). answer_to op (after_history x.0 (seen_by s.base s.line x.1))) (λ i. (sym (same is) i, sym is i)))
     s.running (told_of_each t s.running n.distinct)) h
 
-alone_told : (line : List Slot) (t : ℕ) (op : Op) (a : Said) (rs : List Running) (i : ℕ) (new : Running) → IsAlone new → AllByRecursion IsAlone rs → AllByRecursion IsAlone (set rs i new)
+alone_told : (line : List Slot) (t : ℕ) (op : Op) (a : AnswerData) (rs : List Running) (i : ℕ) (new : Running) → IsAlone new → AllByRecursion IsAlone rs → AllByRecursion IsAlone (set rs i new)
 alone_told line t op a [] i new w h = h
 alone_told line t op a (r ∷ rs) zero new w h = (w, h.1)
 alone_told line t op a (r ∷ rs) (suc i) new w h = (h.0, alone_told line t op a rs i new w h.1)
@@ -127,11 +127,11 @@ length-set' (y ∷ ys) zero x = refl
 length-set' (y ∷ ys) (suc i) x = ap suc (length-set' ys i x)
 
 -- what a call that tells an operation finds, and what it leaves
-pub record IsTold (base : Map) (marks : Marks) (clock : ℕ) (running : List Running) (tale : List Slot) (one : Option Slot) (over : List OverTx) (tc oc t at : ℕ) (op : Op) (a : Said) (new : Running) : Type 0 where
+pub record IsTold (base : Map) (marks : Marks) (clock : ℕ) (running : List Running) (tale : List Slot) (one : Option Slot) (over : List OverTx) (tc oc t at : ℕ) (op : Op) (a : AnswerData) (new : Running) : Type 0 where
   pub state : state_of base marks clock (set running at new) tale one over ≡ told (state_of base marks clock running tale one over) t op a
   pub kept : IsKept (state_of base marks clock (set running at new) tale one over) tale one tc oc
 
-pub kept_told : (base : Map) (marks : Marks) (clock : ℕ) (running : List Running) (tale : List Slot) (one : Option Slot) (over : List OverTx) (tc oc t at : ℕ) (op : Op) (a : Said) (mine new : Running) →
+pub kept_told : (base : Map) (marks : Marks) (clock : ℕ) (running : List Running) (tale : List Slot) (one : Option Slot) (over : List OverTx) (tc oc t at : ℕ) (op : Op) (a : AnswerData) (mine new : Running) →
     position (λ r. r.id == t) running ≡ Some at → mine ≡ get_or running at mine → new ≡ record mine { told = mine.told ++ (op, a) ∷ [] } → one_is (is_writer (key_of op) t) one ≡ false → IsKeyed op → a ≡ answer_to op (snapshot (state_of base marks clock running tale one over) t) →
     IsKept (state_of base marks clock running tale one over) tale one tc oc → IsTold base marks clock running tale one over tc oc t at op a new
 kept_told base marks clock running tale one over tc oc t at op a mine new p is e f key ans k =
@@ -389,9 +389,9 @@ mine_at base marks clock running tale one over tc oc t at mine p is k =
     }
 
 -- what is shown at a key, where nobody is Preparing who wrote it
-pub shown_at : (base : Map) (marks : Marks) (clock : ℕ) (running : List Running) (tale : List Slot) (ws : List ℕ) (one : Option Slot) (over : List OverTx) (t : ℕ) (k : RowKey) (own : Told) → own ≡ told_of t running → at_places tale ws ≡ filter is_writing tale → one_is (is_writer k t) one ≡ false →
-    fin.get (left_by own (seen_by base (at_places tale ws) t)) k ≡ fin.get (snapshot (state_of base marks clock running tale one over) t) k
-shown_at base marks clock running tale ws one over t k own e i f = seen_writers t k own base tale ws i ∙ seen_line k t own base tale one f ∙ ap (λ ts. fin.get (left_by ts (seen_by base (line_of tale one) t)) k) e
+pub shown_at : (base : Map) (marks : Marks) (clock : ℕ) (running : List Running) (tale : List Slot) (ws : List ℕ) (one : Option Slot) (over : List OverTx) (t : ℕ) (k : RowKey) (own : History) → own ≡ told_of t running → at_places tale ws ≡ filter is_writing tale → one_is (is_writer k t) one ≡ false →
+    fin.get (after_history own (seen_by base (at_places tale ws) t)) k ≡ fin.get (snapshot (state_of base marks clock running tale one over) t) k
+shown_at base marks clock running tale ws one over t k own e i f = seen_writers t k own base tale ws i ∙ seen_line k t own base tale one f ∙ ap (λ ts. fin.get (after_history ts (seen_by base (line_of tale one) t)) k) e
 
 -- the refusals of a read, as the code finds them
 abbrev pub read_refusal_by : Running → Option Slot → RowKey → Option Refusal
@@ -403,20 +403,20 @@ read_here s one t at k mine m = why_read s t k mine (one_is (is_writer k mine.id
 pub read_quiet : (mine : Running) (one : Option Slot) (k : RowKey) (t : ℕ) → mine.id ≡ t → read_refusal_by mine one k ≡ None → one_is (is_writer k t) one ≡ false
 read_quiet mine one k t e n = ap (λ (m : ℕ). one_is (is_writer k m) one) (sym e) ∙ (none_stands _ Busy None (none_stands _ TooManyReads _ (none_stands _ BadTable _ n).1).1).0
 
-abbrev pub insert_refusal_by : Running → Option Slot → Line → Option Refusal
+abbrev pub insert_refusal_by : Running → Option Slot → RowData → Option Refusal
 insert_refusal_by mine one row = if_stands (nat_lt MAX_TABLE row.key.table) BadTable (if_stands (nat_lt MAX_DATA_LEN (length row.bytes)) DataTooLong (if_stands (is_read_key_too_many mine.told row.key) TooManyReads (if_stands (is_write_too_many mine.told row.key) TooManyWrites (if_stands (one_is (is_writer row.key mine.id) one) Busy None))))
 
-pub insert_here : (s : State) (one : Option Slot) (t at : ℕ) (row : Line) (mine : Running) → IsMine s one t at mine → why_not_inserted s t row ≡ insert_refusal_by mine one row
+pub insert_here : (s : State) (one : Option Slot) (t at : ℕ) (row : RowData) (mine : Running) → IsMine s one t at mine → why_not_inserted s t row ≡ insert_refusal_by mine one row
 insert_here s one t at row mine m = why_inserted s t row mine (one_is (is_writer row.key mine.id) one) m.found.found m.doom m.keyed (m.quiet row.key)
 
-pub insert_quiet : (mine : Running) (one : Option Slot) (row : Line) (t : ℕ) → mine.id ≡ t → insert_refusal_by mine one row ≡ None → one_is (is_writer row.key t) one ≡ false
+pub insert_quiet : (mine : Running) (one : Option Slot) (row : RowData) (t : ℕ) → mine.id ≡ t → insert_refusal_by mine one row ≡ None → one_is (is_writer row.key t) one ≡ false
 insert_quiet mine one row t e n = ap (λ (m : ℕ). one_is (is_writer row.key m) one) (sym e) ∙ (none_stands _ Busy None (none_stands _ TooManyWrites _ (none_stands _ TooManyReads _ (none_stands _ DataTooLong _ (none_stands _ BadTable _ n).1).1).1).1).0
 
 pub read_absent : (base : Map) (marks : Marks) (clock : ℕ) (running : List Running) (tale : List Slot) (one : Option Slot) (over : List OverTx) (t : ℕ) (k : RowKey) → position (λ r. r.id == t) running ≡ None → AllByRecursion IsStored tale → IsOneOpen one → why_not_read (state_of base marks clock running tale one over) t k ≡ Some (not_active_by one over t)
 read_absent base marks clock running tale one over t k p h o =
     ap (not_read_at (state_of base marks clock running tale one over) t k) (not_found t running p) ∙ ap (λ (r : Refusal). Some r) (absent_active base marks clock running tale one over t h o)
 
-pub insert_absent : (base : Map) (marks : Marks) (clock : ℕ) (running : List Running) (tale : List Slot) (one : Option Slot) (over : List OverTx) (t : ℕ) (row : Line) → position (λ r. r.id == t) running ≡ None → AllByRecursion IsStored tale → IsOneOpen one → why_not_inserted (state_of base marks clock running tale one over) t row ≡ Some (not_active_by one over t)
+pub insert_absent : (base : Map) (marks : Marks) (clock : ℕ) (running : List Running) (tale : List Slot) (one : Option Slot) (over : List OverTx) (t : ℕ) (row : RowData) → position (λ r. r.id == t) running ≡ None → AllByRecursion IsStored tale → IsOneOpen one → why_not_inserted (state_of base marks clock running tale one over) t row ≡ Some (not_active_by one over t)
 insert_absent base marks clock running tale one over t row p h o =
     ap (not_inserted_at (state_of base marks clock running tale one over) t row) (not_found t running p) ∙ ap (λ (r : Refusal). Some r) (absent_active base marks clock running tale one over t h o)
 

@@ -13,7 +13,7 @@ use Rattle.std.proofs.lemmas.Map.Keys.{IsStrictlyIncreasing-from_sorted}
 use Rattle.mvo_types.specs.declared.limits.TheConstants.{MAX_STAMP}
 use Rattle.mvo_types.specs.declared.refusal.Refusal.TheVariants.{Busy, NothingToDo, RingFull}
 use Rattle.mvo_types.specs.Keys.{Map}
-use Rattle.mvo_model.specs.Told.{Told}
+use Rattle.mvo_model.specs.History.{History}
 use Rattle.mvo_group.specs.Data.{RecordData, group_of}
 use Rattle.mvo_group.specs.Rules.{IsRecord, KeepsRules}
 use Rattle.mvo_state.specs.declared.marks.Marks.{Marks}
@@ -111,7 +111,7 @@ pub record IsClosing (mark clock : ℕ) (xs : List Slot) (rs : List RecordData) 
   pub left : AllByRecursion (λ x. new < x.stop) (drop (length rs) xs)
   pub by : new ≡ mark_by clock mark (drop (length rs) (map commit_by xs)) rs
 
-some_left : (low prev : ℕ) (cs : List (ℕ × Told)) (rs : List RecordData) → 1 ≤ length cs → mark_by low prev cs rs ≡ end_in prev rs
+some_left : (low prev : ℕ) (cs : List (ℕ × History)) (rs : List RecordData) → 1 ≤ length cs → mark_by low prev cs rs ≡ end_in prev rs
 some_left low prev [] rs le = absurd (omega arith)
 some_left low prev (c ∷ cs) rs le = refl
 
@@ -134,10 +134,10 @@ closing mark clock xs rs new true lt rise above below long some all part is =
       below = omega arith;
       taken = each_take (λ x. x.stop ≤ new) (length rs) xs (subst (λ (n : ℕ). AllByRecursion (λ x. x.stop ≤ n) xs) (sym is) below);
       left = subst (AllByRecursion (λ x. new < x.stop)) (sym (none_left (length rs) xs (all refl))) tt;
-      by = is ∙ sym (ap (λ (cs : List (ℕ × Told)). mark_by clock mark cs rs) none);
+      by = is ∙ sym (ap (λ (cs : List (ℕ × History)). mark_by clock mark cs rs) none);
     }
 closing mark clock xs rs new false lt rise above below long some all part is =
-    go (take (length rs) xs) (drop (length rs) xs) (take-append-drop (length rs) xs) (subst (λ (cs : List (ℕ × Told)). AreRecordsOf cs rs) (sym (map-take commit_by (length rs) xs)) long.records) (length-take-le (length rs) xs (let p = part refl in omega arith)) refl refl
+    go (take (length rs) xs) (drop (length rs) xs) (take-append-drop (length rs) xs) (subst (λ (cs : List (ℕ × History)). AreRecordsOf cs rs) (sym (map-take commit_by (length rs) xs)) long.records) (length-take-le (length rs) xs (let p = part refl in omega arith)) refl refl
   where
     more : 1 ≤ length (drop (length rs) (map commit_by xs))
     more = omega (arith, length-drop (length rs) (map commit_by xs), length-map xs commit_by, part refl)
@@ -185,7 +185,7 @@ ends_within mark new (x ∷ xs) (r ∷ rs) h a b = ((let e = h.0.end' in let p =
 pub keeps_rules : (mark clock : ℕ) (xs : List Slot) (rs : List RecordData) (new : ℕ) → clock ≤ 2 ^ 62 → IsRising xs → AllByRecursion (λ x. mark < x.stop) xs → IsLongest (map commit_by xs) rs → All IsRecord rs → IsClosing mark clock xs rs new → KeepsRules (group_of mark new rs)
 keeps_rules mark clock xs rs new small rise above long each h =
     let n = length rs in
-    let records : AreRecordsOf (map commit_by (take n xs)) rs = subst (λ (cs : List (ℕ × Told)). AreRecordsOf cs rs) (sym (map-take commit_by n xs)) long.records in
+    let records : AreRecordsOf (map commit_by (take n xs)) rs = subst (λ (cs : List (ℕ × History)). AreRecordsOf cs rs) (sym (map-take commit_by n xs)) long.records in
     record {
       above = h.above;
       mark = let b = h.below in omega arith;

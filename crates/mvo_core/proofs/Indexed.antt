@@ -8,10 +8,10 @@ use Rattle.std.specs.Ordering.{eq_by_cmp}
 use Rattle.std.proofs.lemmas.Bool.{true≢false, false≢true, ltb-true, ltb-false}
 use Rattle.std.proofs.lemmas.List.{take_more}
 use Rattle.mvo_types.specs.declared.row.RowKey.{RowKey}
-use Rattle.mvo_types.specs.Line.{Held}
+use Rattle.mvo_types.specs.RowData.{ContentData}
 use Rattle.mvo_types.specs.Keys.{Map, key_cmp}
-use Rattle.mvo_model.specs.Told.{Told, Write, write_of, write_at, left_by, later, net_write}
-use Rattle.mvo_model.proofs.Serials.{get-left_by, net_write-append}
+use Rattle.mvo_model.specs.History.{History, Write, write_of, write_at, after_history, later, net_write}
+use Rattle.mvo_model.proofs.Serials.{get-after_history, net_write-append}
 use Rattle.mvo_state.specs.Entries.{noted, noted_key, written_from, written_keys}
 use Rattle.mvo_state.specs.Line.{Slot, told_below, seen_by}
 use Rattle.mvo_state.specs.Causes.{is_key_changer, or_first, key_change}
@@ -60,7 +60,7 @@ pub changed_more : (b e : ℕ) (k : RowKey) (tale : List Slot) (ws : List ℕ) (
 changed_more b e k tale ws n lt = ap (key_change b e k) (places_more tale ws n lt) ∙ key_change-append b e k (at_places tale (take n ws)) (at_place tale (get_or ws n 0))
 
 -- ---- one that wrote no key
-later-none : (a : Option (Option Held)) → later a None ≡ a
+later-none : (a : Option (Option ContentData)) → later a None ≡ a
 later-none None = refl
 later-none (Some h) = refl
 
@@ -75,7 +75,7 @@ noted_some (j ∷ js) k e = go (list_any (eq_by_cmp key_cmp k) (j ∷ js)) e
     go true f = cons_nil j js f
     go false f = cons_nil j (js ++ k ∷ []) f
 
-written_before : (ks : List RowKey) (ts : Told) → written_from ks ts ≡ [] → ks ≡ []
+written_before : (ks : List RowKey) (ts : History) → written_from ks ts ≡ [] → ks ≡ []
 written_before ks [] e = e
 written_before ks (t ∷ ts) e = go (write_of t.0 t.1) (written_before (noted_key ks (option_map (λ w. w.0) (write_of t.0 t.1))) ts e)
   where
@@ -83,7 +83,7 @@ written_before ks (t ∷ ts) e = go (write_of t.0 t.1) (written_before (noted_ke
     go None f = f
     go (Some w) f = absurd (noted_some ks w.0 f)
 
-none_written : (k : RowKey) (ks : List RowKey) (ts : Told) → written_from ks ts ≡ [] → net_write k ts ≡ None
+none_written : (k : RowKey) (ks : List RowKey) (ts : History) → written_from ks ts ≡ [] → net_write k ts ≡ None
 none_written k ks [] e = refl
 none_written k ks (t ∷ ts) e =
     let before = written_before (noted_key ks (option_map (λ w. w.0) (write_of t.0 t.1))) ts e in
@@ -100,7 +100,7 @@ unwritten k x f = none_written k [] x.told (go (written_keys x.told) refl f)
     go [] e g = e
     go (j ∷ js) e g = absurd (true≢false g)
 
-none_if : (k : RowKey) (b : Bool) (ts : Told) → net_write k ts ≡ None → net_write k (cond b ts []) ≡ None
+none_if : (k : RowKey) (b : Bool) (ts : History) → net_write k ts ≡ None → net_write k (cond b ts []) ≡ None
 none_if k true ts e = e
 none_if k false ts e = refl
 
@@ -112,11 +112,11 @@ written_writers b k (x ∷ xs) = go (is_writing x) refl (written_writers b k xs)
     go true e r = net_write-append k (cond (nat_lt x.stop b) x.told []) (told_below b (filter is_writing xs)) ∙ ap (λ w. later w (net_write k (cond (nat_lt x.stop b) x.told []))) r ∙ sym (net_write-append k (cond (nat_lt x.stop b) x.told []) (told_below b xs))
     go false e r = r ∙ sym (net_write-append k (cond (nat_lt x.stop b) x.told []) (told_below b xs) ∙ ap (later (net_write k (told_below b xs))) (none_if k (nat_lt x.stop b) x.told (unwritten k x e)) ∙ later-none (net_write k (told_below b xs)))
 
-pub seen_writers : (b : ℕ) (k : RowKey) (own : Told) (base : Map) (tale : List Slot) (ws : List ℕ) → at_places tale ws ≡ filter is_writing tale → fin.get (left_by own (seen_by base (at_places tale ws) b)) k ≡ fin.get (left_by own (seen_by base tale b)) k
+pub seen_writers : (b : ℕ) (k : RowKey) (own : History) (base : Map) (tale : List Slot) (ws : List ℕ) → at_places tale ws ≡ filter is_writing tale → fin.get (after_history own (seen_by base (at_places tale ws) b)) k ≡ fin.get (after_history own (seen_by base tale b)) k
 seen_writers b k own base tale ws e =
-    get-left_by k own (seen_by base (at_places tale ws) b)
-    ∙ ap (unwrap_or (net_write k own)) (get-left_by k (told_below b (at_places tale ws)) base ∙ ap (λ w. unwrap_or w (fin.get base k)) (ap (λ xs. net_write k (told_below b xs)) e ∙ written_writers b k tale) ∙ sym (get-left_by k (told_below b tale) base))
-    ∙ sym (get-left_by k own (seen_by base tale b))
+    get-after_history k own (seen_by base (at_places tale ws) b)
+    ∙ ap (unwrap_or (net_write k own)) (get-after_history k (told_below b (at_places tale ws)) base ∙ ap (λ w. unwrap_or w (fin.get base k)) (ap (λ xs. net_write k (told_below b xs)) e ∙ written_writers b k tale) ∙ sym (get-after_history k (told_below b tale) base))
+    ∙ sym (get-after_history k own (seen_by base tale b))
 
 no_changer : (b e : ℕ) (k : RowKey) (x : Slot) → is_writing x ≡ false → is_key_changer b e k x ≡ false
 no_changer b e k x f = ap (λ w. (nat_lt b x.stop && nat_lt x.stop e) && is_some w) (unwritten k x f) ∙ and-false (nat_lt b x.stop && nat_lt x.stop e)

@@ -11,10 +11,10 @@ use Rattle.mvo_types.specs.declared.op.Op.{Op}
 use Rattle.mvo_types.specs.declared.op.Op.TheVariants.{Read, Insert}
 use Rattle.mvo_types.specs.declared.answer.Answer.{Answer}
 use Rattle.mvo_types.specs.declared.refusal.Refusal.TheVariants.{TooManyWrites, TooManyReads, DataTooLong, BadTable}
-use Rattle.mvo_types.specs.Line.{Line}
-use Rattle.mvo_types.specs.Said.{Said, said}
-use Rattle.mvo_types.specs.Said.Said.{Row, Lines, Inserts, Exist, Updates, Deletes, Lacks}
-use Rattle.mvo_model.specs.Told.{Told, write_of}
+use Rattle.mvo_types.specs.RowData.{RowData}
+use Rattle.mvo_types.specs.AnswerData.{AnswerData, answer_data}
+use Rattle.mvo_types.specs.AnswerData.AnswerData.{Found, Rows, Inserted, Exists, Updated, Deleted, Absent}
+use Rattle.mvo_model.specs.History.{History, write_of}
 use Rattle.mvo_state.specs.Entries.{is_noted, noted_key, written_keys}
 use Rattle.mvo_state.specs.Line.{Slot, Running}
 use Rattle.mvo_state.specs.Causes.{is_write_too_many}
@@ -26,35 +26,35 @@ use Rattle.mvo_core.proofs.Calls.{insert_refusal_by}
 use Rattle.mvo_core.proofs.Writes.{written_from-push}
 
 -- the operations after one more
-pub told_now : (ops new : List (Op × Answer)) (op : Op) (a : Answer) → new ≡ ops ++ (op, a) ∷ [] → told_view new ≡ told_view ops ++ (op, said a) ∷ []
-told_now ops new op a e = ap told_view e ∙ map-append (λ y. (y.0, said y.1)) ops ((op, a) ∷ [])
+pub told_now : (ops new : List (Op × Answer)) (op : Op) (a : Answer) → new ≡ ops ++ (op, a) ∷ [] → told_view new ≡ told_view ops ++ (op, answer_data a) ∷ []
+told_now ops new op a e = ap told_view e ∙ map-append (λ y. (y.0, answer_data y.1)) ops ((op, a) ∷ [])
 
 -- ---- one key more
 noted_len : (b : Bool) (ks : List RowKey) (k : RowKey) → (not b && nat_le MAX_WRITES (length ks)) ≡ false → length ks ≤ 256 → length (cond b ks (ks ++ k ∷ [])) ≤ 256
 noted_len true ks k e le = le
 noted_len false ks k e le = let lt = leb-false MAX_WRITES (length ks) e in omega (arith, length-append ks (k ∷ []))
 
-pub limited_more : (ts : Told) (op : Op) (a : Said) → AreLimited ts → IsInLimits op → length (noted_key (written_keys ts) (option_map (λ v. v.0) (write_of op a))) ≤ 256 → AreLimited (ts ++ (op, a) ∷ [])
+pub limited_more : (ts : History) (op : Op) (a : AnswerData) → AreLimited ts → IsInLimits op → length (noted_key (written_keys ts) (option_map (λ v. v.0) (write_of op a))) ≤ 256 → AreLimited (ts ++ (op, a) ∷ [])
 limited_more ts op a h l le = record {
   each = each_append (λ t. IsInLimits t.0) ts ((op, a) ∷ []) h.each (l, tt);
   few = subst (λ (ks : List RowKey). length ks ≤ 256) (sym (written_from-push [] ts (op, a))) le;
 }
 
 -- ---- a read writes nothing
-pub limited_read : (ts : Told) (k : RowKey) (a : Said) → AreLimited ts → AreLimited (ts ++ (Read k, a) ∷ [])
+pub limited_read : (ts : History) (k : RowKey) (a : AnswerData) → AreLimited ts → AreLimited (ts ++ (Read k, a) ∷ [])
 limited_read ts k a h = limited_more ts (Read k) a h tt h.few
 
 -- ---- an insert that isn't refused
-insert_len : (ts : Told) (row : Line) (a : Said) → is_write_too_many ts row.key ≡ false → length (written_keys ts) ≤ 256 → length (noted_key (written_keys ts) (option_map (λ v. v.0) (write_of (Insert row) a))) ≤ 256
-insert_len ts row (Row x) e le = le
-insert_len ts row (Lines x) e le = le
-insert_len ts row Inserts e le = noted_len (is_noted (written_keys ts) row.key) (written_keys ts) row.key e le
-insert_len ts row Exist e le = le
-insert_len ts row Updates e le = le
-insert_len ts row Deletes e le = le
-insert_len ts row Lacks e le = le
+insert_len : (ts : History) (row : RowData) (a : AnswerData) → is_write_too_many ts row.key ≡ false → length (written_keys ts) ≤ 256 → length (noted_key (written_keys ts) (option_map (λ v. v.0) (write_of (Insert row) a))) ≤ 256
+insert_len ts row (Found x) e le = le
+insert_len ts row (Rows x) e le = le
+insert_len ts row Inserted e le = noted_len (is_noted (written_keys ts) row.key) (written_keys ts) row.key e le
+insert_len ts row Exists e le = le
+insert_len ts row Updated e le = le
+insert_len ts row Deleted e le = le
+insert_len ts row Absent e le = le
 
-pub limited_insert : (mine : Running) (one : Option Slot) (row : Line) (a : Said) → insert_refusal_by mine one row ≡ None → AreLimited mine.told → AreLimited (mine.told ++ (Insert row, a) ∷ [])
+pub limited_insert : (mine : Running) (one : Option Slot) (row : RowData) (a : AnswerData) → insert_refusal_by mine one row ≡ None → AreLimited mine.told → AreLimited (mine.told ++ (Insert row, a) ∷ [])
 limited_insert mine one row a n h =
     let table = none_stands _ BadTable _ n in
     let size = none_stands _ DataTooLong _ table.1 in

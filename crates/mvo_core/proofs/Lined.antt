@@ -6,10 +6,10 @@ use Rattle.std.specs.List.{AllByRecursion, filter, list_any}
 use Rattle.std.specs.FinMap as fin
 use Rattle.std.proofs.lemmas.Bool.{ne_eqb, eq-eqb, true≢false, le-ltb}
 use Rattle.mvo_types.specs.declared.row.RowKey.{RowKey}
-use Rattle.mvo_types.specs.Line.{Held}
+use Rattle.mvo_types.specs.RowData.{ContentData}
 use Rattle.mvo_types.specs.Keys.{Map}
-use Rattle.mvo_model.specs.Told.{Told, left_by, net_write, later}
-use Rattle.mvo_model.proofs.Serials.{get-left_by, net_write-append}
+use Rattle.mvo_model.specs.History.{History, after_history, net_write, later}
+use Rattle.mvo_model.proofs.Serials.{get-after_history, net_write-append}
 use Rattle.mvo_state.specs.Line.{Slot, Running, told_below, seen_by, is_writer, but, last_writer, has, with_settled, with_check, with_doom, doomed_by, running_doom, not_at}
 use Rattle.mvo_state.specs.Causes.{preparing_of, unsettled, is_open, key_change, or_first}
 use Rattle.mvo_state.specs.Sound.{IsRising}
@@ -84,23 +84,23 @@ writer_line k b tale (Some x) h o = ap is_open (last_writer-append k b tale (x �
 unwritten : (k : RowKey) (b : ℕ) (x : Slot) → is_writer k b x ≡ false → net_write k (cond (nat_lt x.stop b) x.told []) ≡ None
 unwritten k b x f = go (nat_lt x.stop b) (net_write k x.told) refl f
   where
-    go : (c : Bool) (w : Option (Option Held)) → net_write k x.told ≡ w → (c && is_some w) ≡ false → net_write k (cond c x.told []) ≡ None
+    go : (c : Bool) (w : Option (Option ContentData)) → net_write k x.told ≡ w → (c && is_some w) ≡ false → net_write k (cond c x.told []) ≡ None
     go false w e g = refl
     go true None e g = e
     go true (Some v) e g = absurd (true≢false g)
 
-later-none_first : (a : Option (Option Held)) → later None a ≡ a
+later-none_first : (a : Option (Option ContentData)) → later None a ≡ a
 later-none_first a = refl
 
-pub seen_line : (k : RowKey) (b : ℕ) (own : Told) (base : Map) (tale : List Slot) (one : Option Slot) → one_is (is_writer k b) one ≡ false → fin.get (left_by own (seen_by base tale b)) k ≡ fin.get (left_by own (seen_by base (line_of tale one) b)) k
-seen_line k b own base tale None f = ap (λ (l : List Slot). fin.get (left_by own (seen_by base l b)) k) (sym (append-nil tale))
+pub seen_line : (k : RowKey) (b : ℕ) (own : History) (base : Map) (tale : List Slot) (one : Option Slot) → one_is (is_writer k b) one ≡ false → fin.get (after_history own (seen_by base tale b)) k ≡ fin.get (after_history own (seen_by base (line_of tale one) b)) k
+seen_line k b own base tale None f = ap (λ (l : List Slot). fin.get (after_history own (seen_by base l b)) k) (sym (append-nil tale))
 seen_line k b own base tale (Some x) f =
-    get-left_by k own (seen_by base tale b)
+    get-after_history k own (seen_by base tale b)
     ∙ ap (unwrap_or (net_write k own)) (
-    get-left_by k (told_below b tale) base
+    get-after_history k (told_below b tale) base
     ∙ ap (λ w. unwrap_or w (fin.get base k)) (sym (ap (net_write k) (told_below-append b tale (x ∷ [])) ∙ net_write-append k (told_below b tale) (cond (nat_lt x.stop b) x.told [] ++ []) ∙ ap (λ ts. later (net_write k ts) (net_write k (told_below b tale))) (append-nil (cond (nat_lt x.stop b) x.told [])) ∙ ap (λ w. later w (net_write k (told_below b tale))) (unwritten k b x f)))
-    ∙ sym (get-left_by k (told_below b (tale ++ x ∷ [])) base))
-    ∙ sym (get-left_by k own (seen_by base (tale ++ x ∷ []) b))
+    ∙ sym (get-after_history k (told_below b (tale ++ x ∷ [])) base))
+    ∙ sym (get-after_history k own (seen_by base (tale ++ x ∷ []) b))
 
 -- ---- changes: its own is none
 pub change_line : (b e : ℕ) (k : RowKey) (tale : List Slot) (x : Slot) → e ≤ x.stop → key_change b e k (line_of tale (Some x)) ≡ key_change b e k tale

@@ -5,7 +5,7 @@ use Rattle.std.specs.List.{AllByRecursion, list_any, position_or_len}
 use Rattle.std.proofs.lemmas.Bool.{eqb-true, eq-eqb, ne_eqb, false≢true, true≢false, ltb-false}
 use Rattle.std.proofs.lemmas.List.Quantifiers.{position-Some}
 use Rattle.mvo_types.specs.declared.op.Op.{Op}
-use Rattle.mvo_types.specs.Said.{Said}
+use Rattle.mvo_types.specs.AnswerData.{AnswerData}
 use Rattle.mvo_state.specs.declared.over.OverTx.{OverTx}
 use Rattle.mvo_state.specs.Entries.{key_of}
 use Rattle.mvo_state.specs.Line.{Slot, Running, rest_on, with_told, with_end, without, without_over, told_of, last_writer}
@@ -21,7 +21,7 @@ quiet_rest ds (Some y) f = ap (λ (b : Bool). cond b ds (with_end ds y.stop)) (n
     not-is true e = refl
     not-is false e = absurd (true≢false e)
 
-others_kept : (line : List Slot) (t : ℕ) (op : Op) (a : Said) (rs : List Running) → AllByRecursion (λ q. q.id ≢ t) rs → map (with_told line t op a) rs ≡ rs
+others_kept : (line : List Slot) (t : ℕ) (op : Op) (a : AnswerData) (rs : List Running) → AllByRecursion (λ q. q.id ≢ t) rs → map (with_told line t op a) rs ≡ rs
 others_kept line t op a [] h = refl
 others_kept line t op a (r ∷ rs) h =
     ap (λ (b : Bool). (record { id = r.id; told = cond b (r.told ++ (op, a) ∷ []) r.told; rests = cond b (rest_on r.rests (last_writer (key_of op) r.id line)) r.rests; doom = r.doom }) ∷ map (with_told line t op a) rs) (ne_eqb r.id t h.0)
@@ -42,7 +42,7 @@ others_of t r rs e h = subst (λ (n : ℕ). AllByRecursion (λ q. q.id ≢ n) rs
 head_differs : (t : ℕ) (r : Running) (rs : List Running) (i : ℕ) (d : Running) → i < length rs → (get_or rs i d).id ≡ t → AllByRecursion (λ q. q.id ≢ r.id) rs → r.id ≢ t
 head_differs t r rs i d lt e h f = at_one (λ q. q.id ≢ r.id) rs i d lt h (e ∙ sym f)
 
-told_here : (line : List Slot) (t : ℕ) (op : Op) (a : Said) (rs : List Running) (i : ℕ) (d : Running) → is_open (last_writer (key_of op) t line) ≡ false → i < length rs → (get_or rs i d).id ≡ t → AreDistinct rs → map (with_told line t op a) rs ≡ set rs i (record (get_or rs i d) { told = (get_or rs i d).told ++ (op, a) ∷ [] })
+told_here : (line : List Slot) (t : ℕ) (op : Op) (a : AnswerData) (rs : List Running) (i : ℕ) (d : Running) → is_open (last_writer (key_of op) t line) ≡ false → i < length rs → (get_or rs i d).id ≡ t → AreDistinct rs → map (with_told line t op a) rs ≡ set rs i (record (get_or rs i d) { told = (get_or rs i d).told ++ (op, a) ∷ [] })
 told_here line t op a [] i d f lt e h = absurd (omega arith)
 told_here line t op a (r ∷ rs) zero d f lt e h =
     ap (λ (b : Bool). (record { id = r.id; told = cond b (r.told ++ (op, a) ∷ []) r.told; rests = cond b (rest_on r.rests (last_writer (key_of op) r.id line)) r.rests; doom = r.doom }) ∷ map (with_told line t op a) rs) (eq-eqb r.id t e)
@@ -87,7 +87,7 @@ found_at t rs i mine p is h =
       without = without_here t rs i mine q.0 e h;
     }
 
-pub told_at : (line : List Slot) (t : ℕ) (op : Op) (a : Said) (rs : List Running) (i : ℕ) (mine new : Running) → position (λ r. r.id == t) rs ≡ Some i → mine ≡ get_or rs i mine → new ≡ record mine { told = mine.told ++ (op, a) ∷ [] } → is_open (last_writer (key_of op) t line) ≡ false → AreDistinct rs → set rs i new ≡ map (with_told line t op a) rs
+pub told_at : (line : List Slot) (t : ℕ) (op : Op) (a : AnswerData) (rs : List Running) (i : ℕ) (mine new : Running) → position (λ r. r.id == t) rs ≡ Some i → mine ≡ get_or rs i mine → new ≡ record mine { told = mine.told ++ (op, a) ∷ [] } → is_open (last_writer (key_of op) t line) ≡ false → AreDistinct rs → set rs i new ≡ map (with_told line t op a) rs
 told_at line t op a rs i mine new p is e f h =
     let q = position-Some (λ r. r.id == t) rs i mine p in
     ap (set rs i) (e ∙ ap (λ (r : Running). record r { told = r.told ++ (op, a) ∷ [] }) is)

@@ -19,12 +19,12 @@ use Rattle.std.proofs.lemmas.Map.Steps.{list_any_congr}
 use Rattle.mvo_types.specs.declared.row.RowKey.{RowKey}
 use Rattle.mvo_types.specs.declared.op.Op.{Op}
 use Rattle.mvo_types.specs.declared.op.Op.TheVariants.{Read, Scan, Insert, Update, Delete}
-use Rattle.mvo_types.specs.Line.{Held, held_of}
+use Rattle.mvo_types.specs.RowData.{ContentData, content_of}
 use Rattle.mvo_types.specs.Keys.{key_cmp}
-use Rattle.mvo_types.specs.Said.{Said}
-use Rattle.mvo_types.specs.Said.Said.{Row, Lines, Inserts, Exist, Updates, Deletes, Lacks}
+use Rattle.mvo_types.specs.AnswerData.{AnswerData}
+use Rattle.mvo_types.specs.AnswerData.AnswerData.{Found, Rows, Inserted, Exists, Updated, Deleted, Absent}
 use Rattle.mvo_types.proofs.Maps.{keys_total, exact_keys}
-use Rattle.mvo_model.specs.Told.{Told, Write, write_of, write_at, later, net_write}
+use Rattle.mvo_model.specs.History.{History, Write, write_of, write_at, later, net_write}
 use Rattle.mvo_group.specs.Data.{NetWrite, RecordData}
 use Rattle.mvo_group.specs.Rules.{KeepsLimits, IsRecord}
 use Rattle.mvo_state.specs.Entries.{is_noted, noted, noted_key, written_from, written_keys}
@@ -48,7 +48,7 @@ noted_key_apart : (ks : List RowKey) (w : Option RowKey) → IsDistinct (eq_by_c
 noted_key_apart ks None h = h
 noted_key_apart ks (Some k) h = noted_apart ks k h
 
-from_apart : (ks : List RowKey) (ts : Told) → IsDistinct (eq_by_cmp key_cmp) ks → IsDistinct (eq_by_cmp key_cmp) (written_from ks ts)
+from_apart : (ks : List RowKey) (ts : History) → IsDistinct (eq_by_cmp key_cmp) ks → IsDistinct (eq_by_cmp key_cmp) (written_from ks ts)
 from_apart ks [] h = h
 from_apart ks (t ∷ ts) h = from_apart (noted_key ks (option_map (λ w. w.0) (write_of t.0 t.1))) ts (noted_key_apart ks (option_map (λ w. w.0) (write_of t.0 t.1)) h)
 
@@ -56,7 +56,7 @@ none_apart : IsDistinct (eq_by_cmp key_cmp) []
 unfolding IsDistinct
 none_apart = tt
 
-pub written_apart : (ts : Told) → IsDistinct (eq_by_cmp key_cmp) (written_keys ts)
+pub written_apart : (ts : History) → IsDistinct (eq_by_cmp key_cmp) (written_keys ts)
 written_apart ts = from_apart [] ts none_apart
 
 -- ---- sorted keys that are apart rise strictly
@@ -77,7 +77,7 @@ pub sorted_apart : (ks js : List RowKey) → IsPermutation ks js → IsDistinct 
 sorted_apart ks js p h = IsDistinct-IsPermutation (eq_by_cmp key_cmp) keys_equal.symm ks js p h
 
 -- ---- a key is noted where it has a net write
-or_some : (a b : Option (Option Held)) → is_some (later a b) ≡ (is_some b || is_some a)
+or_some : (a b : Option (Option ContentData)) → is_some (later a b) ≡ (is_some b || is_some a)
 or_some None None = refl
 or_some None (Some x) = refl
 or_some (Some x) None = refl
@@ -103,7 +103,7 @@ noted_more ks j k = go (is_noted ks j) refl (eq_by_cmp key_cmp k j) refl
     go true e false f = or_false (is_noted ks k)
     go false e c f = list_any-append (eq_by_cmp key_cmp k) ks (j ∷ []) ∙ ap (λ b. is_noted ks k || b) (sym (or_false (eq_by_cmp key_cmp k j)) ∙ f)
 
-some_at : (b : Bool) (h : Option Held) → b ≡ is_some (cond b (Some h) None)
+some_at : (b : Bool) (h : Option ContentData) → b ≡ is_some (cond b (Some h) None)
 some_at true h = refl
 some_at false h = refl
 
@@ -111,7 +111,7 @@ noted_write : (ks : List RowKey) (w : Option Write) (k : RowKey) → is_noted (n
 noted_write ks None k = or_false (is_noted ks k)
 noted_write ks (Some w) k = noted_more ks w.0 k ∙ ap (λ b. is_noted ks k || b) (some_at (eq_by_cmp key_cmp k w.0) w.1)
 
-noted_from : (ks : List RowKey) (ts : Told) (k : RowKey) → is_noted (written_from ks ts) k ≡ (is_noted ks k || is_some (net_write k ts))
+noted_from : (ks : List RowKey) (ts : History) (k : RowKey) → is_noted (written_from ks ts) k ≡ (is_noted ks k || is_some (net_write k ts))
 noted_from ks [] k = or_false (is_noted ks k)
 noted_from ks (t ∷ ts) k =
     let w = write_of t.0 t.1 in
@@ -120,7 +120,7 @@ noted_from ks (t ∷ ts) k =
     ∙ or_assoc (is_noted ks k) (is_some (write_at k w)) (is_some (net_write k ts))
     ∙ ap (λ b. is_noted ks k || b) (sym (or_some (net_write k ts) (write_at k w)))
 
-pub noted_written : (ts : Told) (k : RowKey) → is_noted (written_keys ts) k ≡ is_some (net_write k ts)
+pub noted_written : (ts : History) (k : RowKey) → is_noted (written_keys ts) k ≡ is_some (net_write k ts)
 noted_written ts k = noted_from [] ts k
 
 -- ---- what the writes have at a key
@@ -128,11 +128,11 @@ none_cond : {X : Type 0} (b : Bool) (w : Option X) → w ≡ None → cond b w N
 none_cond true w e = refl
 none_cond false w e = sym e
 
-in_net_writes : (ts : Told) (ks : List RowKey) (k : RowKey) → write_in k (net_writes ts ks) ≡ cond (is_noted ks k) (net_write k ts) None
+in_net_writes : (ts : History) (ks : List RowKey) (k : RowKey) → write_in k (net_writes ts ks) ≡ cond (is_noted ks k) (net_write k ts) None
 in_net_writes ts [] k = refl
 in_net_writes ts (j ∷ js) k = go (key_cmp k j) refl (net_write j ts) refl (in_net_writes ts js k)
   where
-    go : (o : Ordering) → key_cmp k j ≡ o → (w : Option (Option Held)) → net_write j ts ≡ w → write_in k (net_writes ts js) ≡ cond (is_noted js k) (net_write k ts) None → write_in k (and_write j w (net_writes ts js)) ≡ cond (is_eq o || is_noted js k) (net_write k ts) None
+    go : (o : Ordering) → key_cmp k j ≡ o → (w : Option (Option ContentData)) → net_write j ts ≡ w → write_in k (net_writes ts js) ≡ cond (is_noted js k) (net_write k ts) None → write_in k (and_write j w (net_writes ts js)) ≡ cond (is_eq o || is_noted js k) (net_write k ts) None
     go Less e None f r = r
     go Less e (Some h) f r = ap (λ p. cond (is_eq p) (Some h) (write_in k (net_writes ts js))) e ∙ r
     go Equal e None f r = r ∙ none_cond (is_noted js k) (net_write k ts) (ap (λ i. net_write i ts) (exact_keys k j e) ∙ f)
@@ -145,35 +145,35 @@ some_cond None = refl
 some_cond (Some x) = refl
 
 -- the writes at the keys that are written, in another order
-pub writes_of_keys : (ts : Told) (ks : List RowKey) (k : RowKey) → IsPermutation (written_keys ts) ks → write_in k (net_writes ts ks) ≡ net_write k ts
+pub writes_of_keys : (ts : History) (ks : List RowKey) (k : RowKey) → IsPermutation (written_keys ts) ks → write_in k (net_writes ts ks) ≡ net_write k ts
 writes_of_keys ts ks k p =
     in_net_writes ts ks k
     ∙ ap (λ b. cond b (net_write k ts) None) (sym (list_any-IsPermutation (eq_by_cmp key_cmp k) (written_keys ts) ks p) ∙ noted_written ts k)
     ∙ some_cond (net_write k ts)
 
 -- ---- the keys of the writes rise as the keys do
-above : (ts : Told) (j : RowKey) (ks : List RowKey) → AllByRecursion (λ k. key_cmp j k ≡ Less) ks → AllByRecursion (λ k. key_cmp j k ≡ Less) (map (λ w. w.0) (net_writes ts ks))
+above : (ts : History) (j : RowKey) (ks : List RowKey) → AllByRecursion (λ k. key_cmp j k ≡ Less) ks → AllByRecursion (λ k. key_cmp j k ≡ Less) (map (λ w. w.0) (net_writes ts ks))
 above ts j [] h = tt
 above ts j (k ∷ ks) h = go (net_write k ts) (above ts j ks h.1)
   where
-    go : (w : Option (Option Held)) → AllByRecursion (λ i. key_cmp j i ≡ Less) (map (λ v. v.0) (net_writes ts ks)) → AllByRecursion (λ i. key_cmp j i ≡ Less) (map (λ v. v.0) (and_write k w (net_writes ts ks)))
+    go : (w : Option (Option ContentData)) → AllByRecursion (λ i. key_cmp j i ≡ Less) (map (λ v. v.0) (net_writes ts ks)) → AllByRecursion (λ i. key_cmp j i ≡ Less) (map (λ v. v.0) (and_write k w (net_writes ts ks)))
     go None r = r
     go (Some x) r = (h.0, r)
 
-pub writes_rise : (ts : Told) (ks : List RowKey) → IsStrictlySortedBy key_cmp ks → IsStrictlySortedBy key_cmp (map (λ w. w.0) (net_writes ts ks))
+pub writes_rise : (ts : History) (ks : List RowKey) → IsStrictlySortedBy key_cmp ks → IsStrictlySortedBy key_cmp (map (λ w. w.0) (net_writes ts ks))
 unfolding IsStrictlySortedBy
 writes_rise ts [] h = tt
 writes_rise ts (k ∷ ks) h = go (net_write k ts) (writes_rise ts ks h.1)
   where
-    go : (w : Option (Option Held)) → IsStrictlySortedBy key_cmp (map (λ v. v.0) (net_writes ts ks)) → IsStrictlySortedBy key_cmp (map (λ v. v.0) (and_write k w (net_writes ts ks)))
+    go : (w : Option (Option ContentData)) → IsStrictlySortedBy key_cmp (map (λ v. v.0) (net_writes ts ks)) → IsStrictlySortedBy key_cmp (map (λ v. v.0) (and_write k w (net_writes ts ks)))
     go None r = r
     go (Some x) r = (above ts k ks h.0, r)
 
 -- ---- limits
-abbrev KeepsAt : RowKey → Option (Option Held) → Type 0
+abbrev KeepsAt : RowKey → Option (Option ContentData) → Type 0
 KeepsAt k w = IfSome w (λ h. KeepsLimits (k, h))
 
-at_key : (k j : RowKey) (h : Option Held) → KeepsLimits (j, h) → KeepsAt k (write_at k (Some (j, h)))
+at_key : (k j : RowKey) (h : Option ContentData) → KeepsLimits (j, h) → KeepsAt k (write_at k (Some (j, h)))
 at_key k j h l = go (key_cmp k j) refl
   where
     go : (o : Ordering) → key_cmp k j ≡ o → KeepsAt k (cond (is_eq o) (Some h) None)
@@ -181,53 +181,53 @@ at_key k j h l = go (key_cmp k j) refl
     go Equal e = subst (λ (i : RowKey). KeepsLimits (i, h)) (sym (exact_keys k j e)) l
     go Greater e = tt
 
-limits_of : (op : Op) (a : Said) (k : RowKey) → IsInLimits op → KeepsAt k (write_at k (write_of op a))
+limits_of : (op : Op) (a : AnswerData) (k : RowKey) → IsInLimits op → KeepsAt k (write_at k (write_of op a))
 limits_of (Read j) a k h = tt
 limits_of (Scan table lo hi) a k h = tt
-limits_of (Insert r) (Row x) k h = tt
-limits_of (Insert r) (Lines x) k h = tt
-limits_of (Insert r) Inserts k h = at_key k r.key (Some (held_of r)) (record { table = h.table; size = h.size })
-limits_of (Insert r) Exist k h = tt
-limits_of (Insert r) Updates k h = tt
-limits_of (Insert r) Deletes k h = tt
-limits_of (Insert r) Lacks k h = tt
-limits_of (Update r) (Row x) k h = tt
-limits_of (Update r) (Lines x) k h = tt
-limits_of (Update r) Inserts k h = tt
-limits_of (Update r) Exist k h = tt
-limits_of (Update r) Updates k h = at_key k r.key (Some (held_of r)) (record { table = h.table; size = h.size })
-limits_of (Update r) Deletes k h = tt
-limits_of (Update r) Lacks k h = tt
-limits_of (Delete j) (Row x) k h = tt
-limits_of (Delete j) (Lines x) k h = tt
-limits_of (Delete j) Inserts k h = tt
-limits_of (Delete j) Exist k h = tt
-limits_of (Delete j) Updates k h = tt
-limits_of (Delete j) Deletes k h = at_key k j None (record { table = h; size = omega arith })
-limits_of (Delete j) Lacks k h = tt
+limits_of (Insert r) (Found x) k h = tt
+limits_of (Insert r) (Rows x) k h = tt
+limits_of (Insert r) Inserted k h = at_key k r.key (Some (content_of r)) (record { table = h.table; size = h.size })
+limits_of (Insert r) Exists k h = tt
+limits_of (Insert r) Updated k h = tt
+limits_of (Insert r) Deleted k h = tt
+limits_of (Insert r) Absent k h = tt
+limits_of (Update r) (Found x) k h = tt
+limits_of (Update r) (Rows x) k h = tt
+limits_of (Update r) Inserted k h = tt
+limits_of (Update r) Exists k h = tt
+limits_of (Update r) Updated k h = at_key k r.key (Some (content_of r)) (record { table = h.table; size = h.size })
+limits_of (Update r) Deleted k h = tt
+limits_of (Update r) Absent k h = tt
+limits_of (Delete j) (Found x) k h = tt
+limits_of (Delete j) (Rows x) k h = tt
+limits_of (Delete j) Inserted k h = tt
+limits_of (Delete j) Exists k h = tt
+limits_of (Delete j) Updated k h = tt
+limits_of (Delete j) Deleted k h = at_key k j None (record { table = h; size = omega arith })
+limits_of (Delete j) Absent k h = tt
 
-later_limits : (k : RowKey) (a b : Option (Option Held)) → KeepsAt k a → KeepsAt k b → KeepsAt k (later a b)
+later_limits : (k : RowKey) (a b : Option (Option ContentData)) → KeepsAt k a → KeepsAt k b → KeepsAt k (later a b)
 later_limits k None b p q = q
 later_limits k (Some h) b p q = p
 
-net_limits : (ts : Told) (k : RowKey) → AllByRecursion (λ t. IsInLimits t.0) ts → KeepsAt k (net_write k ts)
+net_limits : (ts : History) (k : RowKey) → AllByRecursion (λ t. IsInLimits t.0) ts → KeepsAt k (net_write k ts)
 net_limits [] k h = tt
 net_limits (t ∷ ts) k h = later_limits k (net_write k ts) (write_at k (write_of t.0 t.1)) (net_limits ts k h.1) (limits_of t.0 t.1 k h.0)
 
-each_limited : (ts : Told) (ks : List RowKey) → AllByRecursion (λ t. IsInLimits t.0) ts → AllByRecursion KeepsLimits (net_writes ts ks)
+each_limited : (ts : History) (ks : List RowKey) → AllByRecursion (λ t. IsInLimits t.0) ts → AllByRecursion KeepsLimits (net_writes ts ks)
 each_limited ts [] h = tt
 each_limited ts (k ∷ ks) h = go (net_write k ts) (net_limits ts k h) (each_limited ts ks h)
   where
-    go : (w : Option (Option Held)) → KeepsAt k w → AllByRecursion KeepsLimits (net_writes ts ks) → AllByRecursion KeepsLimits (and_write k w (net_writes ts ks))
+    go : (w : Option (Option ContentData)) → KeepsAt k w → AllByRecursion KeepsLimits (net_writes ts ks) → AllByRecursion KeepsLimits (and_write k w (net_writes ts ks))
     go None p r = r
     go (Some x) p r = (p, r)
 
 -- ---- how many writes
-few_writes : (ts : Told) (ks : List RowKey) → length (net_writes ts ks) ≤ length ks
+few_writes : (ts : History) (ks : List RowKey) → length (net_writes ts ks) ≤ length ks
 few_writes ts [] = omega arith
 few_writes ts (k ∷ ks) = go (net_write k ts) (few_writes ts ks)
   where
-    go : (w : Option (Option Held)) → length (net_writes ts ks) ≤ length ks → length (and_write k w (net_writes ts ks)) ≤ length (k ∷ ks)
+    go : (w : Option (Option ContentData)) → length (net_writes ts ks) ≤ length ks → length (and_write k w (net_writes ts ks)) ≤ length (k ∷ ks)
     go None le = omega arith
     go (Some x) le = omega arith
 
@@ -235,7 +235,7 @@ some_there : (ws : List NetWrite) (k : RowKey) → is_some (write_in k ws) ≡ t
 some_there [] k e = absurd (false≢true e)
 some_there (w ∷ ws) k e = omega arith
 
-some_writes : (ts : Told) (ks : List RowKey) → IsPermutation (written_keys ts) ks → is_there (written_keys ts) ≡ true → 1 ≤ length (net_writes ts ks)
+some_writes : (ts : History) (ks : List RowKey) → IsPermutation (written_keys ts) ks → is_there (written_keys ts) ≡ true → 1 ≤ length (net_writes ts ks)
 some_writes ts ks p = go (written_keys ts) refl
   where
     go : (js : List RowKey) → written_keys ts ≡ js → is_there js ≡ true → 1 ≤ length (net_writes ts ks)
@@ -245,14 +245,14 @@ some_writes ts ks p = go (written_keys ts) refl
         some_there (net_writes ts ks) j (ap is_some (writes_of_keys ts ks j p) ∙ sym (noted_written ts j) ∙ noted)
 
 -- ---- the record of a commit
-pub record_is : (end : ℕ) (ts : Told) (ks : List RowKey) (r : RecordData) → r.end ≡ end → r.writes ≡ net_writes ts ks → IsPermutation (written_keys ts) ks → IsStrictlySortedBy key_cmp ks → IsRecordOf (end, ts) r
+pub record_is : (end : ℕ) (ts : History) (ks : List RowKey) (r : RecordData) → r.end ≡ end → r.writes ≡ net_writes ts ks → IsPermutation (written_keys ts) ks → IsStrictlySortedBy key_cmp ks → IsRecordOf (end, ts) r
 record_is end ts ks r e f p h = record {
   end' = e;
   rise = subst (λ (ws : List NetWrite). IsStrictlySortedBy key_cmp (map (λ w. w.0) ws)) (sym f) (writes_rise ts ks h);
   writes = λ k. ap (write_in k) f ∙ writes_of_keys ts ks k p;
 }
 
-pub record_keeps : (ts : Told) (ks : List RowKey) (r : RecordData) → r.writes ≡ net_writes ts ks → IsPermutation (written_keys ts) ks → IsStrictlySortedBy key_cmp ks → AreLimited ts → is_there (written_keys ts) ≡ true → IsRecord r
+pub record_keeps : (ts : History) (ks : List RowKey) (r : RecordData) → r.writes ≡ net_writes ts ks → IsPermutation (written_keys ts) ks → IsStrictlySortedBy key_cmp ks → AreLimited ts → is_there (written_keys ts) ≡ true → IsRecord r
 record_keeps ts ks r f p h limits there =
     let many = some_writes ts ks p there in
     let few = few_writes ts ks in
@@ -267,23 +267,23 @@ record_keeps ts ks r f p h limits there =
     }
 
 -- ---- as a loop goes over the keys
-net_writes-append : (ts : Told) (ks js : List RowKey) → net_writes ts (ks ++ js) ≡ net_writes ts ks ++ net_writes ts js
+net_writes-append : (ts : History) (ks js : List RowKey) → net_writes ts (ks ++ js) ≡ net_writes ts ks ++ net_writes ts js
 net_writes-append ts [] js = refl
 net_writes-append ts (k ∷ ks) js = go (net_write k ts) (net_writes-append ts ks js)
   where
-    go : (w : Option (Option Held)) → net_writes ts (ks ++ js) ≡ net_writes ts ks ++ net_writes ts js → and_write k w (net_writes ts (ks ++ js)) ≡ and_write k w (net_writes ts ks) ++ net_writes ts js
+    go : (w : Option (Option ContentData)) → net_writes ts (ks ++ js) ≡ net_writes ts ks ++ net_writes ts js → and_write k w (net_writes ts (ks ++ js)) ≡ and_write k w (net_writes ts ks) ++ net_writes ts js
     go None e = e
     go (Some x) e = ap (λ ws. (k, x) ∷ ws) e
 
 -- with the write at one key more
-pub writes_more : (ts : Told) (ks : List RowKey) (i : ℕ) (d : RowKey) (w : Option (Option Held)) → i < length ks → net_write (get_or ks i d) ts ≡ w → net_writes ts (take (i + 1) ks) ≡ net_writes ts (take i ks) ++ and_write (get_or ks i d) w []
+pub writes_more : (ts : History) (ks : List RowKey) (i : ℕ) (d : RowKey) (w : Option (Option ContentData)) → i < length ks → net_write (get_or ks i d) ts ≡ w → net_writes ts (take (i + 1) ks) ≡ net_writes ts (take i ks) ++ and_write (get_or ks i d) w []
 writes_more ts ks i d w lt e =
     ap (net_writes ts) (take_more ks i d lt)
     ∙ net_writes-append ts (take i ks) (get_or ks i d ∷ [])
     ∙ ap (λ v. net_writes ts (take i ks) ++ and_write (get_or ks i d) v []) e
 
 -- a key without a write
-pub writes_same : (ts : Told) (ks : List RowKey) (i : ℕ) (d : RowKey) → i < length ks → net_write (get_or ks i d) ts ≡ None → net_writes ts (take i ks) ≡ net_writes ts (take (i + 1) ks)
+pub writes_same : (ts : History) (ks : List RowKey) (i : ℕ) (d : RowKey) → i < length ks → net_write (get_or ks i d) ts ≡ None → net_writes ts (take i ks) ≡ net_writes ts (take (i + 1) ks)
 writes_same ts ks i d lt e = sym (writes_more ts ks i d None lt e ∙ none_more (net_writes ts (take i ks)))
   where
     none_more : {X : Type 0} (xs : List X) → xs ++ [] ≡ xs

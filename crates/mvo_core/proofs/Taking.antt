@@ -5,7 +5,7 @@ use Rattle.std.proofs.Math.Seq.{drop-cons}
 use Rattle.std.proofs.lemmas.Bool.{lt-ltb}
 use Rattle.std.proofs.lemmas.List.{map-append, length-map}
 use Rattle.std.proofs.lemmas.List.Sums.{sum_by_push}
-use Rattle.mvo_model.specs.Told.{Told}
+use Rattle.mvo_model.specs.History.{History}
 use Rattle.mvo_group.specs.Data.{RecordData}
 use Rattle.mvo_group.specs.Rules.{record_len}
 use Rattle.mvo_state.specs.Line.{Slot}
@@ -41,7 +41,7 @@ writing_at tale ws n x lt inside is h =
     go (y ∷ xs) ys k = go xs ys k.1
 
 -- ---- one record more
-pub records_push : (cs : List (ℕ × Told)) (rs : List RecordData) (c : ℕ × Told) (r : RecordData) → AreRecordsOf cs rs → IsRecordOf c r → AreRecordsOf (cs ++ c ∷ []) (rs ++ r ∷ [])
+pub records_push : (cs : List (ℕ × History)) (rs : List RecordData) (c : ℕ × History) (r : RecordData) → AreRecordsOf cs rs → IsRecordOf c r → AreRecordsOf (cs ++ c ∷ []) (rs ++ r ∷ [])
 records_push [] [] c r h is = (is, tt)
 records_push [] (q ∷ rs) c r h is = absurd h
 records_push (d ∷ cs) [] c r h is = absurd h
@@ -50,7 +50,7 @@ records_push (d ∷ cs) (q ∷ rs) c r h is = (h.0, records_push cs rs c r h.1 i
 pub records_more : (tale : List Slot) (ws : List ℕ) (n : ℕ) (x : Slot) (rs : List RecordData) (r : RecordData) → n < length ws → AllByRecursion (λ i. i < length tale) ws → x ≡ get_or tale (get_or ws n 0) x → AreRecordsOf (map commit_by (at_places tale (take n ws))) rs → IsRecordOf (x.stop, x.told) r →
     AreRecordsOf (map commit_by (at_places tale (take (n + 1) ws))) (rs ++ r ∷ [])
 records_more tale ws n x rs r lt inside is h k =
-    subst (λ (cs : List (ℕ × Told)). AreRecordsOf cs (rs ++ r ∷ [])) (sym (ap (map commit_by) (more_at tale ws n x lt inside is) ∙ map-append commit_by (at_places tale (take n ws)) (x ∷ [])))
+    subst (λ (cs : List (ℕ × History)). AreRecordsOf cs (rs ++ r ∷ [])) (sym (ap (map commit_by) (more_at tale ws n x lt inside is) ∙ map-append commit_by (at_places tale (take n ws)) (x ∷ [])))
     (records_push (map commit_by (at_places tale (take n ws))) rs (commit_by x) r h k)
 
 -- ---- the longest beginning
@@ -99,12 +99,12 @@ longest_of tale ws n rs inside le many h few size full =
     let back : map commit_by (at_places tale (drop n ws)) ≡ drop (length rs) (map commit_by (at_places tale ws)) = ap (map commit_by) (places_drop tale n ws inside) ∙ map-drop commit_by n (at_places tale ws) ∙ ap (λ (k : ℕ). drop k (map commit_by (at_places tale ws))) (sym many) in
     record {
       few = omega (arith, length-map (at_places tale ws) commit_by, places_many tale ws inside, many, le);
-      records = subst (λ (cs : List (ℕ × Told)). AreRecordsOf cs rs) front h;
+      records = subst (λ (cs : List (ℕ × History)). AreRecordsOf cs rs) front h;
       fits = record { few = few; size = size };
-      full = subst (λ (cs : List (ℕ × Told)). IsFull cs rs) back full;
+      full = subst (λ (cs : List (ℕ × History)). IsFull cs rs) back full;
     }
 
-pub full_by_count : (cs : List (ℕ × Told)) (rs : List RecordData) → 1024 ≤ length rs → IsFull cs rs
+pub full_by_count : (cs : List (ℕ × History)) (rs : List RecordData) → 1024 ≤ length rs → IsFull cs rs
 full_by_count [] rs le = tt
 full_by_count (c ∷ cs) rs le = inl le
 

@@ -6,9 +6,9 @@ use Rattle.std.specs.Ordering.{eq_by_cmp}
 use Rattle.mvo_types.specs.declared.row.RowKey.{RowKey}
 use Rattle.mvo_types.specs.declared.refusal.Refusal.{Refusal}
 use Rattle.mvo_types.specs.declared.refusal.Refusal.TheVariants.{Busy, NothingToDo, RingFull}
-use Rattle.mvo_types.specs.Line.{Held}
+use Rattle.mvo_types.specs.RowData.{ContentData}
 use Rattle.mvo_types.specs.Keys.{key_cmp}
-use Rattle.mvo_model.specs.Told.{Told, net_write}
+use Rattle.mvo_model.specs.History.{History, net_write}
 use Rattle.mvo_group.specs.Data.{NetWrite, RecordData, GroupData}
 use Rattle.mvo_group.specs.Rules.{record_len}
 use Rattle.mvo_state.specs.Line.{State, Slot}
@@ -17,34 +17,34 @@ use Rattle.mvo_state.specs.Marks.{low_water}
 use Rattle.mvo_core.specs.Writers.{is_writing}
 
 -- the write at a key, if one of these is of it
-abbrev pub write_in : RowKey → List NetWrite → Option (Option Held)
+abbrev pub write_in : RowKey → List NetWrite → Option (Option ContentData)
 write_in k [] = None
 write_in k (w ∷ ws) = cond (eq_by_cmp key_cmp k w.0) (Some w.1) (write_in k ws)
 
 -- the record of a commit: its end, and by key its net writes
-pub record IsRecordOf (c : ℕ × Told) (r : RecordData) : Type 0 where
+pub record IsRecordOf (c : ℕ × History) (r : RecordData) : Type 0 where
   pub end' : r.end ≡ c.0
   pub rise : IsStrictlySortedBy key_cmp (map (λ w. w.0) r.writes)
   pub writes : (k : RowKey) → write_in k r.writes ≡ net_write k c.1
 
 -- what the record of a stored commit is made of
-abbrev pub commit_by : Slot → ℕ × Told
+abbrev pub commit_by : Slot → ℕ × History
 commit_by x = (x.stop, x.told)
 
 -- the records of these commits, one after another
-abbrev pub AreRecordsOf : List (ℕ × Told) → List RecordData → Type 0
+abbrev pub AreRecordsOf : List (ℕ × History) → List RecordData → Type 0
 AreRecordsOf [] [] = ⊤
 AreRecordsOf [] (r ∷ rs) = ⊥
 AreRecordsOf (c ∷ cs) [] = ⊥
 AreRecordsOf (c ∷ cs) (r ∷ rs) = IsRecordOf c r × AreRecordsOf cs rs
 
 -- the committed transactions that wrote, with an end above prev and at most mark, by end timestamp
-abbrev pub commits_in : ℕ → ℕ → List Slot → List (ℕ × Told)
+abbrev pub commits_in : ℕ → ℕ → List Slot → List (ℕ × History)
 commits_in prev mark [] = []
 commits_in prev mark (x ∷ xs) = if (x.settled && is_writing x) && (nat_lt prev x.stop && nat_le x.stop mark) then (x.stop, x.told) ∷ commits_in prev mark xs else commits_in prev mark xs
 
 -- the commits that the next group may take
-abbrev pub due : State → List (ℕ × Told)
+abbrev pub due : State → List (ℕ × History)
 due s = commits_in s.marks.closed.0 (low_water s) s.line
 
 -- no more records, and no more bytes, than a group may have
@@ -57,20 +57,20 @@ end_in e [] = e
 end_in e (r ∷ rs) = end_in r.end rs
 
 -- the low-water if none is left, and else the end of the last record
-abbrev pub mark_by : ℕ → ℕ → List (ℕ × Told) → List RecordData → ℕ
+abbrev pub mark_by : ℕ → ℕ → List (ℕ × History) → List RecordData → ℕ
 mark_by low prev [] rs = low
 mark_by low prev (c ∷ cs) rs = end_in prev rs
 
 -- behind these the record of the next commit doesn't fit
-abbrev pub IsTooMuch : ℕ × Told → List RecordData → Type 0
+abbrev pub IsTooMuch : ℕ × History → List RecordData → Type 0
 IsTooMuch c rs = (1024 ≤ length rs) ⊎ ((r : RecordData) × IsRecordOf c r × (4194304 < 18 + sum_by record_len (rs ++ r ∷ [])))
 
-abbrev pub IsFull : List (ℕ × Told) → List RecordData → Type 0
+abbrev pub IsFull : List (ℕ × History) → List RecordData → Type 0
 IsFull [] rs = ⊤
 IsFull (c ∷ cs) rs = IsTooMuch c rs
 
 -- these are the records of the first of the commits: as many as fit
-pub record IsLongest (commits : List (ℕ × Told)) (rs : List RecordData) : Type 0 where
+pub record IsLongest (commits : List (ℕ × History)) (rs : List RecordData) : Type 0 where
   pub few : length rs ≤ length commits
   pub records : AreRecordsOf (take (length rs) commits) rs
   pub fits : Fits rs

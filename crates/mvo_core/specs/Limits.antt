@@ -3,12 +3,12 @@ use Rattle.std.specs.Prelude.{◌≤◌, length, ⊤}
 use Rattle.std.specs.List.{AllByRecursion}
 use Rattle.mvo_types.specs.declared.op.Op.{Op}
 use Rattle.mvo_types.specs.declared.op.Op.TheVariants.{Read, Scan, Insert, Update, Delete}
-use Rattle.mvo_types.specs.Line.{Line}
-use Rattle.mvo_model.specs.Told.{Told}
+use Rattle.mvo_types.specs.RowData.{RowData}
+use Rattle.mvo_model.specs.History.{History}
 use Rattle.mvo_state.specs.Entries.{written_keys}
 
 -- a row of a table that there is, with no more data than a row may have
-pub record IsRow (r : Line) : Type 0 where
+pub record IsRow (r : RowData) : Type 0 where
   pub table : r.key.table ≤ 15
   pub size : length r.bytes ≤ 1024
 
@@ -21,6 +21,6 @@ IsInLimits (Update r) = IsRow r
 IsInLimits (Delete k) = k.table ≤ 15
 
 -- each operation is in the limits, and no more keys are written than a transaction may write
-pub record AreLimited (ts : Told) : Type 0 where
+pub record AreLimited (ts : History) : Type 0 where
   pub each : AllByRecursion (λ t. IsInLimits t.0) ts
   pub few : length (written_keys ts) ≤ 256

@@ -5,7 +5,7 @@ use Rattle.mvo_types.specs.declared.op.Op.{Op}
 use Rattle.mvo_types.specs.declared.op.Op.TheVariants as op
 use Rattle.mvo_types.specs.declared.refusal.Refusal.{Refusal}
 use Rattle.mvo_types.specs.declared.refusal.Refusal.TheVariants.{OutOfMemory}
-use Rattle.mvo_types.specs.Said.{said}
+use Rattle.mvo_types.specs.AnswerData.{answer_data}
 use Rattle.mvo_model.specs.Serial.{answer_to}
 use Rattle.mvo_state.specs.Line.{State, began, told, left, snapshot}
 use Rattle.mvo_state.specs.Causes.{IsRefusal, why_not_begun, why_not_read, why_not_inserted, why_not_prepared, why_not_checked, why_not_settled, why_not_rolled_back, why_not_finished, end_of}
@@ -28,7 +28,7 @@ why_not s (Finish t) = why_not_finished s t.0
 
 -- an operation is told what the serial step answers on the snapshot
 abbrev pub IsToldTo : State → ℕ → Op → Reply → State → Type 0
-IsToldTo s t op r s' = (a : Answer) × (r ≡ Answered a) × (said a ≡ answer_to op (snapshot s t)) × (s' ≡ told s t op (said a))
+IsToldTo s t op r s' = (a : Answer) × (r ≡ Answered a) × (answer_data a ≡ answer_to op (snapshot s t)) × (s' ≡ told s t op (answer_data a))
 
 -- the reply where no refusal's cause stands, and the state after it
 abbrev pub IsAccepted : State → Event → Reply → State → Type 0

@@ -4,21 +4,21 @@ use Rattle.std.specs.Option.{option_map, option_to_list}
 use Rattle.std.specs.Borrow.{Bor}
 use Rattle.mvo_types.specs.declared.op.Op.{Op}
 use Rattle.mvo_types.specs.declared.answer.Answer.{Answer}
-use Rattle.mvo_types.specs.Line.{Line, Held, held_of}
-use Rattle.mvo_types.specs.Said.{said}
-use Rattle.mvo_model.specs.Told.{Told}
+use Rattle.mvo_types.specs.RowData.{RowData, ContentData, content_of}
+use Rattle.mvo_types.specs.AnswerData.{answer_data}
+use Rattle.mvo_model.specs.History.{History}
 use Rattle.mvo_types.specs.Keys.{Map}
 use Rattle.mvo_state.specs.declared.over.OverTx.{OverTx}
 use Rattle.mvo_state.specs.declared.marks.Marks.{Marks}
 use Rattle.mvo_state.specs.Line.{State, Slot, Running}
 
 -- operations with their answers, apart from where they lie in memory
-abbrev pub told_view : List (Op × Answer) → Told
-told_view ops = map (λ x. (x.0, said x.1)) ops
+abbrev pub told_view : List (Op × Answer) → History
+told_view ops = map (λ x. (x.0, answer_data x.1)) ops
 
 -- a row or its absence, behind a reference
-abbrev pub held_view : Option (Bor Line) → Option Held
-held_view r = option_map (λ b. held_of b.now) r
+abbrev pub held_view : Option (Bor RowData) → Option ContentData
+held_view r = option_map (λ b. content_of b.now) r
 
 -- the stored commits, and behind them the one that is Preparing
 abbrev pub line_of : List Slot → Option Slot → List Slot

@@ -1,5 +1,5 @@
 ghost use Rattle.std.specs.Prelude.{◌≡◌, ◌+◌, ◌≤◌, OnOk, OnErr, IfOk, IfErr, IfSome, MatchResult, None, Some, Ok, filter, if◌then◌else◌, is_some, true};
-ghost use Rattle.mvo_types.specs.Said.{said};
+ghost use Rattle.mvo_types.specs.AnswerData.{answer_data};
 ghost use Rattle.mvo_model.specs.Serial.{answer_to};
 ghost use Rattle.mvo_state.specs.Line.{opened, began, told, left, snapshot};
 ghost use Rattle.mvo_state.specs.Causes.{IsRefusal, why_not_begun, why_not_read, why_not_inserted, why_not_prepared, why_not_checked, why_not_settled, why_not_rolled_back, why_not_finished, end_of};
@@ -103,8 +103,8 @@ impl Core {
     /// Reads the row at a key. Refused: 10, 11, 12, 34, 32, 52, 90.
     pub fn read(&mut self, tx: TxId, key: RowKey) -> Result<Answer, Refusal>
         ensures refused { MatchResult result (λ _. why_not_read self.old tx.0 key ≡ None) (IsRefusal (why_not_read self.old tx.0 key)) }
-        ensures answer { IfOk result (λ a. said a ≡ answer_to (Op.Read key) (snapshot self.old tx.0)) }
-        ensures told { IfOk result (λ a. self.new ≡ told self.old tx.0 (Op.Read key) (said a)) }
+        ensures answer { IfOk result (λ a. answer_data a ≡ answer_to (Op.Read key) (snapshot self.old tx.0)) }
+        ensures told { IfOk result (λ a. self.new ≡ told self.old tx.0 (Op.Read key) (answer_data a)) }
         ensures err { OnErr result (self.new ≡ self.old) }
     {
         let Some(at) = place_of(&self.running, tx.0) else {
@@ -125,8 +125,8 @@ impl Core {
     /// Refused: 10, 11, 12, 34, 33, 32, 31, 52, 90.
     pub fn insert(&mut self, tx: TxId, row: Row) -> Result<Answer, Refusal>
         ensures refused { MatchResult result (λ _. why_not_inserted self.old tx.0 row ≡ None) (IsRefusal (why_not_inserted self.old tx.0 row)) }
-        ensures answer { IfOk result (λ a. said a ≡ answer_to (Op.Insert row) (snapshot self.old tx.0)) }
-        ensures told { IfOk result (λ a. self.new ≡ told self.old tx.0 (Op.Insert row) (said a)) }
+        ensures answer { IfOk result (λ a. answer_data a ≡ answer_to (Op.Insert row) (snapshot self.old tx.0)) }
+        ensures told { IfOk result (λ a. self.new ≡ told self.old tx.0 (Op.Insert row) (answer_data a)) }
         ensures err { OnErr result (self.new ≡ self.old) }
     {
         let key = row.row_key();

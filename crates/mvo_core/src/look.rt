@@ -1,9 +1,9 @@
 ghost use Rattle.std.specs.Prelude.{◌≡◌, ◌&&◌, [], nat_lt, if◌then◌else◌, IfOk, slice_get, option_and_then};
 ghost use Rattle.std.specs.Option.{option_map, unwrap_or, is_some};
 ghost use Rattle.std.specs.FinMap as map;
-ghost use Rattle.mvo_types.specs.Line.{held_of, line_at};
+ghost use Rattle.mvo_types.specs.RowData.{content_of, row_with};
 ghost use Rattle.mvo_types.specs.Keys.{row_at};
-ghost use Rattle.mvo_model.specs.Told.{net_write, later, left_by};
+ghost use Rattle.mvo_model.specs.History.{net_write, later, after_history};
 ghost use Rattle.mvo_state.specs.Entries.{entry_keys};
 ghost use Rattle.mvo_state.specs.Line.{told_below, seen_by, is_writer};
 ghost use Rattle.mvo_state.specs.Causes.{is_key_changer, or_first, key_change};
@@ -80,7 +80,7 @@ pub fn is_written_below(tx: &PreparingTx, begin: u64, key: RowKey) -> bool
 
 /// The row that the write leaves at a key.
 fn left_at(base: &Rows, write: Option<Option<&Row>>, key: RowKey) -> Result<Option<Row>, AllocError>
-    ensures { IfOk result (λ r. r ≡ option_map (line_at key) (unwrap_or (option_map held_view write.entry) (map.get base.now key))) }
+    ensures { IfOk result (λ r. r ≡ option_map (row_with key) (unwrap_or (option_map held_view write.entry) (map.get base.now key))) }
 {
     match write {
         Some(Some(row)) => Ok(Some(row_of(row, key)?)),
@@ -108,7 +108,7 @@ pub fn shown(
     begin: u64,
     key: RowKey,
 ) -> Result<Option<Row>, AllocError>
-    ensures { IfOk result (λ r. r ≡ row_at (left_by (told_view own.now) (seen_by base.now (at_places tale.now writers.now) begin)) key) }
+    ensures { IfOk result (λ r. r ≡ row_at (after_history (told_view own.now) (seen_by base.now (at_places tale.now writers.now) begin)) key) }
 {
     let write = later_of(last_write(own, key), write_below(tale, writers, begin, key));
     let row = left_at(base, write, key)?;
@@ -124,7 +124,7 @@ pub fn is_shown(
     begin: u64,
     key: RowKey,
 ) -> bool
-    ensures { result ≡ map.contains_key (left_by (told_view own.now) (seen_by base.now (at_places tale.now writers.now) begin)) key }
+    ensures { result ≡ map.contains_key (after_history (told_view own.now) (seen_by base.now (at_places tale.now writers.now) begin)) key }
 {
     is_left_at(
         base,
@@ -134,7 +134,7 @@ pub fn is_shown(
 }
 
 fn row_of(row: &Row, key: RowKey) -> Result<Row, AllocError>
-    ensures { IfOk result (λ r. r ≡ line_at key (held_of row.now)) }
+    ensures { IfOk result (λ r. r ≡ row_with key (content_of row.now)) }
 {
     Ok(Row {
         key,

@@ -1,6 +1,6 @@
 ghost use Rattle.std.specs.Prelude.{◌≡◌, if◌then◌else◌};
-ghost use Rattle.mvo_types.specs.Said.{said};
-ghost use Rattle.mvo_types.specs.Said.Said.{Exist, Inserts};
+ghost use Rattle.mvo_types.specs.AnswerData.{answer_data};
+ghost use Rattle.mvo_types.specs.AnswerData.AnswerData.{Exists, Inserted};
 
 use mvo_types::{Answer, Refusal, Stamp, TxId};
 
@@ -58,7 +58,7 @@ pub enum Reply {
 
 /// What an insertion is told.
 pub(crate) fn insert_answer(there: bool) -> Answer
-    ensures { said result ≡ (if there then Exist else Inserts) }
+    ensures { answer_data result ≡ (if there then Exists else Inserted) }
 {
     if there {
         Answer::Exists

@@ -2,8 +2,8 @@ ghost use Rattle.std.specs.Prelude.{◌≡◌, ◌++◌, ◌∷◌, [], OnOk, On
 ghost use Rattle.std.specs.Option.{option_map};
 ghost use Rattle.std.specs.Ordering.{eq_by_cmp};
 ghost use Rattle.mvo_types.specs.Keys.{key_cmp};
-ghost use Rattle.mvo_types.specs.Said.{said};
-ghost use Rattle.mvo_model.specs.Told.{write_of, net_write, write_at, later};
+ghost use Rattle.mvo_types.specs.AnswerData.{answer_data};
+ghost use Rattle.mvo_model.specs.History.{write_of, net_write, write_at, later};
 ghost use Rattle.mvo_state.specs.Entries.{noted, noted_key, is_noted, key_of};
 ghost use Rattle.mvo_core.specs.Limits.{AreLimited};
 ghost use Rattle.mvo_core.specs.View.{told_view, held_view};
@@ -15,7 +15,7 @@ use std::cmp::Ordering;
 
 /// What the operation wrote: the key, and the row that it put there, or none after a delete.
 pub fn write_by<'a>(op: &'a Op, answer: &Answer) -> Option<(RowKey, Option<&'a Row>)>
-    ensures { option_map (λ w. (w.0, held_view w.1)) result ≡ write_of op.now (said answer.now) }
+    ensures { option_map (λ w. (w.0, held_view w.1)) result ≡ write_of op.now (answer_data answer.now) }
 {
     match (op, answer) {
         (Op::Insert(row), Answer::Inserted) => Some((row.row_key(), Some(row))),
@@ -87,7 +87,7 @@ fn note_write(keys: &mut Vec<RowKey>, write: Option<RowKey>)
 
 /// The key that the operation wrote, if it wrote.
 fn key_written(op: &Op, answer: &Answer) -> Option<RowKey>
-    ensures { result ≡ option_map (λ w. w.0) (write_of op.now (said answer.now)) }
+    ensures { result ≡ option_map (λ w. w.0) (write_of op.now (answer_data answer.now)) }
 {
     match (op, answer) {
         (Op::Insert(row), Answer::Inserted) => Some(row.row_key()),
@@ -100,8 +100,8 @@ fn key_written(op: &Op, answer: &Answer) -> Option<RowKey>
 /// Adds an operation with its answer. Refused, it changes nothing.
 pub fn tell(tx: &mut ActiveTx, key: RowKey, op: Op, answer: Answer) -> Result<(), AllocError>
     requires key { key ≡ key_of op }
-    requires limits { AreLimited (tx.old.told ++ (op, said answer) ∷ []) }
-    ensures ok { OnOk result (tx.new ≡ record tx.old { told = tx.old.told ++ (op, said answer) ∷ [] }) }
+    requires limits { AreLimited (tx.old.told ++ (op, answer_data answer) ∷ []) }
+    ensures ok { OnOk result (tx.new ≡ record tx.old { told = tx.old.told ++ (op, answer_data answer) ∷ [] }) }
     ensures err { OnErr result (tx.new ≡ tx.old) }
 {
     tx.ops.reserve(1)?;

@@ -5,7 +5,7 @@ use Rattle.std.specs.Option.{SomeIff, IfSome}
 use Rattle.std.proofs.lemmas.Bool.{eqb-true, ltb-false, le-ltb}
 use Rattle.std.proofs.lemmas.List.{append-nil, nil_from_length, take_at, drop_at, take-append-drop, length-append, length-take}
 use Rattle.std.proofs.lemmas.List.Elements.{All-from_recursion, recursion_from_All}
-use Rattle.mvo_types.specs.Line.{Held}
+use Rattle.mvo_types.specs.RowData.{ContentData}
 use Rattle.mvo_group.specs.Data.{NetWrite, RecordData, GroupData}
 use Rattle.mvo_group.specs.Rules.{sort_of, data_of, KeepsLimits, IsRecord, KeepsRules, HasWords, IsGroup}
 use Rattle.mvo_group.specs.Body.{field, bytes_at, write_bytes, record_bytes, body_of}
@@ -26,18 +26,18 @@ data_again text rest =
     let b : ltb (length (text ++ rest)) (length text) ≡ false = le-ltb _ _ (omega (arith, length-append text rest)) in
     rw (b, take_at text rest (length text) refl, drop_at text rest (length text) refl) refl
 
-abbrev put_text : Held → List ℕ
+abbrev put_text : ContentData → List ℕ
 put_text h = field 8 h.sort ++ (field 2 (length h.bytes) ++ h.bytes)
 
-abbrev held_text : Option Held → List ℕ
+abbrev held_text : Option ContentData → List ℕ
 held_text None = []
 held_text (Some h) = put_text h
 
-abbrev tag_of : Option Held → ℕ
+abbrev tag_of : Option ContentData → ℕ
 tag_of None = 2
 tag_of (Some h) = 1
 
-put_takes : (bytes : List ℕ) (x : Held × List ℕ) → IsBytes bytes → put_at bytes ≡ Some x → Takes bytes (put_text x.0) x.1 × (x.0.sort < 2 ^ 64)
+put_takes : (bytes : List ℕ) (x : ContentData × List ℕ) → IsBytes bytes → put_at bytes ≡ Some x → Takes bytes (put_text x.0) x.1 × (x.0.sort < 2 ^ 64)
 unfolding put_at
 put_takes bytes x fits e =
     let a = bind_some (number_at 8 bytes) (λ sort. number_at 2 sort.1 >>= λ len. data_at len.0 len.1 >>= λ text. Some (record { sort = sort.0; bytes = text.0 }, text.1)) x e in
@@ -49,16 +49,16 @@ put_takes bytes x fits e =
     let e12 = Takes-then a.0.1 (field 2 b.0.0) b.0.1 c.0.0 c.0.1 t1.0 t2.0 in
     let e02 = Takes-then bytes (field 8 a.0.0) a.0.1 (field 2 b.0.0 ++ c.0.0) c.0.1 t0.0 e12 in
     let sized : Takes bytes (field 8 a.0.0 ++ (field 2 (length c.0.0) ++ c.0.0)) c.0.1 = subst (λ k. Takes bytes (field 8 a.0.0 ++ (field 2 k ++ c.0.0)) c.0.1) (sym t2.1) e02 in
-    let made : Held × List ℕ = (record { sort = a.0.0; bytes = c.0.0 }, c.0.1) in
-    subst (λ (y : Held × List ℕ). Takes bytes (put_text y.0) y.1 × (y.0.sort < 2 ^ 64)) (some_is made x c.2) (sized, omega (arith, t0.1))
+    let made : ContentData × List ℕ = (record { sort = a.0.0; bytes = c.0.0 }, c.0.1) in
+    subst (λ (y : ContentData × List ℕ). Takes bytes (put_text y.0) y.1 × (y.0.sort < 2 ^ 64)) (some_is made x c.2) (sized, omega (arith, t0.1))
 
-put_again : (h : Held) (rest : List ℕ) → h.sort < 2 ^ 64 → length h.bytes < 2 ^ 16 → put_at (put_text h ++ rest) ≡ Some (h, rest)
+put_again : (h : ContentData) (rest : List ℕ) → h.sort < 2 ^ 64 → length h.bytes < 2 ^ 16 → put_at (put_text h ++ rest) ≡ Some (h, rest)
 unfolding put_at
 put_again h rest word few =
     let regrouped : put_text h ++ rest ≡ field 8 h.sort ++ (field 2 (length h.bytes) ++ (h.bytes ++ rest)) = append_assoc (field 8 h.sort) (field 2 (length h.bytes) ++ h.bytes) rest ∙ ap (λ (l : List ℕ). field 8 h.sort ++ l) (append_assoc (field 2 (length h.bytes)) h.bytes rest) in
     ap put_at regrouped ∙ rw (number_again 8 h.sort (field 2 (length h.bytes) ++ (h.bytes ++ rest)) word, number_again 2 (length h.bytes) (h.bytes ++ rest) few, data_again h.bytes rest) refl
 
-held_takes : (tag : ℕ) (bytes : List ℕ) (x : Option Held × List ℕ) → IsBytes bytes → held_at tag bytes ≡ Some x → (tag ≡ tag_of x.0) × Takes bytes (held_text x.0) x.1 × (sort_of x.0 < 2 ^ 64)
+held_takes : (tag : ℕ) (bytes : List ℕ) (x : Option ContentData × List ℕ) → IsBytes bytes → held_at tag bytes ≡ Some x → (tag ≡ tag_of x.0) × Takes bytes (held_text x.0) x.1 × (sort_of x.0 < 2 ^ 64)
 unfolding held_at
 held_takes tag bytes x fits e = two (eqb tag 2) refl e
   where
@@ -66,17 +66,17 @@ held_takes tag bytes x fits e = two (eqb tag 2) refl e
     one true is f =
         let a = bind_some (put_at bytes) (λ h. Some (Some h.0, h.1)) x f in
         let t = put_takes bytes a.0 fits a.1 in
-        let made : Option Held × List ℕ = (Some a.0.0, a.0.1) in
-        subst (λ (y : Option Held × List ℕ). (tag ≡ tag_of y.0) × Takes bytes (held_text y.0) y.1 × (sort_of y.0 < 2 ^ 64)) (some_is made x a.2) (eqb-true _ _ is, t.0, t.1)
+        let made : Option ContentData × List ℕ = (Some a.0.0, a.0.1) in
+        subst (λ (y : Option ContentData × List ℕ). (tag ≡ tag_of y.0) × Takes bytes (held_text y.0) y.1 × (sort_of y.0 < 2 ^ 64)) (some_is made x a.2) (eqb-true _ _ is, t.0, t.1)
     one false is f = absurd cc
 
     two : (b : Bool) → eqb tag 2 ≡ b → cond b (Some (None, bytes)) (cond (eqb tag 1) (put_at bytes >>= λ h. Some (Some h.0, h.1)) None) ≡ Some x → (tag ≡ tag_of x.0) × Takes bytes (held_text x.0) x.1 × (sort_of x.0 < 2 ^ 64)
     two true is f =
-        let made : Option Held × List ℕ = (None, bytes) in
-        subst (λ (y : Option Held × List ℕ). (tag ≡ tag_of y.0) × Takes bytes (held_text y.0) y.1 × (sort_of y.0 < 2 ^ 64)) (some_is made x f) (eqb-true _ _ is, record { parts = refl; rest_fits = fits }, omega arith)
+        let made : Option ContentData × List ℕ = (None, bytes) in
+        subst (λ (y : Option ContentData × List ℕ). (tag ≡ tag_of y.0) × Takes bytes (held_text y.0) y.1 × (sort_of y.0 < 2 ^ 64)) (some_is made x f) (eqb-true _ _ is, record { parts = refl; rest_fits = fits }, omega arith)
     two false is f = one (eqb tag 1) refl f
 
-held_again : (held : Option Held) (rest : List ℕ) → sort_of held < 2 ^ 64 → length (data_of held) < 2 ^ 16 → held_at (tag_of held) (held_text held ++ rest) ≡ Some (held, rest)
+held_again : (held : Option ContentData) (rest : List ℕ) → sort_of held < 2 ^ 64 → length (data_of held) < 2 ^ 16 → held_at (tag_of held) (held_text held ++ rest) ≡ Some (held, rest)
 unfolding held_at
 held_again None rest word few = refl
 held_again (Some h) rest word few = rw (put_again h rest word few) refl
@@ -85,7 +85,7 @@ held_again (Some h) rest word few = rw (put_again h rest word few) refl
 write_text : (w : NetWrite) → write_bytes w ≡ tag_of w.1 ∷ w.0.table ∷ (field 8 w.0.key ++ held_text w.1)
 write_text w = by_held w.1
   where
-    by_held : (held : Option Held) → bytes_at w.0 held ≡ tag_of held ∷ w.0.table ∷ (field 8 w.0.key ++ held_text held)
+    by_held : (held : Option ContentData) → bytes_at w.0 held ≡ tag_of held ∷ w.0.table ∷ (field 8 w.0.key ++ held_text held)
     by_held None = ap (λ (l : List ℕ). 2 ∷ w.0.table ∷ l) (sym (append-nil (field 8 w.0.key)))
     by_held (Some h) = ap (λ (l : List ℕ). 1 ∷ w.0.table ∷ l) (append_assoc (field 8 w.0.key ++ field 8 h.sort) (field 2 (length h.bytes)) h.bytes ∙ append_assoc (field 8 w.0.key) (field 8 h.sort) (field 2 (length h.bytes) ++ h.bytes))
 
@@ -131,7 +131,7 @@ write_again w rest is =
     ∙ sym (ap (λ (l : List ℕ). l ++ (field 1 w.0.table ++ tail)) one ∙ ap (λ (l : List ℕ). tag_of w.1 ∷ (l ++ tail)) two) in
     ap write_at regrouped ∙ rw (number_again 1 (tag_of w.1) (field 1 w.0.table ++ tail) (tag_small w.1), number_again 1 w.0.table tail table, number_again 8 w.0.key (held_text w.1 ++ rest) is.words.key, held_again w.1 rest is.words.sort size) refl
   where
-    tag_small : (held : Option Held) → tag_of held < 256
+    tag_small : (held : Option ContentData) → tag_of held < 256
     tag_small None = omega arith
     tag_small (Some h) = omega arith
 

@@ -7,7 +7,7 @@ use Rattle.std.proofs.lemmas.List.Concat.{length-flat_map}
 use Rattle.std.proofs.lemmas.List.Sums.{sum_by-cons, sum_by_push, sum_by_more_le}
 use Rattle.std.proofs.lemmas.List.Elements.{recursion_from_All}
 use Rattle.mvo_types.specs.declared.row.RowKey.{RowKey}
-use Rattle.mvo_types.specs.Line.{Held}
+use Rattle.mvo_types.specs.RowData.{ContentData}
 use Rattle.mvo_group.specs.declared.write.Write.{Write}
 use Rattle.mvo_group.specs.Data.{NetWrite, RecordData, GroupData, net_write}
 use Rattle.mvo_group.specs.Rules.{data_of, held_len, write_len, record_len, body_len, KeepsLimits, IsRecord}
@@ -18,7 +18,7 @@ sum_same : {X : Type 0} (f g : X → ℕ) → ((x : X) → f x ≡ g x) → (xs 
 sum_same f g same [] = refl
 sum_same f g same (x ∷ xs) = let e = same x in let r = sum_same f g same xs in simp sum_by-cons (omega (arith, e, r))
 
-length-bytes_at : (k : RowKey) (held : Option Held) → length (bytes_at k held) ≡ held_len held
+length-bytes_at : (k : RowKey) (held : Option ContentData) → length (bytes_at k held) ≡ held_len held
 length-bytes_at k None = omega (arith, length-field 8 k.key)
 length-bytes_at k (Some h) = simp length-append (omega (arith, length-field 8 k.key, length-field 8 h.sort, length-field 2 (length h.bytes)))
 
@@ -37,7 +37,7 @@ length-body_of g =
 
 -- ---- a record of 256 writes of 1,044 bytes, and 1,024 of them
 
-held_small : (held : Option Held) → length (data_of held) ≤ 1024 → held_len held ≤ 1044
+held_small : (held : Option ContentData) → length (data_of held) ≤ 1024 → held_len held ≤ 1044
 held_small None h = omega arith
 held_small (Some x) h = omega arith
 

@@ -3,7 +3,7 @@ use Rattle.std.specs.Prelude.{ℕ, List, ◌∷◌, ◌++◌, length, Option, So
 use Rattle.std.specs.List.{flat_map}
 use Rattle.byteorder.specs.Endian.{little_bytes}
 use Rattle.mvo_types.specs.declared.row.RowKey.{RowKey}
-use Rattle.mvo_types.specs.Line.{Held}
+use Rattle.mvo_types.specs.RowData.{ContentData}
 use Rattle.mvo_group.specs.Data.{NetWrite, RecordData, GroupData}
 
 -- the number x in n bytes, the lowest first
@@ -11,7 +11,7 @@ unfoldable pub field : ℕ → ℕ → List ℕ
 field n x = little_bytes n x
 
 -- tag 1 and the row of a put, tag 2 and the key of a delete
-abbrev pub bytes_at : RowKey → Option Held → List ℕ
+abbrev pub bytes_at : RowKey → Option ContentData → List ℕ
 bytes_at k (Some h) = 1 ∷ k.table ∷ field 8 k.key ++ field 8 h.sort ++ field 2 (length h.bytes) ++ h.bytes
 bytes_at k None = 2 ∷ k.table ∷ field 8 k.key
 

@@ -1,7 +1,7 @@
 -- Reading from left to right: what stands at the front of some bytes, and the bytes after it.
 use Rattle.std.specs.Prelude.{◌≡◌, ℕ, zero, suc, List, [], ◌∷◌, length, take, drop, Option, Some, None, nat_lt, ◌==◌, if◌then◌else◌}
 use Rattle.byteorder.specs.Endian.{little_number}
-use Rattle.mvo_types.specs.Line.{Held}
+use Rattle.mvo_types.specs.RowData.{ContentData}
 use Rattle.mvo_group.specs.Data.{NetWrite, RecordData, GroupData}
 
 infixl 10 ◌>>=◌
@@ -23,7 +23,7 @@ unfoldable pub data_at : ℕ → List ℕ → Option (List ℕ × List ℕ)
 data_at n bytes = if nat_lt (length bytes) n then None else Some (take n bytes, drop n bytes)
 
 -- what a put holds
-unfoldable pub put_at : List ℕ → Option (Held × List ℕ)
+unfoldable pub put_at : List ℕ → Option (ContentData × List ℕ)
 put_at bytes = do
   sort ← number_at 8 bytes
   len ← number_at 2 sort.1
@@ -31,7 +31,7 @@ put_at bytes = do
   Some (record { sort = sort.0; bytes = text.0 }, text.1)
 
 -- what stands behind the key, by the tag
-unfoldable pub held_at : ℕ → List ℕ → Option (Option Held × List ℕ)
+unfoldable pub held_at : ℕ → List ℕ → Option (Option ContentData × List ℕ)
 held_at tag bytes = if tag == 2 then Some (None, bytes) else (if tag == 1 then (put_at bytes >>= λ h. Some (Some h.0, h.1)) else None)
 
 unfoldable pub write_at : List ℕ → Option (NetWrite × List ℕ)

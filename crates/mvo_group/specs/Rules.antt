@@ -1,21 +1,21 @@
 -- The rules that a group keeps, and how long its body is.
 use Rattle.std.specs.Prelude.{ℕ, ◌+◌, ◌<◌, ◌≤◌, ◌^◌, List, [], length, map, Option, Some, None, All, sum_by}
 use Rattle.std.specs.List.Sorted.{IsStrictlyIncreasing, IsStrictlySortedBy}
-use Rattle.mvo_types.specs.Line.{Held}
+use Rattle.mvo_types.specs.RowData.{ContentData}
 use Rattle.mvo_types.specs.Keys.{key_cmp}
 use Rattle.mvo_group.specs.Data.{NetWrite, RecordData, GroupData}
 
-abbrev pub sort_of : Option Held → ℕ
+abbrev pub sort_of : Option ContentData → ℕ
 sort_of None = 0
 sort_of (Some h) = h.sort
 
-abbrev pub data_of : Option Held → List ℕ
+abbrev pub data_of : Option ContentData → List ℕ
 data_of None = []
 data_of (Some h) = h.bytes
 
 -- ---- lengths, in bytes
 
-abbrev pub held_len : Option Held → ℕ
+abbrev pub held_len : Option ContentData → ℕ
 held_len None = 10
 held_len (Some h) = 20 + length h.bytes
 

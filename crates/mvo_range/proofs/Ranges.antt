@@ -55,7 +55,7 @@ none_after p hi es h all =
     filter_where has_key _ _ (λ e k. not_both (is_le (place_cmp p e.0)) ∙ sym (past_the_end p.table e.0.table p.sort hi e.0.sort p.key e.0.key h)) es all
 
 -- from behind a place to the last of a sort
-pub all_after : (p : Place) (hi m : ℕ) (es : List (Place × ℕ)) → 2 ^ 64 ≤ m + 1 → All has_key es → filter (λ e. is_lt (place_cmp p e.0) && not (is_lt (place_cmp (record { table = p.table; sort = hi; key = m }) e.0))) es ≡ filter (is_between_after p hi) es
-all_after p hi m es h all =
+pub rows_after_all : (p : Place) (hi m : ℕ) (es : List (Place × ℕ)) → 2 ^ 64 ≤ m + 1 → All has_key es → filter (λ e. is_lt (place_cmp p e.0) && not (is_lt (place_cmp (record { table = p.table; sort = hi; key = m }) e.0))) es ≡ filter (is_between_after p hi) es
+rows_after_all p hi m es h all =
     filter_where has_key _ _ (λ e k. let fits : e.0.key ≤ m = omega (arith, k, h) in
     table_after p.table e.0.table _ _ ∙ ap (λ b. eqb e.0.table p.table && (is_lt (place_cmp p e.0) && b)) (sort_below hi e.0.sort e.0.key m fits)) es all

@@ -4,8 +4,8 @@ use Rattle.std.specs.Prelude.{⊤, ◌==◌, ◌&&◌, nat_le}
 use Rattle.std.specs.List.{AllByRecursion, filter}
 use Rattle.std.proofs.lemmas.Bool.{eqb-true, lt-leb, false≢true, true≢false}
 use Rattle.mvo_types.specs.declared.op.Op.{Op}
-use Rattle.mvo_types.specs.Said.{Said}
-use Rattle.mvo_model.specs.Told.{Told}
+use Rattle.mvo_types.specs.AnswerData.{AnswerData}
+use Rattle.mvo_model.specs.History.{History}
 use Rattle.mvo_state.specs.Line.{State, Slot, Running, began, told, prepared, to_slot, checked, with_check, committed, with_settled, dropped, undone, with_doom, not_at, left}
 use Rattle.mvo_state.specs.Causes.{running_of, preparing_of}
 use Rattle.mvo_state.specs.Steps.{prepared_at, now_prepared, checked_at, now_checked, committed_at, now_committed, aborted_at, now_aborted}
@@ -15,7 +15,7 @@ use Rattle.mvo_state.proofs.Each.{each_weaker, each_append, each_map, each_filte
 pub stays_same : (s : State) → StaysBelow s s
 stays_same s m h = (h, refl)
 
-pub stays_told : (s : State) (t : ℕ) (op : Op) (a : Said) → StaysBelow s (told s t op a)
+pub stays_told : (s : State) (t : ℕ) (op : Op) (a : AnswerData) → StaysBelow s (told s t op a)
 stays_told s t op a m h = (record { drawn = h.drawn; above = h.above }, refl)
 
 pub stays_began : (s : State) → StaysBelow s (began s (s.clock + 1))
@@ -30,7 +30,7 @@ and_none false b e = refl
 
 settled_last : (m : ℕ) (xs : List Slot) (y : Slot) → y.settled ≡ false → settled_to m (xs ++ y ∷ []) ≡ settled_to m xs
 settled_last m [] y o = ap (λ (b : Bool). cond b ((y.stop, y.told) ∷ []) []) (and_none y.settled (nat_le y.stop m) o)
-settled_last m (x ∷ xs) y o = ap (λ (zs : List (ℕ × Told)). cond (x.settled && nat_le x.stop m) ((x.stop, x.told) ∷ zs) zs) (settled_last m xs y o)
+settled_last m (x ∷ xs) y o = ap (λ (zs : List (ℕ × History)). cond (x.settled && nat_le x.stop m) ((x.stop, x.told) ∷ zs) zs) (settled_last m xs y o)
 
 pub stays_prepared : (s : State) (t : ℕ) → StaysBelow s (now_prepared s t)
 stays_prepared s t m h = go (running_of t s.running)
@@ -44,7 +44,7 @@ stays_prepared s t m h = go (running_of t s.running)
 
 settled_check : (m e : ℕ) (v : Bool) (xs : List Slot) → settled_to m (map (with_check e v) xs) ≡ settled_to m xs
 settled_check m e v [] = refl
-settled_check m e v (x ∷ xs) = ap (λ (zs : List (ℕ × Told)). cond (x.settled && nat_le x.stop m) ((x.stop, x.told) ∷ zs) zs) (settled_check m e v xs)
+settled_check m e v (x ∷ xs) = ap (λ (zs : List (ℕ × History)). cond (x.settled && nat_le x.stop m) ((x.stop, x.told) ∷ zs) zs) (settled_check m e v xs)
 
 pub stays_checked : (s : State) (t : ℕ) → StaysBelow s (now_checked s t)
 stays_checked s t m h = go (preparing_of t s.line)
@@ -85,7 +85,7 @@ settled_commit : (m e : ℕ) (xs : List Slot) → m < e → settled_to m (map (w
 settled_commit m e [] lt = refl
 settled_commit m e (x ∷ xs) lt =
     ap (λ (b : Bool). cond b ((x.stop, x.told) ∷ settled_to m (map (with_settled e) xs)) (settled_to m (map (with_settled e) xs))) (one_settled m e x lt)
-    ∙ ap (λ (zs : List (ℕ × Told)). cond (x.settled && nat_le x.stop m) ((x.stop, x.told) ∷ zs) zs) (settled_commit m e xs lt)
+    ∙ ap (λ (zs : List (ℕ × History)). cond (x.settled && nat_le x.stop m) ((x.stop, x.told) ∷ zs) zs) (settled_commit m e xs lt)
 
 or_open : (a b : Bool) → (a || b) ≡ false → a ≡ false
 or_open true b h = absurd (true≢false h)
@@ -111,7 +111,7 @@ settled_undone m t e (x ∷ xs) lt = go (x.stop == e) refl (settled_undone m t e
 
     go : (b : Bool) → (x.stop == e) ≡ b → settled_to m (map (with_doom t e) (filter (not_at e) xs)) ≡ settled_to m xs → settled_to m (map (with_doom t e) (cond (not b) (x ∷ filter (not_at e) xs) (filter (not_at e) xs))) ≡ cond (x.settled && nat_le x.stop m) ((x.stop, x.told) ∷ settled_to m xs) (settled_to m xs)
     go true f q = q ∙ sym (ap (λ (b : Bool). cond b ((x.stop, x.told) ∷ settled_to m xs) (settled_to m xs)) (gone x.settled (nat_le x.stop m) (lt-leb x.stop m (let is = eqb-true x.stop e f in omega arith))))
-    go false f q = ap (λ (zs : List (ℕ × Told)). cond (x.settled && nat_le x.stop m) ((x.stop, x.told) ∷ zs) zs) q
+    go false f q = ap (λ (zs : List (ℕ × History)). cond (x.settled && nat_le x.stop m) ((x.stop, x.told) ∷ zs) zs) q
 
 pub stays_aborted : (s : State) (t : ℕ) → StaysBelow s (now_aborted s t)
 stays_aborted s t m h = go (preparing_of t s.line) refl

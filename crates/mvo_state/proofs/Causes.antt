@@ -5,7 +5,7 @@ use Rattle.std.specs.List.{AllByRecursion}
 use Rattle.std.proofs.lemmas.Bool.{true≢false, and_parts, and_from, lt-ltb, not-true}
 use Rattle.mvo_types.specs.declared.row.RowKey.{RowKey}
 use Rattle.mvo_types.specs.Keys.{Map}
-use Rattle.mvo_model.specs.Told.{net_write}
+use Rattle.mvo_model.specs.History.{net_write}
 use Rattle.mvo_state.proofs.Each.{each_weaker}
 use Rattle.mvo_state.specs.Line.{Slot, has}
 use Rattle.mvo_state.specs.Sound.{IsUnchanged, IsRising}

@@ -5,10 +5,10 @@ use Rattle.std.specs.List.{AllByRecursion}
 use Rattle.std.specs.Option.{unwrap_or}
 use Rattle.std.specs.FinMap as fin
 use Rattle.mvo_types.specs.declared.row.RowKey.{RowKey}
-use Rattle.mvo_types.specs.Line.{Held}
+use Rattle.mvo_types.specs.RowData.{ContentData}
 use Rattle.mvo_types.specs.Keys.{Map}
-use Rattle.mvo_model.specs.Told.{Told, left_by, later, net_write, AreSerial, all_after, Legal}
-use Rattle.mvo_model.proofs.Serials.{get-left_by, net_write-append, left_by-append, AllAgree, AreSerial-agree, left_by_all, all_after-left_by}
+use Rattle.mvo_model.specs.History.{History, after_history, later, net_write, AreSerial, rows_after_all, Legal}
+use Rattle.mvo_model.proofs.Serials.{get-after_history, net_write-append, after_history-append, AllAgree, AreSerial-agree, left_by_all, rows_after_all-after_history}
 use Rattle.mvo_state.specs.Entries.{key_of}
 use Rattle.mvo_state.specs.Entries.{IsKeyed}
 use Rattle.mvo_state.proofs.Keyed.{all_agree_at}
@@ -16,39 +16,39 @@ use Rattle.mvo_state.proofs.Each.{each_both, each_weaker}
 
 -- ---- a commit in the middle of the tale
 -- the transactions look alike at both rows
-abbrev pub LookAlike : List Told → Map → Map → Type 0
+abbrev pub LookAlike : List History → Map → Map → Type 0
 LookAlike [] m n = ⊤
-LookAlike (t ∷ ts) m n = AllAgree t m n × LookAlike ts (left_by t m) (left_by t n)
+LookAlike (t ∷ ts) m n = AllAgree t m n × LookAlike ts (after_history t m) (after_history t n)
 
-pub legal_alike : (ts : List Told) (m n : Map) → LookAlike ts m n → Legal m ts → Legal n ts
+pub legal_alike : (ts : List History) (m n : Map) → LookAlike ts m n → Legal m ts → Legal n ts
 legal_alike [] m n a h = tt
 legal_alike (t ∷ ts) m n a h =
     let here = AreSerial-agree t m n a.0 h.0 in
-    (here, subst (λ x. Legal x ts) (sym (all_after-left_by t n here)) (legal_alike ts (left_by t m) (left_by t n) a.1 (subst (λ x. Legal x ts) (all_after-left_by t m h.0) h.1)))
+    (here, subst (λ x. Legal x ts) (sym (rows_after_all-after_history t n here)) (legal_alike ts (after_history t m) (after_history t n) a.1 (subst (λ x. Legal x ts) (rows_after_all-after_history t m h.0) h.1)))
 
-pub legal_insert : (before after : List Told) (t : Told) (m : Map) → Legal m (before ++ after) → AreSerial t (left_by_all before m) → LookAlike after (left_by_all before m) (left_by t (left_by_all before m)) → Legal m (before ++ t ∷ after)
-legal_insert [] after t m h s a = (s, subst (λ x. Legal x after) (sym (all_after-left_by t m s)) (legal_alike after m (left_by t m) a h))
+pub legal_insert : (before after : List History) (t : History) (m : Map) → Legal m (before ++ after) → AreSerial t (left_by_all before m) → LookAlike after (left_by_all before m) (after_history t (left_by_all before m)) → Legal m (before ++ t ∷ after)
+legal_insert [] after t m h s a = (s, subst (λ x. Legal x after) (sym (rows_after_all-after_history t m s)) (legal_alike after m (after_history t m) a h))
 legal_insert (b ∷ bs) after t m h s a =
-    let e = all_after-left_by b m h.0 in
-    (h.0, subst (λ x. Legal x (bs ++ t ∷ after)) (sym e) (legal_insert bs after t (left_by b m) (subst (λ x. Legal x (bs ++ after)) e h.1) s a))
+    let e = rows_after_all-after_history b m h.0 in
+    (h.0, subst (λ x. Legal x (bs ++ t ∷ after)) (sym e) (legal_insert bs after t (after_history b m) (subst (λ x. Legal x (bs ++ after)) e h.1) s a))
 
 -- each later one looks at no key that t wrote, but for those that one between has written
-abbrev pub IsCoveredBy : Told → Told → List Told → Type 0
+abbrev pub IsCoveredBy : History → History → List History → Type 0
 IsCoveredBy t seen [] = ⊤
 IsCoveredBy t seen (u ∷ us) = AllByRecursion (λ x. (net_write (key_of x.0) t ≡ None) ⊎ (net_write (key_of x.0) seen ≢ None)) u × IsCoveredBy t (seen ++ u) us
 
-same_under : (w x : Option (Option Held)) (v : Option Held) → (x ≡ None) ⊎ (w ≢ None) → unwrap_or w v ≡ unwrap_or w (unwrap_or x v)
+same_under : (w x : Option (Option ContentData)) (v : Option ContentData) → (x ≡ None) ⊎ (w ≢ None) → unwrap_or w v ≡ unwrap_or w (unwrap_or x v)
 same_under (Some h) x v c = refl
 same_under None x v (inl e) = ap (λ y. unwrap_or y v) (sym e)
 same_under None x v (inr n) = absurd (n refl)
 
-same_key : (k : RowKey) (t seen : Told) (m : Map) → (net_write k t ≡ None) ⊎ (net_write k seen ≢ None) → fin.get (left_by seen m) k ≡ fin.get (left_by seen (left_by t m)) k
-same_key k t seen m c = get-left_by k seen m ∙ same_under (net_write k seen) (net_write k t) (fin.get m k) c ∙ ap (unwrap_or (net_write k seen)) (sym (get-left_by k t m)) ∙ sym (get-left_by k seen (left_by t m))
+same_key : (k : RowKey) (t seen : History) (m : Map) → (net_write k t ≡ None) ⊎ (net_write k seen ≢ None) → fin.get (after_history seen m) k ≡ fin.get (after_history seen (after_history t m)) k
+same_key k t seen m c = get-after_history k seen m ∙ same_under (net_write k seen) (net_write k t) (fin.get m k) c ∙ ap (unwrap_or (net_write k seen)) (sym (get-after_history k t m)) ∙ sym (get-after_history k seen (after_history t m))
 
-pub covered_alike : (us : List Told) (t seen : Told) (m : Map) → AllByRecursion (AllByRecursion (λ x. IsKeyed x.0)) us → IsCoveredBy t seen us → LookAlike us (left_by seen m) (left_by seen (left_by t m))
+pub covered_alike : (us : List History) (t seen : History) (m : Map) → AllByRecursion (AllByRecursion (λ x. IsKeyed x.0)) us → IsCoveredBy t seen us → LookAlike us (after_history seen m) (after_history seen (after_history t m))
 covered_alike [] t seen m k c = tt
 covered_alike (u ∷ us) t seen m k c = (
-  all_agree_at u (left_by seen m) (left_by seen (left_by t m)) k.0 (each_weaker (λ x. (net_write (key_of x.0) t ≡ None) ⊎ (net_write (key_of x.0) seen ≢ None)) (λ x. fin.get (left_by seen m) (key_of x.0) ≡ fin.get (left_by seen (left_by t m)) (key_of x.0)) (λ x. same_key (key_of x.0) t seen m) u c.0),
-  subst (λ y. LookAlike us y (left_by u (left_by seen (left_by t m)))) (left_by-append seen u m)
-      (subst (LookAlike us (left_by (seen ++ u) m)) (left_by-append seen u (left_by t m)) (covered_alike us t (seen ++ u) m k.1 c.1)),
+  all_agree_at u (after_history seen m) (after_history seen (after_history t m)) k.0 (each_weaker (λ x. (net_write (key_of x.0) t ≡ None) ⊎ (net_write (key_of x.0) seen ≢ None)) (λ x. fin.get (after_history seen m) (key_of x.0) ≡ fin.get (after_history seen (after_history t m)) (key_of x.0)) (λ x. same_key (key_of x.0) t seen m) u c.0),
+  subst (λ y. LookAlike us y (after_history u (after_history seen (after_history t m)))) (after_history-append seen u m)
+      (subst (LookAlike us (after_history (seen ++ u) m)) (after_history-append seen u (after_history t m)) (covered_alike us t (seen ++ u) m k.1 c.1)),
 )

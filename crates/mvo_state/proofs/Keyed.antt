@@ -10,7 +10,7 @@ use Rattle.mvo_types.specs.declared.row.RowKey.{RowKey}
 use Rattle.mvo_types.specs.declared.op.Op.{Op}
 use Rattle.mvo_types.specs.declared.op.Op.TheVariants.{Read, Scan, Insert, Update, Delete}
 use Rattle.mvo_types.specs.Keys.{Map, key_cmp}
-use Rattle.mvo_model.specs.Told.{Told}
+use Rattle.mvo_model.specs.History.{History}
 use Rattle.mvo_model.proofs.Serials.{Agree, AllAgree}
 use Rattle.mvo_state.specs.Entries.{key_of, noted, entry_keys_from, IsKeyed}
 use Rattle.mvo_state.proofs.Each.{each_front, each_back}
@@ -23,7 +23,7 @@ agree_at (Insert r) m n h e = e
 agree_at (Update r) m n h e = e
 agree_at (Delete k) m n h e = e
 
-pub all_agree_at : (ts : Told) (m n : Map) → AllByRecursion (λ x. IsKeyed x.0) ts → AllByRecursion (λ x. fin.get m (key_of x.0) ≡ fin.get n (key_of x.0)) ts → AllAgree ts m n
+pub all_agree_at : (ts : History) (m n : Map) → AllByRecursion (λ x. IsKeyed x.0) ts → AllByRecursion (λ x. fin.get m (key_of x.0) ≡ fin.get n (key_of x.0)) ts → AllAgree ts m n
 all_agree_at [] m n k e = tt
 all_agree_at (t ∷ ts) m n k e = (agree_at t.0 m n k.0 e.0, all_agree_at ts m n k.1 e.1)
 
@@ -44,11 +44,11 @@ noted_has : (P : RowKey → Type 0) (ks : List RowKey) (k : RowKey) (b : Bool) �
 noted_has P ks k true e h = any_exact P k ks h e
 noted_has P ks k false e h = (each_back P ks (k ∷ []) h).0
 
-entries_keep : (P : RowKey → Type 0) (ks : List RowKey) (ts : Told) → AllByRecursion P (entry_keys_from ks ts) → AllByRecursion P ks
+entries_keep : (P : RowKey → Type 0) (ks : List RowKey) (ts : History) → AllByRecursion P (entry_keys_from ks ts) → AllByRecursion P ks
 entries_keep P ks [] h = h
 entries_keep P ks (t ∷ ts) h = noted_keeps P ks (key_of t.0) (list_any (eq_by_cmp key_cmp (key_of t.0)) ks) (entries_keep P (noted ks (key_of t.0)) ts h)
 
-pub each_key : (P : RowKey → Type 0) (ks : List RowKey) (ts : Told) → AllByRecursion P (entry_keys_from ks ts) → AllByRecursion (λ x. P (key_of x.0)) ts
+pub each_key : (P : RowKey → Type 0) (ks : List RowKey) (ts : History) → AllByRecursion P (entry_keys_from ks ts) → AllByRecursion (λ x. P (key_of x.0)) ts
 each_key P ks [] h = tt
 each_key P ks (t ∷ ts) h = (
   noted_has P ks (key_of t.0) (list_any (eq_by_cmp key_cmp (key_of t.0)) ks) refl (entries_keep P (noted ks (key_of t.0)) ts h),

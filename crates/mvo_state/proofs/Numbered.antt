@@ -4,7 +4,7 @@ use Rattle.std.specs.Prelude.{⊤, ◌==◌}
 use Rattle.std.specs.List.{AllByRecursion, filter}
 use Rattle.std.proofs.lemmas.Bool.{eq-eqb, true≢false, false≢true, not-true}
 use Rattle.mvo_types.specs.declared.op.Op.{Op}
-use Rattle.mvo_types.specs.Said.{Said}
+use Rattle.mvo_types.specs.AnswerData.{AnswerData}
 use Rattle.mvo_state.specs.Line.{State, Slot, Running, began, told, with_told, prepared, to_slot, without, checked, with_check, committed, with_settled, with_doom, running_doom, not_at, dropped, undone}
 use Rattle.mvo_state.specs.Sound.{IsSound, IsActive, IsPlaced, AreDistinct, IsNumbered}
 use Rattle.mvo_state.proofs.Each.{each_weaker, each_both, each_append, each_map, each_filter}
@@ -35,7 +35,7 @@ numbered_began s t lt k h = record {
   apart = each_append (IsOutside s.line) s.running _ h.apart (each_weaker (IsPlaced s.line s.clock) (λ x. x.id ≢ t) (λ x p e. absurd (let b = p.begun in let d = p.drawn in omega arith)) s.line k.placed, tt);
 }
 
-pub numbered_told : (s : State) (t : ℕ) (op : Op) (a : Said) → IsNumbered s → IsNumbered (told s t op a)
+pub numbered_told : (s : State) (t : ℕ) (op : Op) (a : AnswerData) → IsNumbered s → IsNumbered (told s t op a)
 numbered_told s t op a h = record {
   distinct = distinct_map (with_told s.line t op a) (λ r. refl) s.running h.distinct;
   apart = each_map (with_told s.line t op a) (IsOutside s.line) (IsOutside s.line) (λ r q. q) s.running h.apart;

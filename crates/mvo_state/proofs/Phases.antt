@@ -5,10 +5,10 @@ use Rattle.std.specs.Option.{option_map}
 use Rattle.std.specs.List.{AllByRecursion, filter, find, list_any}
 use Rattle.std.proofs.lemmas.Bool.{eq-eqb, eqb-true, ne_eqb, cases_eq, true≢false, false≢true, and_left, and_from, not-false}
 use Rattle.mvo_types.specs.declared.op.Op.{Op}
-use Rattle.mvo_types.specs.Said.{Said}
-use Rattle.mvo_model.specs.Trace.{Step, owner_of, led_by, phase_of, Phase}
+use Rattle.mvo_types.specs.AnswerData.{AnswerData}
+use Rattle.mvo_model.specs.Trace.{Step, owner_of, phase_after, phase_of, Phase}
 use Rattle.mvo_model.specs.Trace.Phase.{Active, Preparing}
-use Rattle.mvo_model.specs.Trace.Step.{Begins, Tells, Prepares, Checks, Commits, Aborts, Leaves}
+use Rattle.mvo_model.specs.Trace.Step.{Begins, Answers, Prepares, Checks, Commits, Aborts, Terminates}
 use Rattle.mvo_model.proofs.Traces.{phase_of-push_own, phase_of-push_other}
 use Rattle.mvo_state.specs.declared.over.OverTx.{OverTx}
 use Rattle.mvo_state.specs.Line.{State, Slot, Running, began, told, with_told, prepared, to_slot, without, checked, with_check, committed, committed_tx, with_settled, with_doom, running_doom, not_at, dropped, aborted_tx, undone, left, without_over}
@@ -24,14 +24,14 @@ use Rattle.mvo_state.proofs.Settle.{rising_before, rising_after}
 
 -- ---- where each stands after one step more
 pub record Leads (x : Step) (s s' : State) : Type 0 where
-  pub own : phase_in s' (owner_of x) ≡ led_by x (phase_in s (owner_of x))
+  pub own : phase_in s' (owner_of x) ≡ phase_after x (phase_in s (owner_of x))
   pub others : (t : ℕ) → owner_of x ≢ t → phase_in s' t ≡ phase_in s t
 
 pub phases_push : (xs : List Step) (x : Step) (s s' : State) → Leads x s s' → ((t : ℕ) → phase_of t xs ≡ phase_in s t) → (t : ℕ) → phase_of t (xs ++ x ∷ []) ≡ phase_in s' t
 phases_push xs x s s' l h t = go (cases_eq (owner_of x) t)
   where
     go : ((owner_of x ≡ t) ⊎ (owner_of x ≡ t → ⊥)) → phase_of t (xs ++ x ∷ []) ≡ phase_in s' t
-    go (inl e) = phase_of-push_own t xs x e ∙ ap (led_by x) (h t) ∙ subst (λ (u : ℕ). led_by x (phase_in s u) ≡ phase_in s' u) e (sym l.own)
+    go (inl e) = phase_of-push_own t xs x e ∙ ap (phase_after x) (h t) ∙ subst (λ (u : ℕ). phase_after x (phase_in s u) ≡ phase_in s' u) e (sym l.own)
     go (inr n) = phase_of-push_other t xs x n ∙ h t ∙ sym (l.others t n)
 
 -- the look-ups are finds
@@ -88,7 +88,7 @@ leads_began s t lt k h = record {
     new = record { id = t; told = []; rests = []; doom = None }
 
 -- ---- an operation
-pub leads_told : (s : State) (t : ℕ) (op : Op) (a : Said) → Leads (Tells t op a) s (told s t op a)
+pub leads_told : (s : State) (t : ℕ) (op : Op) (a : AnswerData) → Leads (Answers t op a) s (told s t op a)
 leads_told s t op a = record { own = same t; others = λ u _. same u }
   where
     same : (u : ℕ) → phase_in (told s t op a) u ≡ phase_in s u
@@ -233,7 +233,7 @@ others_left t u (w ∷ ws) n = go (w.id.0 == t) refl (others_left t u ws n)
     go true f r = sym (ap (λ (c : Bool). cond c (Some w) (find (is_over_as u) ws)) (ne_eqb w.id.0 u (λ g. n (sym (eqb-true w.id.0 t f) ∙ g))))
     go false f r = ap (λ (v : Option OverTx). cond (w.id.0 == u) (Some w) v) r
 
-pub leads_left : (s : State) (t : ℕ) → is_over s t ≡ true → IsSingle s → Leads (Leaves t) s (left s t)
+pub leads_left : (s : State) (t : ℕ) → is_over s t ≡ true → IsSingle s → Leads (Terminates t) s (left s t)
 leads_left s t o h =
     let one = any_counts t s.over o in
     let fewer = fewer_left t s.over o in

@@ -11,12 +11,12 @@ use Rattle.mvo_types.proofs.Maps.{exact_keys}
 use Rattle.mvo_types.specs.declared.row.RowKey.{RowKey}
 use Rattle.mvo_types.specs.declared.op.Op.{Op}
 use Rattle.mvo_types.specs.declared.op.Op.TheVariants.{Read, Scan, Insert, Update, Delete}
-use Rattle.mvo_types.specs.Line.{Held}
+use Rattle.mvo_types.specs.RowData.{ContentData}
 use Rattle.mvo_types.specs.Keys.{Map, key_cmp}
-use Rattle.mvo_types.specs.Said.{Said}
-use Rattle.mvo_types.specs.Said.Said.{Row, Lines, Inserts, Exist, Updates, Deletes, Lacks}
-use Rattle.mvo_model.specs.Told.{Told, Write, write_of, write_at, left_by, later, net_write, AreSerial, Legal}
-use Rattle.mvo_model.proofs.Serials.{net_write-append, get-left_by, left_by-append, AreSerial-agree, left_by_all}
+use Rattle.mvo_types.specs.AnswerData.{AnswerData}
+use Rattle.mvo_types.specs.AnswerData.AnswerData.{Found, Rows, Inserted, Exists, Updated, Deleted, Absent}
+use Rattle.mvo_model.specs.History.{History, Write, write_of, write_at, after_history, later, net_write, AreSerial, Legal}
+use Rattle.mvo_model.proofs.Serials.{net_write-append, get-after_history, after_history-append, AreSerial-agree, left_by_all}
 use Rattle.mvo_state.specs.Entries.{key_of}
 use Rattle.mvo_state.specs.Entries.{IsKeyed, IsApart}
 use Rattle.mvo_state.proofs.Each.{each_weaker, each_both, each_append, each_front, each_back, each_map}
@@ -33,14 +33,14 @@ none_write v e = cc
 some_write : (v w : Write) → ◌≡◌ {A = Option Write} (Some v) (Some w) → v ≡ w
 some_write v w e = cc
 
-pub write_key : (op : Op) (s : Said) (v : Write) → write_of op s ≡ Some v → v.0 ≡ key_of op
+pub write_key : (op : Op) (s : AnswerData) (v : Write) → write_of op s ≡ Some v → v.0 ≡ key_of op
 write_key (Read k) s v e = absurd (none_write v e)
 write_key (Scan t lo hi) s v e = absurd (none_write v e)
-write_key (Insert r) Inserts v e = ap (λ (w : Write). w.0) (sym (some_write _ v e))
+write_key (Insert r) Inserted v e = ap (λ (w : Write). w.0) (sym (some_write _ v e))
 write_key (Insert r) s v e = absurd (none_write v e)
-write_key (Update r) Updates v e = ap (λ (w : Write). w.0) (sym (some_write _ v e))
+write_key (Update r) Updated v e = ap (λ (w : Write). w.0) (sym (some_write _ v e))
 write_key (Update r) s v e = absurd (none_write v e)
-write_key (Delete k) Deletes v e = ap (λ (w : Write). w.0) (sym (some_write _ v e))
+write_key (Delete k) Deleted v e = ap (λ (w : Write). w.0) (sym (some_write _ v e))
 write_key (Delete k) s v e = absurd (none_write v e)
 
 write_here : (k j : RowKey) (w : Option Write) → is_some (write_at k w) ≡ true → ((v : Write) → w ≡ Some v → v.0 ≡ j) → k ≡ j
@@ -51,18 +51,18 @@ write_here k j (Some v) h f = go (eq_by_cmp key_cmp k v.0) refl h
     go true e g = tells_apart exact_keys k v.0 e ∙ f v refl
     go false e g = absurd (false≢true g)
 
-pub apart_writer : (k : RowKey) (w u : Told) → IsApart w u → is_some (net_write k u) ≡ true → net_write k w ≡ None
+pub apart_writer : (k : RowKey) (w u : History) → IsApart w u → is_some (net_write k u) ≡ true → net_write k w ≡ None
 apart_writer k w [] a h = absurd (false≢true h)
 apart_writer k w (t ∷ ts) a h = go (is_some (net_write k ts)) refl (apart_writer k w ts a.1)
   where
     go : (b : Bool) → is_some (net_write k ts) ≡ b → (is_some (net_write k ts) ≡ true → net_write k w ≡ None) → net_write k w ≡ None
     go true e r = r e
     go false e r =
-        let here : is_some (write_at k (write_of t.0 t.1)) ≡ true = ap (λ (x : Option (Option Held)). is_some (later x (write_at k (write_of t.0 t.1)))) (sym (none_unless (net_write k ts) e)) ∙ h in
+        let here : is_some (write_at k (write_of t.0 t.1)) ≡ true = ap (λ (x : Option (Option ContentData)). is_some (later x (write_at k (write_of t.0 t.1)))) (sym (none_unless (net_write k ts) e)) ∙ h in
         subst (λ (j : RowKey). net_write j w ≡ None) (sym (write_here k (key_of t.0) (write_of t.0 t.1) here (write_key t.0 t.1))) a.0
 
 -- ---- those before the end that aren't settled wrote nowhere where this one looked
-settled_writer : (k : RowKey) (b e : ℕ) (w : Told) (xs : List Slot) → b < e → AllByRecursion (λ u. u.settled ≡ true → IsApart w u.told) xs → AllByRecursion (λ x. x.settled ≡ false → x.stop < e → net_write k x.told ≡ None) xs → IsWritten k b xs → net_write k w ≡ None
+settled_writer : (k : RowKey) (b e : ℕ) (w : History) (xs : List Slot) → b < e → AllByRecursion (λ u. u.settled ≡ true → IsApart w u.told) xs → AllByRecursion (λ x. x.settled ≡ false → x.stop < e → net_write k x.told ≡ None) xs → IsWritten k b xs → net_write k w ≡ None
 settled_writer k b e w [] lt c f h = absurd h
 settled_writer k b e w (y ∷ ys) lt c f (inr q) = settled_writer k b e w ys lt c.1 f.1 q
 settled_writer k b e w (y ∷ ys) lt c f (inl p) = go y.settled refl
@@ -92,15 +92,15 @@ free_key k b e ds (x ∷ xs) lt d c u n o = here (free_key k b e ds xs lt d.1 c.
             ]
 
 -- ---- so it sees what those leave that are settled below its end
-abbrev pub settled_below : ℕ → List Slot → Told
+abbrev pub settled_below : ℕ → List Slot → History
 settled_below e [] = []
 settled_below e (x ∷ xs) = cond (x.settled && nat_lt x.stop e) x.told [] ++ settled_below e xs
 
-later-none : (a : Option (Option Held)) → later a None ≡ a
+later-none : (a : Option (Option ContentData)) → later a None ≡ a
 later-none None = refl
 later-none (Some h) = refl
 
-net_two : (k : RowKey) (c d : Bool) (us rest all : Told) → net_write k rest ≡ net_write k all → (c ≡ true → d ≡ false → net_write k us ≡ None) → (c ≡ false → d ≡ true → net_write k us ≡ None) → net_write k (cond c us [] ++ rest) ≡ net_write k (cond d us [] ++ all)
+net_two : (k : RowKey) (c d : Bool) (us rest all : History) → net_write k rest ≡ net_write k all → (c ≡ true → d ≡ false → net_write k us ≡ None) → (c ≡ false → d ≡ true → net_write k us ≡ None) → net_write k (cond c us [] ++ rest) ≡ net_write k (cond d us [] ++ all)
 net_two k true true us rest all e f g = net_write-append k us rest ∙ ap (λ w. later w (net_write k us)) e ∙ sym (net_write-append k us all)
 net_two k true false us rest all e f g = net_write-append k us rest ∙ ap (later (net_write k rest)) (f refl refl) ∙ later-none (net_write k rest) ∙ e
 net_two k false true us rest all e f g = e ∙ sym (net_write-append k us all ∙ ap (later (net_write k all)) (g refl refl) ∙ later-none (net_write k all))
@@ -118,12 +118,12 @@ same_seen k b e (x ∷ xs) lt u f o =
     gone c true q true m d = absurd (true≢false d)
     gone c true q false m d = absurd (let g = ltb-true x.stop b c in let h = ltb-false x.stop e m in omega arith)
 
-pub serial_settled : (base : Map) (line : List Slot) (id stop : ℕ) (ts : Told) (ds : List ℕ) → id < stop → IsResting base line id ts ds → AllByRecursion (λ o. IsKeyed o.0) ts → AllByRecursion (λ o. IsUnchanged line id stop (key_of o.0)) ts → AllByRecursion (λ o. AllByRecursion (λ x. x.settled ≡ false → x.stop < stop → net_write (key_of o.0) x.told ≡ None) line) ts → AllByRecursion (λ x. x.stop ≢ id) line → AreSerial ts (left_by (settled_below stop line) base)
+pub serial_settled : (base : Map) (line : List Slot) (id stop : ℕ) (ts : History) (ds : List ℕ) → id < stop → IsResting base line id ts ds → AllByRecursion (λ o. IsKeyed o.0) ts → AllByRecursion (λ o. IsUnchanged line id stop (key_of o.0)) ts → AllByRecursion (λ o. AllByRecursion (λ x. x.settled ≡ false → x.stop < stop → net_write (key_of o.0) x.told ≡ None) line) ts → AllByRecursion (λ x. x.stop ≢ id) line → AreSerial ts (after_history (settled_below stop line) base)
 serial_settled base line id stop ts ds lt h k u f o =
-    AreSerial-agree ts (seen_by base line id) (left_by (settled_below stop line) base)
-    (all_agree_at ts (seen_by base line id) (left_by (settled_below stop line) base) k
-    (each_both (λ x. IsUnchanged line id stop (key_of x.0)) (λ x. AllByRecursion (λ y. y.settled ≡ false → y.stop < stop → net_write (key_of x.0) y.told ≡ None) line) (λ x. fin.get (seen_by base line id) (key_of x.0) ≡ fin.get (left_by (settled_below stop line) base) (key_of x.0))
-    (λ x a b. get-left_by (key_of x.0) (told_below id line) base ∙ ap (λ w. unwrap_or w (fin.get base (key_of x.0))) (same_seen (key_of x.0) id stop line lt a b o) ∙ sym (get-left_by (key_of x.0) (settled_below stop line) base)) ts u f))
+    AreSerial-agree ts (seen_by base line id) (after_history (settled_below stop line) base)
+    (all_agree_at ts (seen_by base line id) (after_history (settled_below stop line) base) k
+    (each_both (λ x. IsUnchanged line id stop (key_of x.0)) (λ x. AllByRecursion (λ y. y.settled ≡ false → y.stop < stop → net_write (key_of x.0) y.told ≡ None) line) (λ x. fin.get (seen_by base line id) (key_of x.0) ≡ fin.get (after_history (settled_below stop line) base) (key_of x.0))
+    (λ x a b. get-after_history (key_of x.0) (told_below id line) base ∙ ap (λ w. unwrap_or w (fin.get base (key_of x.0))) (same_seen (key_of x.0) id stop line lt a b o) ∙ sym (get-after_history (key_of x.0) (settled_below stop line) base)) ts u f))
     h.serial
 
 -- each of these, and each of those
@@ -177,25 +177,25 @@ settled_none : (e : ℕ) (xs : List Slot) → AllByRecursion (λ x. e ≤ x.stop
 settled_none e [] h = refl
 settled_none e (x ∷ xs) h = ap (λ (b : Bool). cond b x.told [] ++ settled_below e xs) (and_right x.settled (nat_lt x.stop e) (le-ltb x.stop e h.0)) ∙ settled_none e xs h.1
 
-left_settled : (e : ℕ) (before ys : List Slot) (m : Map) → AllByRecursion (λ x. x.stop < e) before → AllByRecursion (λ x. e ≤ x.stop) ys → left_by (settled_below e (before ++ ys)) m ≡ left_by_all (tale before) m
-left_settled e [] ys m f g = ap (λ ts. left_by ts m) (settled_none e ys g)
+left_settled : (e : ℕ) (before ys : List Slot) (m : Map) → AllByRecursion (λ x. x.stop < e) before → AllByRecursion (λ x. e ≤ x.stop) ys → after_history (settled_below e (before ++ ys)) m ≡ left_by_all (tale before) m
+left_settled e [] ys m f g = ap (λ ts. after_history ts m) (settled_none e ys g)
 left_settled e (x ∷ xs) ys m f g =
-    ap (λ (b : Bool). left_by (cond b x.told [] ++ settled_below e (xs ++ ys)) m) (one x.settled)
-    ∙ go x.settled (left_settled e xs ys m f.1 g) (left_settled e xs ys (left_by x.told m) f.1 g)
+    ap (λ (b : Bool). after_history (cond b x.told [] ++ settled_below e (xs ++ ys)) m) (one x.settled)
+    ∙ go x.settled (left_settled e xs ys m f.1 g) (left_settled e xs ys (after_history x.told m) f.1 g)
   where
     one : (b : Bool) → (b && nat_lt x.stop e) ≡ b
     one true = lt-ltb x.stop e f.0
     one false = refl
 
-    go : (b : Bool) → left_by (settled_below e (xs ++ ys)) m ≡ left_by_all (tale xs) m → left_by (settled_below e (xs ++ ys)) (left_by x.told m) ≡ left_by_all (tale xs) (left_by x.told m) → left_by (cond b x.told [] ++ settled_below e (xs ++ ys)) m ≡ left_by_all (cond b (x.told ∷ tale xs) (tale xs)) m
-    go true p q = left_by-append x.told (settled_below e (xs ++ ys)) m ∙ q
+    go : (b : Bool) → after_history (settled_below e (xs ++ ys)) m ≡ left_by_all (tale xs) m → after_history (settled_below e (xs ++ ys)) (after_history x.told m) ≡ left_by_all (tale xs) (after_history x.told m) → after_history (cond b x.told [] ++ settled_below e (xs ++ ys)) m ≡ left_by_all (cond b (x.told ∷ tale xs) (tale xs)) m
+    go true p q = after_history-append x.told (settled_below e (xs ++ ys)) m ∙ q
     go false p q = p
 
-covered_apart : (t seen : Told) (us : List Slot) → AllByRecursion (λ u. u.settled ≡ true → IsApart t u.told) us → IsCoveredBy t seen (tale us)
+covered_apart : (t seen : History) (us : List Slot) → AllByRecursion (λ u. u.settled ≡ true → IsApart t u.told) us → IsCoveredBy t seen (tale us)
 covered_apart t seen [] h = tt
 covered_apart t seen (u ∷ us) h = go u.settled refl (λ s. covered_apart t s us h.1)
   where
-    go : (b : Bool) → u.settled ≡ b → ((s : Told) → IsCoveredBy t s (tale us)) → IsCoveredBy t seen (cond b (u.told ∷ tale us) (tale us))
+    go : (b : Bool) → u.settled ≡ b → ((s : History) → IsCoveredBy t s (tale us)) → IsCoveredBy t seen (cond b (u.told ∷ tale us) (tale us))
     go true e r = (each_weaker (λ x. net_write (key_of x.0) t ≡ None) (λ x. (net_write (key_of x.0) t ≡ None) ⊎ (net_write (key_of x.0) seen ≢ None)) (λ x p. inl p) u.told (h.0 e), r (seen ++ u.told))
     go false e r = r seen
 
@@ -220,7 +220,7 @@ clear_after [] after t h o = h.0 o
 clear_after (x ∷ xs) after t h o = clear_after xs after t h.1 o
 
 -- the tale stays legal where one takes its place in it
-pub legal_settled : (base : Map) (before after : List Slot) (t : Slot) → IsRising (before ++ t ∷ after) → IsClear (before ++ t ∷ after) → AllByRecursion (λ u. AllByRecursion (λ o. IsKeyed o.0) u.told) (before ++ t ∷ after) → t.settled ≡ false → AreSerial t.told (left_by (settled_below t.stop (before ++ t ∷ after)) base) → Legal base (tale (before ++ t ∷ after)) →
+pub legal_settled : (base : Map) (before after : List Slot) (t : Slot) → IsRising (before ++ t ∷ after) → IsClear (before ++ t ∷ after) → AllByRecursion (λ u. AllByRecursion (λ o. IsKeyed o.0) u.told) (before ++ t ∷ after) → t.settled ≡ false → AreSerial t.told (after_history (settled_below t.stop (before ++ t ∷ after)) base) → Legal base (tale (before ++ t ∷ after)) →
     Legal base (tale (map (with_settled t.stop) (before ++ t ∷ after)))
 legal_settled base before after t r c k o s l =
     let below = rising_before before after t r in
@@ -233,7 +233,7 @@ legal_settled base before after t r c k o s l =
     (covered_alike (tale after) t.told [] m (keyed_tale after (each_back (λ u. AllByRecursion (λ o. IsKeyed o.0) u.told) before (t ∷ after) k).1) (covered_apart t.told [] after (clear_after before after t c o))))
 
 -- ---- and no settled one has looked where one before wrote that isn't
-pub clear_settled : (e : ℕ) (ts : Told) (line : List Slot) → IsRising line → AllByRecursion (λ u. u.stop ≡ e → u.told ≡ ts) line → AllByRecursion (λ x. x.settled ≡ false → x.stop < e → IsApart x.told ts) line → IsClear line → IsClear (map (with_settled e) line)
+pub clear_settled : (e : ℕ) (ts : History) (line : List Slot) → IsRising line → AllByRecursion (λ u. u.stop ≡ e → u.told ≡ ts) line → AllByRecursion (λ x. x.settled ≡ false → x.stop < e → IsApart x.told ts) line → IsClear line → IsClear (map (with_settled e) line)
 clear_settled e ts [] r g f c = tt
 clear_settled e ts (x ∷ xs) r g f c = (λ o. let old = now_open x.settled (x.stop == e) o in each_all xs (c.0 old) g.1 r.0 (f.0 old), clear_settled e ts xs r.1 g.1 f.1 c.1)
   where
@@ -257,11 +257,11 @@ pub apart_all : (base : Map) (line : List Slot) (clock : ℕ) (t : Slot) → t.v
 apart_all base line clock t v d n c p h =
     let rest = h.resting d in
     each_weaker (λ x. AllByRecursion (λ o. x.settled ≡ false → x.stop < t.stop → net_write (key_of o.0) x.told ≡ None) t.told) (λ x. x.settled ≡ false → x.stop < t.stop → IsApart x.told t.told) (λ x q. each_under (λ o. net_write (key_of o.0) x.told ≡ None) t.told q) line
-    (each_swap (λ (o : Op × Said) (x : Slot). x.settled ≡ false → x.stop < t.stop → net_write (key_of o.0) x.told ≡ None) t.told line
+    (each_swap (λ (o : Op × AnswerData) (x : Slot). x.settled ≡ false → x.stop < t.stop → net_write (key_of o.0) x.told ≡ None) t.told line
     (each_both (λ o. IsDecided (key_of o.0) t.id t.rests line) (λ o. IsUnchanged line t.id t.stop (key_of o.0)) (λ o. AllByRecursion (λ x. x.settled ≡ false → x.stop < t.stop → net_write (key_of o.0) x.told ≡ None) line)
     (λ o a b. free_key (key_of o.0) t.id t.stop t.rests line p.begun a c b n p.others) t.told rest.decided (each_key (IsUnchanged line t.id t.stop) [] t.told (h.valid v))))
 
-pub serial_now : (base : Map) (line : List Slot) (clock : ℕ) (t : Slot) → t.valid ≡ true → t.doom ≡ None → IsFreeToSettle line t → IsClear line → IsPlaced line clock t → IsPreparing base line t → AreSerial t.told (left_by (settled_below t.stop line) base)
+pub serial_now : (base : Map) (line : List Slot) (clock : ℕ) (t : Slot) → t.valid ≡ true → t.doom ≡ None → IsFreeToSettle line t → IsClear line → IsPlaced line clock t → IsPreparing base line t → AreSerial t.told (after_history (settled_below t.stop line) base)
 serial_now base line clock t v d n c p h =
     let rest = h.resting d in
     let same = each_key (IsUnchanged line t.id t.stop) [] t.told (h.valid v) in

@@ -5,7 +5,7 @@ use Rattle.std.specs.List.{AllByRecursion, filter, find}
 use Rattle.std.proofs.lemmas.Bool.{eq-eqb, eqb-true, ne_eqb, and_parts, and_left, and_right, or_right}
 use Rattle.mvo_types.specs.declared.op.Op.{Op}
 use Rattle.mvo_types.specs.Keys.{Map}
-use Rattle.mvo_types.specs.Said.{Said}
+use Rattle.mvo_types.specs.AnswerData.{AnswerData}
 use Rattle.mvo_state.specs.declared.over.OverTx.{OverTx}
 use Rattle.mvo_state.specs.Line.{State, Slot, Running, opened, began, told, with_told, prepared, to_slot, without, checked, with_check, committed, committed_tx, with_settled, with_doom, running_doom, not_at, dropped, aborted_tx, undone, left, without_over}
 use Rattle.mvo_state.specs.Causes.{running_of, preparing_of}
@@ -74,7 +74,7 @@ single_began s t lt k h = record {
     go u false e = let l = push_no (is_active_as u) s.running new e in let o = h.once u in omega arith
 
 -- ---- an operation
-pub single_told : (s : State) (t : ℕ) (op : Op) (a : Said) → IsSingle s → IsSingle (told s t op a)
+pub single_told : (s : State) (t : ℕ) (op : Op) (a : AnswerData) → IsSingle s → IsSingle (told s t op a)
 single_told s t op a h = record {
   once = λ u. let l = count_map (is_active_as u) (with_told s.line t op a) s.running (λ r e. e) in let o = h.once u in omega arith;
   drawn = h.drawn;

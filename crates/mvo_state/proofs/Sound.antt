@@ -9,10 +9,10 @@ use Rattle.std.proofs.lemmas.List.{take_all}
 use Rattle.mvo_types.specs.declared.row.RowKey.{RowKey}
 use Rattle.mvo_types.specs.declared.op.Op.{Op}
 use Rattle.mvo_types.specs.Keys.{Map}
-use Rattle.mvo_types.specs.Said.{Said}
+use Rattle.mvo_types.specs.AnswerData.{AnswerData}
 use Rattle.mvo_model.specs.Serial.{answer_to}
-use Rattle.mvo_model.specs.Told.{Told, left_by, net_write, AreSerial, Legal}
-use Rattle.mvo_model.proofs.Serials.{get-left_by, AreSerial-push, AreSerial-agree}
+use Rattle.mvo_model.specs.History.{History, after_history, net_write, AreSerial, Legal}
+use Rattle.mvo_model.proofs.Serials.{get-after_history, AreSerial-push, AreSerial-agree}
 use Rattle.mvo_state.specs.Entries.{key_of, entry_keys}
 use Rattle.mvo_state.specs.Entries.{IsKeyed, IsApart}
 use Rattle.mvo_state.proofs.Each.{each_weaker, each_both, each_always, each_append, each_front, each_back, each_map, each_filter}
@@ -25,24 +25,24 @@ use Rattle.mvo_state.proofs.Lines.{decided_now, has_rest, decided_more, told_bel
 use Rattle.mvo_state.proofs.Settle.{IsFreeToSettle, apart_all, serial_now, legal_settled, clear_settled, rising_before, rising_after}
 
 -- ---- what rests, as the line changes
-pub resting_last : (base : Map) (line : List Slot) (y : Slot) (id : ℕ) (ts : Told) (ds : List ℕ) → id ≤ y.stop → IsResting base line id ts ds → IsResting base (line ++ y ∷ []) id ts ds
+pub resting_last : (base : Map) (line : List Slot) (y : Slot) (id : ℕ) (ts : History) (ds : List ℕ) → id ≤ y.stop → IsResting base line id ts ds → IsResting base (line ++ y ∷ []) id ts ds
 resting_last base line y id ts ds le h = record {
-  serial = subst (λ x. AreSerial ts (left_by x base)) (sym (told_below-last id line y le)) h.serial;
+  serial = subst (λ x. AreSerial ts (after_history x base)) (sym (told_below-last id line y le)) h.serial;
   decided = each_weaker (λ o. IsDecided (key_of o.0) id ds line) (λ o. IsDecided (key_of o.0) id ds (line ++ y ∷ [])) (λ o. decided_last (key_of o.0) id ds line y le) ts h.decided;
 }
 
-pub resting_map : (f : Slot → Slot) → IsLike f → (base : Map) (line : List Slot) (id : ℕ) (ts : Told) (ds : List ℕ) → IsResting base line id ts ds → IsResting base (map f line) id ts ds
+pub resting_map : (f : Slot → Slot) → IsLike f → (base : Map) (line : List Slot) (id : ℕ) (ts : History) (ds : List ℕ) → IsResting base line id ts ds → IsResting base (map f line) id ts ds
 resting_map f l base line id ts ds h = record {
-  serial = subst (λ x. AreSerial ts (left_by x base)) (sym (told_below-map f l id line)) h.serial;
+  serial = subst (λ x. AreSerial ts (after_history x base)) (sym (told_below-map f l id line)) h.serial;
   decided = each_weaker (λ o. IsDecided (key_of o.0) id ds line) (λ o. IsDecided (key_of o.0) id ds (map f line)) (λ o. decided_map f l (key_of o.0) id ds line) ts h.decided;
 }
 
-pub resting_filter : (p : Slot → Bool) (base : Map) (line : List Slot) (id : ℕ) (ts : Told) (ds : List ℕ) → AllByRecursion (IsOut p ds) line → AllByRecursion (λ o. IsKeyed o.0) ts → IsResting base line id ts ds → IsResting base (filter p line) id ts ds
+pub resting_filter : (p : Slot → Bool) (base : Map) (line : List Slot) (id : ℕ) (ts : History) (ds : List ℕ) → AllByRecursion (IsOut p ds) line → AllByRecursion (λ o. IsKeyed o.0) ts → IsResting base line id ts ds → IsResting base (filter p line) id ts ds
 resting_filter p base line id ts ds o k h = record {
   serial = AreSerial-agree ts (seen_by base line id) (seen_by base (filter p line) id)
       (all_agree_at ts (seen_by base line id) (seen_by base (filter p line) id) k
       (each_weaker (λ x. IsDecided (key_of x.0) id ds line) (λ x. fin.get (seen_by base line id) (key_of x.0) ≡ fin.get (seen_by base (filter p line) id) (key_of x.0))
-      (λ x d. get-left_by (key_of x.0) (told_below id line) base ∙ ap (λ w. unwrap_or w (fin.get base (key_of x.0))) (sym (seen_filter p (key_of x.0) id ds line o d)) ∙ sym (get-left_by (key_of x.0) (told_below id (filter p line)) base)) ts h.decided))
+      (λ x d. get-after_history (key_of x.0) (told_below id line) base ∙ ap (λ w. unwrap_or w (fin.get base (key_of x.0))) (sym (seen_filter p (key_of x.0) id ds line o d)) ∙ sym (get-after_history (key_of x.0) (told_below id (filter p line)) base)) ts h.decided))
       h.serial;
   decided = each_weaker (λ x. IsDecided (key_of x.0) id ds line) (λ x. IsDecided (key_of x.0) id ds (filter p line)) (λ x. decided_filter p (key_of x.0) id ds line o) ts h.decided;
 }
@@ -81,8 +81,8 @@ sound_began s t lt h = record {
 
 -- ---- an operation
 -- what the answer of an operation of the transaction t has to be, unless it is doomed
-abbrev pub IsAnswer : Map → List Slot → ℕ → Op → Said → Running → Type 0
-IsAnswer base line t op a r = r.id ≡ t → r.doom ≡ None → a ≡ answer_to op (left_by r.told (seen_by base line r.id))
+abbrev pub IsAnswer : Map → List Slot → ℕ → Op → AnswerData → Running → Type 0
+IsAnswer base line t op a r = r.id ≡ t → r.doom ≡ None → a ≡ answer_to op (after_history r.told (seen_by base line r.id))
 
 below_last : (k : RowKey) (b : ℕ) (line : List Slot) (y : Slot) → last_writer k b line ≡ Some y → y.stop < b
 below_last k b [] y e = absurd (none y e)
@@ -114,7 +114,7 @@ below_rest b ds (Some y) f h = go y.settled
     go true = h
     go false = below_with b y.stop ds (has ds y.stop) (f y refl) h
 
-told_one : (base : Map) (line : List Slot) (clock t : ℕ) (op : Op) (a : Said) (r : Running) (b : Bool) → r.id == t ≡ b → IsKeyed op → IsAnswer base line t op a r → IsActive base line clock r →
+told_one : (base : Map) (line : List Slot) (clock t : ℕ) (op : Op) (a : AnswerData) (r : Running) (b : Bool) → r.id == t ≡ b → IsKeyed op → IsAnswer base line t op a r → IsActive base line clock r →
     IsActive base line clock (record { id = r.id; told = cond b (r.told ++ (op, a) ∷ []) r.told; rests = cond b (rest_on r.rests (last_writer (key_of op) r.id line)) r.rests; doom = r.doom })
 told_one base line clock t op a r false e k w h = record { resting = h.resting; below = h.below; keyed = h.keyed; others = h.others; drawn = h.drawn }
 told_one base line clock t op a r true e k w h = record {
@@ -133,11 +133,11 @@ told_one base line clock t op a r true e k w h = record {
   drawn = h.drawn;
 }
 
-told_each : (base : Map) (line : List Slot) (clock t : ℕ) (op : Op) (a : Said) (rs : List Running) → IsKeyed op → AllByRecursion (IsAnswer base line t op a) rs → AllByRecursion (IsActive base line clock) rs → AllByRecursion (IsActive base line clock) (map (with_told line t op a) rs)
+told_each : (base : Map) (line : List Slot) (clock t : ℕ) (op : Op) (a : AnswerData) (rs : List Running) → IsKeyed op → AllByRecursion (IsAnswer base line t op a) rs → AllByRecursion (IsActive base line clock) rs → AllByRecursion (IsActive base line clock) (map (with_told line t op a) rs)
 told_each base line clock t op a [] k w h = tt
 told_each base line clock t op a (r ∷ rs) k w h = (told_one base line clock t op a r (r.id == t) refl k w.0 h.0, told_each base line clock t op a rs k w.1 h.1)
 
-pub sound_told : (s : State) (t : ℕ) (op : Op) (a : Said) → IsKeyed op → AllByRecursion (IsAnswer s.base s.line t op a) s.running → IsSound s → IsSound (told s t op a)
+pub sound_told : (s : State) (t : ℕ) (op : Op) (a : AnswerData) → IsKeyed op → AllByRecursion (IsAnswer s.base s.line t op a) s.running → IsSound s → IsSound (told s t op a)
 sound_told s t op a k w h = record {
   legal = h.legal;
   rising = h.rising;
@@ -352,7 +352,7 @@ out_here e rests n x f = λ q. let is = eqb-true x.stop e (not-false (x.stop == 
 like_doom : (t e : ℕ) → IsLike (with_doom t e)
 like_doom t e = λ x. (refl, refl, λ q. q)
 
-resting_undone : (base : Map) (line : List Slot) (t e id : ℕ) (ts : Told) (rests : List ℕ) (doom : Option ℕ) → AllByRecursion (λ x. x.stop ≡ e → x.settled ≡ false) line → AllByRecursion (λ o. IsKeyed o.0) ts → (doom ≡ None → IsResting base line id ts rests) → doomed_by t e rests doom ≡ None → IsResting base (map (with_doom t e) (filter (not_at e) line)) id ts rests
+resting_undone : (base : Map) (line : List Slot) (t e id : ℕ) (ts : History) (rests : List ℕ) (doom : Option ℕ) → AllByRecursion (λ x. x.stop ≡ e → x.settled ≡ false) line → AllByRecursion (λ o. IsKeyed o.0) ts → (doom ≡ None → IsResting base line id ts rests) → doomed_by t e rests doom ≡ None → IsResting base (map (with_doom t e) (filter (not_at e) line)) id ts rests
 resting_undone base line t e id ts rests doom o k h n =
     let q = spared t e rests doom n in
     resting_map (with_doom t e) (like_doom t e) base (filter (not_at e) line) id ts rests

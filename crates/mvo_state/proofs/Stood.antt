@@ -7,11 +7,11 @@ use Rattle.mvo_types.specs.declared.op.Op.{Op}
 use Rattle.mvo_types.specs.declared.refusal.Refusal.{Refusal}
 use Rattle.mvo_types.specs.declared.refusal.Refusal.TheVariants.{NoSuchTransaction, Ended, NotPreparing, NotEnded}
 use Rattle.mvo_types.specs.Keys.{Map}
-use Rattle.mvo_types.specs.Said.{Said}
-use Rattle.mvo_model.specs.Told.{Told}
-use Rattle.mvo_model.specs.Trace.{Step, told_by, told_to, commit_of, commits, by_end, committed as committed_in}
-use Rattle.mvo_model.specs.Trace.Step.{Begins, Tells, Prepares, Checks, Commits, Aborts, Leaves}
-use Rattle.mvo_model.proofs.Traces.{told_to-push, commits-push}
+use Rattle.mvo_types.specs.AnswerData.{AnswerData}
+use Rattle.mvo_model.specs.History.{History}
+use Rattle.mvo_model.specs.Trace.{Step, history_by, history_of, commit_of, commits, by_end, committed as committed_in}
+use Rattle.mvo_model.specs.Trace.Step.{Begins, Answers, Prepares, Checks, Commits, Aborts, Terminates}
+use Rattle.mvo_model.proofs.Traces.{history_of-push, commits-push}
 use Rattle.mvo_state.specs.Line.{State, Slot, Running, opened, began, told, with_told, prepared, to_slot, checked, with_check, committed, with_settled, dropped, undone, with_doom, running_doom, not_at, left}
 use Rattle.mvo_state.specs.Causes.{running_of, preparing_of, not_active, not_preparing, not_read_at, why_not_read, not_inserted_at, why_not_inserted, not_prepared_at, why_not_prepared, not_settled_at, why_not_settled, not_checked_at, why_not_checked, is_failure, is_over, not_there, why_not_rolled_back, why_not_finished}
 use Rattle.mvo_state.specs.Steps.{prepared_at, now_prepared, checked_at, now_checked, committed_at, now_committed, aborted_at, now_aborted}
@@ -27,23 +27,23 @@ use Rattle.mvo_state.proofs.Phases.{Leads, phases_push, leads_began, leads_told,
 record SaysTold (opening : Map) (steps : List Step) (s : State) : Type 0 where
   pub base : s.base ≡ opening
   pub tale : committed_in steps ≡ pairs s.line
-  pub ended : AllByRecursion (λ x. told_to x.id steps ≡ x.told) s.line
-  pub running : AllByRecursion (λ r. told_to r.id steps ≡ r.told) s.running
-  pub fresh : (t : ℕ) → s.clock < t → told_to t steps ≡ []
+  pub ended : AllByRecursion (λ x. history_of x.id steps ≡ x.told) s.line
+  pub running : AllByRecursion (λ r. history_of r.id steps ≡ r.told) s.running
+  pub fresh : (t : ℕ) → s.clock < t → history_of t steps ≡ []
 
 -- ---- steps that tell nothing
-still_told : (xs : List Step) (x : Step) (t : ℕ) (ts : Told) → told_by x t ≡ [] → told_to t xs ≡ ts → told_to t (xs ++ x ∷ []) ≡ ts
-still_told xs x t ts n e = told_to-push t xs x ∙ ap (λ us. told_to t xs ++ us) n ∙ append-nil (told_to t xs) ∙ e
+still_told : (xs : List Step) (x : Step) (t : ℕ) (ts : History) → history_by x t ≡ [] → history_of t xs ≡ ts → history_of t (xs ++ x ∷ []) ≡ ts
+still_told xs x t ts n e = history_of-push t xs x ∙ ap (λ us. history_of t xs ++ us) n ∙ append-nil (history_of t xs) ∙ e
 
 still_committed : (xs : List Step) (x : Step) (cs : List (ℕ × ℕ)) → commit_of x ≡ [] → committed_in xs ≡ cs → committed_in (xs ++ x ∷ []) ≡ cs
 still_committed xs x cs n e = ap by_end (commits-push xs x ∙ ap (λ us. commits xs ++ us) n ∙ append-nil (commits xs)) ∙ e
 
-says_silent : (opening : Map) (xs : List Step) (x : Step) (s : State) → ((t : ℕ) → told_by x t ≡ []) → commit_of x ≡ [] → SaysTold opening xs s → SaysTold opening (xs ++ x ∷ []) s
+says_silent : (opening : Map) (xs : List Step) (x : Step) (s : State) → ((t : ℕ) → history_by x t ≡ []) → commit_of x ≡ [] → SaysTold opening xs s → SaysTold opening (xs ++ x ∷ []) s
 says_silent opening xs x s n m h = record {
   base = h.base;
   tale = still_committed xs x _ m h.tale;
-  ended = each_weaker (λ y. told_to y.id xs ≡ y.told) (λ y. told_to y.id (xs ++ x ∷ []) ≡ y.told) (λ y. still_told xs x y.id y.told (n y.id)) s.line h.ended;
-  running = each_weaker (λ r. told_to r.id xs ≡ r.told) (λ r. told_to r.id (xs ++ x ∷ []) ≡ r.told) (λ r. still_told xs x r.id r.told (n r.id)) s.running h.running;
+  ended = each_weaker (λ y. history_of y.id xs ≡ y.told) (λ y. history_of y.id (xs ++ x ∷ []) ≡ y.told) (λ y. still_told xs x y.id y.told (n y.id)) s.line h.ended;
+  running = each_weaker (λ r. history_of r.id xs ≡ r.told) (λ r. history_of r.id (xs ++ x ∷ []) ≡ r.told) (λ r. still_told xs x r.id r.told (n r.id)) s.running h.running;
   fresh = λ t lt. still_told xs x t [] (n t) (h.fresh t lt);
 }
 
@@ -53,7 +53,7 @@ says_began opening xs s t lt h = says_silent opening xs (Begins t) (began s t) (
   base = h.base;
   tale = h.tale;
   ended = h.ended;
-  running = each_append (λ r. told_to r.id xs ≡ r.told) s.running _ h.running (h.fresh t lt, tt);
+  running = each_append (λ r. history_of r.id xs ≡ r.told) s.running _ h.running (h.fresh t lt, tt);
   fresh = λ u l. h.fresh u (omega arith);
 })
 
@@ -123,17 +123,17 @@ over_finished s t n = go (is_over s t) (is_some (running_of t s.running)) (is_so
     go false false false q = absurd (none_refusal NoSuchTransaction q)
 
 -- ---- an operation
-told_other : (xs : List Step) (t : ℕ) (op : Op) (a : Said) (u : ℕ) (ts : Told) → u ≢ t → told_to u xs ≡ ts → told_to u (xs ++ Tells t op a ∷ []) ≡ ts
-told_other xs t op a u ts n e = still_told xs (Tells t op a) u ts (ap (λ (b : Bool). cond b ((op, a) ∷ []) []) (ne_eqb t u (λ q. n (sym q)))) e
+told_other : (xs : List Step) (t : ℕ) (op : Op) (a : AnswerData) (u : ℕ) (ts : History) → u ≢ t → history_of u xs ≡ ts → history_of u (xs ++ Answers t op a ∷ []) ≡ ts
+told_other xs t op a u ts n e = still_told xs (Answers t op a) u ts (ap (λ (b : Bool). cond b ((op, a) ∷ []) []) (ne_eqb t u (λ q. n (sym q)))) e
 
-told_same : (xs : List Step) (t : ℕ) (op : Op) (a : Said) (r : Running) → told_to r.id xs ≡ r.told → told_to r.id (xs ++ Tells t op a ∷ []) ≡ cond (r.id == t) (r.told ++ (op, a) ∷ []) r.told
+told_same : (xs : List Step) (t : ℕ) (op : Op) (a : AnswerData) (r : Running) → history_of r.id xs ≡ r.told → history_of r.id (xs ++ Answers t op a ∷ []) ≡ cond (r.id == t) (r.told ++ (op, a) ∷ []) r.told
 told_same xs t op a r e = go (cases_eq r.id t)
   where
-    go : ((r.id ≡ t) ⊎ (r.id ≡ t → ⊥)) → told_to r.id (xs ++ Tells t op a ∷ []) ≡ cond (r.id == t) (r.told ++ (op, a) ∷ []) r.told
-    go (inl q) = told_to-push r.id xs (Tells t op a) ∙ ap (λ (b : Bool). told_to r.id xs ++ cond b ((op, a) ∷ []) []) (eq-eqb t r.id (sym q)) ∙ ap (λ ts. ts ++ (op, a) ∷ []) e ∙ sym (ap (λ (b : Bool). cond b (r.told ++ (op, a) ∷ []) r.told) (eq-eqb r.id t q))
+    go : ((r.id ≡ t) ⊎ (r.id ≡ t → ⊥)) → history_of r.id (xs ++ Answers t op a ∷ []) ≡ cond (r.id == t) (r.told ++ (op, a) ∷ []) r.told
+    go (inl q) = history_of-push r.id xs (Answers t op a) ∙ ap (λ (b : Bool). history_of r.id xs ++ cond b ((op, a) ∷ []) []) (eq-eqb t r.id (sym q)) ∙ ap (λ ts. ts ++ (op, a) ∷ []) e ∙ sym (ap (λ (b : Bool). cond b (r.told ++ (op, a) ∷ []) r.told) (eq-eqb r.id t q))
     go (inr n) = told_other xs t op a r.id r.told n e ∙ sym (ap (λ (b : Bool). cond b (r.told ++ (op, a) ∷ []) r.told) (ne_eqb r.id t n))
 
-says_told : (opening : Map) (xs : List Step) (s : State) (t : ℕ) (op : Op) (a : Said) (mine : Running) → running_of t s.running ≡ Some mine → IsSound s → IsNumbered s → SaysTold opening xs s → SaysTold opening (xs ++ Tells t op a ∷ []) (told s t op a)
+says_told : (opening : Map) (xs : List Step) (s : State) (t : ℕ) (op : Op) (a : AnswerData) (mine : Running) → running_of t s.running ≡ Some mine → IsSound s → IsNumbered s → SaysTold opening xs s → SaysTold opening (xs ++ Answers t op a ∷ []) (told s t op a)
 says_told opening xs s t op a mine f k n h =
     let own = running_holds (λ r. AllByRecursion (λ x. x.id ≢ r.id) s.line) t s.running mine f n.apart in
     let apart : AllByRecursion (λ x. x.id ≢ t) s.line = subst (λ (m : ℕ). AllByRecursion (λ x. x.id ≢ m) s.line) own.1 own.0 in
@@ -142,9 +142,9 @@ says_told opening xs s t op a mine f k n h =
     let id = active.1 in
     record {
       base = h.base;
-      tale = still_committed xs (Tells t op a) _ refl h.tale;
-      ended = each_both (λ x. x.id ≢ t) (λ x. told_to x.id xs ≡ x.told) (λ x. told_to x.id (xs ++ Tells t op a ∷ []) ≡ x.told) (λ x ne. told_other xs t op a x.id x.told ne) s.line apart h.ended;
-      running = each_map (with_told s.line t op a) (λ r. told_to r.id xs ≡ r.told) (λ r. told_to r.id (xs ++ Tells t op a ∷ []) ≡ r.told) (λ r. told_same xs t op a r) s.running h.running;
+      tale = still_committed xs (Answers t op a) _ refl h.tale;
+      ended = each_both (λ x. x.id ≢ t) (λ x. history_of x.id xs ≡ x.told) (λ x. history_of x.id (xs ++ Answers t op a ∷ []) ≡ x.told) (λ x ne. told_other xs t op a x.id x.told ne) s.line apart h.ended;
+      running = each_map (with_told s.line t op a) (λ r. history_of r.id xs ≡ r.told) (λ r. history_of r.id (xs ++ Answers t op a ∷ []) ≡ r.told) (λ r. told_same xs t op a r) s.running h.running;
       fresh = λ u lt. told_other xs t op a u [] (λ q. absurd (omega arith)) (h.fresh u lt);
     }
 
@@ -156,8 +156,8 @@ says_prepared opening xs s t mine f h =
     (says_silent opening xs (Prepares t e) (prepared s mine e) (λ u. refl) refl (record {
       base = h.base;
       tale = h.tale ∙ sym (open_last s.line (to_slot e mine) refl);
-      ended = each_append (λ x. told_to x.id xs ≡ x.told) s.line (to_slot e mine ∷ []) h.ended ((running_holds (λ r. told_to r.id xs ≡ r.told) t s.running mine f h.running).0, tt);
-      running = each_filter (λ r. not (r.id == mine.id)) (λ r. told_to r.id xs ≡ r.told) (λ r. told_to r.id xs ≡ r.told) (λ r _ q. q) s.running h.running;
+      ended = each_append (λ x. history_of x.id xs ≡ x.told) s.line (to_slot e mine ∷ []) h.ended ((running_holds (λ r. history_of r.id xs ≡ r.told) t s.running mine f h.running).0, tt);
+      running = each_filter (λ r. not (r.id == mine.id)) (λ r. history_of r.id xs ≡ r.told) (λ r. history_of r.id xs ≡ r.told) (λ r _ q. q) s.running h.running;
       fresh = λ u l. h.fresh u (omega arith);
     }))
   where
@@ -174,7 +174,7 @@ says_check : (opening : Map) (xs : List Step) (s : State) (e : ℕ) (v : Bool) �
 says_check opening xs s e v h = record {
   base = h.base;
   tale = h.tale ∙ sym (pairs-checked e v s.line);
-  ended = each_map (with_check e v) (λ x. told_to x.id xs ≡ x.told) (λ x. told_to x.id xs ≡ x.told) (λ x q. q) s.line h.ended;
+  ended = each_map (with_check e v) (λ x. history_of x.id xs ≡ x.told) (λ x. history_of x.id xs ≡ x.told) (λ x q. q) s.line h.ended;
   running = h.running;
   fresh = h.fresh;
 }
@@ -197,8 +197,8 @@ says_commit opening xs s before after x e o k h =
     record {
       base = h.base;
       tale = committed_between xs before after x rising o (h.tale ∙ ap pairs e) ∙ ap (λ (l : List Slot). pairs (map (with_settled x.stop) l)) (sym e);
-      ended = each_map (with_settled x.stop) (λ y. told_to y.id xs ≡ y.told) (λ y. told_to y.id (xs ++ Commits x.id x.stop ∷ []) ≡ y.told) (λ y q. still_told xs (Commits x.id x.stop) y.id y.told refl q) s.line h.ended;
-      running = each_weaker (λ r. told_to r.id xs ≡ r.told) (λ r. told_to r.id (xs ++ Commits x.id x.stop ∷ []) ≡ r.told) (λ r. still_told xs (Commits x.id x.stop) r.id r.told refl) s.running h.running;
+      ended = each_map (with_settled x.stop) (λ y. history_of y.id xs ≡ y.told) (λ y. history_of y.id (xs ++ Commits x.id x.stop ∷ []) ≡ y.told) (λ y q. still_told xs (Commits x.id x.stop) y.id y.told refl q) s.line h.ended;
+      running = each_weaker (λ r. history_of r.id xs ≡ r.told) (λ r. history_of r.id (xs ++ Commits x.id x.stop ∷ []) ≡ r.told) (λ r. still_told xs (Commits x.id x.stop) r.id r.told refl) s.running h.running;
       fresh = λ t lt. still_told xs (Commits x.id x.stop) t [] refl (h.fresh t lt);
     }
 
@@ -214,7 +214,7 @@ says_dropped opening xs s t h = record {
   base = h.base;
   tale = h.tale;
   ended = h.ended;
-  running = each_filter (λ r. not (r.id == t)) (λ r. told_to r.id xs ≡ r.told) (λ r. told_to r.id xs ≡ r.told) (λ r _ q. q) s.running h.running;
+  running = each_filter (λ r. not (r.id == t)) (λ r. history_of r.id xs ≡ r.told) (λ r. history_of r.id xs ≡ r.told) (λ r _ q. q) s.running h.running;
   fresh = h.fresh;
 }
 
@@ -230,8 +230,8 @@ says_undone : (opening : Map) (xs : List Step) (s : State) (t e : ℕ) → AllBy
 says_undone opening xs s t e o h = record {
   base = h.base;
   tale = h.tale ∙ sym (pairs-undone t e s.line o);
-  ended = each_map (with_doom t e) (λ x. told_to x.id xs ≡ x.told) (λ x. told_to x.id xs ≡ x.told) (λ x q. q) (filter (not_at e) s.line) (each_filter (not_at e) (λ x. told_to x.id xs ≡ x.told) (λ x. told_to x.id xs ≡ x.told) (λ x _ q. q) s.line h.ended);
-  running = each_map (running_doom t e) (λ r. told_to r.id xs ≡ r.told) (λ r. told_to r.id xs ≡ r.told) (λ r q. q) s.running h.running;
+  ended = each_map (with_doom t e) (λ x. history_of x.id xs ≡ x.told) (λ x. history_of x.id xs ≡ x.told) (λ x q. q) (filter (not_at e) s.line) (each_filter (not_at e) (λ x. history_of x.id xs ≡ x.told) (λ x. history_of x.id xs ≡ x.told) (λ x _ q. q) s.line h.ended);
+  running = each_map (running_doom t e) (λ r. history_of r.id xs ≡ r.told) (λ r. history_of r.id xs ≡ r.told) (λ r q. q) s.running h.running;
   fresh = h.fresh;
 }
 
@@ -250,8 +250,8 @@ says_aborted opening xs s t k h = says_silent opening xs (Aborts t) (now_aborted
         let p = split_at t s.line x e in
         says_undone opening xs s t x.stop (subst (AllByRecursion (λ y. y.stop ≡ x.stop → y.settled ≡ false)) (sym p.2) (alone_open p.0 p.1 x p.4 (subst IsRising p.2 k.rising))) h
 
-says_left : (opening : Map) (xs : List Step) (s : State) (t : ℕ) → SaysTold opening xs s → SaysTold opening (xs ++ Leaves t ∷ []) (left s t)
-says_left opening xs s t h = says_silent opening xs (Leaves t) (left s t) (λ u. refl) refl (record { base = h.base; tale = h.tale; ended = h.ended; running = h.running; fresh = h.fresh })
+says_left : (opening : Map) (xs : List Step) (s : State) (t : ℕ) → SaysTold opening xs s → SaysTold opening (xs ++ Terminates t ∷ []) (left s t)
+says_left opening xs s t h = says_silent opening xs (Terminates t) (left s t) (λ u. refl) refl (record { base = h.base; tale = h.tale; ended = h.ended; running = h.running; fresh = h.fresh })
 
 -- ---- with the phases
 says : (opening : Map) (xs : List Step) (s : State) → Stands opening xs s → SaysTold opening xs s
@@ -266,8 +266,8 @@ stands_opened opening mark = record { base = refl; tale = refl; ended = tt; runn
 pub stands_began : (opening : Map) (xs : List Step) (s : State) (t : ℕ) → s.clock < t → IsSound s → IsSingle s → Stands opening xs s → Stands opening (xs ++ Begins t ∷ []) (began s t)
 stands_began opening xs s t lt k n h = stands_by opening xs (Begins t) s (began s t) (leads_began s t lt k n) (says_began opening xs s t lt (says opening xs s h)) h
 
-pub stands_told : (opening : Map) (xs : List Step) (s : State) (t : ℕ) (op : Op) (a : Said) (mine : Running) → running_of t s.running ≡ Some mine → IsSound s → IsNumbered s → Stands opening xs s → Stands opening (xs ++ Tells t op a ∷ []) (told s t op a)
-stands_told opening xs s t op a mine f k n h = stands_by opening xs (Tells t op a) s (told s t op a) (leads_told s t op a) (says_told opening xs s t op a mine f k n (says opening xs s h)) h
+pub stands_told : (opening : Map) (xs : List Step) (s : State) (t : ℕ) (op : Op) (a : AnswerData) (mine : Running) → running_of t s.running ≡ Some mine → IsSound s → IsNumbered s → Stands opening xs s → Stands opening (xs ++ Answers t op a ∷ []) (told s t op a)
+stands_told opening xs s t op a mine f k n h = stands_by opening xs (Answers t op a) s (told s t op a) (leads_told s t op a) (says_told opening xs s t op a mine f k n (says opening xs s h)) h
 
 pub stands_prepared : (opening : Map) (xs : List Step) (s : State) (t : ℕ) (mine : Running) → running_of t s.running ≡ Some mine → IsSingle s → Stands opening xs s → Stands opening (xs ++ Prepares t (s.clock + 1) ∷ []) (now_prepared s t)
 stands_prepared opening xs s t mine f n h =
@@ -288,5 +288,5 @@ stands_committed opening xs s t x f k n h =
 pub stands_aborted : (opening : Map) (xs : List Step) (s : State) (t : ℕ) → IsUnended s t → IsSound s → IsSingle s → Stands opening xs s → Stands opening (xs ++ Aborts t ∷ []) (now_aborted s t)
 stands_aborted opening xs s t a k n h = stands_by opening xs (Aborts t) s (now_aborted s t) (leads_aborted s t a k n) (says_aborted opening xs s t k (says opening xs s h)) h
 
-pub stands_left : (opening : Map) (xs : List Step) (s : State) (t : ℕ) → is_over s t ≡ true → IsSingle s → Stands opening xs s → Stands opening (xs ++ Leaves t ∷ []) (left s t)
-stands_left opening xs s t o n h = stands_by opening xs (Leaves t) s (left s t) (leads_left s t o n) (says_left opening xs s t (says opening xs s h)) h
+pub stands_left : (opening : Map) (xs : List Step) (s : State) (t : ℕ) → is_over s t ≡ true → IsSingle s → Stands opening xs s → Stands opening (xs ++ Terminates t ∷ []) (left s t)
+stands_left opening xs s t o n h = stands_by opening xs (Terminates t) s (left s t) (leads_left s t o n) (says_left opening xs s t (says opening xs s h)) h

@@ -4,8 +4,8 @@ use Rattle.std.specs.Prelude.{⊤, nat_le, ◌==◌, ◌||◌}
 use Rattle.std.specs.List.{AllByRecursion}
 use Rattle.std.proofs.lemmas.Bool.{le-leb, lt-leb, leb-true, leb-false, cases_lt, ne_eqb, eq-eqb}
 use Rattle.mvo_types.specs.Keys.{Map}
-use Rattle.mvo_model.specs.Told.{Told, Legal}
-use Rattle.mvo_model.specs.Trace.{Step, told_to, placed, by_end, commits, commit_of, committed, IsSerial}
+use Rattle.mvo_model.specs.History.{History, Legal}
+use Rattle.mvo_model.specs.Trace.{Step, history_of, placed, by_end, commits, commit_of, committed, IsSerial}
 use Rattle.mvo_model.specs.Trace.Step.{Commits}
 use Rattle.mvo_state.proofs.Each.{each_weaker, each_append}
 use Rattle.std.proofs.Common.{append_assoc}
@@ -113,15 +113,15 @@ committed_between steps before after x r o h =
     ∙ ap (λ (b : Bool). pairs before ++ cond b (d ∷ pairs (map (with_settled x.stop) after)) (pairs (map (with_settled x.stop) after))) (or-true x.settled (x.stop == x.stop) (eq-eqb x.stop x.stop refl))
     ∙ ap (λ ts. pairs before ++ d ∷ ts) (pairs_others x.stop after (each_weaker (λ y. x.stop < y.stop) (λ y. y.stop ≢ x.stop) (λ y l e. absurd (omega arith)) after above)))
 
-told_settled : (steps : List Step) (xs : List Slot) → AllByRecursion (λ x. told_to x.id steps ≡ x.told) xs → map (λ (c : ℕ × ℕ). told_to c.1 steps) (pairs xs) ≡ tale xs
+told_settled : (steps : List Step) (xs : List Slot) → AllByRecursion (λ x. history_of x.id steps ≡ x.told) xs → map (λ (c : ℕ × ℕ). history_of c.1 steps) (pairs xs) ≡ tale xs
 told_settled steps [] h = refl
 told_settled steps (x ∷ xs) h = go x.settled (told_settled steps xs h.1)
   where
-    go : (b : Bool) → map (λ (c : ℕ × ℕ). told_to c.1 steps) (pairs xs) ≡ tale xs → map (λ (c : ℕ × ℕ). told_to c.1 steps) (cond b ((x.stop, x.id) ∷ pairs xs) (pairs xs)) ≡ cond b (x.told ∷ tale xs) (tale xs)
-    go true e = ap (λ (t : Told). t ∷ map (λ (c : ℕ × ℕ). told_to c.1 steps) (pairs xs)) h.0 ∙ ap (λ ts. x.told ∷ ts) e
+    go : (b : Bool) → map (λ (c : ℕ × ℕ). history_of c.1 steps) (pairs xs) ≡ tale xs → map (λ (c : ℕ × ℕ). history_of c.1 steps) (cond b ((x.stop, x.id) ∷ pairs xs) (pairs xs)) ≡ cond b (x.told ∷ tale xs) (tale xs)
+    go true e = ap (λ (t : History). t ∷ map (λ (c : ℕ × ℕ). history_of c.1 steps) (pairs xs)) h.0 ∙ ap (λ ts. x.told ∷ ts) e
     go false e = e
 
 pub stands_serializable : (opening : Map) (steps : List Step) (s : State) → IsSound s → Stands opening steps s → IsSerial opening steps
 stands_serializable opening steps s k h =
-    subst (λ (m : Map). Legal m (map (λ (c : ℕ × ℕ). told_to c.1 steps) (committed steps))) h.base
-    (subst (Legal s.base) (sym (ap (map (λ (c : ℕ × ℕ). told_to c.1 steps)) h.tale ∙ told_settled steps s.line h.ended)) k.legal)
+    subst (λ (m : Map). Legal m (map (λ (c : ℕ × ℕ). history_of c.1 steps) (committed steps))) h.base
+    (subst (Legal s.base) (sym (ap (map (λ (c : ℕ × ℕ). history_of c.1 steps)) h.tale ∙ told_settled steps s.line h.ended)) k.legal)

@@ -6,10 +6,10 @@ use Rattle.mvo_types.specs.declared.row.RowKey.{RowKey}
 use Rattle.mvo_types.specs.declared.refusal.Refusal.{Refusal}
 use Rattle.mvo_types.specs.declared.refusal.Refusal.TheVariants.{NoSuchTransaction, Ended, NotActive, NotPreparing, NotValidated, NotEnded, ValidationFailed, DependencyAborted, TableFull, TooManyWrites, TooManyReads, DataTooLong, BadTable, ClockSpent, Busy, OutOfMemory}
 use Rattle.std.specs.Option.{option_map}
-use Rattle.mvo_types.specs.Line.{Line, line_at}
+use Rattle.mvo_types.specs.RowData.{RowData, row_with}
 use Rattle.mvo_types.specs.Keys.{Map, row_at}
 use Rattle.mvo_model.specs.Serial.{is_in_range}
-use Rattle.mvo_model.specs.Told.{Told, Write, write_of, written, net_write}
+use Rattle.mvo_model.specs.History.{History, Write, write_of, after_write, net_write}
 use Rattle.mvo_state.specs.Entries.{Entry, entries, has_entry, entry_keys, is_noted, written_keys}
 use Rattle.mvo_state.specs.Entries.Entry.{Key, Range}
 use Rattle.mvo_state.specs.Line.{State, Slot, Running, has, last_writer, seen_by}
@@ -72,15 +72,15 @@ abbrev pub busy_at : State → ℕ → RowKey → Option Refusal
 busy_at s t k = if_stands (is_open (last_writer k t s.line)) Busy None
 
 -- one entry more than a transaction may keep
-abbrev pub is_read_too_many : Told → Entry → Bool
+abbrev pub is_read_too_many : History → Entry → Bool
 is_read_too_many told e = not (has_entry (entries told) e) && nat_le MAX_ENTRIES (length (entries told))
 
 -- the same of a key, where each operation is on one key
-abbrev pub is_read_key_too_many : Told → RowKey → Bool
+abbrev pub is_read_key_too_many : History → RowKey → Bool
 is_read_key_too_many told k = not (is_noted (entry_keys told) k) && nat_le MAX_ENTRIES (length (entry_keys told))
 
 -- one key more than a transaction may write
-abbrev pub is_write_too_many : Told → RowKey → Bool
+abbrev pub is_write_too_many : History → RowKey → Bool
 is_write_too_many told k = not (is_noted (written_keys told) k) && nat_le MAX_WRITES (length (written_keys told))
 
 abbrev pub not_read_at : State → ℕ → RowKey → Option Running → Option Refusal
@@ -90,12 +90,12 @@ not_read_at s t k (Some r) = or_doomed r.doom (if_stands (nat_lt MAX_TABLE k.tab
 abbrev pub why_not_read : State → ℕ → RowKey → Option Refusal
 why_not_read s t k = not_read_at s t k (running_of t s.running)
 
-abbrev pub not_inserted_at : State → ℕ → Line → Option Running → Option Refusal
+abbrev pub not_inserted_at : State → ℕ → RowData → Option Running → Option Refusal
 not_inserted_at s t row None = Some (not_active s t)
 not_inserted_at s t row (Some r) = or_doomed r.doom (if_stands (nat_lt MAX_TABLE row.key.table) BadTable (if_stands (nat_lt MAX_DATA_LEN (length row.bytes)) DataTooLong
     (if_stands (is_read_too_many r.told (Key row.key)) TooManyReads (if_stands (is_write_too_many r.told row.key) TooManyWrites (busy_at s t row.key)))))
 
-abbrev pub why_not_inserted : State → ℕ → Line → Option Refusal
+abbrev pub why_not_inserted : State → ℕ → RowData → Option Refusal
 why_not_inserted s t row = not_inserted_at s t row (running_of t s.running)
 
 -- ---- precommit
@@ -129,19 +129,19 @@ waiting_for ds (x ∷ xs) = if not x.settled && has ds x.stop then Some x else w
 
 -- ---- what another changed
 -- whether there is a row, and in the range
-abbrev pub is_row_in : ℕ → ℕ → ℕ → Option Line → Bool
+abbrev pub is_row_in : ℕ → ℕ → ℕ → Option RowData → Bool
 is_row_in table lo hi None = false
 is_row_in table lo hi (Some r) = is_in_range table lo hi r
 
 -- whether a write on these rows ends a row in the range, or puts one there
 abbrev pub writes_in : ℕ → ℕ → ℕ → Map → Option Write → Bool
 writes_in table lo hi m None = false
-writes_in table lo hi m (Some w) = is_row_in table lo hi (row_at m w.0) || is_row_in table lo hi (option_map (line_at w.0) w.1)
+writes_in table lo hi m (Some w) = is_row_in table lo hi (row_at m w.0) || is_row_in table lo hi (option_map (row_with w.0) w.1)
 
 -- whether one of the writes does, each on the rows that those before it leave
-abbrev pub changes_range : ℕ → ℕ → ℕ → Told → Map → Bool
+abbrev pub changes_range : ℕ → ℕ → ℕ → History → Map → Bool
 changes_range table lo hi [] m = false
-changes_range table lo hi (t ∷ ts) m = writes_in table lo hi m (write_of t.0 t.1) || changes_range table lo hi ts (written (write_of t.0 t.1) m)
+changes_range table lo hi (t ∷ ts) m = writes_in table lo hi m (write_of t.0 t.1) || changes_range table lo hi ts (after_write (write_of t.0 t.1) m)
 
 -- whether it changes the entry: it has a writing answer on the key, or one that ends or puts a row in the range
 abbrev pub changes : Map → List Slot → Entry → Slot → Bool

@@ -7,7 +7,7 @@ use Rattle.mvo_types.specs.declared.row.RowKey.{RowKey}
 use Rattle.mvo_types.specs.declared.op.Op.{Op}
 use Rattle.mvo_types.specs.declared.op.Op.TheVariants.{Read, Scan, Insert, Update, Delete}
 use Rattle.mvo_types.specs.Keys.{key_cmp}
-use Rattle.mvo_model.specs.Told.{Told, write_of, net_write}
+use Rattle.mvo_model.specs.History.{History, write_of, net_write}
 
 -- an entry: a key, or the rows of a table with low <= sort <= high
 pub data Entry : Type 0 where
@@ -37,12 +37,12 @@ has_entry es e = list_any (is_same e) es
 abbrev pub with_entry : List Entry → Entry → List Entry
 with_entry es e = if has_entry es e then es else es ++ e ∷ []
 
-abbrev pub entries_from : List Entry → Told → List Entry
+abbrev pub entries_from : List Entry → History → List Entry
 entries_from es [] = es
 entries_from es (t ∷ ts) = entries_from (with_entry es (entry_of t.0)) ts
 
 -- the entries: those of the operations, in the order of the first, without repeats
-abbrev pub entries : Told → List Entry
+abbrev pub entries : History → List Entry
 entries ts = entries_from [] ts
 
 -- the key that the operation names
@@ -69,12 +69,12 @@ is_noted ks k = list_any (eq_by_cmp key_cmp k) ks
 abbrev pub noted : List RowKey → RowKey → List RowKey
 noted ks k = if list_any (eq_by_cmp key_cmp k) ks then ks else ks ++ k ∷ []
 
-abbrev pub entry_keys_from : List RowKey → Told → List RowKey
+abbrev pub entry_keys_from : List RowKey → History → List RowKey
 entry_keys_from ks [] = ks
 entry_keys_from ks (t ∷ ts) = entry_keys_from (noted ks (key_of t.0)) ts
 
 -- the keys of the entries, where each operation is on one key
-abbrev pub entry_keys : Told → List RowKey
+abbrev pub entry_keys : History → List RowKey
 entry_keys ts = entry_keys_from [] ts
 
 -- with the key that is written, if there is one
@@ -82,14 +82,14 @@ abbrev pub noted_key : List RowKey → Option RowKey → List RowKey
 noted_key ks None = ks
 noted_key ks (Some k) = noted ks k
 
-abbrev pub written_from : List RowKey → Told → List RowKey
+abbrev pub written_from : List RowKey → History → List RowKey
 written_from ks [] = ks
 written_from ks (t ∷ ts) = written_from (noted_key ks (option_map (λ w. w.0) (write_of t.0 t.1))) ts
 
 -- the keys with a writing answer, in the order of the first, without repeats
-abbrev pub written_keys : Told → List RowKey
+abbrev pub written_keys : History → List RowKey
 written_keys ts = written_from [] ts
 
 -- these write nothing where those look
-abbrev pub IsApart : Told → Told → Type 0
+abbrev pub IsApart : History → History → Type 0
 IsApart writer reader = AllByRecursion (λ x. net_write (key_of x.0) writer ≡ None) reader

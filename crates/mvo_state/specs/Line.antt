@@ -4,8 +4,8 @@ use Rattle.std.specs.List.{list_any}
 use Rattle.mvo_types.specs.declared.row.RowKey.{RowKey}
 use Rattle.mvo_types.specs.declared.op.Op.{Op}
 use Rattle.mvo_types.specs.Keys.{Map}
-use Rattle.mvo_types.specs.Said.{Said}
-use Rattle.mvo_model.specs.Told.{Told, left_by, net_write}
+use Rattle.mvo_types.specs.AnswerData.{AnswerData}
+use Rattle.mvo_model.specs.History.{History, after_history, net_write}
 use Rattle.mvo_state.specs.declared.over.Outcome.TheVariants.{Committed, Aborted}
 use Rattle.mvo_state.specs.declared.over.OverTx.{OverTx}
 use Rattle.mvo_state.specs.declared.marks.Marks.{Marks}
@@ -14,7 +14,7 @@ use Rattle.mvo_state.specs.Entries.{key_of}
 -- an Active transaction, by its begin: its operations with their answers, the ends of those that it rests on, and the first of these that was aborted
 pub record Running : Type 0 where
   pub id : ℕ
-  pub told : Told
+  pub told : History
   pub rests : List ℕ
   pub doom : Option ℕ
 
@@ -22,7 +22,7 @@ pub record Running : Type 0 where
 pub record Slot : Type 0 where
   pub id : ℕ
   pub stop : ℕ
-  pub told : Told
+  pub told : History
   pub settled : Bool
   pub checked : ℕ
   pub valid : Bool
@@ -42,18 +42,18 @@ abbrev pub opened : Map → ℕ → State
 opened rows mark = record { base = rows; marks = record { opening = record { 0 = mark }; closed = record { 0 = mark } }; clock = mark; running = []; line = []; over = [] }
 
 -- what the settled ones were told, by end timestamp
-abbrev pub tale : List Slot → List Told
+abbrev pub tale : List Slot → List History
 tale [] = []
 tale (x ∷ xs) = cond x.settled (x.told ∷ tale xs) (tale xs)
 
 -- what those with an end below b were told
-abbrev pub told_below : ℕ → List Slot → Told
+abbrev pub told_below : ℕ → List Slot → History
 told_below b [] = []
 told_below b (x ∷ xs) = (if nat_lt x.stop b then x.told else []) ++ told_below b xs
 
 -- the rows that a transaction with the begin b sees, without its own writes
 abbrev pub seen_by : Map → List Slot → ℕ → Map
-seen_by base line b = left_by (told_below b line) base
+seen_by base line b = after_history (told_below b line) base
 
 -- a writer of the key below the begin
 abbrev pub is_writer : RowKey → ℕ → Slot → Bool
@@ -98,7 +98,7 @@ aborted_tx t = record { id = record { 0 = t }; outcome = Aborted }
 abbrev pub began : State → ℕ → State
 began s t = record s { clock = t; running = s.running ++ (record { id = t; told = []; rests = []; doom = None }) ∷ [] }
 
-abbrev pub with_told : List Slot → ℕ → Op → Said → Running → Running
+abbrev pub with_told : List Slot → ℕ → Op → AnswerData → Running → Running
 with_told line t op a r = record {
   id = r.id;
   told = if r.id == t then r.told ++ (op, a) ∷ [] else r.told;
@@ -106,7 +106,7 @@ with_told line t op a r = record {
   doom = r.doom;
 }
 
-abbrev pub told : State → ℕ → Op → Said → State
+abbrev pub told : State → ℕ → Op → AnswerData → State
 told s t op a = record s { running = map (with_told s.line t op a) s.running }
 
 abbrev pub without : ℕ → List Running → List Running
@@ -165,10 +165,10 @@ abbrev pub left : State → ℕ → State
 left s t = record s { over = without_over t s.over }
 
 -- what a running transaction was told
-abbrev pub told_of : ℕ → List Running → Told
+abbrev pub told_of : ℕ → List Running → History
 told_of t [] = []
 told_of t (r ∷ rs) = if r.id == t then r.told else told_of t rs
 
 -- the rows that a transaction sees: those of the others with an end below its begin, and then its own writes
 abbrev pub snapshot : State → ℕ → Map
-snapshot s t = left_by (told_of t s.running) (seen_by s.base s.line t)
+snapshot s t = after_history (told_of t s.running) (seen_by s.base s.line t)

@@ -1,11 +1,11 @@
 -- What is committed up to a mark.
 use Rattle.std.specs.Prelude.{ℕ, ◌≡◌, ◌<◌, ◌≤◌, ◌-◌, nat_le, Bool, false, ◌&&◌, if◌then◌else◌, List, [], ◌∷◌, Option, None, Some}
 use Rattle.std.specs.List.{AllByRecursion}
-use Rattle.mvo_model.specs.Told.{Told}
+use Rattle.mvo_model.specs.History.{History}
 use Rattle.mvo_state.specs.Line.{State, Slot}
 
 -- the settled ones with an end at most m: their ends, and what they were told
-abbrev pub settled_to : ℕ → List Slot → List (ℕ × Told)
+abbrev pub settled_to : ℕ → List Slot → List (ℕ × History)
 settled_to m [] = []
 settled_to m (x ∷ xs) = if x.settled && nat_le x.stop m then (x.stop, x.told) ∷ settled_to m xs else settled_to m xs
 

@@ -3,7 +3,7 @@ use Rattle.std.specs.Prelude.{ℕ, ◌≡◌, ◌≢◌, ◌+◌, ◌<◌, ◌�
 use Rattle.std.specs.List.{AllByRecursion}
 use Rattle.mvo_types.specs.declared.row.RowKey.{RowKey}
 use Rattle.mvo_types.specs.Keys.{Map}
-use Rattle.mvo_model.specs.Told.{Told, AreSerial, net_write, Legal}
+use Rattle.mvo_model.specs.History.{History, AreSerial, net_write, Legal}
 use Rattle.mvo_state.specs.declared.over.OverTx.{OverTx}
 use Rattle.mvo_state.specs.Entries.{key_of, entry_keys}
 use Rattle.mvo_state.specs.Entries.{IsKeyed, IsApart}
@@ -33,7 +33,7 @@ IsRising [] = ⊤
 IsRising (x ∷ xs) = AllByRecursion (λ y. x.stop < y.stop) xs × IsRising xs
 
 -- an unfinished transaction that nothing dooms: its answers are those on what it sees, and who decides each is settled or rested on
-pub record IsResting (base : Map) (line : List Slot) (id : ℕ) (told : Told) (rests : List ℕ) : Type 0 where
+pub record IsResting (base : Map) (line : List Slot) (id : ℕ) (told : History) (rests : List ℕ) : Type 0 where
   pub serial : AreSerial told (seen_by base line id)
   pub decided : AllByRecursion (λ o. IsDecided (key_of o.0) id rests line) told
 

@@ -2,7 +2,7 @@
 use Rattle.std.specs.Prelude.{ℕ, ◌≡◌, ◌<◌, cond, List, [], ◌∷◌}
 use Rattle.std.specs.List.{AllByRecursion}
 use Rattle.mvo_types.specs.Keys.{Map}
-use Rattle.mvo_model.specs.Trace.{Step, told_to, committed, phase_of}
+use Rattle.mvo_model.specs.Trace.{Step, history_of, committed, phase_of}
 use Rattle.mvo_state.specs.Line.{State, Slot}
 use Rattle.mvo_state.specs.Phases.{phase_in}
 
@@ -17,8 +17,8 @@ pub record Stands (opening : Map) (steps : List Step) (s : State) : Type 0 where
   -- the settled ones are the committed transactions, in commit order
   pub tale : committed steps ≡ pairs s.line
   -- each was told what the steps say
-  pub ended : AllByRecursion (λ x. told_to x.id steps ≡ x.told) s.line
-  pub running : AllByRecursion (λ r. told_to r.id steps ≡ r.told) s.running
-  pub fresh : (t : ℕ) → s.clock < t → told_to t steps ≡ []
+  pub ended : AllByRecursion (λ x. history_of x.id steps ≡ x.told) s.line
+  pub running : AllByRecursion (λ r. history_of r.id steps ≡ r.told) s.running
+  pub fresh : (t : ℕ) → s.clock < t → history_of t steps ≡ []
   -- each transaction stands where its steps led it
   pub phases : (t : ℕ) → phase_of t steps ≡ phase_in s t

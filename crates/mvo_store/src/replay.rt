@@ -1,7 +1,7 @@
 //! Puts the writes of groups on rows.
 ghost use Rattle.std.specs.Prelude.{◌≡◌, map, OnOk};
 ghost use Rattle.mvo_types.specs.Keys.{Map};
-ghost use Rattle.mvo_model.specs.Told.{put_at};
+ghost use Rattle.mvo_model.specs.History.{after_effect};
 ghost use Rattle.mvo_group.specs.Data.{net_write};
 ghost use Rattle.mvo_store.specs.Recovery.{after_writes, after_records};
 
@@ -10,7 +10,7 @@ use mvo_types::Rows;
 use std::alloc::AllocError;
 
 fn apply_write(rows: &mut Rows, write: Write) -> Result<(), AllocError>
-    ensures { OnOk result (rows.new ≡ put_at (net_write write).0 (net_write write).1 rows.old) }
+    ensures { OnOk result (rows.new ≡ after_effect (net_write write).0 (net_write write).1 rows.old) }
 {
     match write {
         Write::Put(row) => rows.put(row)?,

@@ -4,8 +4,8 @@ use Rattle.std.specs.Prelude.{nat_lt, nat_le, ◌&&◌}
 use Rattle.std.specs.List.{AllByRecursion, filter}
 use Rattle.std.proofs.lemmas.Bool.{true≢false, lt-ltb, ltb-true, ltb-false, le-leb, leb-true, le-ltb, lt-leb}
 use Rattle.mvo_types.specs.Keys.{Map}
-use Rattle.mvo_model.specs.Told.{Told, left_by}
-use Rattle.mvo_model.specs.Trace.{Step, told_to, rows_of_commits, rows_up_to}
+use Rattle.mvo_model.specs.History.{History, after_history}
+use Rattle.mvo_model.specs.Trace.{Step, history_of, rows_of_commits, rows_up_to}
 use Rattle.mvo_group.specs.Data.{GroupData}
 use Rattle.mvo_state.specs.Line.{State, Slot}
 use Rattle.mvo_state.specs.Sound.{IsRising}
@@ -19,17 +19,17 @@ use Rattle.mvo_world.specs.Groups.{is_due, AreGroupsOf}
 use Rattle.mvo_world.proofs.Rows.{left_by_all, left_by_all-append, is_after, records_rows}
 
 -- ---- rows up to a mark, by the line
-rows_of_line : (m : ℕ) (line : List Slot) (steps : List Step) (rows : Map) → AllByRecursion (λ (x : Slot). told_to x.id steps ≡ x.told) line → rows_of_commits m (pairs line) steps rows ≡ left_by_all (settled_to m line) rows
+rows_of_line : (m : ℕ) (line : List Slot) (steps : List Step) (rows : Map) → AllByRecursion (λ (x : Slot). history_of x.id steps ≡ x.told) line → rows_of_commits m (pairs line) steps rows ≡ left_by_all (settled_to m line) rows
 rows_of_line m [] steps rows h = refl
 rows_of_line m (x ∷ xs) steps rows h = go x.settled (nat_le x.stop m) (λ ms. rows_of_line m xs steps ms h.1)
   where
     go : (s b : Bool) → ((ms : Map) → rows_of_commits m (pairs xs) steps ms ≡ left_by_all (settled_to m xs) ms) →
         rows_of_commits m (cond s ((x.stop, x.id) ∷ pairs xs) (pairs xs)) steps rows ≡ left_by_all (cond (s && nat_le x.stop m) ((x.stop, x.told) ∷ settled_to m xs) (settled_to m xs)) rows
     go false b ih = ih rows
-    go true b ih = ih (cond (nat_le x.stop m) (left_by (told_to x.id steps) rows) rows) ∙ here (nat_le x.stop m)
+    go true b ih = ih (cond (nat_le x.stop m) (after_history (history_of x.id steps) rows) rows) ∙ here (nat_le x.stop m)
       where
-        here : (c : Bool) → left_by_all (settled_to m xs) (cond c (left_by (told_to x.id steps) rows) rows) ≡ left_by_all (cond c ((x.stop, x.told) ∷ settled_to m xs) (settled_to m xs)) rows
-        here true = ap (λ (ts : Told). left_by_all (settled_to m xs) (left_by ts rows)) h.0
+        here : (c : Bool) → left_by_all (settled_to m xs) (cond c (after_history (history_of x.id steps) rows) rows) ≡ left_by_all (cond c ((x.stop, x.told) ∷ settled_to m xs) (settled_to m xs)) rows
+        here true = ap (λ (ts : History). left_by_all (settled_to m xs) (after_history ts rows)) h.0
         here false = refl
 
 pub rows_up_to_is : (m : ℕ) (opening : Map) (steps : List Step) (s : State) → Stands opening steps s → rows_up_to m opening steps ≡ left_by_all (settled_to m s.line) opening
@@ -44,9 +44,9 @@ none_to m (x ∷ xs) h = ap (λ (b : Bool). cond (x.settled && b) ((x.stop, x.to
     go true e = e
     go false e = e
 
-all_after : (m n : ℕ) (xs : List Slot) → AllByRecursion (λ (x : Slot). m < x.stop) xs → filter (is_after m) (settled_to n xs) ≡ settled_to n xs
-all_after m n [] h = refl
-all_after m n (x ∷ xs) h = go (x.settled && nat_le x.stop n) (all_after m n xs h.1)
+rows_after_all : (m n : ℕ) (xs : List Slot) → AllByRecursion (λ (x : Slot). m < x.stop) xs → filter (is_after m) (settled_to n xs) ≡ settled_to n xs
+rows_after_all m n [] h = refl
+rows_after_all m n (x ∷ xs) h = go (x.settled && nat_le x.stop n) (rows_after_all m n xs h.1)
   where
     go : (b : Bool) → filter (is_after m) (settled_to n xs) ≡ settled_to n xs → filter (is_after m) (cond b ((x.stop, x.told) ∷ settled_to n xs) (settled_to n xs)) ≡ cond b ((x.stop, x.told) ∷ settled_to n xs) (settled_to n xs)
     go true e = ap (λ (c : Bool). cond c ((x.stop, x.told) ∷ filter (is_after m) (settled_to n xs)) (filter (is_after m) (settled_to n xs))) (lt-ltb m x.stop h.0) ∙ ap (λ cs. (x.stop, x.told) ∷ cs) e
@@ -71,7 +71,7 @@ parts m n (x ∷ xs) le h = go (nat_le x.stop m) refl (parts m n xs le h.1)
     go false e r =
         let high : m < x.stop = ltb-true m x.stop (over (nat_le x.stop m) e) in
         let all : AllByRecursion (λ (y : Slot). m < y.stop) (x ∷ xs) = (high, each_weaker (λ (y : Slot). x.stop < y.stop) (λ (y : Slot). m < y.stop) (λ y lt. omega arith) xs h.0) in
-        sym (all_after m n (x ∷ xs) all)
+        sym (rows_after_all m n (x ∷ xs) all)
         ∙ ap (λ cs. cs ++ filter (is_after m) (settled_to n (x ∷ xs))) (sym (none_to m (x ∷ xs) all))
       where
         over : (b : Bool) → nat_le x.stop m ≡ false → nat_lt m x.stop ≡ true

@@ -3,7 +3,7 @@ use Rattle.std.proofs.Common.{◌≡◌, ℕ, ◌<◌, ◌≤◌, ◌-◌, Bool,
 use Rattle.std.specs.Prelude.{⊤, nat_lt, nat_le, ◌&&◌}
 use Rattle.std.specs.List.{AllByRecursion, filter}
 use Rattle.std.proofs.lemmas.Bool.{true≢false, le-leb, leb-true, lt-leb}
-use Rattle.mvo_model.specs.Told.{Told}
+use Rattle.mvo_model.specs.History.{History}
 use Rattle.mvo_group.specs.Data.{RecordData, GroupData}
 use Rattle.mvo_group.specs.Rules.{KeepsRules}
 use Rattle.mvo_state.specs.Line.{State, Slot}
@@ -60,10 +60,10 @@ due_is prev mark (x ∷ xs) = go x.settled (is_writing x) (nat_lt prev x.stop) (
         here false true e = e
         here false false e = e
 
-abbrev IsUpTo : ℕ → ℕ × Told → Type 0
+abbrev IsUpTo : ℕ → ℕ × History → Type 0
 IsUpTo m c = c.0 ≤ m
 
-abbrev is_up_to : ℕ → ℕ × Told → Bool
+abbrev is_up_to : ℕ → ℕ × History → Bool
 is_up_to m c = nat_le c.0 m
 
 -- up to an earlier mark
@@ -79,7 +79,7 @@ earlier m n (x ∷ xs) le = go x.settled (nat_le x.stop m) (nat_le x.stop n) ref
     go true false false p q r = r
     go true true false p q r = absurd (true≢false (sym (le-leb x.stop n (let low = leb-true x.stop m p in omega arith)) ∙ q))
 
-swap_filters : (p q : ℕ × Told → Bool) (cs : List (ℕ × Told)) → filter p (filter q cs) ≡ filter q (filter p cs)
+swap_filters : (p q : ℕ × History → Bool) (cs : List (ℕ × History)) → filter p (filter q cs) ≡ filter q (filter p cs)
 swap_filters p q [] = refl
 swap_filters p q (c ∷ cs) = go (p c) (q c) refl refl (swap_filters p q cs)
   where
@@ -89,21 +89,21 @@ swap_filters p q (c ∷ cs) = go (p c) (q c) refl refl (swap_filters p q cs)
     go false true e f r = ap (λ (t : Bool). cond t (c ∷ filter p (filter q cs)) (filter p (filter q cs))) e ∙ r
     go false false e f r = r
 
-front_filter : (m : ℕ) (ts zs : List (ℕ × Told)) → AllByRecursion (IsUpTo m) ts → AllByRecursion (λ (c : ℕ × Told). m < c.0) zs → filter (is_up_to m) (ts ++ zs) ≡ ts
+front_filter : (m : ℕ) (ts zs : List (ℕ × History)) → AllByRecursion (IsUpTo m) ts → AllByRecursion (λ (c : ℕ × History). m < c.0) zs → filter (is_up_to m) (ts ++ zs) ≡ ts
 front_filter m [] [] a b = refl
 front_filter m [] (z ∷ zs) a b = ap (λ (t : Bool). cond t (z ∷ filter (is_up_to m) zs) (filter (is_up_to m) zs)) (lt-leb z.0 m b.0) ∙ front_filter m [] zs tt b.1
 front_filter m (t ∷ ts) zs a b = ap (λ (c : Bool). cond c (t ∷ filter (is_up_to m) (ts ++ zs)) (filter (is_up_to m) (ts ++ zs))) (le-leb t.0 m a.0) ∙ ap (λ cs. t ∷ cs) (front_filter m ts zs a.1 b)
 
 -- ---- rising ends
-abbrev Rise : List (ℕ × Told) → Type 0
+abbrev Rise : List (ℕ × History) → Type 0
 Rise [] = ⊤
-Rise (c ∷ cs) = AllByRecursion (λ (d : ℕ × Told). c.0 < d.0) cs × Rise cs
+Rise (c ∷ cs) = AllByRecursion (λ (d : ℕ × History). c.0 < d.0) cs × Rise cs
 
-above_due : (m prev mark : ℕ) (xs : List Slot) → AllByRecursion (λ (x : Slot). m < x.stop) xs → AllByRecursion (λ (c : ℕ × Told). m < c.0) (commits_in prev mark xs)
+above_due : (m prev mark : ℕ) (xs : List Slot) → AllByRecursion (λ (x : Slot). m < x.stop) xs → AllByRecursion (λ (c : ℕ × History). m < c.0) (commits_in prev mark xs)
 above_due m prev mark [] h = tt
 above_due m prev mark (x ∷ xs) h = go ((x.settled && is_writing x) && (nat_lt prev x.stop && nat_le x.stop mark)) (above_due m prev mark xs h.1)
   where
-    go : (b : Bool) → AllByRecursion (λ (c : ℕ × Told). m < c.0) (commits_in prev mark xs) → AllByRecursion (λ (c : ℕ × Told). m < c.0) (cond b ((x.stop, x.told) ∷ commits_in prev mark xs) (commits_in prev mark xs))
+    go : (b : Bool) → AllByRecursion (λ (c : ℕ × History). m < c.0) (commits_in prev mark xs) → AllByRecursion (λ (c : ℕ × History). m < c.0) (cond b ((x.stop, x.told) ∷ commits_in prev mark xs) (commits_in prev mark xs))
     go true k = (h.0, k)
     go false k = k
 
@@ -126,12 +126,12 @@ below_due prev mark (x ∷ xs) = go (x.settled && is_writing x) (nat_lt prev x.s
     go true true false e k = k
 
 -- the end of the last of some records
-record IsLast (stop first : ℕ) (ts zs : List (ℕ × Told)) : Type 0 where
+record IsLast (stop first : ℕ) (ts zs : List (ℕ × History)) : Type 0 where
   pub low : first ≤ stop
   pub taken : AllByRecursion (IsUpTo stop) ts
-  pub left : AllByRecursion (λ (c : ℕ × Told). stop < c.0) zs
+  pub left : AllByRecursion (λ (c : ℕ × History). stop < c.0) zs
 
-lasts : (c : ℕ × Told) (r : RecordData) (ts zs : List (ℕ × Told)) (rs : List RecordData) → Rise (c ∷ ts ++ zs) → r.end ≡ c.0 → AreRecordsOf ts rs → IsLast (end_in r.end rs) c.0 ts zs
+lasts : (c : ℕ × History) (r : RecordData) (ts zs : List (ℕ × History)) (rs : List RecordData) → Rise (c ∷ ts ++ zs) → r.end ≡ c.0 → AreRecordsOf ts rs → IsLast (end_in r.end rs) c.0 ts zs
 lasts c r [] zs [] h e k = subst (λ (n : ℕ). IsLast n c.0 [] zs) (sym e) (record { low = omega arith; taken = tt; left = h.0 })
 lasts c r [] zs (q ∷ rs) h e k = absurd k
 lasts c r (d ∷ ts) zs [] h e k = absurd k
@@ -140,11 +140,11 @@ lasts c r (d ∷ ts) zs (q ∷ rs) h e k =
     record { low = let a = m.low in let b = h.0.0 in omega arith; taken = (m.low, m.taken); left = m.left }
 
 -- ---- the group
-record IsSplit (m : ℕ) (ts zs : List (ℕ × Told)) : Type 0 where
+record IsSplit (m : ℕ) (ts zs : List (ℕ × History)) : Type 0 where
   pub taken : AllByRecursion (IsUpTo m) ts
-  pub left : AllByRecursion (λ (c : ℕ × Told). m < c.0) zs
+  pub left : AllByRecursion (λ (c : ℕ × History). m < c.0) zs
 
-split : (low prev m : ℕ) (ts zs : List (ℕ × Told)) (rs : List RecordData) → prev < m → Rise (ts ++ zs) → AllByRecursion (IsUpTo low) (ts ++ zs) → AreRecordsOf ts rs → m ≡ mark_by low prev zs rs → IsSplit m ts zs × (m ≤ low)
+split : (low prev m : ℕ) (ts zs : List (ℕ × History)) (rs : List RecordData) → prev < m → Rise (ts ++ zs) → AllByRecursion (IsUpTo low) (ts ++ zs) → AreRecordsOf ts rs → m ≡ mark_by low prev zs rs → IsSplit m ts zs × (m ≤ low)
 split low prev m ts [] rs lt rise below k is = (record { taken = subst (λ (n : ℕ). AllByRecursion (IsUpTo n) ts) (sym is) (each_front (IsUpTo low) ts [] below); left = tt }, omega arith)
 split low prev m [] (z ∷ zs) [] lt rise below k is = absurd (omega arith)
 split low prev m [] (z ∷ zs) (r ∷ rs) lt rise below k is = absurd k

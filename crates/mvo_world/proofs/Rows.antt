@@ -10,11 +10,11 @@ use Rattle.std.specs.declared.cmp.Ordering.TheVariants.{Less, Equal, Greater}
 use Rattle.std.specs.FinMap as fin
 use Rattle.std.proofs.lemmas.Bool.{true≢false, false≢true}
 use Rattle.mvo_types.specs.declared.row.RowKey.{RowKey}
-use Rattle.mvo_types.specs.Line.{Held}
+use Rattle.mvo_types.specs.RowData.{ContentData}
 use Rattle.mvo_types.specs.Keys.{Map, key_cmp}
 use Rattle.mvo_types.proofs.Maps.{keys_total, exact_keys}
-use Rattle.mvo_model.specs.Told.{Told, Write, write_of, written, put_at, left_by}
-use Rattle.mvo_model.proofs.Serials.{get-left_by}
+use Rattle.mvo_model.specs.History.{History, Write, write_of, after_write, after_effect, after_history}
+use Rattle.mvo_model.proofs.Serials.{get-after_history}
 use Rattle.mvo_group.specs.Data.{NetWrite, RecordData}
 use Rattle.mvo_state.specs.Entries.{noted, noted_key, written_from, written_keys}
 use Rattle.mvo_store.specs.Recovery.{after_writes, after_records}
@@ -22,7 +22,7 @@ use Rattle.mvo_core.specs.Writers.{is_there}
 use Rattle.mvo_core.specs.Groups.{IsRecordOf, AreRecordsOf, write_in}
 
 -- ---- one record
-get-put : (q k : RowKey) (h : Option Held) (m : Map) → fin.get (put_at k h m) q ≡ cond (eq_by_cmp key_cmp q k) h (fin.get m q)
+get-put : (q k : RowKey) (h : Option ContentData) (m : Map) → fin.get (after_effect k h m) q ≡ cond (eq_by_cmp key_cmp q k) h (fin.get m q)
 get-put q k None m = fin.get-remove keys_total m k q
 get-put q k (Some h) m = fin.get-insert keys_total m k h q
 
@@ -57,7 +57,7 @@ get-after_writes : (q : RowKey) (ws : List NetWrite) (m : Map) → IsStrictlySor
 unfolding IsStrictlySortedBy
 get-after_writes q [] m h = refl
 get-after_writes q (w ∷ ws) m h =
-    get-after_writes q ws (put_at w.0 w.1 m) h.1
+    get-after_writes q ws (after_effect w.0 w.1 m) h.1
     ∙ ap (unwrap_or (write_in q ws)) (get-put q w.0 w.1 m)
     ∙ go (eq_by_cmp key_cmp q w.0) refl
   where
@@ -65,8 +65,8 @@ get-after_writes q (w ∷ ws) m h =
     go true t = ap (λ o. unwrap_or o w.1) (no_later q w.0 ws (same_key q w.0 t) h.0)
     go false t = refl
 
-record_rows : (c : ℕ × Told) (r : RecordData) (m : Map) → IsRecordOf c r → after_writes r.writes m ≡ left_by c.1 m
-record_rows c r m is = fin.same_map keys_total exact_keys _ _ (λ q. get-after_writes q r.writes m is.rise ∙ ap (λ o. unwrap_or o (fin.get m q)) (is.writes q) ∙ sym (get-left_by q c.1 m))
+record_rows : (c : ℕ × History) (r : RecordData) (m : Map) → IsRecordOf c r → after_writes r.writes m ≡ after_history c.1 m
+record_rows c r m is = fin.same_map keys_total exact_keys _ _ (λ q. get-after_writes q r.writes m is.rise ∙ ap (λ o. unwrap_or o (fin.get m q)) (is.writes q) ∙ sym (get-after_history q c.1 m))
 
 -- ---- one that wrote no key
 cons_nil : (k : RowKey) (ks : List RowKey) → ◌≡◌ {A = List RowKey} (k ∷ ks) [] → ⊥
@@ -80,7 +80,7 @@ noted_some (j ∷ js) k e = go _ e
     go true f = cons_nil j js f
     go false f = cons_nil j (js ++ k ∷ []) f
 
-none_before : (ks : List RowKey) (ts : Told) → written_from ks ts ≡ [] → ks ≡ []
+none_before : (ks : List RowKey) (ts : History) → written_from ks ts ≡ [] → ks ≡ []
 none_before ks [] e = e
 none_before ks (t ∷ ts) e = go (write_of t.0 t.1) (none_before (noted_key ks (option_map (λ w. w.0) (write_of t.0 t.1))) ts e)
   where
@@ -88,17 +88,17 @@ none_before ks (t ∷ ts) e = go (write_of t.0 t.1) (none_before (noted_key ks (
     go None f = f
     go (Some w) f = absurd (noted_some ks w.0 f)
 
-nothing_from : (ks : List RowKey) (ts : Told) (m : Map) → written_from ks ts ≡ [] → left_by ts m ≡ m
+nothing_from : (ks : List RowKey) (ts : History) (m : Map) → written_from ks ts ≡ [] → after_history ts m ≡ m
 nothing_from ks [] m e = refl
 nothing_from ks (t ∷ ts) m e =
-    nothing_from (noted_key ks (option_map (λ w. w.0) (write_of t.0 t.1))) ts (written (write_of t.0 t.1) m) e
+    nothing_from (noted_key ks (option_map (λ w. w.0) (write_of t.0 t.1))) ts (after_write (write_of t.0 t.1) m) e
     ∙ go (write_of t.0 t.1) (none_before (noted_key ks (option_map (λ w. w.0) (write_of t.0 t.1))) ts e)
   where
-    go : (w : Option Write) → noted_key ks (option_map (λ v. v.0) w) ≡ [] → written w m ≡ m
+    go : (w : Option Write) → noted_key ks (option_map (λ v. v.0) w) ≡ [] → after_write w m ≡ m
     go None f = refl
     go (Some w) f = absurd (noted_some ks w.0 f)
 
-nothing : (ts : Told) (m : Map) → is_there (written_keys ts) ≡ false → left_by ts m ≡ m
+nothing : (ts : History) (m : Map) → is_there (written_keys ts) ≡ false → after_history ts m ≡ m
 nothing ts m f = nothing_from [] ts m (go (written_keys ts) refl f)
   where
     go : (ks : List RowKey) → written_keys ts ≡ ks → is_there ks ≡ false → written_keys ts ≡ []
@@ -106,19 +106,19 @@ nothing ts m f = nothing_from [] ts m (go (written_keys ts) refl f)
     go (j ∷ js) e g = absurd (true≢false g)
 
 -- ---- one commit after another
-abbrev pub left_by_all : List (ℕ × Told) → Map → Map
+abbrev pub left_by_all : List (ℕ × History) → Map → Map
 left_by_all [] m = m
-left_by_all (c ∷ cs) m = left_by_all cs (left_by c.1 m)
+left_by_all (c ∷ cs) m = left_by_all cs (after_history c.1 m)
 
-pub left_by_all-append : (cs ds : List (ℕ × Told)) (m : Map) → left_by_all (cs ++ ds) m ≡ left_by_all ds (left_by_all cs m)
+pub left_by_all-append : (cs ds : List (ℕ × History)) (m : Map) → left_by_all (cs ++ ds) m ≡ left_by_all ds (left_by_all cs m)
 left_by_all-append [] ds m = refl
-left_by_all-append (c ∷ cs) ds m = left_by_all-append cs ds (left_by c.1 m)
+left_by_all-append (c ∷ cs) ds m = left_by_all-append cs ds (after_history c.1 m)
 
-abbrev pub is_after : ℕ → ℕ × Told → Bool
+abbrev pub is_after : ℕ → ℕ × History → Bool
 is_after prev c = nat_lt prev c.0
 
 -- the records of those that wrote leave what they all leave
-pub records_rows : (prev : ℕ) (cs : List (ℕ × Told)) (rs : List RecordData) (m : Map) → AreRecordsOf (filter (λ c. nat_lt prev c.0 && is_there (written_keys c.1)) cs) rs → after_records rs m ≡ left_by_all (filter (is_after prev) cs) m
+pub records_rows : (prev : ℕ) (cs : List (ℕ × History)) (rs : List RecordData) (m : Map) → AreRecordsOf (filter (λ c. nat_lt prev c.0 && is_there (written_keys c.1)) cs) rs → after_records rs m ≡ left_by_all (filter (is_after prev) cs) m
 records_rows prev [] [] m h = refl
 records_rows prev [] (r ∷ rs) m h = absurd h
 records_rows prev (c ∷ cs) rs m h = go (nat_lt prev c.0) (is_there (written_keys c.1)) refl rs h (λ qs n k. records_rows prev cs qs n k)
@@ -129,4 +129,4 @@ records_rows prev (c ∷ cs) rs m h = go (nat_lt prev c.0) (is_there (written_ke
     go false b e qs k ih = ih qs m k
     go true false e qs k ih = ih qs m k ∙ ap (left_by_all (filter (is_after prev) cs)) (sym (nothing c.1 m e))
     go true true e [] k ih = absurd k
-    go true true e (r ∷ qs) k ih = ap (after_records qs) (record_rows c r m k.0) ∙ ih qs (left_by c.1 m) k.1
+    go true true e (r ∷ qs) k ih = ap (after_records qs) (record_rows c r m k.0) ∙ ih qs (after_history c.1 m) k.1

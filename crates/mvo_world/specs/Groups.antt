@@ -1,6 +1,6 @@
 -- Which commits the groups of a world hold.
 use Rattle.std.specs.Prelude.{◌≡◌, ℕ, nat_lt, Bool, ◌&&◌, List, [], ◌∷◌, filter}
-use Rattle.mvo_model.specs.Told.{Told}
+use Rattle.mvo_model.specs.History.{History}
 use Rattle.mvo_group.specs.Data.{GroupData}
 use Rattle.mvo_group.specs.Rules.{KeepsRules}
 use Rattle.mvo_state.specs.Entries.{written_keys}
@@ -10,7 +10,7 @@ use Rattle.mvo_core.specs.Writers.{is_there}
 use Rattle.mvo_core.specs.Groups.{AreRecordsOf}
 
 -- a commit that wrote, with an end above prev
-abbrev pub is_due : ℕ → ℕ × Told → Bool
+abbrev pub is_due : ℕ → ℕ × History → Bool
 is_due prev c = nat_lt prev c.0 && is_there (written_keys c.1)
 
 -- the group has the records of the commits that wrote with an end above its prev and at most its mark; no other will end there

@@ -1,6 +1,6 @@
 use Rattle.std.proofs.Common.{◌≡◌, ◌++◌, [], ◌∷◌, List, cond, Option, None, Some, ap, ◌∙◌, sym}
 use Rattle.std.specs.Prelude.{nat_lt}
-use Rattle.mvo_model.specs.Told.{net_write}
+use Rattle.mvo_model.specs.History.{net_write}
 use Rattle.mvo_state.specs.Line.{Slot, told_below}
 use Rattle.mvo_state.proofs.Lines.{append-nil}
 use Rattle.mvo_core.proofs.Indexed.{place_some, place_none}

@@ -1,6 +1,6 @@
 use Rattle.std.proofs.Common.{◌≡◌, take}
 use Rattle.std.specs.Option.{option_map}
-use Rattle.mvo_model.specs.Told.{net_write}
+use Rattle.mvo_model.specs.History.{net_write}
 use Rattle.mvo_state.specs.Line.{told_below}
 use Rattle.mvo_core.specs.View.{held_view}
 use Rattle.mvo_core.specs.Writers.{at_places}

@@ -1,5 +1,5 @@
 use Rattle.std.proofs.Common.{◌≡◌, ◌++◌, ◌∷◌, [], sym, ap, ◌∙◌, subst}
-use Rattle.mvo_types.specs.Said.{said}
+use Rattle.mvo_types.specs.AnswerData.{answer_data}
 use Rattle.mvo_state.specs.Entries.{noted, noted_key, entry_keys, written_keys}
 use Rattle.mvo_state.specs.Line.{Running}
 use Rattle.mvo_core.proofs.Writes.{entries_told, written_told}
@@ -19,5 +19,5 @@ invariant_of-tx-2 c =
           ∙ ap (λ ks. noted_key ks c.key_written.result) (c.in_ok-reserve-3.ensures.items ∙ c.tx.invariant.1)
           ∙ ap (noted_key (written_keys (told_view c.tx.inside.ops.items))) c.key_written.ensures
           ∙ sym (written_told c.tx.inside.ops.items c.push_reserved.new.items.items c.args.op c.args.answer items),
-      subst AreLimited (sym (told_now c.tx.inside.ops.items c.push_reserved.new.items.items c.args.op c.args.answer items)) (subst (λ (r : Running). AreLimited (r.told ++ (c.args.op, said c.args.answer) ∷ [])) (sym c.tx.view_is) c.requires.limits),
+      subst AreLimited (sym (told_now c.tx.inside.ops.items c.push_reserved.new.items.items c.args.op c.args.answer items)) (subst (λ (r : Running). AreLimited (r.told ++ (c.args.op, answer_data c.args.answer) ∷ [])) (sym c.tx.view_is) c.requires.limits),
     )

@@ -3,10 +3,10 @@ use Rattle.std.specs.Prelude.{◌==◌, position, is_some, vec_capacity, ◌++�
 use Rattle.std.specs.FinMap as map
 use Rattle.mvo_types.specs.declared.op.Op.TheVariants as op
 use Rattle.mvo_types.specs.declared.refusal.Refusal.{Refusal}
-use Rattle.mvo_types.specs.Line.{Line}
-use Rattle.mvo_types.specs.Said.{Said, said}
-use Rattle.mvo_types.specs.Said.Said.{Exist, Inserts}
-use Rattle.mvo_model.specs.Told.{Told, left_by}
+use Rattle.mvo_types.specs.RowData.{RowData}
+use Rattle.mvo_types.specs.AnswerData.{AnswerData, answer_data}
+use Rattle.mvo_types.specs.AnswerData.AnswerData.{Exists, Inserted}
+use Rattle.mvo_model.specs.History.{History, after_history}
 use Rattle.mvo_state.specs.declared.over.OverTx.{OverTx}
 use Rattle.mvo_state.specs.Line.{State, Running, Slot, told, snapshot, seen_by, is_writer}
 use Rattle.mvo_state.specs.Causes.{why_not_inserted}
@@ -51,9 +51,9 @@ pub tell-requires-clause-limits : goal.tell-requires-clause-limits
 tell-requires-clause-limits c =
     let f = c.self.inside in
     let own : AreLimited c.index-own.result.now.told = subst (λ (r : Running). AreLimited r.told) c.own.view_is c.own.invariant.2 in
-    subst (λ (r : Running). AreLimited (r.told ++ (op.Insert c.args.row, said c.insert_answer.result) ∷ []))
+    subst (λ (r : Running). AreLimited (r.told ++ (op.Insert c.args.row, answer_data c.insert_answer.result) ∷ []))
     (found_twice f.running.items c.args.tx.0 c.in-Some.at c.index-own.result.now c.index_mut-own.result.now (sym (c.in-Some.ensures ∙ ap (λ (rs : List Running). position (λ r. r.id == c.args.tx.0) rs) c.deref.ensures.value)) c.index-own.ensures c.index_mut-own.ensures.value)
-    (limited_insert c.index-own.result.now f.preparing c.args.row (said c.insert_answer.result) (sym c.insert_refusal.ensures ∙ c.in_default-insert_refusal.is) own)
+    (limited_insert c.index-own.result.now f.preparing c.args.row (answer_data c.insert_answer.result) (sym c.insert_refusal.ensures ∙ c.in_default-insert_refusal.is) own)
 
 -- the state before the call
 old : After-insert_answer-2 → State
@@ -83,23 +83,23 @@ there c =
     let told' : told_view c.own.inside.ops.items ≡ c.index-own.result.now.told = ap (λ (r : Running). r.told) c.own.view_is in
     let key : c.row_key-key.result ≡ c.args.row.key = c.row_key-key.ensures in
     c.is_shown-there.ensures
-    ∙ ap (λ k. map.contains_key (left_by (told_view c.deref-4.result.now) (seen_by f.base (at_places c.deref-2.result.now c.deref-3.result.now) c.args.tx.0)) k) key
-    ∙ ap (λ (tale : List Slot). map.contains_key (left_by (told_view c.deref-4.result.now) (seen_by f.base (at_places tale c.deref-3.result.now) c.args.tx.0)) c.args.row.key) c.deref-2.ensures.value
-    ∙ ap (λ (ws : List ℕ). map.contains_key (left_by (told_view c.deref-4.result.now) (seen_by f.base (at_places f.tale.items ws) c.args.tx.0)) c.args.row.key) c.deref-3.ensures.value
-    ∙ ap (λ ops. map.contains_key (left_by (told_view ops) (seen_by f.base (at_places f.tale.items f.writers.items) c.args.tx.0)) c.args.row.key) own
+    ∙ ap (λ k. map.contains_key (after_history (told_view c.deref-4.result.now) (seen_by f.base (at_places c.deref-2.result.now c.deref-3.result.now) c.args.tx.0)) k) key
+    ∙ ap (λ (tale : List Slot). map.contains_key (after_history (told_view c.deref-4.result.now) (seen_by f.base (at_places tale c.deref-3.result.now) c.args.tx.0)) c.args.row.key) c.deref-2.ensures.value
+    ∙ ap (λ (ws : List ℕ). map.contains_key (after_history (told_view c.deref-4.result.now) (seen_by f.base (at_places f.tale.items ws) c.args.tx.0)) c.args.row.key) c.deref-3.ensures.value
+    ∙ ap (λ ops. map.contains_key (after_history (told_view ops) (seen_by f.base (at_places f.tale.items f.writers.items) c.args.tx.0)) c.args.row.key) own
     ∙ ap is_some (shown_at f.base f.marks f.clock f.running.items f.tale.items f.writers.items f.preparing f.over.items c.args.tx.0 c.args.row.key (told_view c.own.inside.ops.items) (told' ∙ sym (mine c).found.told) c.self.invariant.indexed.places (quiet c))
 
-answer : (c : After-insert_answer-2) → said c.insert_answer-2.result ≡ cond (map.contains_key (snapshot (old c) c.args.tx.0) c.args.row.key) Exist Inserts
-answer c = c.insert_answer-2.ensures ∙ ap (λ (b : Bool). cond b Exist Inserts) (there c)
+answer : (c : After-insert_answer-2) → answer_data c.insert_answer-2.result ≡ cond (map.contains_key (snapshot (old c) c.args.tx.0) c.args.row.key) Exists Inserted
+answer c = c.insert_answer-2.ensures ∙ ap (λ (b : Bool). cond b Exists Inserted) (there c)
 
-now : (c : After-insert_answer-2) → IsTold c.self.inside.base c.self.inside.marks c.self.inside.clock c.self.inside.running.items c.self.inside.tale.items c.self.inside.preparing c.self.inside.over.items (vec_capacity c.self.inside.tale) (vec_capacity c.self.inside.over) c.args.tx.0 c.in-Some.at (op.Insert c.args.row) (said c.insert_answer-2.result) c.tell.new.tx
+now : (c : After-insert_answer-2) → IsTold c.self.inside.base c.self.inside.marks c.self.inside.clock c.self.inside.running.items c.self.inside.tale.items c.self.inside.preparing c.self.inside.over.items (vec_capacity c.self.inside.tale) (vec_capacity c.self.inside.over) c.args.tx.0 c.in-Some.at (op.Insert c.args.row) (answer_data c.insert_answer-2.result) c.tell.new.tx
 unfolding old
 now c =
     let f = c.self.inside in
-    kept_told f.base f.marks f.clock f.running.items f.tale.items f.preparing f.over.items (vec_capacity f.tale) (vec_capacity f.over) c.args.tx.0 c.in-Some.at (op.Insert c.args.row) (said c.insert_answer-2.result) c.index_mut-own.result.now c.tell.new.tx
+    kept_told f.base f.marks f.clock f.running.items f.tale.items f.preparing f.over.items (vec_capacity f.tale) (vec_capacity f.over) c.args.tx.0 c.in-Some.at (op.Insert c.args.row) (answer_data c.insert_answer-2.result) c.index_mut-own.result.now c.tell.new.tx
     (place c) c.index_mut-own.ensures.value
     (c.in_ok-tell.ensures.ok
-    ∙ ap (λ (a : Said). record c.index_mut-own.result.now { told = c.index_mut-own.result.now.told ++ (op.Insert c.args.row, a) ∷ [] }) (c.insert_answer.ensures ∙ sym c.insert_answer-2.ensures))
+    ∙ ap (λ (a : AnswerData). record c.index_mut-own.result.now { told = c.index_mut-own.result.now.told ++ (op.Insert c.args.row, a) ∷ [] }) (c.insert_answer.ensures ∙ sym c.insert_answer-2.ensures))
     (quiet c) tt (answer c) c.self.invariant.kept
 
 pub invariant_of-self-2 : goal.invariant_of-self-2
@@ -112,7 +112,7 @@ returns-clause-refused c =
 
 pub returns-clause-answer : goal.returns-clause-answer
 unfolding old
-returns-clause-answer c = answer c ∙ ap (λ (s : State). cond (map.contains_key (snapshot s c.args.tx.0) c.args.row.key) Exist Inserts) c.self.view_is
+returns-clause-answer c = answer c ∙ ap (λ (s : State). cond (map.contains_key (snapshot s c.args.tx.0) c.args.row.key) Exists Inserted) c.self.view_is
 
 pub returns-clause-told : goal.returns-clause-told
-returns-clause-told c = (now c).state ∙ ap (λ (s : State). told s c.args.tx.0 (op.Insert c.args.row) (said c.insert_answer-2.result)) c.self.view_is
+returns-clause-told c = (now c).state ∙ ap (λ (s : State). told s c.args.tx.0 (op.Insert c.args.row) (answer_data c.insert_answer-2.result)) c.self.view_is

@@ -3,10 +3,10 @@ use Rattle.std.specs.Prelude.{◌==◌, position, vec_capacity, ◌++◌, ◌∷
 use Rattle.std.specs.Option.{option_map}
 use Rattle.mvo_types.specs.declared.op.Op.TheVariants as op
 use Rattle.mvo_types.specs.declared.refusal.Refusal.{Refusal}
-use Rattle.mvo_types.specs.Line.{Line, line_at}
+use Rattle.mvo_types.specs.RowData.{RowData, row_with}
 use Rattle.mvo_types.specs.Keys.{row_at}
-use Rattle.mvo_types.specs.Said.Said.{Row}
-use Rattle.mvo_model.specs.Told.{Told, left_by}
+use Rattle.mvo_types.specs.AnswerData.AnswerData.{Found}
+use Rattle.mvo_model.specs.History.{History, after_history}
 use Rattle.mvo_state.specs.declared.over.OverTx.{OverTx}
 use Rattle.mvo_state.specs.Line.{State, Running, Slot, told, snapshot, seen_by, is_writer}
 use Rattle.mvo_state.specs.Causes.{why_not_read}
@@ -69,9 +69,9 @@ pub tell-requires-clause-limits : goal.tell-requires-clause-limits
 tell-requires-clause-limits c =
     let f = c.self.inside in
     let own : AreLimited c.index-own.result.now.told = subst (λ (r : Running). AreLimited r.told) c.own.view_is c.own.invariant.2 in
-    subst (λ (r : Running). AreLimited (r.told ++ (op.Read c.args.key, Row c.in_ok-kept.kept) ∷ []))
+    subst (λ (r : Running). AreLimited (r.told ++ (op.Read c.args.key, Found c.in_ok-kept.kept) ∷ []))
     (found_twice f.running.items c.args.tx.0 c.in-Some.at c.index-own.result.now c.index_mut-own.result.now (sym (c.in-Some.ensures ∙ ap (λ (rs : List Running). position (λ r. r.id == c.args.tx.0) rs) c.deref.ensures.value)) c.index-own.ensures c.index_mut-own.ensures.value)
-    (limited_read c.index-own.result.now.told c.args.key (Row c.in_ok-kept.kept) own)
+    (limited_read c.index-own.result.now.told c.args.key (Found c.in_ok-kept.kept) own)
 
 -- the state before the call
 old : In_ok-tell → State
@@ -99,19 +99,19 @@ answer c =
     let own : c.deref-4.result.now ≡ c.own.inside.ops.items = c.deref-4.ensures.value in
     let told' : told_view c.own.inside.ops.items ≡ c.index-own.result.now.told = ap (λ (r : Running). r.told) c.own.view_is in
     c.in_ok-row.ensures
-    ∙ ap (λ (tale : List Slot). row_at (left_by (told_view c.deref-4.result.now) (seen_by f.base (at_places tale c.deref-3.result.now) c.args.tx.0)) c.args.key) c.deref-2.ensures.value
-    ∙ ap (λ (ws : List ℕ). row_at (left_by (told_view c.deref-4.result.now) (seen_by f.base (at_places f.tale.items ws) c.args.tx.0)) c.args.key) c.deref-3.ensures.value
-    ∙ ap (λ ops. row_at (left_by (told_view ops) (seen_by f.base (at_places f.tale.items f.writers.items) c.args.tx.0)) c.args.key) own
-    ∙ ap (option_map (line_at c.args.key)) (shown_at f.base f.marks f.clock f.running.items f.tale.items f.writers.items f.preparing f.over.items c.args.tx.0 c.args.key (told_view c.own.inside.ops.items) (told' ∙ sym (mine c).found.told) c.self.invariant.indexed.places (quiet c))
+    ∙ ap (λ (tale : List Slot). row_at (after_history (told_view c.deref-4.result.now) (seen_by f.base (at_places tale c.deref-3.result.now) c.args.tx.0)) c.args.key) c.deref-2.ensures.value
+    ∙ ap (λ (ws : List ℕ). row_at (after_history (told_view c.deref-4.result.now) (seen_by f.base (at_places f.tale.items ws) c.args.tx.0)) c.args.key) c.deref-3.ensures.value
+    ∙ ap (λ ops. row_at (after_history (told_view ops) (seen_by f.base (at_places f.tale.items f.writers.items) c.args.tx.0)) c.args.key) own
+    ∙ ap (option_map (row_with c.args.key)) (shown_at f.base f.marks f.clock f.running.items f.tale.items f.writers.items f.preparing f.over.items c.args.tx.0 c.args.key (told_view c.own.inside.ops.items) (told' ∙ sym (mine c).found.told) c.self.invariant.indexed.places (quiet c))
 
-now : (c : In_ok-tell) → IsTold c.self.inside.base c.self.inside.marks c.self.inside.clock c.self.inside.running.items c.self.inside.tale.items c.self.inside.preparing c.self.inside.over.items (vec_capacity c.self.inside.tale) (vec_capacity c.self.inside.over) c.args.tx.0 c.in-Some.at (op.Read c.args.key) (Row c.in_ok-row.row) c.tell.new.tx
+now : (c : In_ok-tell) → IsTold c.self.inside.base c.self.inside.marks c.self.inside.clock c.self.inside.running.items c.self.inside.tale.items c.self.inside.preparing c.self.inside.over.items (vec_capacity c.self.inside.tale) (vec_capacity c.self.inside.over) c.args.tx.0 c.in-Some.at (op.Read c.args.key) (Found c.in_ok-row.row) c.tell.new.tx
 unfolding old
 now c =
     let f = c.self.inside in
-    kept_told f.base f.marks f.clock f.running.items f.tale.items f.preparing f.over.items (vec_capacity f.tale) (vec_capacity f.over) c.args.tx.0 c.in-Some.at (op.Read c.args.key) (Row c.in_ok-row.row) c.index_mut-own.result.now c.tell.new.tx
+    kept_told f.base f.marks f.clock f.running.items f.tale.items f.preparing f.over.items (vec_capacity f.tale) (vec_capacity f.over) c.args.tx.0 c.in-Some.at (op.Read c.args.key) (Found c.in_ok-row.row) c.index_mut-own.result.now c.tell.new.tx
     (place c) c.index_mut-own.ensures.value
-    (c.in_ok-tell.ensures.ok ∙ ap (λ (r : Option Line). record c.index_mut-own.result.now { told = c.index_mut-own.result.now.told ++ (op.Read c.args.key, Row r) ∷ [] }) c.in_ok-kept.ensures)
-    (quiet c) tt (ap Row (answer c)) c.self.invariant.kept
+    (c.in_ok-tell.ensures.ok ∙ ap (λ (r : Option RowData). record c.index_mut-own.result.now { told = c.index_mut-own.result.now.told ++ (op.Read c.args.key, Found r) ∷ [] }) c.in_ok-kept.ensures)
+    (quiet c) tt (ap Found (answer c)) c.self.invariant.kept
 
 pub invariant_of-self-2 : goal.invariant_of-self-2
 invariant_of-self-2 c = record { kept = (now c).kept; indexed = c.self.invariant.indexed; groups = c.self.invariant.groups }
@@ -123,7 +123,7 @@ returns-clause-refused c =
 
 pub returns-clause-answer : goal.returns-clause-answer
 unfolding old
-returns-clause-answer c = ap Row (answer c ∙ ap (λ (s : State). row_at (snapshot s c.args.tx.0) c.args.key) c.self.view_is)
+returns-clause-answer c = ap Found (answer c ∙ ap (λ (s : State). row_at (snapshot s c.args.tx.0) c.args.key) c.self.view_is)
 
 pub returns-clause-told : goal.returns-clause-told
-returns-clause-told c = (now c).state ∙ ap (λ (s : State). told s c.args.tx.0 (op.Read c.args.key) (Row c.in_ok-row.row)) c.self.view_is
+returns-clause-told c = (now c).state ∙ ap (λ (s : State). told s c.args.tx.0 (op.Read c.args.key) (Found c.in_ok-row.row)) c.self.view_is

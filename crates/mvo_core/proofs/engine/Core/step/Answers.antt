@@ -2,9 +2,9 @@ use Rattle.std.proofs.Common.{rules, arith, ◌≡◌, ◌+◌, ◌<◌, ◌≤�
 use Rattle.mvo_types.specs.declared.op.Op.TheVariants as op
 use Rattle.mvo_types.specs.declared.refusal.Refusal.{Refusal}
 use Rattle.mvo_types.specs.Keys.{Map}
-use Rattle.mvo_types.specs.Said.{said}
+use Rattle.mvo_types.specs.AnswerData.{answer_data}
 use Rattle.mvo_model.specs.Trace.{Step}
-use Rattle.mvo_model.specs.Trace.Step.{Begins, Tells, Prepares, Checks, Commits, Aborts, Leaves}
+use Rattle.mvo_model.specs.Trace.Step.{Begins, Answers, Prepares, Checks, Commits, Aborts, Terminates}
 use Rattle.mvo_state.specs.Line.{State, Slot, began, told, left}
 use Rattle.mvo_state.specs.Causes.{is_failure, preparing_of, end_of, end_at}
 use Rattle.mvo_state.specs.Steps.{now_prepared, now_checked, now_committed, now_aborted, after_refusal}
@@ -37,8 +37,8 @@ returns-in-Ok-read-clause-stands c opening xs h =
     let t = c.in-Read.tx.0 in
     let mine = active_read s t c.in-Read.key c.in-Ok-read.ensures.refused in
     subst (λ (e : Event). Stands opening (xs ++ happened e (reply.Answered c.in-Ok-read.answer)) c.read.new.self) (sym c.in-Read.is)
-    (subst (Stands opening (xs ++ Tells t (op.Read c.in-Read.key) (said c.in-Ok-read.answer) ∷ [])) (sym c.in-Ok-read.ensures.told)
-    (stands_told opening xs s t (op.Read c.in-Read.key) (said c.in-Ok-read.answer) mine.0 mine.1 c.clock-clock.ensures.sound c.clock-clock.ensures.numbered h))
+    (subst (Stands opening (xs ++ Answers t (op.Read c.in-Read.key) (answer_data c.in-Ok-read.answer) ∷ [])) (sym c.in-Ok-read.ensures.told)
+    (stands_told opening xs s t (op.Read c.in-Read.key) (answer_data c.in-Ok-read.answer) mine.0 mine.1 c.clock-clock.ensures.sound c.clock-clock.ensures.numbered h))
 
 pub returns-in-Ok-insert-clause-stands : goal.returns-in-Ok-insert-clause-stands
 returns-in-Ok-insert-clause-stands c opening xs h =
@@ -46,8 +46,8 @@ returns-in-Ok-insert-clause-stands c opening xs h =
     let t = c.in-Insert.tx.0 in
     let mine = active_inserted s t c.in-Insert.row c.in-Ok-insert.ensures.refused in
     subst (λ (e : Event). Stands opening (xs ++ happened e (reply.Answered c.in-Ok-insert.answer)) c.insert.new.self) (sym c.in-Insert.is)
-    (subst (Stands opening (xs ++ Tells t (op.Insert c.in-Insert.row) (said c.in-Ok-insert.answer) ∷ [])) (sym c.in-Ok-insert.ensures.told)
-    (stands_told opening xs s t (op.Insert c.in-Insert.row) (said c.in-Ok-insert.answer) mine.0 mine.1 c.clock-clock.ensures.sound c.clock-clock.ensures.numbered h))
+    (subst (Stands opening (xs ++ Answers t (op.Insert c.in-Insert.row) (answer_data c.in-Ok-insert.answer) ∷ [])) (sym c.in-Ok-insert.ensures.told)
+    (stands_told opening xs s t (op.Insert c.in-Insert.row) (answer_data c.in-Ok-insert.answer) mine.0 mine.1 c.clock-clock.ensures.sound c.clock-clock.ensures.numbered h))
 
 pub returns-in-Ok-precommit-clause-stands : goal.returns-in-Ok-precommit-clause-stands
 returns-in-Ok-precommit-clause-stands c opening xs h =
@@ -126,4 +126,4 @@ returns-in-Ok-rollback_tx-clause-stays c = stays_at c.args.self.now c.rollback_t
 pub returns-in-Ok-Done-clause-stands : goal.returns-in-Ok-Done-clause-stands
 returns-in-Ok-Done-clause-stands c opening xs h =
     subst (λ (e : Event). Stands opening (xs ++ happened e reply.Done) c.finish_one.new.self) (sym c.in-Finish.is)
-    (subst (Stands opening (xs ++ Leaves c.in-Finish.tx.0 ∷ [])) (sym c.in-Ok-Done.ensures.ok) (stands_left opening xs c.args.self.now c.in-Finish.tx.0 (over_finished c.args.self.now c.in-Finish.tx.0 c.in-Ok-Done.ensures.refused) c.clock-clock.ensures.single h))
+    (subst (Stands opening (xs ++ Terminates c.in-Finish.tx.0 ∷ [])) (sym c.in-Ok-Done.ensures.ok) (stands_left opening xs c.args.self.now c.in-Finish.tx.0 (over_finished c.args.self.now c.in-Finish.tx.0 c.in-Ok-Done.ensures.refused) c.clock-clock.ensures.single h))

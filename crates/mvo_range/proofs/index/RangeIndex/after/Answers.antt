@@ -6,7 +6,7 @@ use Rattle.std.below.core.specs.declared.int.u64.TheConstants as u64
 use Rattle.mvo_range.specs.declared.place.Place.{Place}
 use Rattle.mvo_range.specs.Place.{place_cmp, is_between_after}
 use Rattle.mvo_range.proofs.Places.{entries_held}
-use Rattle.mvo_range.proofs.Ranges.{none_after, all_after}
+use Rattle.mvo_range.proofs.Ranges.{none_after, rows_after_all}
 use Rattle.mvo_range.proofs.index.RangeIndex.after.Goals as goal
 
 pub returns-then-hi-place : goal.returns-then-hi-place
@@ -23,5 +23,5 @@ returns c =
     let keep = filter (is_between_after c.args.place c.args.hi) in
     let upto : Place → List (Place × ℕ) = λ b. filter (λ e. is_lt (place_cmp c.args.place e.0) && not (is_lt (place_cmp b e.0))) es in
     c.over-2.ensures ∙ c.range-2.ensures.between tt ∙ ap upto c.last_of-last.ensures
-    ∙ all_after c.args.place c.args.hi u64.MAX es (omega arith) c.self.invariant
+    ∙ rows_after_all c.args.place c.args.hi u64.MAX es (omega arith) c.self.invariant
     ∙ ap keep (sym (entries_held es c.range-2.ensures.ordered)) ∙ ap (λ m. keep (map.entries m)) c.self.view_is
