@@ -15,7 +15,7 @@ use Rattle.mvo_model.specs.Serial.{answer_to, rows_after}
 use Rattle.mvo_types.specs.AnswerData.{AnswerData}
 use Rattle.mvo_types.specs.AnswerData.AnswerData.{Found, Inserted, Exists, Updated, Deleted, Absent}
 use Rattle.mvo_types.proofs.Maps.{keys_total}
-use Rattle.mvo_model.specs.History.{History, write_of, after_effect, after_write, after_history, write_at, later, net_write, AreSerial, rows_after_all, Legal}
+use Rattle.mvo_model.specs.History.{History, write_of, after_effect, after_write, after_history, after_histories, write_at, later, net_write, AreSerial, rows_after_all, Legal}
 
 -- ---- the net write at a key
 pub later_later : (a b : Option Effect) (v : Option ContentData) → content_after_last (later a b) v ≡ content_after_last a (content_after_last b v)
@@ -136,12 +136,7 @@ AreSerial-agree (t ∷ ts) m n h s =
     )
 
 -- ---- one more transaction
--- the rows after these transactions
-abbrev pub left_by_all : List History → Map → Map
-left_by_all [] m = m
-left_by_all (t ∷ ts) m = left_by_all ts (after_history t m)
-
-pub Legal-push : (ts : List History) (t : History) (m : Map) → Legal m ts → AreSerial t (left_by_all ts m) → Legal m (ts ++ t ∷ [])
+pub Legal-push : (ts : List History) (t : History) (m : Map) → Legal m ts → AreSerial t (after_histories ts m) → Legal m (ts ++ t ∷ [])
 Legal-push [] t m h s = (s, tt)
 Legal-push (x ∷ xs) t m h s =
-    (h.0, Legal-push xs t (rows_after_all (map (λ y. y.0) x) m) h.1 (subst (λ n. AreSerial t (left_by_all xs n)) (sym (rows_after_all-after_history x m h.0)) s))
+    (h.0, Legal-push xs t (rows_after_all (map (λ y. y.0) x) m) h.1 (subst (λ n. AreSerial t (after_histories xs n)) (sym (rows_after_all-after_history x m h.0)) s))

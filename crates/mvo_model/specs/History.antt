@@ -38,6 +38,11 @@ abbrev pub after_history : History → Map → Map
 after_history [] m = m
 after_history (t ∷ ts) m = after_history ts (after_write (write_of t.0 t.1) m)
 
+-- the rows after the writes of transactions, one after another
+abbrev pub after_histories : List History → Map → Map
+after_histories [] m = m
+after_histories (t ∷ ts) m = after_histories ts (after_history t m)
+
 -- what a write leaves at the key k, if it is of k
 abbrev pub write_at : RowKey → Option Write → Option Effect
 write_at k None = None

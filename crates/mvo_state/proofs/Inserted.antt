@@ -1,5 +1,5 @@
 -- A transaction takes its place among transactions that look alike without it.
-use Rattle.std.proofs.Common.{◌≡◌, ◌≢◌, ℕ, ◌<◌, Bool, true, false, cond, List, [], ◌∷◌, ◌++◌, Option, None, Some, map, refl, sym, ap, ◌∙◌, subst, ◌⊎◌, inl, inr, arith, append_assoc}
+use Rattle.std.proofs.Common.{◌≡◌, ◌≢◌, List, [], ◌∷◌, ◌++◌, Option, None, Some, refl, sym, ap, ◌∙◌, subst, ◌⊎◌, inl, inr}
 use Rattle.std.specs.Prelude.{⊤}
 use Rattle.std.specs.List.{AllByRecursion}
 use Rattle.std.specs.FinMap as fin
@@ -7,12 +7,12 @@ use Rattle.mvo_types.specs.declared.row.RowKey.{RowKey}
 use Rattle.mvo_types.specs.RowData.{ContentData}
 use Rattle.mvo_types.specs.Keys.{Map}
 use Rattle.mvo_types.specs.Write.{Effect, content_after_last}
-use Rattle.mvo_model.specs.History.{History, after_history, later, net_write, AreSerial, rows_after_all, Legal}
-use Rattle.mvo_model.proofs.Serials.{get-after_history, net_write-append, after_history-append, AllAgree, AreSerial-agree, left_by_all, rows_after_all-after_history}
+use Rattle.mvo_model.specs.History.{History, after_history, net_write, AreSerial, Legal, after_histories}
+use Rattle.mvo_model.proofs.Serials.{get-after_history, after_history-append, AllAgree, AreSerial-agree, rows_after_all-after_history}
 use Rattle.mvo_state.specs.Entries.{key_of}
 use Rattle.mvo_state.specs.Entries.{IsKeyed}
 use Rattle.mvo_state.proofs.Keyed.{all_agree_at}
-use Rattle.mvo_state.proofs.Each.{each_both, each_weaker}
+use Rattle.mvo_state.proofs.Each.{each_weaker}
 
 -- ---- a commit in the middle of the tale
 -- the transactions look alike at both rows
@@ -26,7 +26,7 @@ legal_alike (t ∷ ts) m n a h =
     let here = AreSerial-agree t m n a.0 h.0 in
     (here, subst (λ x. Legal x ts) (sym (rows_after_all-after_history t n here)) (legal_alike ts (after_history t m) (after_history t n) a.1 (subst (λ x. Legal x ts) (rows_after_all-after_history t m h.0) h.1)))
 
-pub legal_insert : (before after : List History) (t : History) (m : Map) → Legal m (before ++ after) → AreSerial t (left_by_all before m) → LookAlike after (left_by_all before m) (after_history t (left_by_all before m)) → Legal m (before ++ t ∷ after)
+pub legal_insert : (before after : List History) (t : History) (m : Map) → Legal m (before ++ after) → AreSerial t (after_histories before m) → LookAlike after (after_histories before m) (after_history t (after_histories before m)) → Legal m (before ++ t ∷ after)
 legal_insert [] after t m h s a = (s, subst (λ x. Legal x after) (sym (rows_after_all-after_history t m s)) (legal_alike after m (after_history t m) a h))
 legal_insert (b ∷ bs) after t m h s a =
     let e = rows_after_all-after_history b m h.0 in

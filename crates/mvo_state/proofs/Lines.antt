@@ -1,15 +1,14 @@
 -- What a change of the line leaves as it was.
-use Rattle.std.proofs.Common.{◌≡◌, ◌≢◌, ℕ, ◌<◌, ◌≤◌, Bool, true, false, cond, not, ◌||◌, List, [], ◌∷◌, ◌++◌, Option, None, Some, map, refl, sym, ap, ◌∙◌, subst, ◌⊎◌, inl, inr, arith, append_assoc}
+use Rattle.std.proofs.Common.{◌≡◌, ℕ, ◌<◌, ◌≤◌, Bool, true, false, cond, ◌||◌, List, [], ◌∷◌, ◌++◌, Option, None, Some, map, refl, sym, ap, ◌∙◌, subst, ◌⊎◌, inl, inr, arith, append_assoc}
 use Rattle.std.specs.Prelude.{⊤, nat_lt, ◌==◌, ◌&&◌, is_some}
-use Rattle.std.specs.List.{AllByRecursion, filter, list_any}
-use Rattle.std.proofs.lemmas.Bool.{ltb-true, ltb-false, eqb-true, eqb-false, le-ltb, lt-ltb, eq-eqb, ne_eqb, false≢true, true≢false, and_parts, cases_lt, cases_eq}
+use Rattle.std.specs.List.{AllByRecursion, filter}
+use Rattle.std.proofs.lemmas.Bool.{ltb-true, le-ltb, eq-eqb, false≢true, true≢false, and_parts}
 use Rattle.mvo_types.specs.declared.row.RowKey.{RowKey}
-use Rattle.mvo_types.specs.Keys.{Map}
 use Rattle.mvo_types.specs.Write.{Effect}
-use Rattle.mvo_model.specs.History.{History, after_history, later, net_write}
+use Rattle.mvo_model.specs.History.{History, later, net_write}
 use Rattle.mvo_model.proofs.Serials.{net_write-append}
-use Rattle.mvo_state.proofs.Each.{each_weaker, each_both, each_append, each_map}
-use Rattle.mvo_state.specs.Line.{Slot, tale, told_below, seen_by, is_writer, but, last_writer, has, with_end, rest_on}
+use Rattle.mvo_state.proofs.Each.{each_append, each_map}
+use Rattle.mvo_state.specs.Line.{Slot, tale, told_below, is_writer, but, last_writer, has, with_end, rest_on}
 use Rattle.mvo_state.specs.Sound.{IsWritten, IsDecided, IsUnchanged, IsClear, IsRising}
 
 -- ---- who decides a key, after a look

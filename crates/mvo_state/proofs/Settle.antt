@@ -1,10 +1,10 @@
 -- A settled transaction takes its place in the middle of the tale.
-use Rattle.std.proofs.Common.{◌≡◌, ◌≢◌, ℕ, ◌<◌, ◌≤◌, Bool, true, false, cond, not, ◌||◌, List, [], ◌∷◌, ◌++◌, Option, None, Some, map, refl, sym, ap, ◌∙◌, subst, ◌⊎◌, inl, inr, arith, append_assoc}
-use Rattle.std.specs.Prelude.{⊤, nat_lt, ◌==◌, ◌&&◌, is_some}
+use Rattle.std.proofs.Common.{◌≡◌, ◌≢◌, ℕ, ◌<◌, ◌≤◌, Bool, true, false, cond, ◌||◌, List, [], ◌∷◌, ◌++◌, Option, None, Some, map, refl, sym, ap, ◌∙◌, subst, ◌⊎◌, inl, inr, arith}
+use Rattle.std.specs.Prelude.{nat_lt, ◌==◌, ◌&&◌, is_some}
 use Rattle.std.specs.FinMap as fin
-use Rattle.std.specs.List.{AllByRecursion, filter, list_any}
+use Rattle.std.specs.List.{AllByRecursion}
 use Rattle.std.specs.Ordering.{eq_by_cmp}
-use Rattle.std.proofs.lemmas.Bool.{ltb-true, ltb-false, eqb-true, eqb-false, le-ltb, lt-ltb, eq-eqb, ne_eqb, false≢true, true≢false, and_parts, and_from, and_right, cases_lt, cases_eq, or_cases}
+use Rattle.std.proofs.lemmas.Bool.{ltb-true, ltb-false, eqb-true, le-ltb, lt-ltb, eq-eqb, ne_eqb, false≢true, true≢false, and_parts, and_from, and_right, cases_lt, or_cases}
 use Rattle.std.proofs.lemmas.Map.Views.{tells_apart}
 use Rattle.mvo_types.proofs.Maps.{exact_keys}
 use Rattle.mvo_types.specs.declared.row.RowKey.{RowKey}
@@ -12,16 +12,16 @@ use Rattle.mvo_types.specs.declared.op.Op.{Op}
 use Rattle.mvo_types.specs.declared.op.Op.TheVariants.{Read, Scan, Insert, Update, Delete}
 use Rattle.mvo_types.specs.Keys.{Map, key_cmp}
 use Rattle.mvo_types.specs.AnswerData.{AnswerData}
-use Rattle.mvo_types.specs.AnswerData.AnswerData.{Found, Rows, Inserted, Exists, Updated, Deleted, Absent}
+use Rattle.mvo_types.specs.AnswerData.AnswerData.{Inserted, Updated, Deleted}
 use Rattle.mvo_types.specs.Write.{Write, Effect, content_after_last}
-use Rattle.mvo_model.specs.History.{History, write_of, write_at, after_history, later, net_write, AreSerial, Legal}
-use Rattle.mvo_model.proofs.Serials.{net_write-append, get-after_history, after_history-append, AreSerial-agree, left_by_all}
+use Rattle.mvo_model.specs.History.{History, write_of, write_at, after_history, later, net_write, AreSerial, Legal, after_histories}
+use Rattle.mvo_model.proofs.Serials.{net_write-append, get-after_history, after_history-append, AreSerial-agree}
 use Rattle.mvo_state.specs.Entries.{key_of}
 use Rattle.mvo_state.specs.Entries.{IsKeyed, IsApart}
-use Rattle.mvo_state.proofs.Each.{each_weaker, each_both, each_append, each_front, each_back, each_map}
+use Rattle.mvo_state.proofs.Each.{each_weaker, each_both, each_back}
 use Rattle.mvo_state.proofs.Keyed.{all_agree_at, each_key}
-use Rattle.mvo_state.proofs.Inserted.{legal_insert, covered_alike, IsCoveredBy, LookAlike}
-use Rattle.mvo_state.specs.Line.{Slot, tale, told_below, seen_by, is_writer, has, with_settled}
+use Rattle.mvo_state.proofs.Inserted.{legal_insert, covered_alike, IsCoveredBy}
+use Rattle.mvo_state.specs.Line.{Slot, tale, told_below, seen_by, has, with_settled}
 use Rattle.mvo_state.specs.Sound.{IsWritten, IsDecided, IsUnchanged, IsClear, IsRising, IsResting, IsPreparing, IsPlaced}
 use Rattle.mvo_state.proofs.Lines.{none_unless}
 
@@ -176,7 +176,7 @@ settled_none : (e : ℕ) (xs : List Slot) → AllByRecursion (λ x. e ≤ x.stop
 settled_none e [] h = refl
 settled_none e (x ∷ xs) h = ap (λ (b : Bool). cond b x.told [] ++ settled_below e xs) (and_right x.settled (nat_lt x.stop e) (le-ltb x.stop e h.0)) ∙ settled_none e xs h.1
 
-left_settled : (e : ℕ) (before ys : List Slot) (m : Map) → AllByRecursion (λ x. x.stop < e) before → AllByRecursion (λ x. e ≤ x.stop) ys → after_history (settled_below e (before ++ ys)) m ≡ left_by_all (tale before) m
+left_settled : (e : ℕ) (before ys : List Slot) (m : Map) → AllByRecursion (λ x. x.stop < e) before → AllByRecursion (λ x. e ≤ x.stop) ys → after_history (settled_below e (before ++ ys)) m ≡ after_histories (tale before) m
 left_settled e [] ys m f g = ap (λ ts. after_history ts m) (settled_none e ys g)
 left_settled e (x ∷ xs) ys m f g =
     ap (λ (b : Bool). after_history (cond b x.told [] ++ settled_below e (xs ++ ys)) m) (one x.settled)
@@ -186,7 +186,7 @@ left_settled e (x ∷ xs) ys m f g =
     one true = lt-ltb x.stop e f.0
     one false = refl
 
-    go : (b : Bool) → after_history (settled_below e (xs ++ ys)) m ≡ left_by_all (tale xs) m → after_history (settled_below e (xs ++ ys)) (after_history x.told m) ≡ left_by_all (tale xs) (after_history x.told m) → after_history (cond b x.told [] ++ settled_below e (xs ++ ys)) m ≡ left_by_all (cond b (x.told ∷ tale xs) (tale xs)) m
+    go : (b : Bool) → after_history (settled_below e (xs ++ ys)) m ≡ after_histories (tale xs) m → after_history (settled_below e (xs ++ ys)) (after_history x.told m) ≡ after_histories (tale xs) (after_history x.told m) → after_history (cond b x.told [] ++ settled_below e (xs ++ ys)) m ≡ after_histories (cond b (x.told ∷ tale xs) (tale xs)) m
     go true p q = after_history-append x.told (settled_below e (xs ++ ys)) m ∙ q
     go false p q = p
 
@@ -224,7 +224,7 @@ pub legal_settled : (base : Map) (before after : List Slot) (t : Slot) → IsRis
 legal_settled base before after t r c k o s l =
     let below = rising_before before after t r in
     let above = rising_after before after t r in
-    let m = left_by_all (tale before) base in
+    let m = after_histories (tale before) base in
     subst (Legal base) (sym (tale_settled t.stop before after t refl (each_weaker (λ x. x.stop < t.stop) (λ x. x.stop ≢ t.stop) (λ x lt e. absurd (omega arith)) before below) (each_weaker (λ x. t.stop < x.stop) (λ x. x.stop ≢ t.stop) (λ x lt e. absurd (omega arith)) after above)))
     (legal_insert (tale before) (tale after) t.told base
     (subst (Legal base) (tale-append before (t ∷ after) ∙ ap (λ (b : Bool). tale before ++ cond b (t.told ∷ tale after) (tale after)) o) l)

@@ -1,8 +1,8 @@
 -- Each step keeps what a core keeps.
-use Rattle.std.proofs.Common.{suc, zero, take, length, add-one, ◌≡◌, ◌≢◌, ◌||◌, ℕ, ◌+◌, ◌<◌, ◌≤◌, Bool, true, false, cond, not, List, [], ◌∷◌, ◌++◌, Option, None, Some, map, refl, sym, ap, ◌∙◌, subst, arith, ◌⊎◌, inl, inr}
-use Rattle.std.specs.Prelude.{⊤, nat_lt, ◌==◌, slice_get, is_some}
+use Rattle.std.proofs.Common.{suc, zero, take, length, add-one, ◌≡◌, ◌≢◌, ◌||◌, ℕ, ◌+◌, ◌<◌, ◌≤◌, Bool, true, false, cond, not, List, [], ◌∷◌, ◌++◌, Option, None, Some, map, refl, sym, ap, ◌∙◌, subst, arith}
+use Rattle.std.specs.Prelude.{nat_lt, ◌==◌, slice_get, is_some}
 use Rattle.std.specs.FinMap as fin
-use Rattle.std.specs.List.{AllByRecursion, filter, list_any}
+use Rattle.std.specs.List.{AllByRecursion, filter}
 use Rattle.std.proofs.lemmas.Bool.{eqb-true, false≢true, true≢false, not-false, ltb-true, and_parts}
 use Rattle.std.proofs.lemmas.List.{take_all}
 use Rattle.mvo_types.specs.declared.row.RowKey.{RowKey}
@@ -15,11 +15,11 @@ use Rattle.mvo_model.specs.History.{History, after_history, net_write, AreSerial
 use Rattle.mvo_model.proofs.Serials.{get-after_history, AreSerial-push, AreSerial-agree}
 use Rattle.mvo_state.specs.Entries.{key_of, entry_keys}
 use Rattle.mvo_state.specs.Entries.{IsKeyed, IsApart}
-use Rattle.mvo_state.proofs.Each.{each_weaker, each_both, each_always, each_append, each_front, each_back, each_map, each_filter}
+use Rattle.mvo_state.proofs.Each.{each_weaker, each_both, each_append, each_back, each_map, each_filter}
 use Rattle.mvo_state.proofs.Keyed.{all_agree_at}
 use Rattle.mvo_state.specs.declared.over.OverTx.{OverTx}
 use Rattle.mvo_state.specs.declared.marks.Marks.{Marks}
-use Rattle.mvo_state.specs.Line.{State, Slot, Running, tale, told_below, seen_by, is_writer, last_writer, has, rest_on, with_end, but, began, told, with_told, prepared, to_slot, without, checked, with_check, committed, with_settled, doomed_by, with_doom, running_doom, not_at, dropped, undone}
+use Rattle.mvo_state.specs.Line.{State, Slot, Running, tale, told_below, seen_by, is_writer, last_writer, has, rest_on, with_end, but, began, told, with_told, prepared, to_slot, checked, with_check, committed, with_settled, doomed_by, with_doom, running_doom, not_at, dropped, undone}
 use Rattle.mvo_state.specs.Sound.{IsDecided, IsUnchanged, IsClear, IsRising, IsResting, IsActive, IsPreparing, IsPlaced, IsSound}
 use Rattle.mvo_state.proofs.Lines.{decided_now, has_rest, decided_more, told_below-last, decided_last, clear_last, rising_last, tale_last, IsLike, told_below-map, decided_map, rising_map, unchanged_map, IsOut, decided_filter, seen_filter, tale_filter, clear_filter, rising_filter, each_part}
 use Rattle.mvo_state.proofs.Settle.{IsFreeToSettle, apart_all, serial_now, legal_settled, clear_settled, rising_before, rising_after}
@@ -287,7 +287,7 @@ now_open : (a b : Bool) → (a || b) ≡ false → a ≡ false
 now_open true b h = absurd (true≢false h)
 now_open false b h = refl
 
-like_settled : (e : ℕ) → IsLike (with_settled e)
+pub like_settled : (e : ℕ) → IsLike (with_settled e)
 like_settled e = λ x. (refl, refl, λ q. or_true x.settled (x.stop == e) q)
 
 one_end : (t : Slot) (before after : List Slot) → IsRising (before ++ t ∷ after) → AllByRecursion (λ u. u.stop ≡ t.stop → u.told ≡ t.told) (before ++ t ∷ after)

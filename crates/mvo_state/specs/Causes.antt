@@ -8,8 +8,8 @@ use Rattle.mvo_types.specs.declared.refusal.Refusal.TheVariants.{NoSuchTransacti
 use Rattle.std.specs.Option.{option_map}
 use Rattle.mvo_types.specs.RowData.{RowData, row_with}
 use Rattle.mvo_types.specs.Keys.{Map, row_at}
+use Rattle.mvo_types.specs.RowLists.{is_within}
 use Rattle.mvo_types.specs.Write.{Write, content_after}
-use Rattle.mvo_model.specs.Serial.{is_in_range}
 use Rattle.mvo_model.specs.History.{History, write_of, after_write, net_write}
 use Rattle.mvo_state.specs.Entries.{Entry, entries, has_entry, entry_keys, is_noted, written_keys}
 use Rattle.mvo_state.specs.Entries.Entry.{Key, Range}
@@ -132,7 +132,7 @@ waiting_for ds (x ∷ xs) = if not x.settled && has ds x.stop then Some x else w
 -- whether there is a row, and in the range
 abbrev pub is_row_in : ℕ → ℕ → ℕ → Option RowData → Bool
 is_row_in table lo hi None = false
-is_row_in table lo hi (Some r) = is_in_range table lo hi r
+is_row_in table lo hi (Some r) = is_within table lo hi r
 
 -- whether a write on these rows ends a row in the range, or puts one there
 abbrev pub writes_in : ℕ → ℕ → ℕ → Map → Option Write → Bool
