@@ -1,14 +1,14 @@
 -- A list has its elements in order in one way only, and that is what `in_order` computes.
-use Rattle.std.proofs.Common.{◌≡◌, ℕ, zero, suc, ◌<◌, Bool, true, false, cond, List, [], ◌∷◌, length, get_or, refl, sym, ap, ◌∙◌, subst, ◌⊎◌, inl, inr, arith}
+use Rattle.std.proofs.Common.{◌≡◌, ℕ, zero, suc, ◌+◌, ◌<◌, Bool, true, false, cond, List, [], ◌∷◌, length, get_or, refl, sym, ap, ◌∙◌, subst, ◌⊎◌, inl, inr, arith}
 use Rattle.std.specs.List.{AllByRecursion, Contains, IsDistinct}
-use Rattle.std.specs.List.Sorted.{IsPermutation, IsStrictlySortedBy}
+use Rattle.std.specs.List.Sorted.{IsPermutation, IsSorted, IsStrictlySortedBy}
 use Rattle.std.specs.Cmp.{IsTotalOrder, eq_by_cmp_equiv}
 use Rattle.std.specs.Ordering.{eq_by_cmp, is_eq, is_lt, ordering_reverse}
 use Rattle.std.specs.declared.cmp.Ordering.{Ordering}
 use Rattle.std.specs.declared.cmp.Ordering.TheVariants.{Less, Equal, Greater}
 use Rattle.std.proofs.lemmas.Bool.{true≢false}
 use Rattle.std.proofs.lemmas.List.Sorted.{IsPermutation-refl, IsPermutation-sym, IsPermutation-trans, IsPermutation-cons, IsPermutation-middle, Contains-permutation}
-use Rattle.std.proofs.lemmas.Map.Keys.{IsDistinct-head, IsDistinct-tail, IsDistinct-from_sorted, IsDistinct-IsPermutation}
+use Rattle.std.proofs.lemmas.Map.Keys.{IsDistinct-head, IsDistinct-tail, IsDistinct-from_sorted, IsDistinct-IsPermutation, apart_from_distinct, sorted_from_all_adjacent}
 use Rattle.mvo_model.specs.Order.{IsInOrder, placed, in_order}
 
 -- ---- elements
@@ -124,3 +124,20 @@ module _ {X : Type 0} {cmp : X → X → Ordering} (total : IsTotalOrder cmp) wh
       let apart = IsDistinct-IsPermutation (eq_by_cmp cmp) ((eq_by_cmp_equiv total).symm) ys xs back (IsDistinct-from_sorted cmp ys h.rise) in
       let q = IsPermutation-trans ys xs (in_order cmp xs) back (in_order_same xs) in
       one_rising ys (in_order cmp xs) (in_same ys (in_order cmp xs) q) (in_same (in_order cmp xs) ys (IsPermutation-sym ys (in_order cmp xs) q)) h.rise (in_order_rises xs apart)
+
+-- elements of which no two are equal rise strictly where they are sorted
+pub rise_strictly : {X : Type 0} {cmp : X → X → Ordering} → IsTotalOrder cmp → (xs : List X) → IsSorted cmp xs → IsDistinct (eq_by_cmp cmp) xs → IsStrictlySortedBy cmp xs
+unfolding IsStrictlySortedBy
+rise_strictly total [] s apart = tt
+rise_strictly {X} {cmp} total (x ∷ xs) s apart = sorted_from_all_adjacent total (x ∷ xs) x each
+  where
+    less : (o : Ordering) → is_eq o ≡ false → is_lt (ordering_reverse o) ≡ false → o ≡ Less
+    less Less e f = refl
+    less Equal e f = absurd (true≢false e)
+    less Greater e f = absurd (true≢false f)
+
+    each : (k : ℕ) → k + 1 < length (x ∷ xs) → cmp (get_or (x ∷ xs) k x) (get_or (x ∷ xs) (k + 1) x) ≡ Less
+    each k lt =
+        let a = get_or (x ∷ xs) k x in
+        let b = get_or (x ∷ xs) (k + 1) x in
+        less (cmp a b) (apart_from_distinct (eq_by_cmp cmp) (x ∷ xs) k (k + 1) x apart (omega arith) lt) (ap is_lt (sym (total.antisymm b a)) ∙ s k x (omega arith) lt)

@@ -104,11 +104,14 @@ apart table [] all s = none_apart
 apart table (r ∷ rows) all s = IsDistinct-cons (eq_by_cmp scan_cmp) r rows (all_unequal table r rows all.0 all.1 s.0) (apart table rows all.1 s.1)
 
 -- ---- the scan
+-- the rows of a range differ in sort or key
+pub within_apart : (m : Map) (table low high : ℕ) → IsDistinct (eq_by_cmp scan_cmp) (rows_within m table low high)
+within_apart m table low high =
+    apart table (rows_within m table low high) (one_table table low high (rows_by_key m))
+    (IsStrictlySortedBy-filter row_cmp (is_within table low high) (rows_by_key m) (by_key (fin.entries m) (entries_sorted m)))
+
 pub scan_is : (m : Map) (table low high : ℕ) → IsScan m table low high (scan m table low high)
-scan_is m table low high =
-    in_order_is scan_total (rows_within m table low high)
-    (apart table (rows_within m table low high) (one_table table low high (rows_by_key m))
-    (IsStrictlySortedBy-filter row_cmp (is_within table low high) (rows_by_key m) (by_key (fin.entries m) (entries_sorted m))))
+scan_is m table low high = in_order_is scan_total (rows_within m table low high) (within_apart m table low high)
 
 pub only_scan : (m : Map) (table low high : ℕ) (rows : List RowData) → IsScan m table low high rows → rows ≡ scan m table low high
 only_scan m table low high rows h = only_in_order scan_total (rows_within m table low high) rows h
