@@ -1,11 +1,9 @@
 -- The last write of a key, as a loop finds it.
-use Rattle.std.proofs.Common.{◌≡◌, ℕ, ◌+◌, ◌<◌, cond, List, [], ◌∷◌, ◌++◌, map, take, length, get_or, Option, refl, sym, ap, ◌∙◌, subst}
+use Rattle.std.proofs.Common.{◌≡◌, ℕ, ◌+◌, ◌<◌, cond, List, [], ◌∷◌, ◌++◌, take, length, get_or, Option, refl, sym, ap, ◌∙◌}
 use Rattle.std.proofs.lemmas.List.{take_more, map-append}
-use Rattle.std.specs.Ordering.{eq_by_cmp}
 use Rattle.mvo_types.specs.declared.row.RowKey.{RowKey}
 use Rattle.mvo_types.specs.declared.op.Op.{Op}
 use Rattle.mvo_types.specs.declared.answer.Answer.{Answer}
-use Rattle.mvo_types.specs.Keys.{key_cmp}
 use Rattle.mvo_types.specs.AnswerData.{answer_data, AnswerData}
 use Rattle.std.specs.Prelude.{nat_lt}
 use Rattle.mvo_state.specs.Entries.{noted, noted_key, entry_keys, entry_keys_from, written_keys, written_from, key_of}

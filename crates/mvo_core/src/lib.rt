@@ -25,6 +25,3 @@ pub use preparing::PreparingTx;
 pub use reply::{Finishing, Reply, Settlement, Validation};
 pub use tale::{Tale, TaleEntry};
 pub use whole::run;
-
-#[cfg(test)]
-mod tests;

@@ -1,8 +1,8 @@
 -- Tests of order as a loop goes, and what they say of the whole list.
 use Rattle.std.proofs.Common.{◌≡◌, ℕ, ◌<◌, ◌≤◌, ◌↔◌, Bool, true, false, cond, eqb, List, [], ◌∷◌, ltb, leb, map, take, drop, length, ◌-◌, get_or, refl, sym, ap, subst, ◌∙◌, arith}
 use Rattle.std.specs.Prelude.{◌&&◌, IsTrue}
-use Rattle.std.specs.List.{All, AllByRecursion}
-use Rattle.std.specs.List.Sorted.{IsStrictlyIncreasing, IsStrictlySortedBy}
+use Rattle.std.specs.List.{AllByRecursion}
+use Rattle.std.specs.List.Sorted.{IsStrictlySortedBy}
 use Rattle.std.specs.Ordering.{is_lt, nat_cmp}
 use Rattle.std.specs.declared.cmp.Ordering.{Ordering}
 use Rattle.std.specs.declared.cmp.Ordering.TheVariants.{Less, Equal, Greater}
@@ -15,6 +15,7 @@ use Rattle.mvo_types.specs.Keys.{key_cmp}
 use Rattle.mvo_types.proofs.Maps.{keys_total}
 use Rattle.mvo_group.specs.declared.write.Write.{Write as RustWrite}
 use Rattle.mvo_group.specs.Data.{RecordData, write_data}
+use Rattle.mvo_group.specs.Rules.{EndsRise}
 
 both_of : (a b : Bool) → (a && b) ≡ true → (a ≡ true) × (b ≡ true)
 both_of true b e = (refl, e)
@@ -69,9 +70,6 @@ keys_answer b ks e = answers b (do_keys_rise ks) (sorted_from_test ks) (test_fro
 abbrev pub do_ends_rise : ℕ → ℕ → List RecordData → Bool
 do_ends_rise lo hi [] = true
 do_ends_rise lo hi (r ∷ more) = (ltb lo r.end && leb r.end hi) && do_ends_rise r.end hi more
-
-abbrev pub EndsRise : ℕ → ℕ → List RecordData → Type 0
-EndsRise lo hi rs = IsStrictlyIncreasing (map (λ r. r.end) rs) × All (λ r. (lo < r.end) × (r.end ≤ hi)) rs
 
 lt_cmp : (a b : ℕ) → a < b → nat_cmp a b ≡ Less
 lt_cmp a b h = ap (λ t. cond t Less (cond (eqb a b) Equal Greater)) (lt-ltb a b h)

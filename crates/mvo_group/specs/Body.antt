@@ -5,16 +5,18 @@ use Rattle.byteorder.specs.Endian.{little_bytes}
 use Rattle.mvo_types.specs.declared.row.RowKey.{RowKey}
 use Rattle.mvo_types.specs.Write.{Write, Effect}
 use Rattle.mvo_types.specs.Write.Effect.{Put, Delete}
+use Rattle.mvo_group.specs.declared.write.TheConstants.{PUT, DELETE}
 use Rattle.mvo_group.specs.Data.{RecordData, GroupData}
 
 -- the number x in n bytes, the lowest first
 unfoldable pub field : ℕ → ℕ → List ℕ
 field n x = little_bytes n x
 
--- tag 1 and the row of a put, tag 2 and the key of a delete
+-- the tag and the row of a put, the tag and the key of a delete
 abbrev pub bytes_at : RowKey → Effect → List ℕ
-bytes_at k (Put h) = 1 ∷ k.table ∷ field 8 k.key ++ field 8 h.sort ++ field 2 (length h.bytes) ++ h.bytes
-bytes_at k Delete = 2 ∷ k.table ∷ field 8 k.key
+bytes_at k (Put h) =
+    PUT ∷ k.table ∷ field 8 k.key ++ field 8 h.sort ++ field 2 (length h.bytes) ++ h.bytes
+bytes_at k Delete = DELETE ∷ k.table ∷ field 8 k.key
 
 abbrev pub write_bytes : Write → List ℕ
 write_bytes w = bytes_at w.0 w.1
@@ -23,4 +25,6 @@ abbrev pub record_bytes : RecordData → List ℕ
 record_bytes r = field 8 r.end ++ field 2 (length r.writes) ++ flat_map write_bytes r.writes
 
 abbrev pub body_of : GroupData → List ℕ
-body_of g = field 8 g.prev ++ field 8 g.mark ++ field 2 (length g.records) ++ flat_map record_bytes g.records
+body_of g =
+    field 8 g.prev ++ field 8 g.mark ++ field 2 (length g.records)
+    ++ flat_map record_bytes g.records

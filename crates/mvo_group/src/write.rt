@@ -1,5 +1,6 @@
 ghost use Rattle.std.specs.Prelude.{◌≡◌};
 
+use crate::lengths::{DELETE_LEN, PUT_HEADER_LEN};
 use mvo_types::{Row, RowKey};
 
 /// The first byte of a put in a body.
@@ -39,8 +40,8 @@ impl Write {
         ensures { result ≡ write_len (write_data self.now) }
     {
         match self {
-            Write::Put(row) => 20 + row.bytes.len(),
-            Write::Delete(_) => 10,
+            Write::Put(row) => PUT_HEADER_LEN + row.bytes.len(),
+            Write::Delete(_) => DELETE_LEN,
         }
     }
 }

@@ -71,7 +71,7 @@ has_rest ds (Some y) x e = go y.settled
     go true = e
     go false = has_more ds y.stop x e
 
--- more to rest on
+-- more to depend on
 pub decided_more : (k : RowKey) (b : ℕ) (ds es : List ℕ) (line : List Slot) → ((d : ℕ) → has ds d ≡ true → has es d ≡ true) → IsDecided k b ds line → IsDecided k b es line
 decided_more k b ds es [] f h = tt
 decided_more k b ds es (x ∷ xs) f h = (λ o w. elim (h.0 o w) [ inl q ↦ inl (f x.stop q) | inr q ↦ inr q ], decided_more k b ds es xs f h.1)

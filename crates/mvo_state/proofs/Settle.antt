@@ -248,7 +248,7 @@ clear_settled e ts (x ∷ xs) r g f c = (λ o. let old = now_open x.settled (x.s
     )
 
 -- ---- all that is known at a settlement
--- none that it rests on is unsettled
+-- none that it depends on is unsettled
 abbrev pub IsFreeToSettle : List Slot → Slot → Type 0
 IsFreeToSettle line t = AllByRecursion (λ x. x.settled ≡ false → has t.rests x.stop ≡ false) line
 

@@ -337,7 +337,7 @@ sound_dropped s t h = record {
 some_none : (n : ℕ) → ◌≡◌ {A = Option ℕ} (Some n) None → ⊥
 some_none n g = cc
 
--- what isn't doomed by this abort wasn't before, and doesn't rest on the aborted one
+-- what isn't doomed by this abort wasn't before, and doesn't depend on the aborted one
 spared : (t e : ℕ) (rests : List ℕ) (doom : Option ℕ) → doomed_by t e rests doom ≡ None → (doom ≡ None) × (has rests e ≡ false)
 spared t e rests (Some u) h = absurd (some_none u h)
 spared t e rests None h = (refl, go (has rests e) h)

@@ -15,7 +15,7 @@ use Rattle.mvo_state.specs.Entries.{Entry, entries, has_entry, entry_keys, is_no
 use Rattle.mvo_state.specs.Entries.Entry.{Key, Range}
 use Rattle.mvo_state.specs.Line.{State, Slot, Running, has, last_writer, seen_by}
 
--- the refusal that comes first, and want of memory where none has a cause
+-- the refusal that comes first, and out of memory where none has a cause
 abbrev pub IsRefusal : Option Refusal → Refusal → Type 0
 IsRefusal (Some why) r = r ≡ why
 IsRefusal None r = r ≡ OutOfMemory
@@ -33,7 +33,7 @@ abbrev pub preparing_of : ℕ → List Slot → Option Slot
 preparing_of t [] = None
 preparing_of t (x ∷ xs) = if (x.id == t) && not x.settled then Some x else preparing_of t xs
 
--- one that rests on an aborted one
+-- one that depends on an aborted one
 abbrev pub or_doomed : Option ℕ → Option Refusal → Option Refusal
 or_doomed (Some x) why = Some (DependencyAborted (record { 0 = x }))
 or_doomed None why = why
@@ -123,7 +123,7 @@ not_settled_at s t (Some x) = or_doomed x.doom (if_stands (not x.valid) NotValid
 abbrev pub why_not_settled : State → ℕ → Option Refusal
 why_not_settled s t = not_settled_at s t (preparing_of t s.line)
 
--- the one with the least end, of those that it rests on, that isn't settled
+-- the one with the least end, of those that it depends on, that isn't settled
 abbrev pub waiting_for : List ℕ → List Slot → Option Slot
 waiting_for ds [] = None
 waiting_for ds (x ∷ xs) = if not x.settled && has ds x.stop then Some x else waiting_for ds xs

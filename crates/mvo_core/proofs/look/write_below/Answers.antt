@@ -1,4 +1,4 @@
-use Rattle.std.proofs.Common.{◌≡◌, ap, ◌∙◌, sym, get_or}
+use Rattle.std.proofs.Common.{ap, ◌∙◌, sym, get_or}
 use Rattle.std.specs.Option.{option_map}
 use Rattle.mvo_model.specs.History.{later, net_write}
 use Rattle.mvo_state.specs.Line.{told_below}
