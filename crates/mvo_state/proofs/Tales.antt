@@ -9,7 +9,7 @@ use Rattle.std.proofs.lemmas.List.Sorted.{IsPermutation-sym, IsPermutation-trans
 use Rattle.std.proofs.lemmas.Bool.{lt-ltb, ne_eqb, eq-eqb}
 use Rattle.mvo_types.specs.Keys.{Map}
 use Rattle.mvo_model.specs.History.{History, Legal}
-use Rattle.mvo_model.specs.Trace.{Step, history_of, commits, commit_of, end_cmp, committed, IsSerial}
+use Rattle.mvo_model.specs.Trace.{Step, history_of, commits, commit_of, end_cmp, IsCommitOrder, committed, IsSerial}
 use Rattle.mvo_model.specs.Trace.Step.{Commits}
 use Rattle.mvo_model.proofs.Orders.{in_order_same}
 use Rattle.mvo_model.proofs.Scans.{end_total, only_committed}
@@ -116,3 +116,10 @@ pub stands_serializable : (opening : Map) (steps : List Step) (s : State) → Is
 stands_serializable opening steps s k h =
     subst (λ (m : Map). Legal m (map (λ (c : ℕ × ℕ). history_of c.1 steps) (committed steps))) h.base
     (subst (Legal s.base) (sym (ap (map (λ (c : ℕ × ℕ). history_of c.1 steps)) h.tale ∙ told_settled steps s.line h.ended)) k.legal)
+
+-- the commits of the steps that a sound state stands for have one order by end timestamp
+pub stands_in_order : (opening : Map) (steps : List Step) (s : State) → IsSound s → Stands opening steps s → IsCommitOrder steps (committed steps)
+stands_in_order opening steps s k h = record {
+  same = in_order_same end_total (commits steps);
+  rise = subst (λ (cs : List (ℕ × ℕ)). IsStrictlySortedBy end_cmp cs) (sym h.tale) (pairs_rise s.line k.rising);
+}
