@@ -1,5 +1,5 @@
 -- One event more: its trace, and its reply.
-use Rattle.std.proofs.Common.{◌≡◌, ℕ, List, [], ◌∷◌, ◌++◌, length, refl, sym, ap, ◌∙◌, subst, arith, append_assoc, append-nil}
+use Rattle.std.proofs.Common.{◌≡◌, List, [], ◌∷◌, ◌++◌, length, refl, sym, ap, ◌∙◌, subst, arith, append_assoc, append-nil}
 use Rattle.mvo_state.specs.Line.{State}
 use Rattle.mvo_core.specs.Events.{happened, trace_of}
 use Rattle.mvo_core.specs.Replies.{IsCopiedReplyTo, AreRepliesTo}

@@ -1,5 +1,5 @@
 -- What an event with its reply is in the trace.
-use Rattle.std.specs.Prelude.{Bool, true, false, if◌then◌else◌, List, [], ◌∷◌, ◌++◌}
+use Rattle.std.specs.Prelude.{if◌then◌else◌, List, [], ◌∷◌, ◌++◌}
 use Rattle.mvo_types.specs.declared.op.Op.TheVariants as op
 use Rattle.mvo_types.specs.AnswerData.{answer_data}
 use Rattle.mvo_model.specs.Trace.{Step}
@@ -8,7 +8,7 @@ use Rattle.mvo_state.specs.Causes.{is_failure}
 use Rattle.mvo_core.specs.declared.event.Event.{Event}
 use Rattle.mvo_core.specs.declared.event.Event.TheVariants.{Begin, Read, Insert, Precommit, Validate, Settle, Rollback, Finish}
 use Rattle.mvo_core.specs.declared.reply.Reply.{Reply}
-use Rattle.mvo_core.specs.declared.reply.Reply.TheVariants.{Began, Answered, Preparing, More, Valid, Committed, Waiting, RolledBack, Done, Refused}
+use Rattle.mvo_core.specs.declared.reply.Reply.TheVariants.{Began, Answered, Preparing, More, Valid, Committed, RolledBack, Done, Refused}
 
 abbrev pub happened : Event → Reply → List Step
 happened Begin (Began t) = Begins t.0 ∷ []

@@ -6,10 +6,12 @@ use Rattle.std.specs.Ordering.{eq_by_cmp}
 use Rattle.mvo_types.specs.declared.row.RowKey.{RowKey}
 use Rattle.mvo_types.specs.declared.refusal.Refusal.{Refusal}
 use Rattle.mvo_types.specs.declared.refusal.Refusal.TheVariants.{Busy, NothingToDo, RingFull}
-use Rattle.mvo_types.specs.RowData.{ContentData}
 use Rattle.mvo_types.specs.Keys.{key_cmp}
+use Rattle.mvo_types.specs.Write.{Write, Effect}
 use Rattle.mvo_model.specs.History.{History, net_write}
-use Rattle.mvo_group.specs.Data.{NetWrite, RecordData, GroupData}
+use Rattle.mvo_types.specs.declared.limits.TheConstants.{MAX_BODY_LEN, MAX_RECORDS}
+use Rattle.mvo_group.specs.declared.lengths.TheConstants.{BODY_HEADER_LEN}
+use Rattle.mvo_group.specs.Data.{RecordData, GroupData}
 use Rattle.mvo_group.specs.Rules.{record_len}
 use Rattle.mvo_state.specs.Line.{State, Slot}
 use Rattle.mvo_state.specs.Causes.{if_stands}
@@ -17,7 +19,7 @@ use Rattle.mvo_state.specs.Marks.{low_water}
 use Rattle.mvo_core.specs.Writers.{is_writing}
 
 -- the write at a key, if one of these is of it
-abbrev pub write_in : RowKey → List NetWrite → Option (Option ContentData)
+abbrev pub write_in : RowKey → List Write → Option Effect
 write_in k [] = None
 write_in k (w ∷ ws) = cond (eq_by_cmp key_cmp k w.0) (Some w.1) (write_in k ws)
 
@@ -49,8 +51,8 @@ due s = commits_in s.marks.closed.0 (low_water s) s.line
 
 -- no more records, and no more bytes, than a group may have
 pub record Fits (rs : List RecordData) : Type 0 where
-  pub few : length rs ≤ 1024
-  pub size : 18 + sum_by record_len rs ≤ 4194304
+  pub few : length rs ≤ MAX_RECORDS
+  pub size : BODY_HEADER_LEN + sum_by record_len rs ≤ MAX_BODY_LEN
 
 abbrev pub end_in : ℕ → List RecordData → ℕ
 end_in e [] = e
@@ -63,7 +65,7 @@ mark_by low prev (c ∷ cs) rs = end_in prev rs
 
 -- behind these the record of the next commit doesn't fit
 abbrev pub IsTooMuch : ℕ × History → List RecordData → Type 0
-IsTooMuch c rs = (1024 ≤ length rs) ⊎ ((r : RecordData) × IsRecordOf c r × (4194304 < 18 + sum_by record_len (rs ++ r ∷ [])))
+IsTooMuch c rs = (MAX_RECORDS ≤ length rs) ⊎ ((r : RecordData) × IsRecordOf c r × (MAX_BODY_LEN < BODY_HEADER_LEN + sum_by record_len (rs ++ r ∷ [])))
 
 abbrev pub IsFull : List (ℕ × History) → List RecordData → Type 0
 IsFull [] rs = ⊤

@@ -1,6 +1,7 @@
 -- What each core keeps.
 use Rattle.std.specs.Prelude.{ℕ, ◌≡◌, ◌+◌, ◌<◌, ◌≤◌, true, false, if◌then◌else◌, is_some, List, [], length, take, drop, Option, None, Some, ⊤}
 use Rattle.std.specs.List.{AllByRecursion, filter}
+use Rattle.mvo_types.specs.declared.limits.TheConstants.{MAX_UNFINISHED}
 use Rattle.mvo_types.specs.declared.limits.TheConstants.{MAX_STAMP}
 use Rattle.mvo_state.specs.Line.{State, Slot, Running}
 use Rattle.mvo_state.specs.Sound.{IsSound, IsNumbered, IsSingle}
@@ -15,7 +16,7 @@ pub record IsStored (x : Slot) : Type 0 where
   pub settled : x.settled ≡ true
   pub rests : x.rests ≡ []
 
--- a Preparing transaction. In the meantime none rests on another
+-- a Preparing transaction. In the meantime none depends on another
 pub record IsOpen (x : Slot) : Type 0 where
   pub settled : x.settled ≡ false
   pub rests : x.rests ≡ []
@@ -38,8 +39,8 @@ pub record IsKept (s : State) (tale : List Slot) (one : Option Slot) (tale_capac
   pub open' : IsOneOpen one
   pub alone : AllByRecursion IsAlone s.running
   -- no more are unfinished than the limit, and there is room for the end of each
-  pub few : length s.running + (count_one one + length s.over) ≤ 1024
-  pub over_room : 1024 ≤ over_capacity
+  pub few : length s.running + (count_one one + length s.over) ≤ MAX_UNFINISHED
+  pub over_room : MAX_UNFINISHED ≤ over_capacity
   pub tale_room : is_some one ≡ true → length tale < tale_capacity
 
 -- the places are those of the stored commits that wrote

@@ -1,4 +1,4 @@
--- What each event is replied, and the state that it leaves.
+-- What each event is answered, and the state that it leaves.
 use Rattle.std.specs.Prelude.{ℕ, ◌≡◌, ◌+◌, ◌⊎◌, if◌then◌else◌, List, [], ◌∷◌, Option, None, Some}
 use Rattle.mvo_types.specs.declared.answer.Answer.{Answer}
 use Rattle.mvo_types.specs.declared.op.Op.{Op}
@@ -8,12 +8,12 @@ use Rattle.mvo_types.specs.declared.refusal.Refusal.TheVariants.{OutOfMemory}
 use Rattle.mvo_types.specs.AnswerData.{answer_data}
 use Rattle.mvo_model.specs.Serial.{answer_to}
 use Rattle.mvo_state.specs.Line.{State, began, told, left, snapshot}
-use Rattle.mvo_state.specs.Causes.{IsRefusal, why_not_begun, why_not_read, why_not_inserted, why_not_prepared, why_not_checked, why_not_settled, why_not_rolled_back, why_not_finished, end_of}
+use Rattle.mvo_state.specs.Causes.{why_not_begun, why_not_read, why_not_inserted, why_not_prepared, why_not_checked, why_not_settled, why_not_rolled_back, why_not_finished, end_of}
 use Rattle.mvo_state.specs.Steps.{now_prepared, now_checked, now_committed, now_aborted, is_valid_now, after_refusal}
 use Rattle.mvo_core.specs.declared.event.Event.{Event}
 use Rattle.mvo_core.specs.declared.event.Event.TheVariants.{Begin, Read, Insert, Precommit, Validate, Settle, Rollback, Finish}
 use Rattle.mvo_core.specs.declared.reply.Reply.{Reply}
-use Rattle.mvo_core.specs.declared.reply.Reply.TheVariants.{Began, Answered, Preparing, More, Valid, Committed, Waiting, RolledBack, Done, Refused}
+use Rattle.mvo_core.specs.declared.reply.Reply.TheVariants.{Began, Answered, Preparing, More, Valid, Committed, RolledBack, Done, Refused}
 
 -- the first refusal of the event whose cause stands
 abbrev pub why_not : State → Event → Option Refusal
@@ -52,7 +52,7 @@ left_by_refusal s (Settle t) r = s
 left_by_refusal s (Rollback t) r = s
 left_by_refusal s (Finish t) r = s
 
--- these may be refused for want of memory
+-- these may be refused as out of memory
 abbrev pub TakesMemory : Event → Type 0
 TakesMemory Begin = Unit {0}
 TakesMemory (Read t k) = Unit {0}
@@ -63,7 +63,7 @@ TakesMemory (Settle t) = ⊥
 TakesMemory (Rollback t) = ⊥
 TakesMemory (Finish t) = ⊥
 
--- the refusal is the first whose cause stands; without one it is want of memory, where the event takes some
+-- the refusal is the first whose cause stands; without one it is out of memory, where the event takes some
 abbrev pub IsRefusedAs : Option Refusal → Event → Refusal → Type 0
 IsRefusedAs (Some why) e r = r ≡ why
 IsRefusedAs None e r = (r ≡ OutOfMemory) × TakesMemory e
@@ -72,7 +72,7 @@ abbrev pub IsReplyTo : State → Event → Reply → State → Type 0
 IsReplyTo s e (Refused r) s' = IsRefusedAs (why_not s e) e r × (s' ≡ left_by_refusal s e r)
 IsReplyTo s e r s' = (why_not s e ≡ None) × IsAccepted s e r s'
 
--- the same of an event that is copied first: refused for want of memory it does nothing
+-- the same of an event that is copied first: refused as out of memory it does nothing
 abbrev pub IsCopiedReplyTo : State → Event → Reply → State → Type 0
 IsCopiedReplyTo s e r s' = IsReplyTo s e r s' ⊎ ((r ≡ Refused OutOfMemory) × (s' ≡ s))
 

@@ -4,6 +4,7 @@
 mod active;
 mod closed;
 mod commit_record;
+mod effect;
 mod engine;
 mod event;
 mod look;
@@ -24,6 +25,3 @@ pub use preparing::PreparingTx;
 pub use reply::{Finishing, Reply, Settlement, Validation};
 pub use tale::{Tale, TaleEntry};
 pub use whole::run;
-
-#[cfg(test)]
-mod tests;

@@ -6,12 +6,9 @@ ghost use Rattle.mvo_core.specs.Groups.{IsLongest, commit_by, end_in};
 
 use crate::commit_record::record_of;
 use crate::tale::TaleEntry;
-use mvo_group::Record;
+use mvo_group::{BODY_HEADER_LEN, Record};
 use mvo_types::{MAX_BODY_LEN, MAX_RECORDS, Stamp};
 use std::alloc::{AllocError, Global};
-
-/// How many bytes a body has before its first record.
-const BODY_HEADER_LEN: usize = 18;
 
 /// The records of those at the places, from the first on, as many as a group may have.
 pub fn next_records(

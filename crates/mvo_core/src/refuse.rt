@@ -10,7 +10,9 @@ use crate::look::is_written_below;
 use crate::preparing::PreparingTx;
 use crate::told::is_among;
 use mvo_state::OverTx;
-use mvo_types::{MAX_DATA_LEN, MAX_ENTRIES, MAX_TABLE, MAX_WRITES, Refusal, Row, RowKey};
+use mvo_types::{
+    MAX_DATA_LEN, MAX_ENTRIES, MAX_TABLE, MAX_UNFINISHED, MAX_WRITES, Refusal, Row, RowKey,
+};
 
 /// The place of an Active transaction.
 pub fn place_of(running: &[ActiveTx], id: u64) -> Option<usize>
@@ -120,7 +122,7 @@ pub fn count_unfinished(
     preparing: &Option<PreparingTx>,
     over: &[OverTx],
 ) -> usize
-    requires { length running.now + length over.now ≤ 1024 }
+    requires { length running.now + length over.now ≤ MAX_UNFINISHED }
     ensures { result ≡ length running.now + ((if is_some preparing.now then 1 else 0) + length over.now) }
 {
     running.len() + usize::from(preparing.is_some()) + over.len()

@@ -18,7 +18,7 @@ pub enum Validation {
 pub enum Settlement {
     /// The transaction is Committed, with this end timestamp.
     Committed(Stamp),
-    /// It rests on this transaction, which isn't settled yet.
+    /// It depends on this transaction, which isn't settled yet.
     Waiting(TxId),
 }
 
@@ -46,7 +46,7 @@ pub enum Reply {
     Valid,
     /// The transaction is Committed, with this end timestamp.
     Committed(Stamp),
-    /// It rests on this transaction, which isn't settled yet.
+    /// It depends on this transaction, which isn't settled yet.
     Waiting(TxId),
     /// The transaction is Aborted.
     RolledBack,

@@ -1,8 +1,12 @@
 -- Reading from left to right: what stands at the front of some bytes, and the bytes after it.
 use Rattle.std.specs.Prelude.{◌≡◌, ℕ, zero, suc, List, [], ◌∷◌, length, take, drop, Option, Some, None, nat_lt, ◌==◌, if◌then◌else◌}
+use Rattle.std.specs.Borrow.{Bor}
 use Rattle.byteorder.specs.Endian.{little_number}
 use Rattle.mvo_types.specs.RowData.{ContentData}
-use Rattle.mvo_group.specs.Data.{NetWrite, RecordData, GroupData}
+use Rattle.mvo_types.specs.Write.{Write, Effect}
+use Rattle.mvo_types.specs.Write.Effect.{Put, Delete}
+use Rattle.mvo_group.specs.declared.write.TheConstants.{PUT, DELETE}
+use Rattle.mvo_group.specs.Data.{RecordData, GroupData, group_of}
 
 infixl 10 ◌>>=◌
 abbrev pub ◌>>=◌ : {A B : Type 0} → Option A → (A → Option B) → Option B
@@ -14,9 +18,15 @@ abbrev pub Gives : {X Y : Type 0} → (X → Y) → Option X → Option Y → Ty
 Gives view (Some x) read = read ≡ Some (view x)
 Gives view None read = read ≡ None
 
+-- the same of a value and the bytes after it
+abbrev pub Reads : {X Y : Type 0} → (X → Y) → Option (X × Bor (List ℕ)) → Option (Y × List ℕ) →
+    Type 0
+Reads view found read = Gives (λ x. (view x.0, x.1.now)) found read
+
 -- a number of n bytes
 unfoldable pub number_at : ℕ → List ℕ → Option (ℕ × List ℕ)
-number_at n bytes = if nat_lt (length bytes) n then None else Some (little_number n bytes, drop n bytes)
+number_at n bytes =
+    if nat_lt (length bytes) n then None else Some (little_number n bytes, drop n bytes)
 
 -- n bytes
 unfoldable pub data_at : ℕ → List ℕ → Option (List ℕ × List ℕ)
@@ -30,20 +40,24 @@ put_at bytes = do
   text ← data_at len.0 len.1
   Some (record { sort = sort.0; bytes = text.0 }, text.1)
 
--- what stands behind the key, by the tag
-unfoldable pub held_at : ℕ → List ℕ → Option (Option ContentData × List ℕ)
-held_at tag bytes = if tag == 2 then Some (None, bytes) else (if tag == 1 then (put_at bytes >>= λ h. Some (Some h.0, h.1)) else None)
+-- what the write leaves, by the tag
+unfoldable pub effect_at : ℕ → List ℕ → Option (Effect × List ℕ)
+effect_at tag bytes =
+    if tag == DELETE
+    then Some (Delete, bytes)
+    else (if tag == PUT then (put_at bytes >>= λ h. Some (Put h.0, h.1)) else None)
 
-unfoldable pub write_at : List ℕ → Option (NetWrite × List ℕ)
+unfoldable pub write_at : List ℕ → Option (Write × List ℕ)
 write_at bytes = do
   tag ← number_at 1 bytes
   table ← number_at 1 tag.1
   key ← number_at 8 table.1
-  held ← held_at tag.0 key.1
-  Some ((record { table = table.0; key = key.0 }, held.0), held.1)
+  effect ← effect_at tag.0 key.1
+  Some ((record { table = table.0; key = key.0 }, effect.0), effect.1)
 
 -- n of them, one after the other
-unfoldable pub times : {X : Type 0} → (List ℕ → Option (X × List ℕ)) → ℕ → List ℕ → Option (List X × List ℕ)
+unfoldable pub times : {X : Type 0} → (List ℕ → Option (X × List ℕ)) → ℕ → List ℕ →
+    Option (List X × List ℕ)
 times one zero bytes = Some ([], bytes)
 times one (suc n) bytes = do
   first ← one bytes
@@ -64,4 +78,4 @@ group_at bytes = do
   mark ← number_at 8 prev.1
   count ← number_at 2 mark.1
   records ← times record_at count.0 count.1
-  if length records.1 == 0 then Some (record { prev = prev.0; mark = mark.0; records = records.0 }) else None
+  if length records.1 == 0 then Some (group_of prev.0 mark.0 records.0) else None

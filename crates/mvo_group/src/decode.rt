@@ -1,6 +1,6 @@
 ghost use Rattle.std.specs.Prelude.{◌≡◌, List, length, map, IfOk, IfSome, Ok, Option, Some, None};
-ghost use Rattle.mvo_group.specs.Data.{net_write, group_of};
-ghost use Rattle.mvo_group.specs.Reading.{Gives, number_at, data_at, put_at, held_at, write_at, times, record_at, group_at};
+ghost use Rattle.mvo_group.specs.Data.{write_data, group_of};
+ghost use Rattle.mvo_group.specs.Reading.{Gives, Reads, number_at, data_at, put_at, effect_at, write_at, times, record_at, group_at};
 
 use crate::record::Record;
 use crate::write::{DELETE, PUT, Write};
@@ -10,7 +10,7 @@ use std::alloc::{AllocError, Global};
 
 #[tactic(auto, unfolding(crate::specs::Reading::number_at))]
 fn u8_at(bytes: &[u8]) -> Option<(u8, &[u8])>
-    ensures { Gives (λ x. (x.0, x.1.now)) result (number_at 1 bytes.now) }
+    ensures { Reads (λ n. n) result (number_at 1 bytes.now) }
 {
     if bytes.len() < 1 {
         return None;
@@ -21,7 +21,7 @@ fn u8_at(bytes: &[u8]) -> Option<(u8, &[u8])>
 
 #[tactic(auto, unfolding(crate::specs::Reading::number_at))]
 fn u16_at(bytes: &[u8]) -> Option<(u16, &[u8])>
-    ensures { Gives (λ x. (x.0, x.1.now)) result (number_at 2 bytes.now) }
+    ensures { Reads (λ n. n) result (number_at 2 bytes.now) }
 {
     if bytes.len() < 2 {
         return None;
@@ -31,7 +31,7 @@ fn u16_at(bytes: &[u8]) -> Option<(u16, &[u8])>
 
 #[tactic(auto, unfolding(crate::specs::Reading::number_at))]
 fn u64_at(bytes: &[u8]) -> Option<(u64, &[u8])>
-    ensures { Gives (λ x. (x.0, x.1.now)) result (number_at 8 bytes.now) }
+    ensures { Reads (λ n. n) result (number_at 8 bytes.now) }
 {
     if bytes.len() < 8 {
         return None;
@@ -41,7 +41,7 @@ fn u64_at(bytes: &[u8]) -> Option<(u64, &[u8])>
 
 #[tactic(auto, unfolding(crate::specs::Reading::data_at))]
 fn data_of(alloc: Global, len: u16, bytes: &[u8]) -> Result<Option<(Vec<u8>, &[u8])>, AllocError>
-    ensures { IfOk result (λ found. Gives (λ x. (x.0.items, x.1.now)) found (data_at len bytes.now)) }
+    ensures { IfOk result (λ found. Reads (λ d. d.items) found (data_at len bytes.now)) }
 {
     let len = len as usize;
     if bytes.len() < len {
@@ -53,7 +53,8 @@ fn data_of(alloc: Global, len: u16, bytes: &[u8]) -> Result<Option<(Vec<u8>, &[u
 
 #[tactic(auto, unfolding(crate::specs::Reading::put_at))]
 fn put_of(alloc: Global, bytes: &[u8]) -> Result<Option<((u64, Vec<u8>), &[u8])>, AllocError>
-    ensures { IfOk result (λ found. Gives (λ x. (record { sort = x.0.0; bytes = x.0.1.items }, x.1.now)) found (put_at bytes.now)) }
+    ensures { IfOk result (λ found. Reads (λ c. record { sort = c.0; bytes = c.1.items }) found
+        (put_at bytes.now)) }
 {
     let Some((sort, rest)) = u64_at(bytes) else {
         return Ok(None);
@@ -67,9 +68,9 @@ fn put_of(alloc: Global, bytes: &[u8]) -> Result<Option<((u64, Vec<u8>), &[u8])>
     Ok(Some(((sort, data), rest)))
 }
 
-#[tactic(auto, unfolding(crate::specs::Reading::write_at, crate::specs::Reading::held_at))]
+#[tactic(auto, unfolding(crate::specs::Reading::write_at, crate::specs::Reading::effect_at))]
 fn write_of(alloc: Global, bytes: &[u8]) -> Result<Option<(Write, &[u8])>, AllocError>
-    ensures { IfOk result (λ found. Gives (λ x. (net_write x.0, x.1.now)) found (write_at bytes.now)) }
+    ensures { IfOk result (λ found. Reads write_data found (write_at bytes.now)) }
 {
     let Some((tag, rest)) = u8_at(bytes) else {
         return Ok(None);
@@ -98,7 +99,8 @@ fn writes_of(
     count: u16,
     bytes: &[u8],
 ) -> Result<Option<(Vec<Write>, &[u8])>, AllocError>
-    ensures { IfOk result (λ found. Gives (λ x. (map net_write x.0.items, x.1.now)) found (times write_at count bytes.now)) }
+    ensures { IfOk result (λ found. Reads (λ ws. map write_data ws.items) found
+        (times write_at count bytes.now)) }
 {
     let mut writes = Vec::with_capacity(alloc, MAX_WRITES.min(count as usize))?;
     let mut rest = bytes;
@@ -114,7 +116,7 @@ fn writes_of(
 
 #[tactic(auto, unfolding(crate::specs::Reading::record_at))]
 fn record_of(alloc: Global, bytes: &[u8]) -> Result<Option<(Record, &[u8])>, AllocError>
-    ensures { IfOk result (λ found. Gives (λ x. (x.0, x.1.now)) found (record_at bytes.now)) }
+    ensures { IfOk result (λ found. Reads (λ r. r) found (record_at bytes.now)) }
 {
     let Some((end, rest)) = u64_at(bytes) else {
         return Ok(None);
@@ -134,7 +136,8 @@ fn records_of(
     count: u16,
     bytes: &[u8],
 ) -> Result<Option<(Vec<Record>, &[u8])>, AllocError>
-    ensures { IfOk result (λ found. Gives (λ x. (x.0.items, x.1.now)) found (times record_at count bytes.now)) }
+    ensures { IfOk result (λ found. Reads (λ rs. rs.items) found
+        (times record_at count bytes.now)) }
 {
     let mut records = Vec::with_capacity(alloc, MAX_RECORDS.min(count as usize))?;
     let mut rest = bytes;
@@ -154,7 +157,8 @@ pub fn parts_of(
     alloc: Global,
     bytes: &[u8],
 ) -> Result<Option<(Stamp, Stamp, Vec<Record>)>, AllocError>
-    ensures { IfOk result (λ found. Gives (λ x. group_of x.0.0 x.1.0 x.2.items) found (group_at bytes.now)) }
+    ensures { IfOk result (λ found. Gives (λ x. group_of x.0.0 x.1.0 x.2.items) found
+        (group_at bytes.now)) }
 {
     let Some((prev, rest)) = u64_at(bytes) else {
         return Ok(None);

@@ -39,7 +39,7 @@ impl Group {
 
     /// The group of these parts, where they keep the rules. Parts that break one are dropped.
     pub fn new(prev: Stamp, mark: Stamp, records: Vec<Record>) -> Option<Group>
-        ensures { SomeIff result (KeepsRules (group_of prev.0 mark.0 records.items)) (group_of prev.0 mark.0 records.items) }
+        ensures { let g = group_of prev.0 mark.0 records.items in SomeIff result (KeepsRules g) g }
     {
         if !keeps_rules(prev, mark, &records) {
             return None;
@@ -122,8 +122,10 @@ impl Group {
 
     /// The group with this body, or none where the bytes aren't all of one group's body.
     pub fn decode(alloc: Global, body: &[u8]) -> Result<Option<Group>, AllocError>
-        ensures found { IfOk result (λ found. IfSome found (λ g. IsGroup g × (body.now ≡ body_of g))) }
-        ensures only { IfOk result (λ found. (g : GroupData) → IsGroup g → body.now ≡ body_of g → found ≡ Some g) }
+        ensures found { IfOk result (λ found. IfSome found
+            (λ g. IsGroup g × (body.now ≡ body_of g))) }
+        ensures only { IfOk result (λ found. (g : GroupData) → IsGroup g
+            → body.now ≡ body_of g → found ≡ Some g) }
     {
         if body.len() > MAX_BODY_LEN {
             return Ok(None);

@@ -1,18 +1,19 @@
 ghost use Rattle.std.specs.Prelude.{◌≡◌, ◌+◌, ◌<◌, ◌≤◌, ◌^◌, ◌↔◌, IsTrue, map, All, sum_by};
-ghost use Rattle.std.specs.List.Sorted.{IsStrictlyIncreasing, IsStrictlySortedBy};
+ghost use Rattle.std.specs.List.Sorted.{IsStrictlySortedBy};
 ghost use Rattle.std.specs.Ordering.{is_lt};
 ghost use Rattle.mvo_types.specs.Keys.{key_cmp};
-ghost use Rattle.mvo_group.specs.Data.{net_write, group_of};
-ghost use Rattle.mvo_group.specs.Rules.{KeepsLimits, IsRecord, HasWords, KeepsRules, record_len};
+ghost use Rattle.mvo_group.specs.Data.{write_data, group_of};
+ghost use Rattle.mvo_group.specs.Rules.{KeepsLimits, IsRecord, HasWords, EndsRise, KeepsRules, record_len};
 
+use crate::lengths::BODY_HEADER_LEN;
 use crate::record::Record;
 use crate::write::Write;
 use mvo_types::{MAX_BODY_LEN, MAX_DATA_LEN, MAX_RECORDS, MAX_STAMP, MAX_TABLE, MAX_WRITES, Stamp};
 
 /// Whether the write keeps the limits of a row.
 fn keeps_limits(write: &Write) -> bool
-    ensures answer { IsTrue result ↔ KeepsLimits (net_write write.now) }
-    ensures words { HasWords (net_write write.now) }
+    ensures answer { IsTrue result ↔ KeepsLimits (write_data write.now) }
+    ensures words { HasWords (write_data write.now) }
 {
     match write {
         Write::Put(row) => {
@@ -28,8 +29,8 @@ fn keeps_limits(write: &Write) -> bool
 }
 
 fn all_keep_limits(writes: &[Write]) -> bool
-    ensures answer { IsTrue result ↔ All KeepsLimits (map net_write writes.now) }
-    ensures words { IsTrue result → All HasWords (map net_write writes.now) }
+    ensures answer { IsTrue result ↔ All KeepsLimits (map write_data writes.now) }
+    ensures words { IsTrue result → All HasWords (map write_data writes.now) }
 {
     for write in writes {
         if !keeps_limits(write) {
@@ -41,14 +42,15 @@ fn all_keep_limits(writes: &[Write]) -> bool
 
 /// Whether the first write goes below the second.
 fn is_below(first: &Write, second: &Write) -> bool
-    ensures { result ≡ is_lt (key_cmp (net_write first.now).0 (net_write second.now).0) }
+    ensures { result ≡ is_lt (key_cmp (write_data first.now).0 (write_data second.now).0) }
 {
     first.key() < second.key()
 }
 
 /// Whether (table, key) rises strictly.
 fn keys_rise(writes: &[Write]) -> bool
-    ensures { IsTrue result ↔ IsStrictlySortedBy key_cmp (map (λ w. w.0) (map net_write writes.now)) }
+    ensures { IsTrue result
+        ↔ IsStrictlySortedBy key_cmp (map (λ w. w.0) (map write_data writes.now)) }
 {
     let mut rest = writes;
     while let [first, after @ ..] = rest {
@@ -87,7 +89,7 @@ fn are_records(records: &[Record]) -> bool
 
 /// Whether the ends rise strictly and lie in (prev, mark].
 fn ends_rise(prev: Stamp, mark: Stamp, records: &[Record]) -> bool
-    ensures { IsTrue result ↔ (IsStrictlyIncreasing (map (λ r. r.end) records.now) × All (λ r. (prev.0 < r.end) × (r.end ≤ mark.0)) records.now) }
+    ensures { IsTrue result ↔ EndsRise prev.0 mark.0 records.now }
 {
     let mut last = prev.0;
     let mut rest = records;
@@ -104,10 +106,10 @@ fn ends_rise(prev: Stamp, mark: Stamp, records: &[Record]) -> bool
 
 /// How many bytes the body of a group with these records has.
 pub fn len_of_body(records: &[Record]) -> usize
-    requires { 18 + sum_by record_len records.now < 2 ^ 64 }
-    ensures { result ≡ 18 + sum_by record_len records.now }
+    requires { BODY_HEADER_LEN + sum_by record_len records.now < 2 ^ 64 }
+    ensures { result ≡ BODY_HEADER_LEN + sum_by record_len records.now }
 {
-    let mut len = 18;
+    let mut len = BODY_HEADER_LEN;
     for commit in records {
         len += commit.encoded_len();
     }

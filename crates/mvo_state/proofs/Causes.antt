@@ -26,7 +26,7 @@ not_false : (b : Bool) → b ≡ false → not b ≡ true
 not_false true e = absurd (true≢false e)
 not_false false e = refl
 
--- where none is waited for, none that it rests on is unsettled
+-- where none is waited for, none that it depends on is unsettled
 pub waiting_none : (ds : List ℕ) (line : List Slot) → waiting_for ds line ≡ None → AllByRecursion (λ x. x.settled ≡ false → has ds x.stop ≡ false) line
 waiting_none ds [] h = tt
 waiting_none ds (x ∷ xs) h = go (not x.settled && has ds x.stop) refl h (λ q. waiting_none ds xs q)
@@ -39,7 +39,7 @@ waiting_none ds (x ∷ xs) h = go (not x.settled && has ds x.stop) refl h (λ q.
     go true f g r = absurd (some_none x g)
     go false f g r = (λ o. in_ds (has ds x.stop) refl f o, r g)
 
--- who is waited for is unsettled, is rested on, and has the least end of all such
+-- who is waited for is unsettled, is depended on, and has the least end of all such
 pub waiting_is : (ds : List ℕ) (line : List Slot) (y : Slot) → waiting_for ds line ≡ Some y → (y.settled ≡ false) × (has ds y.stop ≡ true)
 waiting_is ds [] y h = absurd (none_some y h)
 waiting_is ds (x ∷ xs) y h = go (not x.settled && has ds x.stop) refl h (λ q. waiting_is ds xs y q)

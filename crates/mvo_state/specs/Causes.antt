@@ -8,13 +8,14 @@ use Rattle.mvo_types.specs.declared.refusal.Refusal.TheVariants.{NoSuchTransacti
 use Rattle.std.specs.Option.{option_map}
 use Rattle.mvo_types.specs.RowData.{RowData, row_with}
 use Rattle.mvo_types.specs.Keys.{Map, row_at}
-use Rattle.mvo_model.specs.Serial.{is_in_range}
-use Rattle.mvo_model.specs.History.{History, Write, write_of, after_write, net_write}
+use Rattle.mvo_types.specs.RowLists.{is_within}
+use Rattle.mvo_types.specs.Write.{Write, content_after}
+use Rattle.mvo_model.specs.History.{History, write_of, after_write, net_write}
 use Rattle.mvo_state.specs.Entries.{Entry, entries, has_entry, entry_keys, is_noted, written_keys}
 use Rattle.mvo_state.specs.Entries.Entry.{Key, Range}
 use Rattle.mvo_state.specs.Line.{State, Slot, Running, has, last_writer, seen_by}
 
--- the refusal that comes first, and want of memory where none has a cause
+-- the refusal that comes first, and out of memory where none has a cause
 abbrev pub IsRefusal : Option Refusal → Refusal → Type 0
 IsRefusal (Some why) r = r ≡ why
 IsRefusal None r = r ≡ OutOfMemory
@@ -32,7 +33,7 @@ abbrev pub preparing_of : ℕ → List Slot → Option Slot
 preparing_of t [] = None
 preparing_of t (x ∷ xs) = if (x.id == t) && not x.settled then Some x else preparing_of t xs
 
--- one that rests on an aborted one
+-- one that depends on an aborted one
 abbrev pub or_doomed : Option ℕ → Option Refusal → Option Refusal
 or_doomed (Some x) why = Some (DependencyAborted (record { 0 = x }))
 or_doomed None why = why
@@ -122,7 +123,7 @@ not_settled_at s t (Some x) = or_doomed x.doom (if_stands (not x.valid) NotValid
 abbrev pub why_not_settled : State → ℕ → Option Refusal
 why_not_settled s t = not_settled_at s t (preparing_of t s.line)
 
--- the one with the least end, of those that it rests on, that isn't settled
+-- the one with the least end, of those that it depends on, that isn't settled
 abbrev pub waiting_for : List ℕ → List Slot → Option Slot
 waiting_for ds [] = None
 waiting_for ds (x ∷ xs) = if not x.settled && has ds x.stop then Some x else waiting_for ds xs
@@ -131,12 +132,12 @@ waiting_for ds (x ∷ xs) = if not x.settled && has ds x.stop then Some x else w
 -- whether there is a row, and in the range
 abbrev pub is_row_in : ℕ → ℕ → ℕ → Option RowData → Bool
 is_row_in table lo hi None = false
-is_row_in table lo hi (Some r) = is_in_range table lo hi r
+is_row_in table lo hi (Some r) = is_within table lo hi r
 
 -- whether a write on these rows ends a row in the range, or puts one there
 abbrev pub writes_in : ℕ → ℕ → ℕ → Map → Option Write → Bool
 writes_in table lo hi m None = false
-writes_in table lo hi m (Some w) = is_row_in table lo hi (row_at m w.0) || is_row_in table lo hi (option_map (row_with w.0) w.1)
+writes_in table lo hi m (Some w) = is_row_in table lo hi (row_at m w.0) || is_row_in table lo hi (option_map (row_with w.0) (content_after w.1))
 
 -- whether one of the writes does, each on the rows that those before it leave
 abbrev pub changes_range : ℕ → ℕ → ℕ → History → Map → Bool

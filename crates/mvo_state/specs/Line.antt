@@ -1,5 +1,5 @@
 -- One line of the Preparing and Committed transactions, by end timestamp, and the steps on it.
-use Rattle.std.specs.Prelude.{ℕ, ◌≡◌, ◌+◌, ◌==◌, nat_lt, nat_le, Bool, true, false, not, ◌||◌, ◌&&◌, cond, if◌then◌else◌, is_some, List, [], ◌∷◌, ◌++◌, map, filter, Option, None, Some}
+use Rattle.std.specs.Prelude.{ℕ, ◌+◌, ◌==◌, nat_lt, Bool, false, not, ◌||◌, ◌&&◌, cond, if◌then◌else◌, is_some, List, [], ◌∷◌, ◌++◌, map, filter, Option, None, Some}
 use Rattle.std.specs.List.{list_any}
 use Rattle.mvo_types.specs.declared.row.RowKey.{RowKey}
 use Rattle.mvo_types.specs.declared.op.Op.{Op}
@@ -11,7 +11,7 @@ use Rattle.mvo_state.specs.declared.over.OverTx.{OverTx}
 use Rattle.mvo_state.specs.declared.marks.Marks.{Marks}
 use Rattle.mvo_state.specs.Entries.{key_of}
 
--- an Active transaction, by its begin: its operations with their answers, the ends of those that it rests on, and the first of these that was aborted
+-- an Active transaction, by its begin: its operations with their answers, the ends of those that it depends on, and the first of these that was aborted
 pub record Running : Type 0 where
   pub id : ℕ
   pub told : History
@@ -83,7 +83,7 @@ has ds d = list_any (λ x. x == d) ds
 abbrev pub with_end : List ℕ → ℕ → List ℕ
 with_end ds d = if has ds d then ds else d ∷ ds
 
--- who decides the key, if it is Preparing, is rested on from now on
+-- who decides the key, if it is Preparing, is depended on from now on
 abbrev pub rest_on : List ℕ → Option Slot → List ℕ
 rest_on ds None = ds
 rest_on ds (Some x) = if x.settled then ds else with_end ds x.stop
@@ -130,7 +130,7 @@ with_settled e x = record x { settled = x.settled || (x.stop == e); checked = if
 abbrev pub committed : State → ℕ → ℕ → State
 committed s t e = record s { line = map (with_settled e) s.line; over = s.over ++ committed_tx t e ∷ [] }
 
--- the first aborted one of those that it rests on
+-- the first aborted one of those that it depends on
 abbrev pub doomed_by : ℕ → ℕ → List ℕ → Option ℕ → Option ℕ
 doomed_by t e rests None = if has rests e then Some t else None
 doomed_by t e rests (Some u) = Some u
@@ -144,11 +144,11 @@ running_doom t e r = record r { doom = doomed_by t e r.rests r.doom }
 abbrev pub not_at : ℕ → Slot → Bool
 not_at e x = not (x.stop == e)
 
--- an Active transaction is aborted: none rests on it
+-- an Active transaction is aborted: none depends on it
 abbrev pub dropped : State → ℕ → State
 dropped s t = record s { running = without t s.running; over = s.over ++ aborted_tx t ∷ [] }
 
--- the Preparing transaction t, with the end e, is aborted: those that rest on it are doomed
+-- the Preparing transaction t, with the end e, is aborted: those that depend on it are doomed
 abbrev pub undone : State → ℕ → ℕ → State
 undone s t e = record s {
   running = map (running_doom t e) s.running;

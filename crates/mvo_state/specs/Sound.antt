@@ -14,7 +14,7 @@ abbrev pub IsWritten : RowKey → ℕ → List Slot → Type 0
 IsWritten k b [] = ⊥
 IsWritten k b (x ∷ xs) = (is_writer k b x ≡ true) ⊎ IsWritten k b xs
 
--- the key's last writer below the begin is settled, or is rested on
+-- the key's last writer below the begin is settled, or is depended on
 abbrev pub IsDecided : RowKey → ℕ → List ℕ → List Slot → Type 0
 IsDecided k b ds [] = ⊤
 IsDecided k b ds (x ∷ xs) = (x.settled ≡ false → is_writer k b x ≡ true → (has ds x.stop ≡ true) ⊎ IsWritten k b xs) × IsDecided k b ds xs
@@ -32,7 +32,7 @@ abbrev pub IsRising : List Slot → Type 0
 IsRising [] = ⊤
 IsRising (x ∷ xs) = AllByRecursion (λ y. x.stop < y.stop) xs × IsRising xs
 
--- an unfinished transaction that nothing dooms: its answers are those on what it sees, and who decides each is settled or rested on
+-- an unfinished transaction that nothing dooms: its answers are those on what it sees, and who decides each is settled or depended on
 pub record IsResting (base : Map) (line : List Slot) (id : ℕ) (told : History) (rests : List ℕ) : Type 0 where
   pub serial : AreSerial told (seen_by base line id)
   pub decided : AllByRecursion (λ o. IsDecided (key_of o.0) id rests line) told

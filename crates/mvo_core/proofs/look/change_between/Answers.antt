@@ -1,4 +1,4 @@
-use Rattle.std.proofs.Common.{◌≡◌, ap, ◌∙◌, sym, get_or}
+use Rattle.std.proofs.Common.{ap, ◌∙◌, sym, get_or}
 use Rattle.mvo_state.specs.Causes.{or_first, key_change}
 use Rattle.mvo_core.specs.Writers.{at_place}
 use Rattle.mvo_core.proofs.Indexed.{changed_more}

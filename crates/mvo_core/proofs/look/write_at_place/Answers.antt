@@ -1,4 +1,4 @@
-use Rattle.std.proofs.Common.{◌≡◌, ◌++◌, [], ◌∷◌, List, cond, Option, None, Some, ap, ◌∙◌, sym}
+use Rattle.std.proofs.Common.{[], List, cond, ap, ◌∙◌, sym}
 use Rattle.std.specs.Prelude.{nat_lt}
 use Rattle.mvo_model.specs.History.{net_write}
 use Rattle.mvo_state.specs.Line.{Slot, told_below}

@@ -1,13 +1,12 @@
-use Rattle.std.proofs.Common.{rules, arith, ◌≡◌, ◌++◌, ◌∷◌, ◌+◌, [], List, length, take, get_or, ap, ◌∙◌, sym, subst, length-append}
+use Rattle.std.proofs.Common.{arith, ◌≡◌, ◌++◌, ◌∷◌, ◌+◌, [], List, length, take, ap, ◌∙◌, sym, subst, length-append}
 use Rattle.std.proofs.lemmas.List.{take_more, take_all, length-take-le}
 use Rattle.mvo_model.specs.Trace.{Step, IsSerial}
 use Rattle.mvo_state.specs.Stands.{Stands}
 use Rattle.mvo_state.specs.Line.{opened}
-use Rattle.mvo_core.specs.Events.{happened, trace_of}
+use Rattle.mvo_core.specs.Events.{trace_of}
 use Rattle.mvo_core.specs.Replies.{AreRepliesTo}
 use Rattle.mvo_core.specs.declared.event.Event.{Event}
 use Rattle.mvo_core.specs.declared.reply.Reply.{Reply}
-use Rattle.mvo_state.proofs.Stood.{stands_opened}
 use Rattle.mvo_state.proofs.Tales.{stands_serializable}
 use Rattle.mvo_core.proofs.Traced.{trace_of-push, replies-push}
 use Rattle.mvo_core.proofs.whole.run.Goals as goal

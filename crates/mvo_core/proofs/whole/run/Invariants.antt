@@ -1,4 +1,4 @@
-use Rattle.std.proofs.Common.{◌≡◌, take, length, List}
+use Rattle.std.proofs.Common.{◌≡◌, take, length}
 use Rattle.mvo_state.specs.Stands.{Stands}
 use Rattle.mvo_state.specs.Line.{opened}
 use Rattle.mvo_core.specs.Events.{trace_of}

@@ -1,12 +1,11 @@
-use Rattle.std.proofs.Common.{rules, arith, ◌≡◌, ℕ, ◌+◌, ◌<◌, ◌≤◌, ◌++◌, ◌∷◌, [], Bool, true, false, cond, List, None, Some, Option, length, ap, ◌∙◌, sym, subst}
+use Rattle.std.proofs.Common.{arith, ◌≡◌, ℕ, ◌+◌, ◌++◌, ◌∷◌, [], List, length, ap, ◌∙◌, sym, subst}
 use Rattle.std.specs.Prelude.{nat_le, vec_capacity}
 use Rattle.std.proofs.lemmas.Bool.{le-leb, lt-leb}
 use Rattle.mvo_types.specs.declared.limits.TheConstants.{MAX_STAMP}
-use Rattle.mvo_types.specs.declared.refusal.Refusal.{Refusal}
 use Rattle.mvo_types.specs.declared.refusal.Refusal.TheVariants.{TableFull, ClockSpent}
 use Rattle.mvo_state.specs.declared.over.OverTx.{OverTx}
-use Rattle.mvo_state.specs.Line.{State, Running, began}
-use Rattle.mvo_state.specs.Causes.{IsRefusal, if_stands, why_not_begun}
+use Rattle.mvo_state.specs.Line.{Running}
+use Rattle.mvo_state.specs.Causes.{why_not_begun}
 use Rattle.mvo_core.specs.View.{state_of}
 use Rattle.mvo_core.specs.Kept.{IsKept, count_one}
 use Rattle.mvo_core.proofs.Grouped.{grouped_drawn}

@@ -1,10 +1,10 @@
-use Rattle.std.proofs.Common.{rules, arith, ◌≡◌, ℕ, Bool, true, false, cond, List, Option, None, Some, refl, ap, ◌∙◌, sym, subst}
+use Rattle.std.proofs.Common.{arith, ◌≡◌, ℕ, Bool, true, false, cond, List, None, Some, refl, ap, ◌∙◌, sym, subst}
 use Rattle.std.specs.Prelude.{◌==◌, position, is_some, vec_capacity}
 use Rattle.std.specs.List.{list_any}
 use Rattle.mvo_types.specs.declared.refusal.Refusal.{Refusal}
 use Rattle.mvo_types.specs.declared.refusal.Refusal.TheVariants.{NotEnded, NoSuchTransaction}
 use Rattle.mvo_state.specs.declared.over.OverTx.{OverTx}
-use Rattle.mvo_state.specs.Line.{State, Slot, Running, left}
+use Rattle.mvo_state.specs.Line.{State, Running, left}
 use Rattle.mvo_state.specs.Causes.{running_of, preparing_of, why_not_finished}
 use Rattle.mvo_core.specs.View.{line_of, state_of, one_is}
 use Rattle.mvo_core.specs.Kept.{IsKept}

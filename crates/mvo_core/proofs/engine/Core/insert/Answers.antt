@@ -1,12 +1,11 @@
-use Rattle.std.proofs.Common.{rules, arith, ◌≡◌, ℕ, Bool, true, false, cond, List, Option, None, Some, get_or, refl, ap, ◌∙◌, sym, subst}
+use Rattle.std.proofs.Common.{◌≡◌, ℕ, Bool, false, cond, List, None, Some, ap, ◌∙◌, sym, subst}
 use Rattle.std.specs.Prelude.{◌==◌, position, is_some, vec_capacity, ◌++◌, ◌∷◌, []}
 use Rattle.std.specs.FinMap as map
 use Rattle.mvo_types.specs.declared.op.Op.TheVariants as op
 use Rattle.mvo_types.specs.declared.refusal.Refusal.{Refusal}
-use Rattle.mvo_types.specs.RowData.{RowData}
 use Rattle.mvo_types.specs.AnswerData.{AnswerData, answer_data}
 use Rattle.mvo_types.specs.AnswerData.AnswerData.{Exists, Inserted}
-use Rattle.mvo_model.specs.History.{History, after_history}
+use Rattle.mvo_model.specs.History.{after_history}
 use Rattle.mvo_state.specs.declared.over.OverTx.{OverTx}
 use Rattle.mvo_state.specs.Line.{State, Running, Slot, told, snapshot, seen_by, is_writer}
 use Rattle.mvo_state.specs.Causes.{why_not_inserted}

@@ -1,12 +1,12 @@
-use Rattle.std.proofs.Common.{rules, arith, ◌≡◌, ◌+◌, ◌<◌, ◌≤◌, ℕ, Bool, true, false, cond, List, Option, None, Some, length, refl, ap, ◌∙◌, sym, subst}
-use Rattle.std.specs.Prelude.{◌==◌, nat_le, position, is_some, remove, vec_len, vec_capacity}
+use Rattle.std.proofs.Common.{arith, ◌≡◌, ◌+◌, ℕ, false, List, Option, None, Some, refl, ap, ◌∙◌, sym, subst}
+use Rattle.std.specs.Prelude.{◌==◌, nat_le, position, is_some, remove, vec_capacity}
 use Rattle.std.proofs.lemmas.Bool.{le-leb, lt-leb, true≢false}
 use Rattle.mvo_types.specs.declared.limits.TheConstants.{MAX_STAMP}
 use Rattle.mvo_types.specs.declared.refusal.Refusal.{Refusal}
 use Rattle.mvo_types.specs.declared.refusal.Refusal.TheVariants.{ClockSpent, Busy}
 use Rattle.mvo_state.specs.declared.over.OverTx.{OverTx}
 use Rattle.mvo_state.specs.Line.{State, Running, Slot}
-use Rattle.mvo_state.specs.Causes.{if_stands, why_not_prepared}
+use Rattle.mvo_state.specs.Causes.{why_not_prepared}
 use Rattle.mvo_state.specs.Steps.{now_prepared}
 use Rattle.mvo_core.specs.View.{state_of}
 use Rattle.mvo_core.specs.Kept.{IsKept, IsIndexed, IsGrouped}

@@ -1,4 +1,4 @@
-use Rattle.std.proofs.Common.{rules, arith, ◌≡◌, ℕ, Bool, true, false, cond, List, Option, None, Some, get_or, refl, ap, ◌∙◌, sym, subst}
+use Rattle.std.proofs.Common.{◌≡◌, ℕ, false, List, Option, None, Some, ap, ◌∙◌, sym, subst}
 use Rattle.std.specs.Prelude.{◌==◌, position, vec_capacity, ◌++◌, ◌∷◌, []}
 use Rattle.std.specs.Option.{option_map}
 use Rattle.mvo_types.specs.declared.op.Op.TheVariants as op
@@ -6,7 +6,7 @@ use Rattle.mvo_types.specs.declared.refusal.Refusal.{Refusal}
 use Rattle.mvo_types.specs.RowData.{RowData, row_with}
 use Rattle.mvo_types.specs.Keys.{row_at}
 use Rattle.mvo_types.specs.AnswerData.AnswerData.{Found}
-use Rattle.mvo_model.specs.History.{History, after_history}
+use Rattle.mvo_model.specs.History.{after_history}
 use Rattle.mvo_state.specs.declared.over.OverTx.{OverTx}
 use Rattle.mvo_state.specs.Line.{State, Running, Slot, told, snapshot, seen_by, is_writer}
 use Rattle.mvo_state.specs.Causes.{why_not_read}

@@ -1,16 +1,16 @@
-use Rattle.std.proofs.Common.{rules, arith, ◌≡◌, ◌+◌, ◌<◌, ◌≤◌, ◌++◌, ◌∷◌, [], not, ℕ, Bool, true, false, cond, List, Option, None, Some, length, refl, ap, ◌∙◌, sym, subst}
-use Rattle.std.specs.Prelude.{◌==◌, position, is_some, remove, vec_capacity}
+use Rattle.std.proofs.Common.{arith, ◌≡◌, ◌++◌, ◌∷◌, [], Bool, true, false, cond, List, Option, None, Some, refl, ap, ◌∙◌, sym, subst}
+use Rattle.std.specs.Prelude.{◌==◌, position, vec_capacity}
 use Rattle.std.specs.List.{list_any}
-use Rattle.std.proofs.lemmas.Bool.{false≢true, eqb-true}
+use Rattle.std.proofs.lemmas.Bool.{eqb-true}
 use Rattle.mvo_types.specs.declared.refusal.Refusal.{Refusal}
 use Rattle.mvo_types.specs.declared.refusal.Refusal.TheVariants.{Ended, NoSuchTransaction, NotPreparing}
 use Rattle.mvo_state.specs.declared.over.OverTx.{OverTx}
 use Rattle.mvo_state.specs.Line.{State, Running, Slot, aborted_tx}
-use Rattle.mvo_state.specs.Causes.{running_of, preparing_of, why_not_rolled_back}
+use Rattle.mvo_state.specs.Causes.{why_not_rolled_back}
 use Rattle.mvo_state.specs.Steps.{now_aborted, aborted_at}
-use Rattle.mvo_core.specs.View.{line_of, state_of, one_is}
+use Rattle.mvo_core.specs.View.{state_of}
 use Rattle.mvo_core.specs.Kept.{IsKept, IsIndexed, IsGrouped}
-use Rattle.mvo_core.proofs.Places.{IsFound, found_at, any_at, any_running, none_any}
+use Rattle.mvo_core.proofs.Places.{found_at, any_at, any_running, none_any}
 use Rattle.mvo_core.proofs.Indexed.{indexed_without}
 use Rattle.mvo_core.proofs.Grouped.{grouped_without}
 use Rattle.mvo_core.proofs.Calls.{not_preparing_by, any_preparing, rolled_back_is, active_unlined, IsDropped, kept_dropped, IsUndone, kept_undone, prepared_one, kept_with, one_there}

@@ -1,11 +1,11 @@
-use Rattle.std.proofs.Common.{rules, arith, ◌≡◌, ◌+◌, ◌<◌, ◌≤◌, ◌++◌, ◌∷◌, [], not, ℕ, Bool, true, false, cond, List, Option, None, Some, length, refl, ap, ◌∙◌, sym, subst}
-use Rattle.std.specs.Prelude.{◌==◌, vec_capacity}
+use Rattle.std.proofs.Common.{rules, arith, ◌≡◌, ◌++◌, ◌∷◌, [], not, ℕ, Bool, cond, List, Option, None, Some, length, refl, ap, ◌∙◌, sym, subst}
+use Rattle.std.specs.Prelude.{vec_capacity}
 use Rattle.std.proofs.lemmas.Bool.{eqb-true}
 use Rattle.mvo_types.specs.declared.refusal.Refusal.{Refusal}
 use Rattle.mvo_types.specs.declared.refusal.Refusal.TheVariants.{NotValidated}
 use Rattle.mvo_state.specs.declared.over.OverTx.{OverTx}
-use Rattle.mvo_state.specs.Line.{State, Running, Slot, with_settled, committed, committed_tx}
-use Rattle.mvo_state.specs.Causes.{if_stands, preparing_of, why_not_settled, end_of, end_at}
+use Rattle.mvo_state.specs.Line.{State, Running, Slot, with_settled, committed_tx}
+use Rattle.mvo_state.specs.Causes.{preparing_of, why_not_settled, end_of, end_at}
 use Rattle.mvo_state.specs.Steps.{now_committed, committed_at}
 use Rattle.mvo_core.specs.View.{state_of}
 use Rattle.mvo_core.specs.Writers.{is_writing}

@@ -1,16 +1,14 @@
-use Rattle.std.proofs.Common.{rules, arith, ◌≡◌, ◌+◌, ◌<◌, ◌≤◌, ◌++◌, ◌∷◌, [], ℕ, Bool, true, false, cond, List, Option, None, Some, refl, ap, ◌∙◌, sym, subst, append-nil}
+use Rattle.std.proofs.Common.{arith, ◌≡◌, ◌+◌, ◌++◌, ◌∷◌, [], ℕ, Bool, true, false, cond, List, refl, ap, ◌∙◌, sym, subst, append-nil}
 use Rattle.mvo_types.specs.declared.op.Op.TheVariants as op
-use Rattle.mvo_types.specs.declared.refusal.Refusal.{Refusal}
-use Rattle.mvo_types.specs.Keys.{Map}
 use Rattle.mvo_types.specs.AnswerData.{answer_data}
 use Rattle.mvo_model.specs.Trace.{Step}
 use Rattle.mvo_model.specs.Trace.Step.{Begins, Answers, Prepares, Checks, Commits, Aborts, Terminates}
-use Rattle.mvo_state.specs.Line.{State, Slot, began, told, left}
-use Rattle.mvo_state.specs.Causes.{is_failure, preparing_of, end_of, end_at}
+use Rattle.mvo_state.specs.Line.{State}
+use Rattle.mvo_state.specs.Causes.{is_failure, end_at}
 use Rattle.mvo_state.specs.Steps.{now_prepared, now_checked, now_committed, now_aborted, after_refusal}
 use Rattle.mvo_state.specs.Sound.{IsSound, IsSingle}
 use Rattle.mvo_state.specs.Stands.{Stands}
-use Rattle.mvo_state.specs.Marks.{IsClosedAt, settled_to, StaysBelow}
+use Rattle.mvo_state.specs.Marks.{StaysBelow}
 use Rattle.mvo_state.proofs.Stood.{stands_began, stands_told, active_read, active_inserted, active_prepared, preparing_settled, unended_rolled_back, unended_checked, over_finished, stands_prepared, stands_checked, stands_committed, stands_aborted, stands_left}
 use Rattle.mvo_state.proofs.Phases.{IsUnended}
 use Rattle.mvo_state.proofs.Below.{stays_same, stays_prepared, stays_checked, stays_committed, stays_aborted}

@@ -1,4 +1,4 @@
-use Rattle.std.proofs.Common.{◌≡◌, ◌++◌, subst}
+use Rattle.std.proofs.Common.{◌++◌, subst}
 use Rattle.mvo_state.specs.Stands.{Stands}
 use Rattle.mvo_core.specs.declared.event.Event.{Event}
 use Rattle.mvo_core.specs.Events.{happened}

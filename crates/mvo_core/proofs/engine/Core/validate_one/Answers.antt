@@ -1,9 +1,8 @@
-use Rattle.std.proofs.Common.{rules, arith, ◌≡◌, ◌+◌, ◌<◌, ◌≤◌, ◌++◌, ◌∷◌, [], not, ◌||◌, ℕ, Bool, true, false, cond, List, Option, None, Some, length, refl, ap, ◌∙◌, sym, subst}
-use Rattle.std.specs.Prelude.{◌==◌, nat_le, is_some, vec_capacity, slice_get, option_and_then}
+use Rattle.std.proofs.Common.{arith, ◌≡◌, ◌+◌, ◌++◌, ◌∷◌, [], ◌||◌, ℕ, Bool, cond, List, Option, None, Some, length, ap, ◌∙◌, sym, subst}
+use Rattle.std.specs.Prelude.{nat_le, is_some, vec_capacity, slice_get, option_and_then}
 use Rattle.std.specs.List.{AllByRecursion}
 use Rattle.std.proofs.lemmas.Bool.{eqb-true}
 use Rattle.mvo_types.specs.declared.refusal.Refusal.{Refusal}
-use Rattle.mvo_types.specs.declared.refusal.Refusal.TheVariants.{ValidationFailed}
 use Rattle.mvo_state.specs.declared.over.OverTx.{OverTx}
 use Rattle.mvo_state.specs.Entries.{IsKeyed, entries, entry_keys}
 use Rattle.mvo_state.specs.Line.{State, Running, Slot, aborted_tx, checked}

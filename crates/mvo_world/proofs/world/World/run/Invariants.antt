@@ -1,4 +1,4 @@
-use Rattle.std.proofs.Common.{◌≡◌, ◌≢◌, ◌≤◌, ◌++◌, [], ℕ, List, length, take}
+use Rattle.std.proofs.Common.{◌≡◌, ◌≢◌, ◌≤◌, ◌++◌, ℕ, List, length, take}
 use Rattle.std.specs.Prelude.{vec_capacity}
 use Rattle.mvo_model.specs.Trace.{Step}
 use Rattle.mvo_group.specs.Data.{GroupData}

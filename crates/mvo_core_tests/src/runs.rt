@@ -1,12 +1,10 @@
-mod random;
-mod records;
-
-use crate::{Event, Reply, run};
+use mvo_core::{Event, Reply, run};
 use mvo_types::{Answer, Refusal, Row, RowKey, Rows, Stamp, TxId};
 use std::alloc::{AllocError, Global};
 use std::test::Fail;
 
-fn row(alloc: Global, key: u64) -> Result<Row, AllocError> {
+/// A row of table 0 with sort 50 and data 61.
+pub fn row(alloc: Global, key: u64) -> Result<Row, AllocError> {
     Ok(Row {
         key: RowKey { table: 0, key },
         sort: 50,

@@ -1,6 +1,6 @@
 //! Random events, against one map that runs the committed transactions one after another.
 
-use crate::{Core, Event, Reply};
+use mvo_core::{Core, Event, Reply};
 use mvo_model::Serial;
 use mvo_types::{Answer, Op, Refusal, Row, RowKey, Rows, Stamp, TxId};
 use std::alloc::{AllocError, Global};

@@ -1,4 +1,4 @@
-use crate::{Group, Record, Write};
+use mvo_group::{Group, Record, Write};
 use mvo_types::{Row, RowKey, Stamp};
 use std::alloc::Global;
 use std::process::Abort;

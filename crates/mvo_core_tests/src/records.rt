@@ -1,6 +1,5 @@
-use super::row;
-use crate::Core;
-use crate::commit_record::record_of;
+use crate::runs::row;
+use mvo_core::{Closed, Core};
 use mvo_group::Write;
 use mvo_types::{RowKey, Rows, Stamp};
 use std::test::Fail;
@@ -20,10 +19,12 @@ fn record_goes_by_table_and_key(rt: HostRuntime) -> Result<(), Fail> {
         let _ = core.validate_one(tx)?;
     }
     let _ = core.settle(tx)?;
-    let Some(entry) = core.tale().first() else {
-        panic!(rt; "no commit");
-    };
-    let commit = record_of(alloc, entry)?;
+    let mut place = None;
+    let prev = Stamp(0);
+    assert_eq!(rt; core.close_group(&mut place)?, Closed { prev, mark: end });
+    let group = place.ok_or("a group")?;
+    assert_eq!(rt; (group.prev(), group.mark()), (prev, end));
+    let commit = group.records().first().ok_or("a commit")?;
     assert_eq!(rt; commit.end, end);
     let [first, second, third] = commit.writes.as_slice() else {
         panic!(rt; "not three writes");

@@ -1,0 +1,5 @@
+//! Tests of groups and their bytes.
+#![tactic(auto)]
+
+#[cfg(test)]
+mod bodies;
