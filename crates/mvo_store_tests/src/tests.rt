@@ -1,4 +1,4 @@
-use crate::{Store, format};
+use mvo_store::{Store, format};
 use mvo_disk::{Call, Disk, Left, MemDisk, Work};
 use mvo_group::Group;
 use mvo_types::{Refusal, Row, RowKey, Rows, Stamp};
