@@ -1,6 +1,6 @@
-use mvo_store::{Store, format};
 use mvo_disk::{Call, Disk, Left, MemDisk, Work};
 use mvo_group::Group;
+use mvo_store::{Store, format};
 use mvo_types::{Refusal, Row, RowKey, Rows, Stamp};
 use std::alloc::Global;
 use std::test::Fail;

@@ -1,8 +1,8 @@
 //! What happened in a run, as its events and their replies tell.
 
-use crate::{Event, Reply};
 use mvo_core::{Event as Step, Reply as Answered};
 use mvo_types::{Answer, Op, Refusal, Stamp, TxId};
+use mvo_world::{Event, Reply};
 use std::alloc::{AllocError, Global};
 use std::mem;
 

@@ -5,11 +5,11 @@ mod observed;
 mod random;
 mod runs;
 
-use crate::{Event, Reply, World};
 use mvo_core::{Event as Step, Reply as Answered};
 use mvo_disk::{Disk, Left, MemDisk};
 use mvo_store::format;
 use mvo_types::{Answer, Row, RowKey, Stamp, TxId};
+use mvo_world::{Event, Reply, World};
 use std::alloc::Global;
 use std::process::Abort;
 use std::test::Fail;

@@ -1,0 +1,33 @@
+-- One step of a world, and a run of them.
+use Rattle.std.specs.Prelude.{◌≡◌, List, [], ◌∷◌}
+use Rattle.mvo_disk.specs.declared.disk.Disk.{Ghosts}
+use Rattle.mvo_store.specs.Steps.{KeepsOthers}
+use Rattle.mvo_world.specs.Past.{Past, with_event}
+use Rattle.mvo_world.specs.WorldData.{WorldData}
+use Rattle.mvo_world.specs.Standing.{IsAfter, LeavesPrefix}
+use Rattle.mvo_world.specs.Replies.{IsReplyTo, IsCopiedReplyTo}
+use Rattle.mvo_world.specs.declared.event.Event.{Event}
+use Rattle.mvo_world.specs.declared.reply.Reply.{Reply}
+
+-- The event has its reply. It leads from a world after a past to one after that past and this event,
+-- and a stop at any moment of it leaves an image that recovers a prefix of the past before it.
+pub record IsStepBy {D : Type 0} (IsReply : WorldData D → Event → Reply → WorldData D → Type 0)
+    (d : Ghosts D) (w : WorldData D) (e : Event) (r : Reply) (w' : WorldData D) : Type 0 where
+  pub reply : IsReply w e r w'
+  pub after : (p : Past) → IsAfter d p w → IsAfter d (with_event p e r) w'
+  pub any_moment : (p : Past) → IsAfter d p w → LeavesPrefix d p w w'
+  pub others : KeepsOthers d w.store.disk w'.store.disk
+
+abbrev pub IsStep : {D : Type 0} → Ghosts D → WorldData D → Event → Reply → WorldData D → Type 0
+IsStep d = IsStepBy (IsReplyTo d) d
+
+-- a step of a run, whose event is copied first
+abbrev pub IsRunStep : {D : Type 0} → Ghosts D → WorldData D → Event → Reply → WorldData D → Type 0
+IsRunStep d = IsStepBy (IsCopiedReplyTo d) d
+
+-- one such step after another, from one world to another
+abbrev pub AreSteps : {W : Type 0} → (W → Event → Reply → W → Type 0) → W → List Event → List Reply → W → Type 0
+AreSteps IsOne w [] [] w' = w' ≡ w
+AreSteps IsOne w [] (r ∷ rs) w' = ⊥
+AreSteps IsOne w (e ∷ es) [] w' = ⊥
+AreSteps {W = W} IsOne w (e ∷ es) (r ∷ rs) w' = (next : W) × IsOne w e r next × AreSteps IsOne next es rs w'
