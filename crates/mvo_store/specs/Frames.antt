@@ -62,7 +62,8 @@ abbrev pub Frames : ℕ → ℕ → List GroupData → List ℕ → Type 0
 Frames place mark [] bytes =
     (gate : ℕ) × (rest : List ℕ) × (bytes ≡ gate ∷ rest) × (gate ≢ OPEN)
 Frames place mark (g ∷ gs) bytes =
-    (after : List ℕ) × (rest : List ℕ) × (bytes ≡ OPEN ∷ after) × IsNextFrame place mark g after rest
+    (after : List ℕ) × (rest : List ℕ) × (bytes ≡ OPEN ∷ after)
+    × IsNextFrame place mark g after rest
     × Frames (place + 1 + length (sized (body_of g))) g.mark gs rest
 
 -- behind the header stand the frames of these groups, one after another

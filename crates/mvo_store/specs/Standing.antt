@@ -59,7 +59,8 @@ with_taken gs None = gs
 with_taken gs (Some g) = gs ++ g ∷ []
 
 -- the groups after a step that opens the taken one's gate
-abbrev pub groups_after : {T E : Type 0} → Result T E → List GroupData → Option GroupData → List GroupData
+abbrev pub groups_after : {T E : Type 0} →
+    Result T E → List GroupData → Option GroupData → List GroupData
 groups_after (Ok x) gs taken = with_taken gs taken
 groups_after (Err e) gs taken = gs
 
@@ -69,7 +70,8 @@ HasWithOrWithout gs taken bytes = HasGroups 0 gs bytes ⊎ HasGroups 0 (with_tak
 
 -- A stop now leaves these groups, up to the store's mark, or also the one that is being opened.
 -- Unless the disk met a fault, the store is up.
-pub record KeepsGroups {D : Type 0} (d : Ghosts D) (s : StoreData D) (gs : List GroupData) : Type 0 where
+pub record KeepsGroups {D : Type 0} (d : Ghosts D) (s : StoreData D) (gs : List GroupData) :
+    Type 0 where
   pub mark : s.mark ≡ mark_of gs
   pub images : (image : ℕ → List ℕ) → AllOf (d.may_leave s.disk) image →
       HasWithOrWithout gs (opening s) (image 2)
@@ -78,11 +80,14 @@ pub record KeepsGroups {D : Type 0} (d : Ghosts D) (s : StoreData D) (gs : List 
 -- ---- a stop at any moment of a step, from one store to the next
 
 -- it leaves the groups
-abbrev pub LeavesGroups : {D : Type 0} → Ghosts D → List GroupData → StoreData D → StoreData D → Type 0
+abbrev pub LeavesGroups : {D : Type 0} →
+    Ghosts D → List GroupData → StoreData D → StoreData D → Type 0
 LeavesGroups d gs s t =
     LeavesOnly d.moment d.left_since s.disk t.disk (λ image. HasGroups 0 gs (image 2))
 
 -- it leaves the groups, or also the one that is being opened
-abbrev pub LeavesWithOrWithout : {D : Type 0} → Ghosts D → List GroupData → StoreData D → StoreData D → Type 0
+abbrev pub LeavesWithOrWithout : {D : Type 0} →
+    Ghosts D → List GroupData → StoreData D → StoreData D → Type 0
 LeavesWithOrWithout d gs s t =
-    LeavesOnly d.moment d.left_since s.disk t.disk (λ image. HasWithOrWithout gs (opening s) (image 2))
+    LeavesOnly d.moment d.left_since s.disk t.disk
+    (λ image. HasWithOrWithout gs (opening s) (image 2))

@@ -13,14 +13,17 @@ use Rattle.mvo_store.specs.Recovery.{Recovers, rows_of, mark_of}
 use Rattle.mvo_store.specs.StoreData.{StoreData}
 use Rattle.mvo_store.specs.Standing.{IsUp}
 
--- The first cause that stands is the refusal. Where none stands, only out of memory and a fault refuse.
+-- The first cause that stands is the refusal. Where none stands, only out of memory and a fault
+-- refuse.
 abbrev pub RefusedFor : {T : Type 0} → Option Refusal → Result T Refusal → Type 0
 RefusedFor (Some cause) result = result ≡ Err cause
 RefusedFor None (Ok x) = Unit {0}
 RefusedFor None (Err e) = (e ≡ OutOfMemory) ⊎ (e ≡ DiskFault)
 
--- The first cause that stands is the refusal, and the group comes back. Where none stands, nothing refuses.
-abbrev pub GivenBackFor : {T : Type 0} → Option Refusal → GroupData → Result T (Refusal × GroupData) → Type 0
+-- The first cause that stands is the refusal, and the group comes back. Where none stands, nothing
+-- refuses.
+abbrev pub GivenBackFor : {T : Type 0} →
+    Option Refusal → GroupData → Result T (Refusal × GroupData) → Type 0
 GivenBackFor (Some cause) g result = result ≡ Err (cause, g)
 GivenBackFor None g (Ok x) = Unit {0}
 GivenBackFor None g (Err e) = ⊥
@@ -62,10 +65,12 @@ OnlyRecovers bytes rows mark =
 -- the store is up over the groups of these bytes, and the rows and the mark are theirs
 abbrev pub IsUpOver : {D : Type 0} → Ghosts D → List ℕ → StoreData D → Map → ℕ → Type 0
 IsUpOver d bytes s rows mark =
-    (gs : List GroupData) → HasGroups 0 gs bytes → IsUp d s gs × (rows ≡ rows_of gs) × (mark ≡ mark_of gs)
+    (gs : List GroupData) → HasGroups 0 gs bytes →
+    IsUp d s gs × (rows ≡ rows_of gs) × (mark ≡ mark_of gs)
 
 -- the store that was just opened, at this mark
-pub record HasBegun {D : Type 0} (d : Ghosts D) (disk : D) (s : StoreData D) (mark : ℕ) : Type 0 where
+pub record HasBegun {D : Type 0} (d : Ghosts D) (disk : D) (s : StoreData D) (mark : ℕ) :
+    Type 0 where
   pub down : s.down ≡ false
   pub written : s.written ≡ false
   pub pending : s.pending ≡ None
@@ -76,10 +81,12 @@ pub record HasBegun {D : Type 0} (d : Ghosts D) (disk : D) (s : StoreData D) (ma
 -- the refusal, the fault counter before and after, and the bytes of the segment
 abbrev pub IsOpenRefusal : Refusal → ℕ → ℕ → List ℕ → Type 0
 IsOpenRefusal ClockSpent faults later bytes = (MAX_FAULTS ≤ faults) × (later ≡ faults)
-IsOpenRefusal NotFormatted faults later bytes = (faults < MAX_FAULTS) × (bytes ≡ []) × (later ≡ faults)
+IsOpenRefusal NotFormatted faults later bytes =
+    (faults < MAX_FAULTS) × (bytes ≡ []) × (later ≡ faults)
 IsOpenRefusal (Corrupt file) faults later bytes =
     (faults < MAX_FAULTS) × (file ≡ 2) × (bytes ≢ []) × IsBroken bytes × (later ≡ faults)
-IsOpenRefusal BadVersion faults later bytes = (faults < MAX_FAULTS) × IsOtherVersion bytes × (later ≡ faults)
+IsOpenRefusal BadVersion faults later bytes =
+    (faults < MAX_FAULTS) × IsOtherVersion bytes × (later ≡ faults)
 IsOpenRefusal DiskFault faults later bytes = (faults < MAX_FAULTS) × (later ≡ faults + 1)
 IsOpenRefusal OutOfMemory faults later bytes = (faults < MAX_FAULTS) × (later ≡ faults)
 IsOpenRefusal _ faults later bytes = ⊥
@@ -94,10 +101,12 @@ IsNotOfBytes e = (e ≡ ClockSpent) ⊎ ((e ≡ DiskFault) ⊎ (e ≡ OutOfMemor
 
 abbrev pub IsFormatRefusal : Refusal → ℕ → ℕ → List ℕ → Type 0
 IsFormatRefusal ClockSpent faults later bytes = (MAX_FAULTS ≤ faults) × (later ≡ faults)
-IsFormatRefusal AlreadyFormatted faults later bytes = (faults < MAX_FAULTS) × (bytes ≢ []) × (later ≡ faults)
+IsFormatRefusal AlreadyFormatted faults later bytes =
+    (faults < MAX_FAULTS) × (bytes ≢ []) × (later ≡ faults)
 IsFormatRefusal DiskFault faults later bytes = (faults < MAX_FAULTS) × (later ≡ faults + 1)
 IsFormatRefusal _ faults later bytes = ⊥
 
 -- the disk is not formatted, for this refusal, and comes back so
 abbrev pub IsNotFormatted : {D : Type 0} → Ghosts D → D → Refusal → D → Type 0
-IsNotFormatted d old e new = IsFormatRefusal e (d.fault_count old) (d.fault_count new) (d.content old 2)
+IsNotFormatted d old e new =
+    IsFormatRefusal e (d.fault_count old) (d.fault_count new) (d.content old 2)

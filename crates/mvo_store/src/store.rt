@@ -93,7 +93,8 @@ impl<D: Disk> Store<D> {
         ensures content { IfOk result (λ x. KeepsContent D.Disk disk x.0.disk) }
         ensures any_moment { IfOk result (λ x. LeavesAsBefore D.Disk disk x.0.disk) }
         ensures refused { IfErr result (λ e. IsNotOpened D.Disk disk e.0 e.1) }
-        ensures well_formed { IfErr result (λ e. IsWellFormed (D.content disk 2) → IsNotOfBytes e.0) }
+        ensures well_formed { IfErr result (λ e.
+            IsWellFormed (D.content disk 2) → IsNotOfBytes e.0) }
         ensures content_err { IfErr result (λ e. KeepsContent D.Disk disk e.1) }
         ensures any_moment_err { IfErr result (λ e. LeavesAsBefore D.Disk disk e.1) }
     {
@@ -234,8 +235,8 @@ impl<D: Disk> Store<D> {
         Ok(())
     }
 
-    /// Writes the gate of the pending group open, and syncs. Its mark is durable then. A stop at any
-    /// moment leaves the groups before, or those and this one; after Ok, the latter.
+    /// Writes the gate of the pending group open, and syncs. Its mark is durable then. A stop at
+    /// any moment leaves the groups before, or those and this one; after Ok, the latter.
     ///
     /// Refused: Down, then NothingToDo where no body is written, then DiskFault.
     pub fn append_open(&mut self) -> Result<Durable, Refusal>

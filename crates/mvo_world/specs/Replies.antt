@@ -67,7 +67,8 @@ pub record IsWritten {D : Type 0} (d : Ghosts D) (w w' : WorldData D) : Type 0 w
   pub count : d.fault_count w'.store.disk ≡ d.fault_count w.store.disk
 
 -- the pending group is durable
-pub record IsDurable {D : Type 0} (d : Ghosts D) (w : WorldData D) (mark : ℕ) (w' : WorldData D) : Type 0 where
+pub record IsDurable {D : Type 0} (d : Ghosts D) (w : WorldData D) (mark : ℕ) (w' : WorldData D) :
+    Type 0 where
   pub group : GroupData
   pub there : w.store.pending ≡ Some group
   pub mark_is : group.mark ≡ mark
@@ -82,14 +83,15 @@ pub record IsDurable {D : Type 0} (d : Ghosts D) (w : WorldData D) (mark : ℕ) 
   pub count : d.fault_count w'.store.disk ≡ d.fault_count w.store.disk
 
 -- a refusal of the store leaves the rest alone
-pub record IsLeft {D : Type 0} (d : Ghosts D) (w : WorldData D) (r : Refusal) (w' : WorldData D) : Type 0 where
+pub record IsLeft {D : Type 0} (d : Ghosts D) (w : WorldData D) (r : Refusal) (w' : WorldData D) :
+    Type 0 where
   pub rest : w' ≡ record w { store = w'.store }
   pub store : LeftBy d r w.store w'.store
 
 -- ---- the reply
 
--- The first refusal whose cause stands; where none does, the event's own answer, and what that makes
--- of the world.
+-- The first refusal whose cause stands; where none does, the event's own answer, and what that
+-- makes of the world.
 abbrev pub IsReplyTo : {D : Type 0} → Ghosts D → WorldData D → Event → Reply → WorldData D → Type 0
 IsReplyTo d w (Asked e) (Answered r) w' =
     core.IsReplyTo w.core e r w'.core × (w' ≡ record w { core = w'.core })
@@ -115,11 +117,13 @@ HasRow (Asked e) = core.HasRow e
 HasRow e = ⊥
 
 -- the copy was refused, and nothing happens
-pub record IsNotCopied {D : Type 0} (w : WorldData D) (e : Event) (r : Reply) (w' : WorldData D) : Type 0 where
+pub record IsNotCopied {D : Type 0} (w : WorldData D) (e : Event) (r : Reply) (w' : WorldData D) :
+    Type 0 where
   pub row : HasRow e
   pub reply : r ≡ Refused OutOfMemory
   pub same : w' ≡ w
 
 -- the same of an event that is copied first
-abbrev pub IsCopiedReplyTo : {D : Type 0} → Ghosts D → WorldData D → Event → Reply → WorldData D → Type 0
+abbrev pub IsCopiedReplyTo : {D : Type 0} →
+    Ghosts D → WorldData D → Event → Reply → WorldData D → Type 0
 IsCopiedReplyTo d w e r w' = IsReplyTo d w e r w' ⊎ IsNotCopied w e r w'

@@ -56,4 +56,5 @@ MayLeavePrefix d p w =
 -- so does a stop at any moment from one world to the next
 abbrev pub LeavesPrefix : {D : Type 0} → Ghosts D → Past → WorldData D → WorldData D → Type 0
 LeavesPrefix d p w w' =
-    LeavesOnly d.moment d.left_since w.store.disk w'.store.disk (λ image. RecoversPrefix p (image 2))
+    LeavesOnly d.moment d.left_since w.store.disk w'.store.disk
+    (λ image. RecoversPrefix p (image 2))

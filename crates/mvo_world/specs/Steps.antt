@@ -9,8 +9,8 @@ use Rattle.mvo_world.specs.Replies.{IsReplyTo, IsCopiedReplyTo}
 use Rattle.mvo_world.specs.declared.event.Event.{Event}
 use Rattle.mvo_world.specs.declared.reply.Reply.{Reply}
 
--- The event has its reply. It leads from a world after a past to one after that past and this event,
--- and a stop at any moment of it leaves an image that recovers a prefix of the past before it.
+-- The event has its reply. It leads from a world after a past to one after that past and this
+-- event, and a stop at any moment of it leaves an image that recovers a prefix of the past before.
 pub record IsStepBy {D : Type 0} (IsReply : WorldData D → Event → Reply → WorldData D → Type 0)
     (d : Ghosts D) (w : WorldData D) (e : Event) (r : Reply) (w' : WorldData D) : Type 0 where
   pub reply : IsReply w e r w'
@@ -26,8 +26,10 @@ abbrev pub IsRunStep : {D : Type 0} → Ghosts D → WorldData D → Event → R
 IsRunStep d = IsStepBy (IsCopiedReplyTo d) d
 
 -- one such step after another, from one world to another
-abbrev pub AreSteps : {W : Type 0} → (W → Event → Reply → W → Type 0) → W → List Event → List Reply → W → Type 0
+abbrev pub AreSteps : {W : Type 0} →
+    (W → Event → Reply → W → Type 0) → W → List Event → List Reply → W → Type 0
 AreSteps IsOne w [] [] w' = w' ≡ w
 AreSteps IsOne w [] (r ∷ rs) w' = ⊥
 AreSteps IsOne w (e ∷ es) [] w' = ⊥
-AreSteps {W = W} IsOne w (e ∷ es) (r ∷ rs) w' = (next : W) × IsOne w e r next × AreSteps IsOne next es rs w'
+AreSteps {W = W} IsOne w (e ∷ es) (r ∷ rs) w' =
+    (next : W) × IsOne w e r next × AreSteps IsOne next es rs w'

@@ -11,7 +11,7 @@ pub record WorldData (D : Type 0) : Type 0 where
   pub place : Option GroupData
   pub store : StoreData D
 
--- the groups that are closed and not durable yet: that which the store took, and that which it didn't
+-- the groups that are closed and not durable yet: the one that the store took, and the next one
 abbrev pub waiting : {D : Type 0} → WorldData D → List GroupData
 waiting w = option_to_list w.store.pending ++ option_to_list w.place
 

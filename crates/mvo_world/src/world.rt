@@ -1,3 +1,5 @@
+mod steps;
+
 use crate::event::Event;
 use crate::push::push_reserved;
 use crate::reply::Reply;
@@ -53,11 +55,11 @@ impl<D: Disk> World<D> {
     ghost use Rattle.mvo_world.specs.Standing.{IsAfter, IsPrefix, RecoversPrefix, MayLeavePrefix};
     ghost use Rattle.mvo_world.specs.Steps.{IsStep, IsRunStep, AreSteps};
 
-    /// A world over what is on the disk. It writes and cuts nothing. Refused as `Store::open` is, or
-    /// with OutOfMemory; the disk comes back.
+    /// A world over what is on the disk. It writes and cuts nothing. Refused as `Store::open` is,
+    /// or with OutOfMemory; the disk comes back.
     pub fn open(alloc: Global, disk: D) -> Result<World<D>, (Refusal, D)>
-        ensures after { IfOk result (λ w. (gs : List GroupData) → HasGroups 0 gs (D.content disk 2) →
-            IsAfter D.Disk (opened_over gs) w) }
+        ensures after { IfOk result (λ w. (gs : List GroupData) →
+            HasGroups 0 gs (D.content disk 2) → IsAfter D.Disk (opened_over gs) w) }
         ensures recovers { IfOk result (λ w. Recovers (D.content disk 2) w.core.base w.store.mark) }
         ensures exactly { IfOk result (λ w.
             OnlyRecovers (D.content disk 2) w.core.base w.store.mark) }
@@ -67,7 +69,8 @@ impl<D: Disk> World<D> {
         ensures content { IfOk result (λ w. KeepsContent D.Disk disk w.store.disk) }
         ensures any_moment { IfOk result (λ w. LeavesAsBefore D.Disk disk w.store.disk) }
         ensures refused { IfErr result (λ e. IsNotOpened D.Disk disk e.0 e.1) }
-        ensures well_formed { IfErr result (λ e. IsWellFormed (D.content disk 2) → IsNotOfBytes e.0) }
+        ensures well_formed { IfErr result (λ e.
+            IsWellFormed (D.content disk 2) → IsNotOfBytes e.0) }
         ensures content_err { IfErr result (λ e. KeepsContent D.Disk disk e.1) }
         ensures any_moment_err { IfErr result (λ e. LeavesAsBefore D.Disk disk e.1) }
     {
@@ -105,70 +108,9 @@ impl<D: Disk> World<D> {
         store.into_disk()
     }
 
-    /// A step of a transaction.
-    fn ask(&mut self, event: mvo_core::Event) -> Reply
-        ensures { IsStep D.Disk self.old (Event.Core event) result self.new }
-    {
-        let reply = self.core.step(event);
-        // From then on the proof knows what the core keeps.
-        let _clock = self.core.clock();
-        Reply::Core(reply)
-    }
-
-    fn close_group(&mut self) -> Reply
-        ensures { IsStep D.Disk self.old Event.CloseGroup result self.new }
-    {
-        match self.core.close_group(&mut self.place) {
-            Ok(closed) => Reply::Closed(closed),
-            Err(refusal) => Reply::Refused(refusal),
-        }
-    }
-
-    fn take_group(&mut self) -> Reply
-        ensures { IsStep D.Disk self.old Event.TakeGroup result self.new }
-    {
-        if let Some(refusal) = self.store.can_take() {
-            return Reply::Refused(refusal);
-        }
-        let Some(group) = self.place.take() else {
-            return Reply::Refused(Refusal::NothingToDo);
-        };
-        match self.store.take_group(group) {
-            Ok(()) => Reply::Taken,
-            Err((refusal, group)) => {
-                self.place = Some(group);
-                Reply::Refused(refusal)
-            }
-        }
-    }
-
-    fn append_body(&mut self) -> Reply
-        ensures { IsStep D.Disk self.old Event.AppendBody result self.new }
-    {
-        match self.store.append_body() {
-            Ok(()) => Reply::Written,
-            Err(refusal) => Reply::Refused(refusal),
-        }
-    }
-
-    fn append_open(&mut self) -> Reply
-        ensures { IsStep D.Disk self.old Event.AppendOpen result self.new }
-    {
-        match self.store.append_open() {
-            Ok(durable) => Reply::Durable(durable.mark()),
-            Err(refusal) => Reply::Refused(refusal),
-        }
-    }
-
-    fn poll(&self, stamp: Stamp) -> Reply
-        ensures { IsStep D.Disk self.now (Event.Poll stamp) result self.now }
-    {
-        Reply::Polled(self.store.mark() >= stamp)
-    }
-
-    /// One step. Its reply is the first refusal whose cause stands, and else the event's own answer;
-    /// a step of the store that is not refused so may still meet out of memory or a fault of the
-    /// disk.
+    /// One step. Its reply is the first refusal whose cause stands, and else the event's own
+    /// answer; a step of the store that is not refused so may still meet out of memory or a fault
+    /// of the disk.
     pub fn step(&mut self, event: Event) -> Reply
         ensures { IsStep D.Disk self.old event result self.new }
     {
@@ -192,9 +134,9 @@ impl<D: Disk> World<D> {
         }
     }
 
-    /// Runs the events, one after another, each as `step` does. It takes room for its replies first:
-    /// refused with OutOfMemory, it has run nothing. An event whose copy is refused, which has a row,
-    /// is answered OutOfMemory and does nothing.
+    /// Runs the events, one after another, each as `step` does. It takes room for its replies
+    /// first: refused with OutOfMemory, it has run nothing. An event whose copy is refused, which
+    /// has a row, is answered OutOfMemory and does nothing.
     pub fn run(&mut self, events: &[Event]) -> Result<Vec<Reply>, Refusal>
         ensures each { IfOk result (λ replies.
             AreSteps (IsRunStep D.Disk) self.old events.now replies.items self.new) }

@@ -90,7 +90,7 @@ fn found(alloc: Global, disk: MemDisk) -> Result<(u64, Option<usize>), Fail> {
     }
 }
 
-/// Runs the events, and compares what is replied to each.
+/// Runs the events, and compares what is answered to each.
 fn assert_replies(
     rt: &impl Abort,
     world: &mut World<MemDisk>,
