@@ -1,16 +1,16 @@
 -- Each step leaves what is committed up to a mark.
-use Rattle.std.proofs.Common.{◌≡◌, ◌≢◌, ℕ, ◌+◌, ◌<◌, ◌≤◌, Bool, true, false, cond, not, ◌||◌, List, [], ◌∷◌, ◌++◌, Option, None, Some, map, refl, sym, ap, ◌∙◌, subst, arith}
-use Rattle.std.specs.Prelude.{⊤, ◌==◌, ◌&&◌, nat_le}
+use Rattle.std.proofs.Common.{◌≡◌, ℕ, ◌+◌, ◌<◌, Bool, true, false, cond, not, ◌||◌, List, [], ◌∷◌, ◌++◌, Option, None, Some, map, refl, sym, ap, ◌∙◌, subst, arith}
+use Rattle.std.specs.Prelude.{◌==◌, ◌&&◌, nat_le}
 use Rattle.std.specs.List.{AllByRecursion, filter}
-use Rattle.std.proofs.lemmas.Bool.{eqb-true, lt-leb, false≢true, true≢false}
+use Rattle.std.proofs.lemmas.Bool.{eqb-true, lt-leb, true≢false}
 use Rattle.mvo_types.specs.declared.op.Op.{Op}
 use Rattle.mvo_types.specs.AnswerData.{AnswerData}
 use Rattle.mvo_model.specs.History.{History}
-use Rattle.mvo_state.specs.Line.{State, Slot, Running, began, told, prepared, to_slot, checked, with_check, committed, with_settled, dropped, undone, with_doom, not_at, left}
+use Rattle.mvo_state.specs.Line.{State, Slot, Running, began, told, to_slot, checked, with_check, with_settled, with_doom, not_at, left}
 use Rattle.mvo_state.specs.Causes.{running_of, preparing_of}
 use Rattle.mvo_state.specs.Steps.{prepared_at, now_prepared, checked_at, now_checked, committed_at, now_committed, aborted_at, now_aborted}
 use Rattle.mvo_state.specs.Marks.{settled_to, IsClosedAt, StaysBelow}
-use Rattle.mvo_state.proofs.Each.{each_weaker, each_append, each_map, each_filter}
+use Rattle.mvo_state.proofs.Each.{each_append, each_map, each_filter}
 
 pub stays_same : (s : State) → StaysBelow s s
 stays_same s m h = (h, refl)

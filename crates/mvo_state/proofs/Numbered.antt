@@ -1,13 +1,13 @@
 -- Each step keeps the numbers apart.
-use Rattle.std.proofs.Common.{◌≡◌, ◌≢◌, ℕ, ◌<◌, ◌≤◌, Bool, true, false, cond, not, List, [], ◌∷◌, ◌++◌, map, refl, sym, ap, ◌∙◌, arith}
-use Rattle.std.specs.Prelude.{⊤, ◌==◌}
+use Rattle.std.proofs.Common.{◌≡◌, ◌≢◌, ℕ, ◌<◌, Bool, true, false, cond, not, List, [], ◌∷◌, ◌++◌, map, refl, sym, ◌∙◌, arith}
+use Rattle.std.specs.Prelude.{◌==◌}
 use Rattle.std.specs.List.{AllByRecursion, filter}
-use Rattle.std.proofs.lemmas.Bool.{eq-eqb, true≢false, false≢true, not-true}
+use Rattle.std.proofs.lemmas.Bool.{eq-eqb, false≢true, not-true}
 use Rattle.mvo_types.specs.declared.op.Op.{Op}
 use Rattle.mvo_types.specs.AnswerData.{AnswerData}
-use Rattle.mvo_state.specs.Line.{State, Slot, Running, began, told, with_told, prepared, to_slot, without, checked, with_check, committed, with_settled, with_doom, running_doom, not_at, dropped, undone}
+use Rattle.mvo_state.specs.Line.{State, Slot, Running, began, told, with_told, prepared, to_slot, checked, with_check, committed, with_settled, with_doom, running_doom, not_at, dropped, undone}
 use Rattle.mvo_state.specs.Sound.{IsSound, IsActive, IsPlaced, AreDistinct, IsNumbered}
-use Rattle.mvo_state.proofs.Each.{each_weaker, each_both, each_append, each_map, each_filter}
+use Rattle.mvo_state.proofs.Each.{each_weaker, each_append, each_map, each_filter}
 
 distinct_push : (rs : List Running) (r : Running) → AreDistinct rs → AllByRecursion (λ q. q.id < r.id) rs → AreDistinct (rs ++ r ∷ [])
 distinct_push [] r d h = (tt, tt)

@@ -1,25 +1,25 @@
 -- Each step keeps what a core keeps.
-use Rattle.std.proofs.Common.{suc, zero, take, length, add-one, ◌≡◌, ◌≢◌, ◌||◌, ℕ, ◌+◌, ◌<◌, ◌≤◌, Bool, true, false, cond, not, List, [], ◌∷◌, ◌++◌, Option, None, Some, map, refl, sym, ap, ◌∙◌, subst, arith, ◌⊎◌, inl, inr}
-use Rattle.std.specs.Prelude.{⊤, nat_lt, ◌==◌, slice_get, is_some}
-use Rattle.std.specs.Option.{unwrap_or}
+use Rattle.std.proofs.Common.{suc, zero, take, length, add-one, ◌≡◌, ◌≢◌, ◌||◌, ℕ, ◌+◌, ◌<◌, ◌≤◌, Bool, true, false, cond, not, List, [], ◌∷◌, ◌++◌, Option, None, Some, map, refl, sym, ap, ◌∙◌, subst, arith}
+use Rattle.std.specs.Prelude.{nat_lt, ◌==◌, slice_get, is_some}
 use Rattle.std.specs.FinMap as fin
-use Rattle.std.specs.List.{AllByRecursion, filter, list_any}
+use Rattle.std.specs.List.{AllByRecursion, filter}
 use Rattle.std.proofs.lemmas.Bool.{eqb-true, false≢true, true≢false, not-false, ltb-true, and_parts}
 use Rattle.std.proofs.lemmas.List.{take_all}
 use Rattle.mvo_types.specs.declared.row.RowKey.{RowKey}
 use Rattle.mvo_types.specs.declared.op.Op.{Op}
 use Rattle.mvo_types.specs.Keys.{Map}
 use Rattle.mvo_types.specs.AnswerData.{AnswerData}
+use Rattle.mvo_types.specs.Write.{content_after_last}
 use Rattle.mvo_model.specs.Serial.{answer_to}
 use Rattle.mvo_model.specs.History.{History, after_history, net_write, AreSerial, Legal}
 use Rattle.mvo_model.proofs.Serials.{get-after_history, AreSerial-push, AreSerial-agree}
 use Rattle.mvo_state.specs.Entries.{key_of, entry_keys}
 use Rattle.mvo_state.specs.Entries.{IsKeyed, IsApart}
-use Rattle.mvo_state.proofs.Each.{each_weaker, each_both, each_always, each_append, each_front, each_back, each_map, each_filter}
+use Rattle.mvo_state.proofs.Each.{each_weaker, each_both, each_append, each_back, each_map, each_filter}
 use Rattle.mvo_state.proofs.Keyed.{all_agree_at}
 use Rattle.mvo_state.specs.declared.over.OverTx.{OverTx}
 use Rattle.mvo_state.specs.declared.marks.Marks.{Marks}
-use Rattle.mvo_state.specs.Line.{State, Slot, Running, tale, told_below, seen_by, is_writer, last_writer, has, rest_on, with_end, but, began, told, with_told, prepared, to_slot, without, checked, with_check, committed, with_settled, doomed_by, with_doom, running_doom, not_at, dropped, undone}
+use Rattle.mvo_state.specs.Line.{State, Slot, Running, tale, told_below, seen_by, is_writer, last_writer, has, rest_on, with_end, but, began, told, with_told, prepared, to_slot, checked, with_check, committed, with_settled, doomed_by, with_doom, running_doom, not_at, dropped, undone}
 use Rattle.mvo_state.specs.Sound.{IsDecided, IsUnchanged, IsClear, IsRising, IsResting, IsActive, IsPreparing, IsPlaced, IsSound}
 use Rattle.mvo_state.proofs.Lines.{decided_now, has_rest, decided_more, told_below-last, decided_last, clear_last, rising_last, tale_last, IsLike, told_below-map, decided_map, rising_map, unchanged_map, IsOut, decided_filter, seen_filter, tale_filter, clear_filter, rising_filter, each_part}
 use Rattle.mvo_state.proofs.Settle.{IsFreeToSettle, apart_all, serial_now, legal_settled, clear_settled, rising_before, rising_after}
@@ -42,7 +42,7 @@ resting_filter p base line id ts ds o k h = record {
   serial = AreSerial-agree ts (seen_by base line id) (seen_by base (filter p line) id)
       (all_agree_at ts (seen_by base line id) (seen_by base (filter p line) id) k
       (each_weaker (λ x. IsDecided (key_of x.0) id ds line) (λ x. fin.get (seen_by base line id) (key_of x.0) ≡ fin.get (seen_by base (filter p line) id) (key_of x.0))
-      (λ x d. get-after_history (key_of x.0) (told_below id line) base ∙ ap (λ w. unwrap_or w (fin.get base (key_of x.0))) (sym (seen_filter p (key_of x.0) id ds line o d)) ∙ sym (get-after_history (key_of x.0) (told_below id (filter p line)) base)) ts h.decided))
+      (λ x d. get-after_history (key_of x.0) (told_below id line) base ∙ ap (λ w. content_after_last w (fin.get base (key_of x.0))) (sym (seen_filter p (key_of x.0) id ds line o d)) ∙ sym (get-after_history (key_of x.0) (told_below id (filter p line)) base)) ts h.decided))
       h.serial;
   decided = each_weaker (λ x. IsDecided (key_of x.0) id ds line) (λ x. IsDecided (key_of x.0) id ds (filter p line)) (λ x. decided_filter p (key_of x.0) id ds line o) ts h.decided;
 }
@@ -287,7 +287,7 @@ now_open : (a b : Bool) → (a || b) ≡ false → a ≡ false
 now_open true b h = absurd (true≢false h)
 now_open false b h = refl
 
-like_settled : (e : ℕ) → IsLike (with_settled e)
+pub like_settled : (e : ℕ) → IsLike (with_settled e)
 like_settled e = λ x. (refl, refl, λ q. or_true x.settled (x.stop == e) q)
 
 one_end : (t : Slot) (before after : List Slot) → IsRising (before ++ t ∷ after) → AllByRecursion (λ u. u.stop ≡ t.stop → u.told ≡ t.told) (before ++ t ∷ after)

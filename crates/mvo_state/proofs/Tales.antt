@@ -1,53 +1,26 @@
 -- A commit is put into its place among the commits of a trace.
-use Rattle.std.proofs.Common.{◌≡◌, ◌≢◌, ℕ, ◌<◌, ◌≤◌, Bool, true, false, cond, List, [], ◌∷◌, ◌++◌, Option, None, Some, map, refl, sym, ap, ◌∙◌, subst, arith, ◌⊎◌, inl, inr}
-use Rattle.std.specs.Prelude.{⊤, nat_le, ◌==◌, ◌||◌}
+use Rattle.std.proofs.Common.{◌≡◌, ◌≢◌, ℕ, ◌<◌, Bool, true, false, cond, List, [], ◌∷◌, ◌++◌, map, refl, sym, ap, ◌∙◌, subst, arith}
+use Rattle.std.specs.Prelude.{◌==◌, ◌||◌}
 use Rattle.std.specs.List.{AllByRecursion}
-use Rattle.std.proofs.lemmas.Bool.{le-leb, lt-leb, leb-true, leb-false, cases_lt, ne_eqb, eq-eqb}
+use Rattle.std.specs.List.Sorted.{IsPermutation, IsStrictlySortedBy}
+use Rattle.std.specs.Ordering.{nat_cmp}
+use Rattle.std.specs.declared.cmp.Ordering.TheVariants.{Less, Equal, Greater}
+use Rattle.std.proofs.lemmas.List.Sorted.{IsPermutation-sym, IsPermutation-trans, IsPermutation-append_left, IsPermutation-to_front, IsPermutation-middle}
+use Rattle.std.proofs.lemmas.Bool.{lt-ltb, ne_eqb, eq-eqb}
 use Rattle.mvo_types.specs.Keys.{Map}
 use Rattle.mvo_model.specs.History.{History, Legal}
-use Rattle.mvo_model.specs.Trace.{Step, history_of, placed, by_end, commits, commit_of, committed, IsSerial}
+use Rattle.mvo_model.specs.Trace.{Step, history_of, commits, commit_of, end_cmp, committed, IsSerial}
 use Rattle.mvo_model.specs.Trace.Step.{Commits}
-use Rattle.mvo_state.proofs.Each.{each_weaker, each_append}
+use Rattle.mvo_model.proofs.Orders.{in_order_same}
+use Rattle.mvo_model.proofs.Scans.{end_total, only_committed}
+use Rattle.mvo_state.proofs.Each.{each_weaker}
 use Rattle.std.proofs.Common.{append_assoc}
 use Rattle.mvo_state.specs.Line.{State, Slot, tale, with_settled}
 use Rattle.mvo_state.specs.Sound.{IsRising, IsSound}
 use Rattle.mvo_state.specs.Stands.{Stands, pairs}
+use Rattle.mvo_state.proofs.Lines.{rising_map}
+use Rattle.mvo_state.proofs.Sound.{like_settled}
 use Rattle.mvo_state.proofs.Settle.{rising_before, rising_after, map-both, or-false, or-true}
-
-placed_swap : (c d : ℕ × ℕ) (xs : List (ℕ × ℕ)) → c.0 ≢ d.0 → placed c (placed d xs) ≡ placed d (placed c xs)
-placed_swap c d [] n = go (cases_lt c.0 d.0)
-  where
-    go : (c.0 < d.0) ⊎ (d.0 ≤ c.0) → cond (nat_le c.0 d.0) (c ∷ d ∷ []) (d ∷ c ∷ []) ≡ cond (nat_le d.0 c.0) (d ∷ c ∷ []) (c ∷ d ∷ [])
-    go (inl l) = ap (λ (b : Bool). cond b (c ∷ d ∷ []) (d ∷ c ∷ [])) (le-leb c.0 d.0 (omega arith)) ∙ sym (ap (λ (b : Bool). cond b (d ∷ c ∷ []) (c ∷ d ∷ [])) (lt-leb d.0 c.0 l))
-    go (inr l) = ap (λ (b : Bool). cond b (c ∷ d ∷ []) (d ∷ c ∷ [])) (lt-leb c.0 d.0 (omega arith)) ∙ sym (ap (λ (b : Bool). cond b (d ∷ c ∷ []) (c ∷ d ∷ [])) (le-leb d.0 c.0 l))
-placed_swap c d (x ∷ xs) n = go (nat_le d.0 x.0) refl (nat_le c.0 x.0) refl (cases_lt c.0 d.0) (placed_swap c d xs n)
-  where
-    go : (p : Bool) → nat_le d.0 x.0 ≡ p → (q : Bool) → nat_le c.0 x.0 ≡ q → (c.0 < d.0) ⊎ (d.0 ≤ c.0) → placed c (placed d xs) ≡ placed d (placed c xs) → placed c (cond p (d ∷ x ∷ xs) (x ∷ placed d xs)) ≡ placed d (cond q (c ∷ x ∷ xs) (x ∷ placed c xs))
-    go true e true f (inl l) r =
-        ap (λ (b : Bool). cond b (c ∷ d ∷ x ∷ xs) (d ∷ placed c (x ∷ xs))) (le-leb c.0 d.0 (omega arith))
-        ∙ sym (ap (λ (b : Bool). cond b (d ∷ c ∷ x ∷ xs) (c ∷ placed d (x ∷ xs))) (lt-leb d.0 c.0 l) ∙ ap (λ (b : Bool). c ∷ cond b (d ∷ x ∷ xs) (x ∷ placed d xs)) e)
-    go true e true f (inr l) r =
-        ap (λ (b : Bool). cond b (c ∷ d ∷ x ∷ xs) (d ∷ placed c (x ∷ xs))) (lt-leb c.0 d.0 (omega arith)) ∙ ap (λ (b : Bool). d ∷ cond b (c ∷ x ∷ xs) (x ∷ placed c xs)) f
-        ∙ sym (ap (λ (b : Bool). cond b (d ∷ c ∷ x ∷ xs) (c ∷ placed d (x ∷ xs))) (le-leb d.0 c.0 l))
-    go true e false f w r =
-        ap (λ (b : Bool). cond b (c ∷ d ∷ x ∷ xs) (d ∷ placed c (x ∷ xs))) (lt-leb c.0 d.0 (let u = leb-true d.0 x.0 e in let v = leb-false c.0 x.0 f in omega arith)) ∙ ap (λ (b : Bool). d ∷ cond b (c ∷ x ∷ xs) (x ∷ placed c xs)) f
-        ∙ sym (ap (λ (b : Bool). cond b (d ∷ x ∷ placed c xs) (x ∷ placed d (placed c xs))) e)
-    go false e true f w r =
-        ap (λ (b : Bool). cond b (c ∷ x ∷ placed d xs) (x ∷ placed c (placed d xs))) f
-        ∙ sym (ap (λ (b : Bool). cond b (d ∷ c ∷ x ∷ xs) (c ∷ placed d (x ∷ xs))) (lt-leb d.0 c.0 (let u = leb-false d.0 x.0 e in let v = leb-true c.0 x.0 f in omega arith)) ∙ ap (λ (b : Bool). c ∷ cond b (d ∷ x ∷ xs) (x ∷ placed d xs)) e)
-    go false e false f w r =
-        ap (λ (b : Bool). cond b (c ∷ x ∷ placed d xs) (x ∷ placed c (placed d xs))) f ∙ ap (λ ys. x ∷ ys) r
-        ∙ sym (ap (λ (b : Bool). cond b (d ∷ x ∷ placed c xs) (x ∷ placed d (placed c xs))) e)
-
--- a last commit with an end of its own
-pub by_end-push : (cs : List (ℕ × ℕ)) (d : ℕ × ℕ) → AllByRecursion (λ c. c.0 ≢ d.0) cs → by_end (cs ++ d ∷ []) ≡ placed d (by_end cs)
-by_end-push [] d h = refl
-by_end-push (c ∷ cs) d h = ap (placed c) (by_end-push cs d h.1) ∙ placed_swap c d (by_end cs) h.0
-
-pub placed_between : (d : ℕ × ℕ) (xs ys : List (ℕ × ℕ)) → AllByRecursion (λ x. x.0 < d.0) xs → AllByRecursion (λ y. d.0 ≤ y.0) ys → placed d (xs ++ ys) ≡ xs ++ d ∷ ys
-placed_between d [] [] h k = refl
-placed_between d [] (y ∷ ys) h k = ap (λ (b : Bool). cond b (d ∷ y ∷ ys) (y ∷ placed d ys)) (le-leb d.0 y.0 k.0)
-placed_between d (x ∷ xs) ys h k = ap (λ (b : Bool). cond b (d ∷ x ∷ (xs ++ ys)) (x ∷ placed d (xs ++ ys))) (lt-leb d.0 x.0 h.0) ∙ ap (λ zs. x ∷ zs) (placed_between d xs ys h.1 k)
 
 -- ---- a commit in the middle
 append-nil : {X : Type 0} (xs : List X) → xs ++ [] ≡ xs
@@ -57,18 +30,6 @@ append-nil (x ∷ xs) = ap (λ ys. x ∷ ys) (append-nil xs)
 commits-push : (xs : List Step) (x : Step) → commits (xs ++ x ∷ []) ≡ commits xs ++ commit_of x
 commits-push [] x = append-nil (commit_of x)
 commits-push (y ∷ ys) x = ap (λ cs. commit_of y ++ cs) (commits-push ys x) ∙ sym (append_assoc (commit_of y) (commits ys) (commit_of x))
-
-each_placed_in : (P : ℕ × ℕ → Type 0) (c : ℕ × ℕ) (ds : List (ℕ × ℕ)) → AllByRecursion P (placed c ds) → P c × AllByRecursion P ds
-each_placed_in P c [] h = h
-each_placed_in P c (d ∷ ds) h = go (nat_le c.0 d.0) (each_placed_in P c ds) h
-  where
-    go : (b : Bool) → (AllByRecursion P (placed c ds) → P c × AllByRecursion P ds) → AllByRecursion P (cond b (c ∷ d ∷ ds) (d ∷ placed c ds)) → P c × (P d × AllByRecursion P ds)
-    go true f h' = h'
-    go false f h' = let q = f h'.1 in (q.0, (h'.0, q.1))
-
-each_by_end : (P : ℕ × ℕ → Type 0) (cs : List (ℕ × ℕ)) → AllByRecursion P (by_end cs) → AllByRecursion P cs
-each_by_end P [] h = tt
-each_by_end P (c ∷ cs) h = let q = each_placed_in P c (by_end cs) h in (q.0, each_by_end P cs q.1)
 
 pairs-append : (xs ys : List Slot) → pairs (xs ++ ys) ≡ pairs xs ++ pairs ys
 pairs-append [] ys = refl
@@ -92,26 +53,56 @@ pairs_others e (x ∷ xs) h =
     ap (λ ts. cond (x.settled || (x.stop == e)) ((x.stop, x.id) ∷ ts) ts) (pairs_others e xs h.1)
     ∙ ap (λ (b : Bool). cond b ((x.stop, x.id) ∷ pairs xs) (pairs xs)) (or-false x.settled (x.stop == e) (ne_eqb x.stop e h.0))
 
+-- the pairs of a line that rises
+below_pairs : (x : Slot) (xs : List Slot) → AllByRecursion (λ y. x.stop < y.stop) xs → AllByRecursion (λ (c : ℕ × ℕ). end_cmp (x.stop, x.id) c ≡ Less) (pairs xs)
+below_pairs x xs h = each_pair (λ n. nat_cmp x.stop n ≡ Less) xs (each_weaker (λ y. x.stop < y.stop) (λ y. nat_cmp x.stop y.stop ≡ Less) (λ y l. ap (λ (b : Bool). cond b Less (cond (x.stop == y.stop) Equal Greater)) (lt-ltb x.stop y.stop l)) xs h)
+
+pairs_rise : (xs : List Slot) → IsRising xs → IsStrictlySortedBy end_cmp (pairs xs)
+unfolding IsStrictlySortedBy
+pairs_rise [] h = tt
+pairs_rise (x ∷ xs) h = go x.settled (pairs_rise xs h.1)
+  where
+    go : (b : Bool) → IsStrictlySortedBy end_cmp (pairs xs) → IsStrictlySortedBy end_cmp (cond b ((x.stop, x.id) ∷ pairs xs) (pairs xs))
+    go true r = (below_pairs x xs h.0, r)
+    go false r = r
+
+-- one more among elements, at the end and in the middle
+push_between : {X : Type 0} (list front back : List X) (d : X) → IsPermutation list (front ++ back) → IsPermutation (list ++ d ∷ []) (front ++ d ∷ back)
+push_between list front back d p =
+    IsPermutation-trans (list ++ d ∷ []) ((front ++ back) ++ d ∷ []) (front ++ d ∷ back) (IsPermutation-append_left (d ∷ []) list (front ++ back) p)
+    (IsPermutation-trans ((front ++ back) ++ d ∷ []) (d ∷ (front ++ back)) (front ++ d ∷ back) (IsPermutation-to_front (front ++ back) d)
+    (IsPermutation-sym (front ++ d ∷ back) (d ∷ (front ++ back)) (IsPermutation-middle front d back)))
+
 -- the committed ones of the steps with the commit are the settled ones of the line after it
 pub committed_between : (steps : List Step) (before after : List Slot) (x : Slot) → IsRising (before ++ x ∷ after) → x.settled ≡ false → committed steps ≡ pairs (before ++ x ∷ after) →
     committed (steps ++ Commits x.id x.stop ∷ []) ≡ pairs (map (with_settled x.stop) (before ++ x ∷ after))
 committed_between steps before after x r o h =
-    let d : ℕ × ℕ = (x.stop, x.id) in
-    let below = rising_before before after x r in
-    let above = rising_after before after x r in
-    let old : pairs (before ++ x ∷ after) ≡ pairs before ++ pairs after = pairs-append before (x ∷ after) ∙ ap (λ (b : Bool). pairs before ++ cond b (d ∷ pairs after) (pairs after)) o in
-    let apart : AllByRecursion (λ (c : ℕ × ℕ). c.0 ≢ x.stop) (pairs before ++ pairs after) =
-    each_append (λ (c : ℕ × ℕ). c.0 ≢ x.stop) (pairs before) (pairs after)
-    (each_pair (λ n. n ≢ x.stop) before (each_weaker (λ y. y.stop < x.stop) (λ y. y.stop ≢ x.stop) (λ y l e. absurd (omega arith)) before below))
-    (each_pair (λ n. n ≢ x.stop) after (each_weaker (λ y. x.stop < y.stop) (λ y. y.stop ≢ x.stop) (λ y l e. absurd (omega arith)) after above)) in
-    ap by_end (commits-push steps (Commits x.id x.stop))
-    ∙ by_end-push (commits steps) d (each_by_end (λ c. c.0 ≢ x.stop) (commits steps) (subst (AllByRecursion (λ (c : ℕ × ℕ). c.0 ≢ x.stop)) (sym (h ∙ old)) apart))
-    ∙ ap (placed d) (h ∙ old)
-    ∙ placed_between d (pairs before) (pairs after) (each_pair (λ n. n < x.stop) before below) (each_pair (λ n. x.stop ≤ n) after (each_weaker (λ y. x.stop < y.stop) (λ y. x.stop ≤ y.stop) (λ y l. omega arith) after above))
-    ∙ sym (ap pairs (map-both x.stop before (x ∷ after)) ∙ pairs-append (map (with_settled x.stop) before) (map (with_settled x.stop) (x ∷ after))
-    ∙ ap (λ ts. ts ++ pairs (map (with_settled x.stop) (x ∷ after))) (pairs_others x.stop before (each_weaker (λ y. y.stop < x.stop) (λ y. y.stop ≢ x.stop) (λ y l e. absurd (omega arith)) before below))
-    ∙ ap (λ (b : Bool). pairs before ++ cond b (d ∷ pairs (map (with_settled x.stop) after)) (pairs (map (with_settled x.stop) after))) (or-true x.settled (x.stop == x.stop) (eq-eqb x.stop x.stop refl))
-    ∙ ap (λ ts. pairs before ++ d ∷ ts) (pairs_others x.stop after (each_weaker (λ y. x.stop < y.stop) (λ y. y.stop ≢ x.stop) (λ y l e. absurd (omega arith)) after above)))
+    sym (only_committed (steps ++ Commits x.id x.stop ∷ []) (pairs line) (record { same = same; rise = pairs_rise line (rising_map (with_settled x.stop) (like_settled x.stop) (before ++ x ∷ after) r) }))
+  where
+    d : ℕ × ℕ
+    d = (x.stop, x.id)
+
+    line : List Slot
+    line = map (with_settled x.stop) (before ++ x ∷ after)
+
+    others : (ys : List Slot) → AllByRecursion (λ y. y.stop ≢ x.stop) ys → pairs (map (with_settled x.stop) ys) ≡ pairs ys
+    others ys n = pairs_others x.stop ys n
+
+    old : pairs (before ++ x ∷ after) ≡ pairs before ++ pairs after
+    old = pairs-append before (x ∷ after) ∙ ap (λ (b : Bool). pairs before ++ cond b (d ∷ pairs after) (pairs after)) o
+
+    new : pairs (map (with_settled x.stop) (before ++ x ∷ after)) ≡ pairs before ++ d ∷ pairs after
+    new =
+        ap pairs (map-both x.stop before (x ∷ after)) ∙ pairs-append (map (with_settled x.stop) before) (map (with_settled x.stop) (x ∷ after))
+        ∙ ap (λ ts. ts ++ pairs (map (with_settled x.stop) (x ∷ after))) (others before (each_weaker (λ y. y.stop < x.stop) (λ y. y.stop ≢ x.stop) (λ y l e. absurd (omega arith)) before (rising_before before after x r)))
+        ∙ ap (λ (b : Bool). pairs before ++ cond b (d ∷ pairs (map (with_settled x.stop) after)) (pairs (map (with_settled x.stop) after))) (or-true x.settled (x.stop == x.stop) (eq-eqb x.stop x.stop refl))
+        ∙ ap (λ ts. pairs before ++ d ∷ ts) (others after (each_weaker (λ y. x.stop < y.stop) (λ y. y.stop ≢ x.stop) (λ y l e. absurd (omega arith)) after (rising_after before after x r)))
+
+    same : IsPermutation (commits (steps ++ Commits x.id x.stop ∷ [])) (pairs (map (with_settled x.stop) (before ++ x ∷ after)))
+    same =
+        subst (λ (cs : List (ℕ × ℕ)). IsPermutation cs (pairs (map (with_settled x.stop) (before ++ x ∷ after)))) (sym (commits-push steps (Commits x.id x.stop)))
+        (subst (IsPermutation (commits steps ++ d ∷ [])) (sym new)
+        (push_between (commits steps) (pairs before) (pairs after) d (subst (IsPermutation (commits steps)) (h ∙ old) (in_order_same end_total (commits steps)))))
 
 told_settled : (steps : List Step) (xs : List Slot) → AllByRecursion (λ x. history_of x.id steps ≡ x.told) xs → map (λ (c : ℕ × ℕ). history_of c.1 steps) (pairs xs) ≡ tale xs
 told_settled steps [] h = refl

@@ -1,11 +1,11 @@
 -- The groups of a world hold the commits up to the last one's mark.
-use Rattle.std.proofs.Common.{◌≡◌, ℕ, ◌<◌, ◌≤◌, Bool, true, false, cond, List, [], ◌∷◌, ◌++◌, refl, sym, ap, ◌∙◌, subst, arith}
+use Rattle.std.proofs.Common.{◌≡◌, ℕ, ◌<◌, ◌≤◌, Bool, true, false, cond, List, [], ◌∷◌, ◌++◌, map, refl, sym, ap, ◌∙◌, subst, arith}
 use Rattle.std.specs.Prelude.{nat_lt, nat_le, ◌&&◌}
 use Rattle.std.specs.List.{AllByRecursion, filter}
 use Rattle.std.proofs.lemmas.Bool.{true≢false, lt-ltb, ltb-true, ltb-false, le-leb, leb-true, le-ltb, lt-leb}
 use Rattle.mvo_types.specs.Keys.{Map}
-use Rattle.mvo_model.specs.History.{History, after_history}
-use Rattle.mvo_model.specs.Trace.{Step, history_of, rows_of_commits, rows_up_to}
+use Rattle.mvo_model.specs.History.{History, after_history, after_histories}
+use Rattle.mvo_model.specs.Trace.{Step, history_of, rows_up_to}
 use Rattle.mvo_group.specs.Data.{GroupData}
 use Rattle.mvo_state.specs.Line.{State, Slot}
 use Rattle.mvo_state.specs.Sound.{IsRising}
@@ -19,21 +19,22 @@ use Rattle.mvo_world.specs.Groups.{is_due, AreGroupsOf}
 use Rattle.mvo_world.proofs.Rows.{left_by_all, left_by_all-append, is_after, records_rows}
 
 -- ---- rows up to a mark, by the line
-rows_of_line : (m : ℕ) (line : List Slot) (steps : List Step) (rows : Map) → AllByRecursion (λ (x : Slot). history_of x.id steps ≡ x.told) line → rows_of_commits m (pairs line) steps rows ≡ left_by_all (settled_to m line) rows
+rows_of_line : (m : ℕ) (line : List Slot) (steps : List Step) (rows : Map) → AllByRecursion (λ (x : Slot). history_of x.id steps ≡ x.told) line → after_histories (map (λ (c : ℕ × ℕ). history_of c.1 steps) (filter (λ (c : ℕ × ℕ). nat_le c.0 m) (pairs line))) rows ≡ left_by_all (settled_to m line) rows
 rows_of_line m [] steps rows h = refl
 rows_of_line m (x ∷ xs) steps rows h = go x.settled (nat_le x.stop m) (λ ms. rows_of_line m xs steps ms h.1)
   where
-    go : (s b : Bool) → ((ms : Map) → rows_of_commits m (pairs xs) steps ms ≡ left_by_all (settled_to m xs) ms) →
-        rows_of_commits m (cond s ((x.stop, x.id) ∷ pairs xs) (pairs xs)) steps rows ≡ left_by_all (cond (s && nat_le x.stop m) ((x.stop, x.told) ∷ settled_to m xs) (settled_to m xs)) rows
+    go : (s b : Bool) → ((ms : Map) → after_histories (map (λ (c : ℕ × ℕ). history_of c.1 steps) (filter (λ (c : ℕ × ℕ). nat_le c.0 m) (pairs xs))) ms ≡ left_by_all (settled_to m xs) ms) →
+        after_histories (map (λ (c : ℕ × ℕ). history_of c.1 steps) (filter (λ (c : ℕ × ℕ). nat_le c.0 m) (cond s ((x.stop, x.id) ∷ pairs xs) (pairs xs)))) rows ≡ left_by_all (cond (s && nat_le x.stop m) ((x.stop, x.told) ∷ settled_to m xs) (settled_to m xs)) rows
     go false b ih = ih rows
-    go true b ih = ih (cond (nat_le x.stop m) (after_history (history_of x.id steps) rows) rows) ∙ here (nat_le x.stop m)
+    go true b ih = here (nat_le x.stop m)
       where
-        here : (c : Bool) → left_by_all (settled_to m xs) (cond c (after_history (history_of x.id steps) rows) rows) ≡ left_by_all (cond c ((x.stop, x.told) ∷ settled_to m xs) (settled_to m xs)) rows
-        here true = ap (λ (ts : History). left_by_all (settled_to m xs) (after_history ts rows)) h.0
-        here false = refl
+        here : (c : Bool) → after_histories (map (λ (d : ℕ × ℕ). history_of d.1 steps) (cond c ((x.stop, x.id) ∷ filter (λ (d : ℕ × ℕ). nat_le d.0 m) (pairs xs)) (filter (λ (d : ℕ × ℕ). nat_le d.0 m) (pairs xs)))) rows ≡ left_by_all (cond c ((x.stop, x.told) ∷ settled_to m xs) (settled_to m xs)) rows
+        here true = ih (after_history (history_of x.id steps) rows) ∙ ap (λ (ts : History). left_by_all (settled_to m xs) (after_history ts rows)) h.0
+        here false = ih rows
 
 pub rows_up_to_is : (m : ℕ) (opening : Map) (steps : List Step) (s : State) → Stands opening steps s → rows_up_to m opening steps ≡ left_by_all (settled_to m s.line) opening
-rows_up_to_is m opening steps s h = ap (λ (cs : List (ℕ × ℕ)). rows_of_commits m cs steps opening) h.tale ∙ rows_of_line m s.line steps opening h.ended
+rows_up_to_is m opening steps s h =
+    ap (λ (cs : List (ℕ × ℕ)). after_histories (map (λ (c : ℕ × ℕ). history_of c.1 steps) (filter (λ (c : ℕ × ℕ). nat_le c.0 m) cs)) opening) h.tale ∙ rows_of_line m s.line steps opening h.ended
 
 -- ---- the commits up to one mark, and those up to a later one
 none_to : (m : ℕ) (xs : List Slot) → AllByRecursion (λ (x : Slot). m < x.stop) xs → settled_to m xs ≡ []

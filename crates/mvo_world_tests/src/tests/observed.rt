@@ -55,7 +55,7 @@ pub struct Known {
 }
 
 /// How often things happened.
-#[derive(Clone, Copy, Debug)]
+#[derive(Clone, Copy)]
 pub struct Counts {
     pub commits: u64,
     pub failed: u64,
