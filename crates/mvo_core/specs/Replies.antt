@@ -72,9 +72,14 @@ abbrev pub IsReplyTo : State → Event → Reply → State → Type 0
 IsReplyTo s e (Refused r) s' = IsRefusedAs (why_not s e) e r × (s' ≡ left_by_refusal s e r)
 IsReplyTo s e r s' = (why_not s e ≡ None) × IsAccepted s e r s'
 
--- the same of an event that is copied first: refused as out of memory it does nothing
+-- a copy of the event takes memory: it has a row
+abbrev pub HasRow : Event → Type 0
+HasRow (Insert t row) = Unit {0}
+HasRow e = ⊥
+
+-- the same of an event that is copied first: where the copy is refused, it does nothing
 abbrev pub IsCopiedReplyTo : State → Event → Reply → State → Type 0
-IsCopiedReplyTo s e r s' = IsReplyTo s e r s' ⊎ ((r ≡ Refused OutOfMemory) × (s' ≡ s))
+IsCopiedReplyTo s e r s' = IsReplyTo s e r s' ⊎ (HasRow e × (r ≡ Refused OutOfMemory) × (s' ≡ s))
 
 -- each event of the list has its reply, and the last state is this one
 abbrev pub AreRepliesTo : State → List Event → List Reply → State → Type 0

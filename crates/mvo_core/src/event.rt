@@ -1,5 +1,3 @@
-ghost use Rattle.std.specs.Prelude.{◌≡◌, IfOk};
-
 use mvo_types::{Row, RowKey, TxId};
 use std::alloc::AllocError;
 
@@ -25,9 +23,13 @@ pub enum Event {
 }
 
 impl Event {
-    /// A copy of the event.
+    ghost use Rattle.std.specs.Prelude.{◌≡◌, IfOk, OnErr};
+    ghost use Rattle.mvo_core.specs.Replies.{HasRow};
+
+    /// A copy of the event. It takes memory only where the event has a row.
     pub fn copy(&self) -> Result<Event, AllocError>
-        ensures { IfOk result (λ e. e ≡ self.now) }
+        ensures same { IfOk result (λ e. e ≡ self.now) }
+        ensures memory { OnErr result (HasRow self.now) }
     {
         match self {
             Event::Begin => Ok(Event::Begin),

@@ -7,6 +7,8 @@ use Rattle.mvo_disk.specs.Torn.{torn_whole, torn_byte}
 use Rattle.mvo_group.specs.Data.{GroupData}
 use Rattle.mvo_group.specs.Rules.{IsGroup}
 use Rattle.mvo_group.specs.Body.{body_of}
+use Rattle.mvo_types.specs.declared.limits.TheConstants.{MAX_SEGMENT_LEN}
+use Rattle.mvo_store.specs.declared.layout.TheConstants.{OPEN, CLOSED}
 use Rattle.mvo_store.specs.Frames.{header, sized, frame, front, Chains, mark_after, HasGroups}
 use Rattle.mvo_store.specs.Standing.{HasWithOrWithout}
 
@@ -35,7 +37,7 @@ module _ (gs : List GroupData) (gate : ℕ) (rest : List ℕ) where
   room_behind at is = omega (arith, is, length-append (front gs) (gate ∷ rest))
 
   -- behind a closed gate any bytes may stand
-  pub torn_behind : (at n : ℕ) (old c : List ℕ) → at ≡ length (front gs) → old ≡ at_gate → gate ≢ 165 → Chains 0 gs → at < 67108864 → Torn (at + 1) n old c → HasGroups 0 gs c
+  pub torn_behind : (at n : ℕ) (old c : List ℕ) → at ≡ length (front gs) → old ≡ at_gate → gate ≢ OPEN → Chains 0 gs → at < MAX_SEGMENT_LEN → Torn (at + 1) n old c → HasGroups 0 gs c
   torn_behind at n old c is whole closed chain few torn =
       let len : length (front gs ++ gate ∷ []) ≡ at + 1 = omega (arith, length_gate, is) in
       let kept : take (at + 1) old ≡ front gs ++ gate ∷ [] = ap (λ (l : List ℕ). take (at + 1) l) (whole ∙ past_gate) ∙ take_at (front gs ++ gate ∷ []) rest (at + 1) len in
@@ -62,20 +64,20 @@ module _ (gs : List GroupData) (gate : ℕ) (rest : List ℕ) where
       (ap (λ (l : List ℕ). take at l) whole ∙ take_at (front gs) (gate ∷ rest) at (sym is), ap (λ (l : List ℕ). drop (at + 1) l) (whole ∙ past_gate) ∙ drop_at (front gs ++ gate ∷ []) rest (at + 1) len)
 
   -- any byte as the gate of a whole frame that a closed gate follows
-  any_gate : (g : GroupData) (x : ℕ) (more : List ℕ) (c : List ℕ) → Chains 0 gs → g.prev ≡ mark_after 0 gs → IsGroup g → length (front gs) + 1 + length (sized (body_of g)) < 67108864 → c ≡ front gs ++ x ∷ (sized (body_of g) ++ 0 ∷ more) → HasWithOrWithout gs (Some g) c
-  any_gate g x more c chain prev is few whole = elim (cases_eq x 165) [
+  any_gate : (g : GroupData) (x : ℕ) (more : List ℕ) (c : List ℕ) → Chains 0 gs → g.prev ≡ mark_after 0 gs → IsGroup g → length (front gs) + 1 + length (sized (body_of g)) < MAX_SEGMENT_LEN → c ≡ front gs ++ x ∷ (sized (body_of g) ++ CLOSED ∷ more) → HasWithOrWithout gs (Some g) c
+  any_gate g x more c chain prev is few whole = elim (cases_eq x OPEN) [
     | inl is_open ↦ inr (record {
-      gate = 0;
+      gate = CLOSED;
       rest = more;
-      whole = whole ∙ ap (λ y. front gs ++ y ∷ (sized (body_of g) ++ 0 ∷ more)) is_open ∙ sym (append_assoc (front gs) (frame g) (0 ∷ more)) ∙ ap (λ (l : List ℕ). l ++ 0 ∷ more) (sym (front-push gs g));
+      whole = whole ∙ ap (λ y. front gs ++ y ∷ (sized (body_of g) ++ CLOSED ∷ more)) is_open ∙ sym (append_assoc (front gs) (frame g) (CLOSED ∷ more)) ∙ ap (λ (l : List ℕ). l ++ CLOSED ∷ more) (sym (front-push gs g));
       closed = omega arith;
       chain = chains_push 0 gs g chain prev is;
       few = omega (arith, few, ap (λ (l : List ℕ). length l) (front-push gs g), length-append (front gs) (frame g));
     })
-    | inr shut ↦ inl (record { gate = x; rest = sized (body_of g) ++ 0 ∷ more; whole = whole; closed = shut; chain = chain; few = omega (arith, few) })
+    | inr shut ↦ inl (record { gate = x; rest = sized (body_of g) ++ CLOSED ∷ more; whole = whole; closed = shut; chain = chain; few = omega (arith, few) })
   ]
 
-  pub torn_gate : (g : GroupData) (at : ℕ) (more old c : List ℕ) → at ≡ length (front gs) → old ≡ at_gate → rest ≡ sized (body_of g) ++ 0 ∷ more → Chains 0 gs → g.prev ≡ mark_after 0 gs → IsGroup g → at + 1 + length (sized (body_of g)) < 67108864
+  pub torn_gate : (g : GroupData) (at : ℕ) (more old c : List ℕ) → at ≡ length (front gs) → old ≡ at_gate → rest ≡ sized (body_of g) ++ CLOSED ∷ more → Chains 0 gs → g.prev ≡ mark_after 0 gs → IsGroup g → at + 1 + length (sized (body_of g)) < MAX_SEGMENT_LEN
       → Torn at 1 old c → HasWithOrWithout gs (Some g) c
   torn_gate g at more old c is whole staged chain prev ok few torn =
       let parts = regated at old is whole in
@@ -85,15 +87,15 @@ module _ (gs : List GroupData) (gate : ℕ) (rest : List ℕ) where
       torn_byte at old c torn (omega (arith, ap (λ (l : List ℕ). length l) whole, room_behind at is))
       ∙ ap (λ (l : List ℕ). l ++ x ∷ (drop (at + 1) old ++ tail)) parts.0
       ∙ ap (λ (l : List ℕ). front gs ++ x ∷ (l ++ tail)) (parts.1 ∙ staged)
-      ∙ ap (λ (l : List ℕ). front gs ++ x ∷ l) (append_assoc (sized (body_of g)) (0 ∷ more) tail)
+      ∙ ap (λ (l : List ℕ). front gs ++ x ∷ l) (append_assoc (sized (body_of g)) (CLOSED ∷ more) tail)
       )
 
-  pub opened_gate : (g : GroupData) (at : ℕ) (more old new : List ℕ) → at ≡ length (front gs) → old ≡ at_gate → rest ≡ sized (body_of g) ++ 0 ∷ more → Holds old at (165 ∷ []) new → new ≡ front (gs ++ g ∷ []) ++ 0 ∷ more
+  pub opened_gate : (g : GroupData) (at : ℕ) (more old new : List ℕ) → at ≡ length (front gs) → old ≡ at_gate → rest ≡ sized (body_of g) ++ CLOSED ∷ more → Holds old at (OPEN ∷ []) new → new ≡ front (gs ++ g ∷ []) ++ CLOSED ∷ more
   opened_gate g at more old new is whole staged holds =
       let parts = regated at old is whole in
       holds
-      ∙ ap (λ (l : List ℕ). l ++ (165 ∷ []) ++ drop (at + 1) old) parts.0
-      ∙ append_assoc (front gs) (165 ∷ []) (drop (at + 1) old)
-      ∙ ap (λ (l : List ℕ). front gs ++ 165 ∷ l) (parts.1 ∙ staged)
-      ∙ sym (append_assoc (front gs) (frame g) (0 ∷ more))
-      ∙ ap (λ (l : List ℕ). l ++ 0 ∷ more) (sym (front-push gs g))
+      ∙ ap (λ (l : List ℕ). l ++ (OPEN ∷ []) ++ drop (at + 1) old) parts.0
+      ∙ append_assoc (front gs) (OPEN ∷ []) (drop (at + 1) old)
+      ∙ ap (λ (l : List ℕ). front gs ++ OPEN ∷ l) (parts.1 ∙ staged)
+      ∙ sym (append_assoc (front gs) (frame g) (CLOSED ∷ more))
+      ∙ ap (λ (l : List ℕ). l ++ CLOSED ∷ more) (sym (front-push gs g))

@@ -2,6 +2,7 @@ pub mod Crash
 pub mod Appends
 pub mod Sized
 pub mod Walk
+pub mod Images
 pub mod Safety
 pub mod Header
 pub mod Replays

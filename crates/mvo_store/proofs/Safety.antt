@@ -1,32 +1,17 @@
--- A log stays safe over a step.
-use Rattle.std.proofs.Common.{◌≡◌, ◌≢◌, ◌⊎◌, inl, inr, ℕ, ◌≤◌, true, false, Bool, cond, List, [], ◌∷◌, ◌++◌, Result, Ok, Err, OnOk, IfErr, Option, Some, None, refl, sym, subst, arith}
-use Rattle.mvo_types.specs.declared.refusal.Refusal.{Refusal}
-use Rattle.mvo_types.specs.declared.refusal.Refusal.TheVariants.{DiskFault, Down}
+-- A store keeps its groups over a step.
+use Rattle.std.proofs.Common.{◌≡◌, inl, inr, ℕ, ◌≤◌, true, List, [], ◌∷◌, ◌++◌, Option, Some, None, refl, arith}
 use Rattle.mvo_types.specs.Keys.{Map}
+use Rattle.mvo_disk.specs.declared.disk.Disk.{Ghosts}
 use Rattle.mvo_disk.specs.Disk.{AllOf, LeavesOnly}
-use Rattle.mvo_disk.specs.Moments.{weaker}
+use Rattle.mvo_disk.specs.Moments.{weaker, at_end}
 use Rattle.mvo_group.specs.Data.{GroupData}
 use Rattle.mvo_store.specs.Frames.{Chains, mark_after, HasGroups}
 use Rattle.mvo_store.specs.Recovery.{Recovers, rows_of, mark_of}
-use Rattle.mvo_store.specs.Standing.{Stands, IsDown, IsSafe, HasWithOrWithout, opening, with_taken, groups_after}
-use Rattle.mvo_store.specs.Steps.{RefusedFor, LeftBy}
-use Rattle.mvo_store.specs.Images.{groups_now, safe_unmoved}
-use Rattle.mvo_store.specs.declared.log.Log.{Log}
+use Rattle.mvo_store.specs.StoreData.{StoreData, opening}
+use Rattle.mvo_store.specs.Standing.{IsUp, KeepsGroups, HasWithOrWithout, with_taken}
+use Rattle.mvo_store.proofs.Images.{keeps_down}
 use Rattle.mvo_store.proofs.Crash.{mark_after-push}
-use Rattle.mvo_store.proofs.Walk.{behind_header}
-
-pub fault_or_not : (e : Refusal) → (e ≡ DiskFault) ⊎ (e ≢ DiskFault)
-fault_or_not DiskFault = inl refl
-fault_or_not _ = inr (λ e. cc)
-
--- a log that is down answers Down
-down_is : (T : Type 0) (e : Refusal) (down : Bool) (other : Option Refusal) → down ≡ true → RefusedFor {T = T} (cond down (Some Down) other) (Err e) → e ≢ DiskFault
-down_is T e true other is refused = λ fault. let same : Err e ≡ Err Down = refused in cc
-down_is T e false other is refused = absurd cc
-
-no_ok : {T : Type 0} (x : T) (down : Bool) (other : Option Refusal) → down ≡ true → RefusedFor (cond down (Some Down) other) (Ok x) → ⊥
-no_ok x true other is refused = let same : Ok x ≡ Err Down = refused in absurd cc
-no_ok x false other is refused = absurd cc
+use Rattle.mvo_store.proofs.Walk.{recovers_groups}
 
 -- a later group has a later mark
 chains_rise : (mark : ℕ) (gs : List GroupData) (g : GroupData) → Chains mark (gs ++ g ∷ []) → mark_after mark gs ≤ g.mark
@@ -41,77 +26,22 @@ abbrev pub GivesUpTo : ℕ → List ℕ → Type 0
 GivesUpTo mark bytes = (rows : Map) × (later : ℕ) × Recovers bytes rows later × (mark ≤ later)
 
 gives : (gs : List GroupData) (bytes : List ℕ) (mark : ℕ) → HasGroups 0 gs bytes → mark ≤ mark_of gs → GivesUpTo mark bytes
-gives gs bytes mark has le = (rows_of gs, mark_of gs, record { groups = gs; has = has; frames = behind_header bytes gs has; rows_are = refl; mark_is = refl }, le)
+gives gs bytes mark has le = (rows_of gs, mark_of gs, recovers_groups gs bytes has, le)
 
 gives_either : (gs : List GroupData) (o : Option GroupData) (bytes : List ℕ) (mark : ℕ) → mark ≡ mark_of gs → HasWithOrWithout gs o bytes → GivesUpTo mark bytes
 gives_either gs o bytes mark is (inl has) = gives gs bytes mark has (omega (arith, is))
 gives_either gs o bytes mark is (inr has) = gives (with_taken gs o) bytes mark has (omega (arith, is, mark_with_taken gs o bytes has))
 
-module _ {D : Type 0} (content : D → ℕ → List ℕ) (may_leave : D → ℕ → List ℕ → Type 0) (fault_count : D → ℕ) (moment : D → ℕ) (left_since : D → ℕ → (ℕ → List ℕ) → Type 0) where
+module _ {D : Type 0} (d : Ghosts D) where
   -- each image of now is well formed, and recovered at least up to the mark
-  pub safe_images : (log : Log D) (gs : List GroupData) → IsSafe content may_leave fault_count log gs → (image : ℕ → List ℕ) → AllOf (may_leave log.disk) image → GivesUpTo log.mark.0 (image 2)
-  safe_images log gs (inl s) image now = gives gs (image 2) log.mark.0 (groups_now content may_leave fault_count log gs s (image 2) (now 2)) (omega (arith, s.mark))
-  safe_images log gs (inr d) image now = gives_either gs (opening log) (image 2) log.mark.0 d.mark (d.images image now)
+  pub keeps_images : (s : StoreData D) (gs : List GroupData) → KeepsGroups d s gs → (image : ℕ → List ℕ) → AllOf (d.may_leave s.disk) image → GivesUpTo s.mark (image 2)
+  keeps_images s gs keeps image now = gives_either gs (opening s) (image 2) s.mark keeps.mark (keeps.images image now)
 
-  -- a fault in a step of a log that stood
-  down_after : (old new : Log D) (gs : List GroupData) → Stands content may_leave fault_count old gs → new ≡ record old { disk = new.disk; down = true }
-      → ((image : ℕ → List ℕ) → AllOf (may_leave new.disk) image → HasWithOrWithout gs (opening old) (image 2)) → IsDown may_leave new gs
-  down_after old new gs s is images = subst (λ (x : Log D). IsDown may_leave x gs) (sym is) (record { down = refl; mark = s.mark; images = images })
+  -- leaving the groups is leaving them with or without the one that is being opened
+  pub with_or_without : (old : StoreData D) (disk : D) (gs : List GroupData) → LeavesOnly d.moment d.left_since old.disk disk (λ image. HasGroups 0 gs (image 2)) → LeavesOnly d.moment d.left_since old.disk disk (λ image. HasWithOrWithout gs (opening old) (image 2))
+  with_or_without old disk gs only = weaker d.moment d.left_since old.disk disk (λ image. HasGroups 0 gs (image 2)) (λ image. HasWithOrWithout gs (opening old) (image 2)) (λ image has. inl has) only
 
-  module _ (counts_now : (d : D) (t : ℕ) (image : ℕ → List ℕ) → t ≤ moment d → AllOf (may_leave d) image → left_since d t image) where
-    -- what holds of each image since a moment holds of those of now
-    pub images_now : (old new : D) (P : (ℕ → List ℕ) → Type 0) → LeavesOnly moment left_since old new P → (image : ℕ → List ℕ) → AllOf (may_leave new) image → P image
-    images_now old new P only image now = only.each image (counts_now new (moment old) image only.later now)
-
-    -- a refused step
-    refused_safe : (T : Type 0) (e : Refusal) (other : Option Refusal) (old new : Log D) (gs : List GroupData)
-        → IsSafe content may_leave fault_count old gs
-        → RefusedFor {T = T} (cond old.down (Some Down) other) (Err e)
-        → LeftBy fault_count e old new
-        → (Stands content may_leave fault_count old gs → LeavesOnly moment left_since old.disk new.disk (λ image. HasWithOrWithout gs (opening old) (image 2)))
-        → IsSafe content may_leave fault_count new gs
-    refused_safe T e other old new gs safe refused left moments = elim (fault_or_not e) [
-      | inl fault ↦ elim safe [
-        | inl s ↦ inr (down_after old new gs s (left.fault fault).0 (images_now old.disk new.disk (λ image. HasWithOrWithout gs (opening old) (image 2)) (moments s)))
-        | inr d ↦ absurd (down_is T e old.down other d.down refused fault)
-      ]
-      | inr ne ↦ subst (λ (x : Log D). IsSafe content may_leave fault_count x gs) (sym (left.other ne)) safe
-    ]
-
-    -- `append_body`
-    pub body_safe : {T : Type 0} (r : Result T Refusal) (other : Option Refusal) (old new : Log D) (gs : List GroupData)
-        → IsSafe content may_leave fault_count old gs
-        → RefusedFor (cond old.down (Some Down) other) r
-        → OnOk r ((hs : List GroupData) → Stands content may_leave fault_count old hs → Stands content may_leave fault_count new hs)
-        → IfErr r (λ e. LeftBy fault_count e old new)
-        → ((hs : List GroupData) → Stands content may_leave fault_count old hs → LeavesOnly moment left_since old.disk new.disk (λ image. HasGroups 0 hs (image 2)))
-        → IsSafe content may_leave fault_count new gs
-    body_safe (Ok x) other old new gs (inl s) refused ok left moments = inl (ok gs s)
-    body_safe (Ok x) other old new gs (inr d) refused ok left moments = absurd (no_ok x old.down other d.down refused)
-    body_safe {T} (Err e) other old new gs safe refused ok left moments = refused_safe T e other old new gs safe refused left
-        (λ s. weaker moment left_since old.disk new.disk _ (λ image. HasWithOrWithout gs (opening old) (image 2)) (λ image has. inl has) (moments gs s))
-
-    -- `append_open`
-    pub open_safe : {T : Type 0} (r : Result T Refusal) (other : Option Refusal) (old new : Log D) (gs : List GroupData)
-        → IsSafe content may_leave fault_count old gs
-        → RefusedFor (cond old.down (Some Down) other) r
-        → OnOk r ((hs : List GroupData) → Stands content may_leave fault_count old hs → Stands content may_leave fault_count new (with_taken hs old.pending))
-        → IfErr r (λ e. LeftBy fault_count e old new)
-        → ((hs : List GroupData) → Stands content may_leave fault_count old hs → LeavesOnly moment left_since old.disk new.disk (λ image. HasWithOrWithout hs (opening old) (image 2)))
-        → IsSafe content may_leave fault_count new (groups_after r gs old.pending)
-    open_safe (Ok x) other old new gs (inl s) refused ok left moments = inl (ok gs s)
-    open_safe (Ok x) other old new gs (inr d) refused ok left moments = absurd (no_ok x old.down other d.down refused)
-    open_safe {T} (Err e) other old new gs safe refused ok left moments = refused_safe T e other old new gs safe refused left (moments gs)
-
-  -- at each moment of a step: that of a log that stands, and none of one that is down
-  pub at_each_moment : (only_now : (d : D) (image : ℕ → List ℕ) → left_since d (moment d) image → AllOf (may_leave d) image) {T : Type 0} (r : Result T Refusal) (other : Option Refusal) (old new : Log D) (gs : List GroupData)
-      → IsSafe content may_leave fault_count old gs
-      → RefusedFor (cond old.down (Some Down) other) r
-      → IfErr r (λ e. LeftBy fault_count e old new)
-      → (Stands content may_leave fault_count old gs → LeavesOnly moment left_since old.disk new.disk (λ image. HasWithOrWithout gs (opening old) (image 2)))
-      → LeavesOnly moment left_since old.disk new.disk (λ image. HasWithOrWithout gs (opening old) (image 2))
-  at_each_moment only_now r other old new gs (inl s) refused left moments = moments s
-  at_each_moment only_now (Ok x) other old new gs (inr d) refused left moments = absurd (no_ok x old.down other d.down refused)
-  at_each_moment only_now {T} (Err e) other old new gs (inr d) refused left moments =
-      subst (λ (x : Log D). LeavesOnly moment left_since old.disk x.disk (λ image. HasWithOrWithout gs (opening old) (image 2))) (sym (left.other (down_is T e old.down other d.down refused)))
-      (safe_unmoved content may_leave fault_count moment left_since only_now old gs (inr d))
+  module _ (counts_now : (disk : D) (t : ℕ) (image : ℕ → List ℕ) → t ≤ d.moment disk → AllOf (d.may_leave disk) image → d.left_since disk t image) where
+    -- after a fault in a step of a store that was up
+    pub fault_keeps : (s : StoreData D) (disk : D) (gs : List GroupData) → IsUp d s gs → LeavesOnly d.moment d.left_since s.disk disk (λ image. HasWithOrWithout gs (opening s) (image 2)) → KeepsGroups d (record s { disk = disk; down = true }) gs
+    fault_keeps s disk gs up moments = keeps_down d (record s { disk = disk; down = true }) gs refl up.mark (at_end d.moment d.may_leave d.left_since counts_now s.disk disk (λ image. HasWithOrWithout gs (opening s) (image 2)) moments)

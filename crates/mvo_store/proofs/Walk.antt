@@ -10,8 +10,10 @@ use Rattle.mvo_group.specs.Data.{GroupData}
 use Rattle.mvo_group.specs.Body.{body_of}
 use Rattle.mvo_group.proofs.Bodies.{body_of-injective}
 use Rattle.mvo_store.specs.Frames.{header, sized, frame, front, Chains, HasGroups, IsNextFrame, Frames}
-use Rattle.mvo_store.specs.Recovery.{IsRead, IsReadBehind, rows_of, mark_of, after_records}
+use Rattle.mvo_store.specs.Recovery.{Recovers, IsRead, IsReadBehind, rows_of, mark_of, after_records}
 use Rattle.mvo_types.specs.Keys.{Map}
+use Rattle.mvo_types.specs.declared.limits.TheConstants.{MAX_SEGMENT_LEN}
+use Rattle.mvo_store.specs.declared.layout.TheConstants.{OPEN}
 use Rattle.mvo_store.proofs.Sized.{sized_once, body_short}
 
 -- Of these bytes the frames of some groups are read, and the rest is still to be read.
@@ -22,27 +24,27 @@ pub record IsReadSoFar (bytes rest : List ℕ) (rows : Map) (gate mark : ℕ) : 
   pub rows_are : rows ≡ rows_of groups
   pub mark_is : mark ≡ mark_of groups
   pub place : gate ≡ length (front groups)
-  pub few : gate < 67108864
+  pub few : gate < MAX_SEGMENT_LEN
 
-pub forth_on : (place mark : ℕ) (g : GroupData) (gs : List GroupData) (bytes rest after later : List ℕ) → rest ≡ 165 ∷ after → IsNextFrame place mark g after later
+pub forth_on : (place mark : ℕ) (g : GroupData) (gs : List GroupData) (bytes rest after later : List ℕ) → rest ≡ OPEN ∷ after → IsNextFrame place mark g after later
     → ((more : List GroupData) → Frames place mark more rest → Frames 8 0 (gs ++ more) bytes)
     → (more : List GroupData) → Frames (place + 1 + length (sized (body_of g))) g.mark more later → Frames 8 0 ((gs ++ g ∷ []) ++ more) bytes
 forth_on place mark g gs bytes rest after later is next forth more frames =
     subst (λ (hs : List GroupData). Frames 8 0 hs bytes) (sym (append_assoc gs (g ∷ []) more)) (forth (g ∷ more) (after, later, is, next, frames))
 
 -- the frame that stands there is the one that was read
-pub back_one : (place mark : ℕ) (g : GroupData) (rest after later : List ℕ) → rest ≡ 165 ∷ after → IsNextFrame place mark g after later
+pub back_one : (place mark : ℕ) (g : GroupData) (rest after later : List ℕ) → rest ≡ OPEN ∷ after → IsNextFrame place mark g after later
     → (more : List GroupData) → Frames place mark more rest → (others : List GroupData) × (more ≡ g ∷ others) × Frames (place + 1 + length (sized (body_of g))) g.mark others later
 back_one place mark g rest after later is next [] frames =
-    absurd (frames.3 (let same : frames.0 ∷ frames.1 ≡ 165 ∷ after = sym frames.2 ∙ is in cc))
+    absurd (frames.3 (let same : frames.0 ∷ frames.1 ≡ OPEN ∷ after = sym frames.2 ∙ is in cc))
 back_one place mark g rest after later is next (h ∷ others) frames =
-    let there : 165 ∷ frames.0 ≡ 165 ∷ after = sym frames.2 ∙ is in
+    let there : OPEN ∷ frames.0 ≡ OPEN ∷ after = sym frames.2 ∙ is in
     let same : frames.0 ≡ after = cc in
     let once = sized_once (body_of h) (body_of g) frames.1 later (body_short h frames.3.is) (body_short g next.is) (sym frames.3.whole ∙ same ∙ next.whole) in
     let it : h ≡ g = body_of-injective h g frames.3.is next.is once.0 in
     (others, ap (λ (x : GroupData). x ∷ others) it, subst (λ (l : List ℕ). Frames (place + 1 + length (sized (body_of g))) g.mark others l) once.1 (subst (λ (x : GroupData). Frames (place + 1 + length (sized (body_of x))) x.mark others frames.1) it frames.4))
 
-pub back_on : (place mark : ℕ) (g : GroupData) (gs : List GroupData) (bytes rest after later : List ℕ) → rest ≡ 165 ∷ after → IsNextFrame place mark g after later
+pub back_on : (place mark : ℕ) (g : GroupData) (gs : List GroupData) (bytes rest after later : List ℕ) → rest ≡ OPEN ∷ after → IsNextFrame place mark g after later
     → ((hs : List GroupData) → Frames 8 0 hs bytes → (more : List GroupData) × (hs ≡ gs ++ more) × Frames place mark more rest)
     → (hs : List GroupData) → Frames 8 0 hs bytes → (more : List GroupData) × (hs ≡ (gs ++ g ∷ []) ++ more) × Frames (place + 1 + length (sized (body_of g))) g.mark more later
 back_on place mark g gs bytes rest after later is next back hs frames =
@@ -53,12 +55,12 @@ back_on place mark g gs bytes rest after later is next back hs frames =
 -- no frames stand in no bytes, nor where the next one can't be read
 pub none_here : (place mark : ℕ) (more : List GroupData) (rest : List ℕ) → rest ≡ [] → Frames place mark more rest → ⊥
 none_here place mark [] rest nil frames = let same : frames.0 ∷ frames.1 ≡ [] = sym frames.2 ∙ nil in absurd (cc same)
-none_here place mark (h ∷ more) rest nil frames = let same : 165 ∷ frames.0 ≡ [] = sym frames.2 ∙ nil in absurd (cc same)
+none_here place mark (h ∷ more) rest nil frames = let same : OPEN ∷ frames.0 ≡ [] = sym frames.2 ∙ nil in absurd (cc same)
 
-pub none_next : (place mark : ℕ) (more : List GroupData) (rest after : List ℕ) → rest ≡ 165 ∷ after → ((g : GroupData) (later : List ℕ) → IsNextFrame place mark g after later → ⊥) → Frames place mark more rest → ⊥
-none_next place mark [] rest after is none frames = frames.3 (let same : frames.0 ∷ frames.1 ≡ 165 ∷ after = sym frames.2 ∙ is in cc)
+pub none_next : (place mark : ℕ) (more : List GroupData) (rest after : List ℕ) → rest ≡ OPEN ∷ after → ((g : GroupData) (later : List ℕ) → IsNextFrame place mark g after later → ⊥) → Frames place mark more rest → ⊥
+none_next place mark [] rest after is none frames = frames.3 (let same : frames.0 ∷ frames.1 ≡ OPEN ∷ after = sym frames.2 ∙ is in cc)
 none_next place mark (h ∷ more) rest after is none frames =
-    let there : 165 ∷ frames.0 ≡ 165 ∷ after = sym frames.2 ∙ is in
+    let there : OPEN ∷ frames.0 ≡ OPEN ∷ after = sym frames.2 ∙ is in
     let same : frames.0 ≡ after = cc in
     none h frames.1 (subst (λ (l : List ℕ). IsNextFrame place mark h l frames.1) same frames.3)
 
@@ -75,7 +77,7 @@ so_far_none bytes = record {
 }
 
 -- and goes on by a group
-pub so_far_more : (bytes rest after later : List ℕ) (rows more : Map) (gate mark next : ℕ) (g : GroupData) → IsReadSoFar bytes rest rows gate mark → rest ≡ 165 ∷ after → IsNextFrame gate mark g after later
+pub so_far_more : (bytes rest after later : List ℕ) (rows more : Map) (gate mark next : ℕ) (g : GroupData) → IsReadSoFar bytes rest rows gate mark → rest ≡ OPEN ∷ after → IsNextFrame gate mark g after later
     → more ≡ after_records g.records rows → next ≡ gate + (1 + (length after - length later)) → IsReadSoFar bytes later more next g.mark
 so_far_more bytes rest after later rows more gate mark next g i is frame_is rows_are next_is =
     let gs = i.groups in
@@ -92,7 +94,7 @@ so_far_more bytes rest after later rows more gate mark next g i is frame_is rows
     })
 
 -- and is done at a closed gate
-pub so_far_all : (bytes rest after : List ℕ) (rows : Map) (gate mark first : ℕ) → IsReadSoFar bytes rest rows gate mark → rest ≡ first ∷ after → first ≢ 165 → IsReadBehind bytes rows gate mark
+pub so_far_all : (bytes rest after : List ℕ) (rows : Map) (gate mark first : ℕ) → IsReadSoFar bytes rest rows gate mark → rest ≡ first ∷ after → first ≢ OPEN → IsReadBehind bytes rows gate mark
 so_far_all bytes rest after rows gate mark first i is closed = record {
   groups = i.groups;
   frames = subst (λ (hs : List GroupData). Frames 8 0 hs bytes) (append-nil i.groups) (i.forth [] (first, after, is, closed));
@@ -103,7 +105,7 @@ so_far_all bytes rest after rows gate mark first i is closed = record {
 }
 
 -- the two ways to say what a segment holds
-pub frames_from : (gs : List GroupData) (place mark gate : ℕ) (rest : List ℕ) → Chains mark gs → gate ≢ 165 → place + length (flat_map frame gs) < 67108864 → Frames place mark gs (flat_map frame gs ++ gate ∷ rest)
+pub frames_from : (gs : List GroupData) (place mark gate : ℕ) (rest : List ℕ) → Chains mark gs → gate ≢ OPEN → place + length (flat_map frame gs) < MAX_SEGMENT_LEN → Frames place mark gs (flat_map frame gs ++ gate ∷ rest)
 frames_from [] place mark gate rest chain closed few = (gate, rest, refl, closed)
 frames_from (g ∷ gs) place mark gate rest chain closed few =
     let text = flat_map frame gs in
@@ -120,7 +122,7 @@ pub record Flat (place mark : ℕ) (gs : List GroupData) (bytes : List ℕ) : Ty
   pub gate : ℕ
   pub rest : List ℕ
   pub whole : bytes ≡ flat_map frame gs ++ gate ∷ rest
-  pub closed : gate ≢ 165
+  pub closed : gate ≢ OPEN
   pub chain : Chains mark gs
 
 pub flat : (gs : List GroupData) (place mark : ℕ) (bytes : List ℕ) → Frames place mark gs bytes → Flat place mark gs bytes
@@ -130,7 +132,7 @@ flat (g ∷ gs) place mark bytes frames =
     record {
       gate = f.gate;
       rest = f.rest;
-      whole = frames.2 ∙ ap (λ (l : List ℕ). 165 ∷ l) (frames.3.whole ∙ ap (λ (l : List ℕ). sized (body_of g) ++ l) f.whole) ∙ sym (append_assoc (frame g) (flat_map frame gs) (f.gate ∷ f.rest)) ∙ ap (λ (l : List ℕ). l ++ f.gate ∷ f.rest) (sym (flat_map-cons frame g gs));
+      whole = frames.2 ∙ ap (λ (l : List ℕ). OPEN ∷ l) (frames.3.whole ∙ ap (λ (l : List ℕ). sized (body_of g) ++ l) f.whole) ∙ sym (append_assoc (frame g) (flat_map frame gs) (f.gate ∷ f.rest)) ∙ ap (λ (l : List ℕ). l ++ f.gate ∷ f.rest) (sym (flat_map-cons frame g gs));
       closed = f.closed;
       chain = (frames.3.prev, frames.3.is, f.chain);
     }
@@ -156,10 +158,14 @@ behind_header bytes gs has = (
   frames_from gs 8 0 has.gate has.rest has.chain has.closed (omega (arith, has.few, length-append header (flat_map frame gs))),
 )
 
+-- the groups of a segment are what it is recovered to
+pub recovers_groups : (gs : List GroupData) (bytes : List ℕ) → HasGroups 0 gs bytes → Recovers bytes (rows_of gs) (mark_of gs)
+recovers_groups gs bytes has = record { groups = gs; has = has; frames = behind_header bytes gs has; rows_are = refl; mark_is = refl }
+
 -- bytes hold at most one list of groups
 frames_once : (place mark : ℕ) (gs hs : List GroupData) (bytes : List ℕ) → Frames place mark gs bytes → Frames place mark hs bytes → gs ≡ hs
 frames_once place mark [] [] bytes f g = refl
-frames_once place mark [] (h ∷ hs) bytes f g = absurd (f.3 (let same : f.0 ∷ f.1 ≡ 165 ∷ g.0 = sym f.2 ∙ g.2 in cc))
+frames_once place mark [] (h ∷ hs) bytes f g = absurd (f.3 (let same : f.0 ∷ f.1 ≡ OPEN ∷ g.0 = sym f.2 ∙ g.2 in cc))
 frames_once place mark (x ∷ gs) hs bytes f g =
     let one = back_one place mark x bytes f.0 f.1 f.2 f.3 hs g in
     ap (λ (l : List GroupData). x ∷ l) (frames_once (place + 1 + length (sized (body_of x))) x.mark gs one.0 f.1 f.4 one.2) ∙ sym one.1

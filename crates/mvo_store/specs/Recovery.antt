@@ -3,6 +3,7 @@ use Rattle.std.specs.Prelude.{◌≡◌, ℕ, ◌<◌, List, [], ◌∷◌, leng
 use Rattle.std.specs.FinMap as map
 use Rattle.mvo_types.specs.Keys.{Map}
 use Rattle.mvo_types.specs.Write.{Write}
+use Rattle.mvo_types.specs.declared.limits.TheConstants.{MAX_SEGMENT_LEN}
 use Rattle.mvo_model.specs.History.{after_effect}
 use Rattle.mvo_group.specs.Data.{RecordData, GroupData}
 use Rattle.mvo_store.specs.Frames.{HasGroups, HasFrames, Frames, front, mark_after}
@@ -46,7 +47,7 @@ pub record IsRead (bytes : List ℕ) (rows : Map) (gate mark : ℕ) : Type 0 whe
   pub rows_are : rows ≡ rows_of groups
   pub mark_is : mark ≡ mark_of groups
   pub place : gate ≡ length (front groups)
-  pub few : gate < 67108864
+  pub few : gate < MAX_SEGMENT_LEN
 
 -- the same, read from behind the header on
 pub record IsReadBehind (bytes : List ℕ) (rows : Map) (gate mark : ℕ) : Type 0 where
@@ -55,4 +56,4 @@ pub record IsReadBehind (bytes : List ℕ) (rows : Map) (gate mark : ℕ) : Type
   pub rows_are : rows ≡ rows_of groups
   pub mark_is : mark ≡ mark_of groups
   pub place : gate ≡ length (front groups)
-  pub few : gate < 67108864
+  pub few : gate < MAX_SEGMENT_LEN

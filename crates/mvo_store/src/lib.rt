@@ -4,7 +4,7 @@
 mod durable;
 mod formatting;
 mod framed;
-mod log;
+mod layout;
 mod opening;
 mod reading;
 mod replay;
@@ -13,6 +13,3 @@ mod store;
 pub use durable::Durable;
 pub use formatting::format;
 pub use store::Store;
-
-#[cfg(test)]
-mod tests;

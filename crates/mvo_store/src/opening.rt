@@ -1,25 +1,25 @@
 //! Reads a disk, whatever is on it.
-ghost use Rattle.std.specs.Prelude.{◌≡◌, ◌<◌, ◌^◌, ℕ, OnOk, IfOk, IfErr};
-ghost use Rattle.mvo_disk.specs.Disk.{LeavesOnly, AllOf, Only};
+ghost use Rattle.std.specs.Prelude.{◌≡◌, ◌<◌, OnOk, IfOk, IfErr};
+ghost use Rattle.mvo_disk.specs.Disk.{Only};
+ghost use Rattle.mvo_store.specs.declared.layout.TheConstants.{MAX_FAULTS};
 ghost use Rattle.mvo_store.specs.Recovery.{IsRead};
-ghost use Rattle.mvo_store.specs.Steps.{IsOpenRefusal};
+ghost use Rattle.mvo_store.specs.Steps.{IsNotOpened, KeepsContent, LeavesAsBefore};
 
-use crate::log::SEGMENT;
+use crate::layout::{MAX_FAULTS, SEGMENT};
 use crate::reading::{Segment, read_segment};
 use mvo_disk::{Disk, ReadFailure, read_whole};
 use mvo_types::Refusal;
 use std::alloc::Global;
 
-const MAX_FAULTS: u64 = 1 << 63;
-
 /// Reads the segment and syncs it. It writes and cuts nothing.
 pub fn read_disk<D: Disk>(alloc: Global, disk: &mut D) -> Result<Segment, Refusal>
     ensures found { IfOk result (λ s. IsRead (D.content disk.old 2) s.rows s.gate s.mark.0) }
     ensures durable { OnOk result (Only (D.content disk.new 2) (D.may_leave disk.new 2)) }
-    ensures count { OnOk result ((D.fault_count disk.old < 2 ^ 63) × (D.fault_count disk.new ≡ D.fault_count disk.old)) }
-    ensures refused { IfErr result (λ e. IsOpenRefusal e (D.fault_count disk.old) (D.fault_count disk.new) (D.content disk.old 2)) }
-    ensures content { (n : ℕ) → D.content disk.new n ≡ D.content disk.old n }
-    ensures any_moment { LeavesOnly D.moment D.left_since disk.old disk.new (AllOf (D.may_leave disk.old)) }
+    ensures few { OnOk result (D.fault_count disk.old < MAX_FAULTS) }
+    ensures count { OnOk result (D.fault_count disk.new ≡ D.fault_count disk.old) }
+    ensures refused { IfErr result (λ e. IsNotOpened D.Disk disk.old e disk.new) }
+    ensures content { KeepsContent D.Disk disk.old disk.new }
+    ensures any_moment { LeavesAsBefore D.Disk disk.old disk.new }
 {
     if disk.faults() >= MAX_FAULTS {
         return Err(Refusal::ClockSpent);

@@ -1,10 +1,13 @@
 //! Reads the frames of a segment.
-ghost use Rattle.std.specs.Prelude.{◌≡◌, ◌⊎◌, ◌∷◌, [], ◌++◌, ◌<◌, ◌+◌, ◌^◌, List, ℕ, length, IfOk, IfErr, IfSome, IfNone, IsErrOf};
+ghost use Rattle.std.specs.Prelude.{◌≡◌, ◌⊎◌, ◌∷◌, [], ◌++◌, ◌<◌, ◌+◌, ◌^◌, List, ℕ, length};
+ghost use Rattle.std.specs.Prelude.{IfOk, IfErr, IfSome, IfNone, IsErrOf};
+ghost use Rattle.mvo_types.specs.declared.limits.TheConstants.{MAX_SEGMENT_LEN};
 ghost use Rattle.mvo_group.specs.Data.{GroupData};
-ghost use Rattle.mvo_store.specs.Frames.{header, sized, IsNextFrame, Frames, HasGroups, IsOtherVersion, IsBroken};
+ghost use Rattle.mvo_store.specs.Frames.{header, sized, IsNextFrame, Frames};
+ghost use Rattle.mvo_store.specs.Frames.{IsOtherVersion, IsBroken};
 ghost use Rattle.mvo_store.specs.Recovery.{IsRead, IsReadBehind};
 
-use crate::log::{OPEN, SEGMENT};
+use crate::layout::{OPEN, SEGMENT};
 use crate::replay::apply_group;
 use byteorder::{ByteOrder, LittleEndian};
 use mvo_group::Group;
@@ -25,8 +28,10 @@ pub struct Segment {
 
 /// The body behind its length, and the bytes behind the body.
 fn sized_at(bytes: &[u8]) -> Option<(&[u8], &[u8])>
-    ensures found { IfSome result (λ x. (bytes.now ≡ sized x.0.now ++ x.1.now) × (length x.0.now < 2 ^ 32)) }
-    ensures none { IfNone result ((body rest : List ℕ) → length body < 2 ^ 32 → bytes.now ≡ sized body ++ rest → ⊥) }
+    ensures found { IfSome result (λ x. (bytes.now ≡ sized x.0.now ++ x.1.now) ×
+        (length x.0.now < 2 ^ 32)) }
+    ensures none { IfNone result ((body rest : List ℕ) → length body < 2 ^ 32 →
+        bytes.now ≡ sized body ++ rest → ⊥) }
 {
     if bytes.len() < 4 {
         return None;
@@ -46,9 +51,11 @@ fn next_frame(
     mark: Stamp,
     after: &[u8],
 ) -> Result<Option<(Group, &[u8])>, AllocError>
-    requires { place < 67108864 }
-    ensures found { IfOk result (λ found. IfSome found (λ x. IsNextFrame place mark.0 x.0 after.now x.1.now)) }
-    ensures none { IfOk result (λ found. IfNone found ((g : GroupData) (rest : List ℕ) → IsNextFrame place mark.0 g after.now rest → ⊥)) }
+    requires { place < MAX_SEGMENT_LEN }
+    ensures found { IfOk result (λ found. IfSome found (λ x.
+        IsNextFrame place mark.0 x.0 after.now x.1.now)) }
+    ensures none { IfOk result (λ found. IfNone found ((g : GroupData) (rest : List ℕ) →
+        IsNextFrame place mark.0 g after.now rest → ⊥)) }
 {
     let Some((body, rest)) = sized_at(after) else {
         return Ok(None);
@@ -79,7 +86,8 @@ fn first_byte(bytes: &[u8]) -> Option<(u8, &[u8])>
 fn read_frames(alloc: Global, bytes: &[u8]) -> Result<Segment, Refusal>
     ensures found { IfOk result (λ s. IsReadBehind bytes.now s.rows s.gate s.mark.0) }
     ensures refused { IfErr result (λ e. (e ≡ Refusal.OutOfMemory) ⊎ (e ≡ Refusal.Corrupt 2)) }
-    ensures corrupt { IsErrOf result (Refusal.Corrupt 2) → (gs : List GroupData) → Frames 8 0 gs bytes.now → ⊥ }
+    ensures corrupt { IsErrOf result (Refusal.Corrupt 2) → (gs : List GroupData) →
+        Frames 8 0 gs bytes.now → ⊥ }
 {
     let mut rows = Rows::new(alloc);
     let mut gate = 8;
@@ -124,7 +132,8 @@ fn behind_header(bytes: &[u8]) -> Result<&[u8], Refusal>
 /// Reads a segment. What is wrong with the bytes is told by the first rule that they break.
 pub fn read_segment(alloc: Global, bytes: &[u8]) -> Result<Segment, Refusal>
     ensures found { IfOk result (λ s. IsRead bytes.now s.rows s.gate s.mark.0) }
-    ensures refused { IfErr result (λ e. (e ≡ Refusal.OutOfMemory) ⊎ ((e ≡ Refusal.BadVersion) ⊎ (e ≡ Refusal.Corrupt 2))) }
+    ensures refused { IfErr result (λ e. (e ≡ Refusal.OutOfMemory) ⊎
+        ((e ≡ Refusal.BadVersion) ⊎ (e ≡ Refusal.Corrupt 2))) }
     ensures version { IsErrOf result Refusal.BadVersion → IsOtherVersion bytes.now }
     ensures corrupt { IsErrOf result (Refusal.Corrupt 2) → IsBroken bytes.now }
 {

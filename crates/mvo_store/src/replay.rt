@@ -10,7 +10,8 @@ use mvo_types::Rows;
 use std::alloc::AllocError;
 
 fn apply_write(rows: &mut Rows, write: Write) -> Result<(), AllocError>
-    ensures { OnOk result (rows.new ≡ after_effect (write_data write).0 (write_data write).1 rows.old) }
+    ensures { OnOk result (rows.new ≡
+        after_effect (write_data write).0 (write_data write).1 rows.old) }
 {
     match write {
         Write::Put(row) => rows.put(row)?,

@@ -1,6 +1,7 @@
 pub mod Rows
 pub mod Chain
 pub mod Closed
-pub mod Stood
+pub mod Standing
+pub mod Marks
 pub mod Moves
 pub mod Runs

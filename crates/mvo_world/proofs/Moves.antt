@@ -1,166 +1,80 @@
--- What each event makes of a world that stands for the events before it.
-use Rattle.std.proofs.Common.{◌≡◌, ℕ, ◌≤◌, Bool, true, false, cond, List, [], ◌∷◌, ◌++◌, Option, None, Some, Result, Ok, Err, map, refl, sym, ap, ◌∙◌, subst, arith, append_assoc, append-nil}
-use Rattle.std.specs.Prelude.{is_some, IfSome, IsErrAnd, MatchResult}
+-- What each event makes of a world that stands after a past.
+use Rattle.std.proofs.Common.{◌≡◌, ◌≢◌, ◌⊎◌, inl, inr, ℕ, ◌≤◌, Bool, true, false, cond, List, [], ◌∷◌, ◌++◌, Option, None, Some, Result, Ok, Err, map, refl, sym, ap, ◌∙◌, subst, arith, append_assoc, append-nil}
+use Rattle.std.specs.Prelude.{is_some, IfSome, nat_le}
 use Rattle.std.specs.Option.{option_to_list}
 use Rattle.std.specs.List.{AllByRecursion}
-use Rattle.std.proofs.lemmas.Bool.{true≢false, false≢true}
+use Rattle.std.proofs.lemmas.Bool.{true≢false, false≢true, leb-true}
 use Rattle.std.proofs.lemmas.List.{map-append}
 use Rattle.mvo_types.specs.declared.refusal.Refusal.{Refusal}
-use Rattle.mvo_types.specs.declared.refusal.Refusal.TheVariants.{NoSuchTransaction, Ended, NotActive, NotPreparing, NotValidated, NotEnded, WriteConflict, ValidationFailed, DependencyAborted, TableFull, TooManyWrites, TooManyReads, DataTooLong, BadTable, ClockSpent, RingFull, SegmentFull, PairsFull, SegmentsFull, PairTooLarge, DiskFault, Down, Busy, NotFormatted, Corrupt, BadVersion, NothingToDo, AlreadyFormatted, OutOfMemory}
+use Rattle.mvo_types.specs.declared.refusal.Refusal.TheVariants.{RingFull, DiskFault, Down, Busy, NothingToDo, OutOfMemory}
+use Rattle.mvo_types.specs.declared.ids.Stamp.{Stamp}
 use Rattle.mvo_types.specs.Keys.{Map}
 use Rattle.mvo_model.specs.Trace.{Step}
-use Rattle.mvo_group.specs.Data.{GroupData}
-use Rattle.mvo_group.specs.Rules.{KeepsRules}
-use Rattle.mvo_state.specs.Line.{State, Slot, Running, checked, opened}
-use Rattle.mvo_state.proofs.Stood.{stands_opened}
-use Rattle.mvo_types.specs.declared.ids.Stamp.{Stamp}
-use Rattle.mvo_state.specs.Sound.{IsSound, IsRising}
-use Rattle.mvo_state.specs.Marks.{IsClosedAt, StaysBelow, settled_to}
-use Rattle.mvo_state.specs.Stands.{Stands}
-use Rattle.mvo_state.specs.Causes.{if_stands, is_failure, running_of, preparing_of}
-use Rattle.mvo_state.specs.Steps.{prepared_at, checked_at, committed_at, aborted_at, now_aborted}
-use Rattle.mvo_state.proofs.Each.{each_weaker, each_append}
-use Rattle.mvo_core.specs.Groups.{IsNextGroup, closed_at, why_not_closed}
-use Rattle.mvo_core.specs.Replies.{IsReplyTo, IsAccepted, left_by_refusal}
-use Rattle.mvo_core.specs.declared.event.Event as asked
-use Rattle.mvo_core.specs.declared.event.Event.TheVariants.{Begin, Read, Insert, Precommit, Validate, Settle, Rollback, Finish}
-use Rattle.mvo_core.specs.declared.reply.Reply as answered
-use Rattle.mvo_core.specs.declared.reply.Reply.TheVariants as reply
-use Rattle.mvo_store.specs.Frames.{mark_after}
-use Rattle.mvo_store.specs.Recovery.{rows_of, mark_of}
+use Rattle.mvo_disk.specs.declared.disk.Disk.{Ghosts}
 use Rattle.mvo_disk.specs.Disk.{AllOf, LeavesOnly}
 use Rattle.mvo_disk.specs.Moments.{weaker}
-use Rattle.mvo_store.specs.Images.{safe_unmoved}
-use Rattle.mvo_store.specs.Standing.{IsSafe, HasWithOrWithout, with_taken, opening}
-use Rattle.mvo_store.specs.Steps.{LeftBy, IsMarkOf}
-use Rattle.mvo_store.specs.declared.log.Log.{Log}
-use Rattle.mvo_world.specs.Whole.{Whole, waiting, Follow, IsLinked}
+use Rattle.mvo_group.specs.Data.{GroupData}
+use Rattle.mvo_group.specs.Rules.{KeepsRules}
+use Rattle.mvo_state.specs.Line.{State, opened}
+use Rattle.mvo_state.specs.Sound.{IsSound}
+use Rattle.mvo_state.specs.Marks.{IsClosedAt, StaysBelow, settled_to}
+use Rattle.mvo_state.specs.Stands.{Stands}
+use Rattle.mvo_state.specs.Causes.{if_stands}
+use Rattle.mvo_state.proofs.Each.{each_weaker, each_append}
+use Rattle.mvo_state.proofs.Stood.{stands_opened}
+use Rattle.mvo_core.specs.Groups.{IsNextGroup, closed_at, why_not_closed}
+use Rattle.mvo_core.specs.Events as core
+use Rattle.mvo_core.specs.Replies as core_replies
+use Rattle.mvo_core.specs.declared.event.Event as asked
+use Rattle.mvo_core.specs.declared.reply.Reply as answered
+use Rattle.mvo_core.specs.declared.closed.Closed as closing
+use Rattle.mvo_store.specs.Frames.{mark_after}
+use Rattle.mvo_store.specs.Recovery.{rows_of, mark_of}
+use Rattle.mvo_store.specs.StoreData.{StoreData, opening}
+use Rattle.mvo_store.specs.Standing.{KeepsGroups, HasWithOrWithout, LeavesWithOrWithout, with_taken}
+use Rattle.mvo_store.specs.Causes.{why_not_take}
+use Rattle.mvo_store.specs.Steps.{RefusedFor, LeftBy, IsMarkOf, KeepsOthers}
+use Rattle.mvo_store.proofs.Images.{keeps_unmoved}
+use Rattle.mvo_world.specs.WorldData.{WorldData, waiting, Follow, IsLinked}
+use Rattle.mvo_world.specs.Past.{Past, happened, acknowledged_by, closed_by, with_event, opened_over}
 use Rattle.mvo_world.specs.Groups.{AreGroupsOf}
-use Rattle.mvo_world.specs.Standing.{IsGood, StandsOver}
+use Rattle.mvo_world.specs.Standing.{IsAfter, RecoversPrefix, LeavesPrefix}
+use Rattle.mvo_world.specs.Replies.{IsReplyTo, IsBodyRefusal, IsGateRefusal}
+use Rattle.mvo_world.specs.Steps.{IsStepBy, IsStep}
+use Rattle.mvo_world.specs.declared.event.Event.{Event}
+use Rattle.mvo_world.specs.declared.event.Event.TheVariants.{Core as Asked, CloseGroup, TakeGroup, AppendBody, AppendOpen, Poll}
+use Rattle.mvo_world.specs.declared.reply.Reply.{Reply}
+use Rattle.mvo_world.specs.declared.reply.Reply.TheVariants.{Core as Answered, Closed, Durable, Polled, Refused}
 use Rattle.mvo_world.proofs.Chain.{groups_stay}
 use Rattle.mvo_world.proofs.Closed.{group_of_next}
-use Rattle.mvo_world.proofs.Stood.{mark_after-append, groups_front, groups_back, groups_push, marks_rise, follow_to, log_mark, good_image}
-
--- ---- a step of the core keeps its marks
-failed_marks : (s : State) (t : ℕ) (b : Bool) → (cond b (now_aborted s t) s).marks ≡ s.marks
-failed_marks s t false = refl
-failed_marks s t true = aborted_marks s t (preparing_of t s.line)
-  where
-    aborted_marks : (s : State) (t : ℕ) (o : Option Slot) → (aborted_at s t o).marks ≡ s.marks
-    aborted_marks s t None = refl
-    aborted_marks s t (Some x) = refl
-
-refused_marks : (s : State) (e : asked.Event) (r : Refusal) → (left_by_refusal s e r).marks ≡ s.marks
-refused_marks s Begin r = refl
-refused_marks s (Read t k) r = refl
-refused_marks s (Insert t row) r = refl
-refused_marks s (Precommit t) r = refl
-refused_marks s (Validate t) r = failed_marks s t.0 (is_failure r)
-refused_marks s (Settle t) r = refl
-refused_marks s (Rollback t) r = refl
-refused_marks s (Finish t) r = refl
-
-prepared_marks : (s : State) (o : Option Running) → (prepared_at s o).marks ≡ s.marks
-prepared_marks s None = refl
-prepared_marks s (Some r) = refl
-
-checked_marks : (s : State) (o : Option Slot) → (checked_at s o).marks ≡ s.marks
-checked_marks s None = refl
-checked_marks s (Some x) = go x.valid _
-  where
-    go : (b c : Bool) → (cond b s (checked s x.stop c)).marks ≡ s.marks
-    go true c = refl
-    go false c = refl
-
-committed_marks : (s : State) (t : ℕ) (o : Option Slot) → (committed_at s t o).marks ≡ s.marks
-committed_marks s t None = refl
-committed_marks s t (Some x) = refl
-
-aborted_marks : (s : State) (t : ℕ) (o : Option Slot) → (aborted_at s t o).marks ≡ s.marks
-aborted_marks s t None = refl
-aborted_marks s t (Some x) = refl
-
-accepted_marks : (s : State) (e : asked.Event) (r : answered.Reply) (s' : State) → IsAccepted s e r s' → s'.marks ≡ s.marks
-accepted_marks s Begin r s' h = ap (λ (x : State). x.marks) h.1
-accepted_marks s (Read t k) r s' h = ap (λ (x : State). x.marks) h.3
-accepted_marks s (Insert t row) r s' h = ap (λ (x : State). x.marks) h.3
-accepted_marks s (Precommit t) r s' h = ap (λ (x : State). x.marks) h.1 ∙ prepared_marks s (running_of t.0 s.running)
-accepted_marks s (Validate t) r s' h = ap (λ (x : State). x.marks) h.1 ∙ checked_marks s (preparing_of t.0 s.line)
-accepted_marks s (Settle t) r s' h = ap (λ (x : State). x.marks) h.1 ∙ committed_marks s t.0 (preparing_of t.0 s.line)
-accepted_marks s (Rollback t) r s' h = ap (λ (x : State). x.marks) h.1 ∙ aborted_marks s t.0 (preparing_of t.0 s.line)
-accepted_marks s (Finish t) r s' h = ap (λ (x : State). x.marks) h.1
-
-pub marks_stay : (s : State) (e : asked.Event) (r : answered.Reply) (s' : State) → IsReplyTo s e r s' → s'.marks ≡ s.marks
-marks_stay s e (reply.Refused r) s' h = ap (λ (x : State). x.marks) h.1 ∙ refused_marks s e r
-marks_stay s e (reply.Began t) s' h = accepted_marks s e (reply.Began t) s' h.1
-marks_stay s e (reply.Answered a) s' h = accepted_marks s e (reply.Answered a) s' h.1
-marks_stay s e (reply.Preparing n) s' h = accepted_marks s e (reply.Preparing n) s' h.1
-marks_stay s e reply.More s' h = accepted_marks s e reply.More s' h.1
-marks_stay s e reply.Valid s' h = accepted_marks s e reply.Valid s' h.1
-marks_stay s e (reply.Committed n) s' h = accepted_marks s e (reply.Committed n) s' h.1
-marks_stay s e (reply.Waiting t) s' h = accepted_marks s e (reply.Waiting t) s' h.1
-marks_stay s e reply.RolledBack s' h = accepted_marks s e reply.RolledBack s' h.1
-marks_stay s e reply.Done s' h = accepted_marks s e reply.Done s' h.1
+use Rattle.mvo_world.proofs.Standing.{mark_after-append, groups_front, groups_back, groups_push, marks_rise, follow_to, prefix_image}
 
 -- ---- a refused step of the store keeps its mark and the group that it took
-is_fault : Refusal → Bool
-is_fault DiskFault = true
-is_fault e = false
+fault_or_not : (e : Refusal) → (e ≡ DiskFault) ⊎ (e ≢ DiskFault)
+fault_or_not DiskFault = inl refl
+fault_or_not _ = inr (λ e. cc)
 
-fault_is : (e : Refusal) → is_fault e ≡ true → e ≡ DiskFault
-unfolding is_fault
-fault_is NoSuchTransaction t = absurd (false≢true t)
-fault_is Ended t = absurd (false≢true t)
-fault_is NotActive t = absurd (false≢true t)
-fault_is NotPreparing t = absurd (false≢true t)
-fault_is NotValidated t = absurd (false≢true t)
-fault_is NotEnded t = absurd (false≢true t)
-fault_is (WriteConflict c) t = absurd (false≢true t)
-fault_is (ValidationFailed s) t = absurd (false≢true t)
-fault_is (DependencyAborted x) t = absurd (false≢true t)
-fault_is TableFull t = absurd (false≢true t)
-fault_is TooManyWrites t = absurd (false≢true t)
-fault_is TooManyReads t = absurd (false≢true t)
-fault_is DataTooLong t = absurd (false≢true t)
-fault_is BadTable t = absurd (false≢true t)
-fault_is ClockSpent t = absurd (false≢true t)
-fault_is RingFull t = absurd (false≢true t)
-fault_is SegmentFull t = absurd (false≢true t)
-fault_is PairsFull t = absurd (false≢true t)
-fault_is SegmentsFull t = absurd (false≢true t)
-fault_is PairTooLarge t = absurd (false≢true t)
-fault_is DiskFault t = refl
-fault_is Down t = absurd (false≢true t)
-fault_is Busy t = absurd (false≢true t)
-fault_is NotFormatted t = absurd (false≢true t)
-fault_is (Corrupt f) t = absurd (false≢true t)
-fault_is BadVersion t = absurd (false≢true t)
-fault_is NothingToDo t = absurd (false≢true t)
-fault_is AlreadyFormatted t = absurd (false≢true t)
-fault_is OutOfMemory t = absurd (false≢true t)
-
-pub record KeepsTaken {D : Type 0} (old new : Log D) : Type 0 where
+pub record KeepsTaken {D : Type 0} (old new : StoreData D) : Type 0 where
   pub mark : new.mark ≡ old.mark
   pub pending : new.pending ≡ old.pending
 
-pub left_taken : {D : Type 0} (fault_count : D → ℕ) (e : Refusal) (old new : Log D) → LeftBy fault_count e old new → KeepsTaken old new
-unfolding is_fault
-left_taken {D} fault_count e old new h = go (is_fault e) refl
+pub left_taken : {D : Type 0} (d : Ghosts D) (e : Refusal) (old new : StoreData D) → LeftBy d e old new → KeepsTaken old new
+left_taken {D} d e old new h = go (fault_or_not e)
   where
-    go : (b : Bool) → is_fault e ≡ b → KeepsTaken old new
-    go true t = let is = (h.fault (fault_is e t)).0 in record { mark = ap (λ (l : Log D). l.mark) is; pending = ap (λ (l : Log D). l.pending) is }
-    go false t = let is = h.other (λ q. true≢false (sym (ap is_fault q) ∙ t)) in record { mark = ap (λ (l : Log D). l.mark) is; pending = ap (λ (l : Log D). l.pending) is }
+    go : (e ≡ DiskFault) ⊎ (e ≢ DiskFault) → KeepsTaken old new
+    go (inl is) = let after = (h.fault is).after in record { mark = ap (λ (s : StoreData D). s.mark) after; pending = ap (λ (s : StoreData D). s.pending) after }
+    go (inr ne) = let after = h.other ne in record { mark = ap (λ (s : StoreData D). s.mark) after; pending = ap (λ (s : StoreData D). s.pending) after }
 
 -- ---- the groups that wait
 follow_push : (m last : ℕ) (gs : List GroupData) (g : GroupData) → Follow m gs last → g.prev ≡ last → Follow m (gs ++ g ∷ []) g.mark
 follow_push m last [] g h e = (e ∙ sym h, refl)
 follow_push m last (x ∷ gs) g h e = (h.0, follow_push x.mark last gs g h.1 e)
 
-with_place : {D : Type 0} (w : Whole D) (g : GroupData) → w.place ≡ None → option_to_list w.log.pending ++ g ∷ [] ≡ waiting w ++ g ∷ []
-with_place w g e = ap (λ gs. gs ++ g ∷ []) (sym (append-nil (option_to_list w.log.pending)) ∙ ap (λ (p : Option GroupData). option_to_list w.log.pending ++ option_to_list p) (sym e))
+with_place : {D : Type 0} (w : WorldData D) (g : GroupData) → w.place ≡ None → option_to_list w.store.pending ++ g ∷ [] ≡ waiting w ++ g ∷ []
+with_place w g e = ap (λ gs. gs ++ g ∷ []) (sym (append-nil (option_to_list w.store.pending)) ∙ ap (λ (p : Option GroupData). option_to_list w.store.pending ++ option_to_list p) (sym e))
 
-pub linked_closed : {D : Type 0} (w : Whole D) (g : GroupData) → w.place ≡ None → g.prev ≡ w.core.marks.closed.0 → IsLinked w → Follow w.log.mark.0 (option_to_list w.log.pending ++ g ∷ []) g.mark
-linked_closed w g none e h = subst (λ gs. Follow w.log.mark.0 gs g.mark) (sym (with_place w g none)) (follow_push w.log.mark.0 w.core.marks.closed.0 (waiting w) g h e)
+pub linked_closed : {D : Type 0} (w : WorldData D) (g : GroupData) → w.place ≡ None → g.prev ≡ w.core.marks.closed.0 → IsLinked w → Follow w.store.mark (option_to_list w.store.pending ++ g ∷ []) g.mark
+linked_closed w g none e h = subst (λ gs. Follow w.store.mark gs g.mark) (sym (with_place w g none)) (follow_push w.store.mark w.core.marks.closed.0 (waiting w) g h e)
 
 groups_closed : (s : State) (n m : ℕ) (gs : List GroupData) → AreGroupsOf s m gs → AreGroupsOf (closed_at s n) m gs
 groups_closed s n m [] h = tt
@@ -180,125 +94,227 @@ pub group_there : (o : Option GroupData) (P : GroupData → Type 0) → is_some 
 group_there None P e h = absurd (false≢true e)
 group_there (Some g) P e h = (g, refl, h)
 
-pub match_err : {T E : Type 0} (P : E → Type 0) (r : Result T E) (R : T → Type 0) (Q : Type 0) → IsErrAnd r P → Q → MatchResult r R (λ _. Q)
-match_err P (Ok x) R Q e q = absurd e
-match_err P (Err x) R Q e q = q
-
 pub taken_of : (p : Option GroupData) (d : ℕ) → IsMarkOf p d → (g : GroupData) × (p ≡ Some g) × (d ≡ g.mark)
 taken_of None d h = absurd h
 taken_of (Some g) d h = (g, refl, h)
 
-module _ {D : Type 0} (content : D → ℕ → List ℕ) (may_leave : D → ℕ → List ℕ → Type 0) (fault_count : D → ℕ) where
-  pub nothing_more : (old : List GroupData) (steps : List Step) (acked closed : List ℕ) (w : Whole D) → StandsOver content may_leave fault_count old steps acked closed w → StandsOver content may_leave fault_count old (steps ++ []) (acked ++ []) (closed ++ []) w
-  nothing_more old steps acked closed w h =
-      subst (λ (xs : List Step). StandsOver content may_leave fault_count old xs (acked ++ []) (closed ++ []) w) (sym (append-nil steps))
-      (subst (λ (ms : List ℕ). StandsOver content may_leave fault_count old steps ms (closed ++ []) w) (sym (append-nil acked))
-      (subst (λ (ms : List ℕ). StandsOver content may_leave fault_count old steps acked ms w) (sym (append-nil closed)) h))
+pub accepted : {T : Type 0} (why : Option Refusal) (x : T) → RefusedFor why (Ok x) → why ≡ None
+accepted None x h = refl
+accepted (Some cause) x h = let same : Ok x ≡ Err cause = h in absurd cc
 
-  -- a step of the core
-  pub stands_asked : (old : List GroupData) (steps more : List Step) (acked closed : List ℕ) (w w' : Whole D) → w'.place ≡ w.place → w'.log ≡ w.log → Stands (rows_of old) (steps ++ more) w'.core → StaysBelow w.core w'.core → StandsOver content may_leave fault_count old steps acked closed w → StandsOver content may_leave fault_count old (steps ++ more) acked closed w'
-  stands_asked old steps more acked closed w w' place log core stays h =
-      let wait : waiting w ≡ waiting w' = ap (λ (l : Log D). option_to_list l.pending ++ option_to_list w.place) (sym log) ∙ ap (λ (p : Option GroupData). option_to_list w'.log.pending ++ option_to_list p) (sym place) in
-      let below = stays (mark_of old) h.before in
-      record {
-        sent = h.sent;
-        core = core;
-        before = below.0;
-        none = below.1 ∙ h.none;
-        log = subst (λ (l : Log D). IsSafe content may_leave fault_count l (old ++ h.sent)) (sym log) h.log;
-        groups = subst (λ gs. AreGroupsOf w'.core (mark_of old) (h.sent ++ gs)) wait (groups_stay w.core w'.core (mark_of old) (h.sent ++ waiting w) stays h.groups);
-        marks = ap (λ gs. map (λ g. g.mark) (h.sent ++ gs)) (sym wait) ∙ h.marks;
-        covers = subst (λ (l : Log D). AllByRecursion (λ m. m ≤ l.mark.0) acked) (sym log) h.covers;
-      }
+pub body_refusal : (T : Type 0) (why : Option Refusal) (e : Refusal) → RefusedFor {T = T} why (Err e) → IsBodyRefusal why e
+body_refusal T None e h = h
+body_refusal T (Some cause) e h = let same : ◌≡◌ {A = Result T Refusal} (Err e) (Err cause) = h in cc
 
-  -- a group is closed
-  pub stands_closed : (old : List GroupData) (steps : List Step) (acked closed : List ℕ) (w w' : Whole D) (g : GroupData) → w.place ≡ None → w'.core ≡ closed_at w.core g.mark → w'.place ≡ Some g → w'.log ≡ w.log → IsSound w.core → IsLinked w → IsNextGroup w.core g → KeepsRules g →
-      StandsOver content may_leave fault_count old steps acked closed w → StandsOver content may_leave fault_count old steps acked (closed ++ g.mark ∷ []) w'
-  stands_closed old steps acked closed w w' g none core place log sound linked next rules h =
-      let wait : waiting w' ≡ waiting w ++ g ∷ [] = ap (λ (l : Log D). option_to_list l.pending ++ option_to_list w'.place) log ∙ ap (λ (p : Option GroupData). option_to_list w.log.pending ++ option_to_list p) place ∙ with_place w g none in
-      let list : (h.sent ++ waiting w) ++ g ∷ [] ≡ h.sent ++ waiting w' = append_assoc h.sent (waiting w) (g ∷ []) ∙ ap (λ gs. h.sent ++ gs) (sym wait) in
-      let prev : g.prev ≡ mark_after (mark_of old) (h.sent ++ waiting w) =
-      next.prev ∙ sym (follow_to w.log.mark.0 w.core.marks.closed.0 (waiting w) linked)
-      ∙ ap (λ (m : ℕ). mark_after m (waiting w)) (log_mark content may_leave fault_count w.log (old ++ h.sent) h.log ∙ mark_after-append 0 old h.sent)
-      ∙ sym (mark_after-append (mark_of old) h.sent (waiting w)) in
-      record {
-        sent = h.sent;
-        core = subst (Stands (rows_of old) steps) (sym core) (record { base = h.core.base; tale = h.core.tale; ended = h.core.ended; running = h.core.running; fresh = h.core.fresh; phases = h.core.phases });
-        before = subst (IsClosedAt (mark_of old)) (sym core) (record { drawn = h.before.drawn; above = h.before.above });
-        none = ap (λ (s : State). settled_to (mark_of old) s.line) core ∙ h.none;
-        log = subst (λ (l : Log D). IsSafe content may_leave fault_count l (old ++ h.sent)) (sym log) h.log;
-        groups = subst (λ (s : State). AreGroupsOf s (mark_of old) (h.sent ++ waiting w')) (sym core) (subst (AreGroupsOf (closed_at w.core g.mark) (mark_of old)) list (groups_closed w.core g.mark (mark_of old) ((h.sent ++ waiting w) ++ g ∷ []) (groups_push w.core (mark_of old) (h.sent ++ waiting w) g h.groups prev (group_of_next w.core g sound next rules))));
-        marks = ap (map (λ x. x.mark)) (sym list) ∙ map-append (λ x. x.mark) (h.sent ++ waiting w) (g ∷ []) ∙ ap (λ ms. ms ++ g.mark ∷ []) h.marks;
-        covers = subst (λ (l : Log D). AllByRecursion (λ m. m ≤ l.mark.0) acked) (sym log) h.covers;
-      }
+pub gate_refusal : (T : Type 0) (why : Option Refusal) (e : Refusal) → RefusedFor {T = T} why (Err e) → (e ≡ OutOfMemory → ⊥) → IsGateRefusal why e
+gate_refusal T None e (inl memory) free = absurd (free memory)
+gate_refusal T None e (inr fault) free = fault
+gate_refusal T (Some cause) e h free = let same : ◌≡◌ {A = Result T Refusal} (Err e) (Err cause) = h in cc
 
-  -- the store goes on, and no group becomes durable
-  pub stands_moved : (old : List GroupData) (steps : List Step) (acked closed : List ℕ) (w w' : Whole D) → w'.core ≡ w.core → waiting w' ≡ waiting w → w'.log.mark ≡ w.log.mark → (h : StandsOver content may_leave fault_count old steps acked closed w) → IsSafe content may_leave fault_count w'.log (old ++ h.sent) → StandsOver content may_leave fault_count old steps acked closed w'
-  stands_moved old steps acked closed w w' core wait mark h safe = record {
+pub nothing_taken : {D : Type 0} (s : StoreData D) → why_not_take s ≡ None → s.pending ≡ None
+nothing_taken {D} s e = go s.down s.pending e
+  where
+    go : (b : Bool) (o : Option GroupData) → cond b (Some Down) (cond (is_some o) (Some Busy) None) ≡ None → o ≡ None
+    go true o f = absurd cc
+    go false None f = refl
+    go false (Some g) f = absurd cc
+
+-- a store whose pending group became durable
+pub durable_store : {D : Type 0} (s : StoreData D) (mark : ℕ) → s.mark ≡ mark → s.pending ≡ None → s.written ≡ false → s.down ≡ false → s ≡ record s { mark = mark; pending = None; written = false; down = false }
+durable_store {D} s mark at none done up =
+    ap (λ (m : ℕ). record s { mark = m }) at
+    ∙ ap (λ (o : Option GroupData). record s { mark = mark; pending = o }) none
+    ∙ ap (λ (b : Bool). record s { mark = mark; pending = None; written = b }) done
+    ∙ ap (λ (b : Bool). record s { mark = mark; pending = None; written = false; down = b }) up
+
+-- ---- a past with an event more
+past_is : (p : Past) (e : Event) (r : Reply) (steps : List Step) (acked closed : List ℕ) → p.steps ++ happened e r ≡ steps → p.acknowledged ++ acknowledged_by e r ≡ acked → p.closed ++ closed_by e r ≡ closed → record { groups = p.groups; steps = steps; acknowledged = acked; closed = closed } ≡ with_event p e r
+past_is p e r steps acked closed a b c =
+    ap (λ (xs : List Step). record { groups = p.groups; steps = xs; acknowledged = acked; closed = closed }) (sym a)
+    ∙ ap (λ (ms : List ℕ). record { groups = p.groups; steps = p.steps ++ happened e r; acknowledged = ms; closed = closed }) (sym b)
+    ∙ ap (λ (ms : List ℕ). record { groups = p.groups; steps = p.steps ++ happened e r; acknowledged = p.acknowledged ++ acknowledged_by e r; closed = ms }) (sym c)
+
+-- nothing that a past remembers
+pub record IsSilent (e : Event) (r : Reply) : Type 0 where
+  pub steps : happened e r ≡ []
+  pub acknowledged : acknowledged_by e r ≡ []
+  pub closed : closed_by e r ≡ []
+
+pub silent_refused : (e : Event) (r : Refusal) → IsSilent e (Refused r)
+silent_refused (Asked e) r = record { steps = refl; acknowledged = refl; closed = refl }
+silent_refused CloseGroup r = record { steps = refl; acknowledged = refl; closed = refl }
+silent_refused TakeGroup r = record { steps = refl; acknowledged = refl; closed = refl }
+silent_refused AppendBody r = record { steps = refl; acknowledged = refl; closed = refl }
+silent_refused AppendOpen r = record { steps = refl; acknowledged = refl; closed = refl }
+silent_refused (Poll stamp) r = record { steps = refl; acknowledged = refl; closed = refl }
+
+silent_past : (p : Past) (e : Event) (r : Reply) → IsSilent e r → p ≡ with_event p e r
+silent_past p e r s = past_is p e r p.steps p.acknowledged p.closed (ap (λ xs. p.steps ++ xs) s.steps ∙ append-nil p.steps) (ap (λ ms. p.acknowledged ++ ms) s.acknowledged ∙ append-nil p.acknowledged) (ap (λ ms. p.closed ++ ms) s.closed ∙ append-nil p.closed)
+
+sound_closed : (s : State) (m : ℕ) → IsSound s → IsSound (closed_at s m)
+sound_closed s m h = record { legal = h.legal; rising = h.rising; clear = h.clear; placed = h.placed; preparing = h.preparing; running = h.running }
+
+module _ {D : Type 0} (d : Ghosts D) where
+  -- ---- what a stop leaves meanwhile
+  pub meanwhile : (p : Past) (w w' : WorldData D) (h : IsAfter d p w) → LeavesWithOrWithout d (p.groups ++ h.sent) w.store w'.store → LeavesPrefix d p w w'
+  meanwhile p w w' h only = weaker d.moment d.left_since w.store.disk w'.store.disk _ (λ image. RecoversPrefix p (image 2)) (λ image has. prefix_image d p w h (image 2) has) only
+
+  -- ---- the store goes on, and no group becomes durable
+  moved_after : (p : Past) (w w' : WorldData D) → w'.core ≡ w.core → waiting w' ≡ waiting w → w'.store.mark ≡ w.store.mark → (h : IsAfter d p w) → KeepsGroups d w'.store (p.groups ++ h.sent) → IsAfter d p w'
+  moved_after p w w' core wait mark h keeps = record {
     sent = h.sent;
-    core = subst (Stands (rows_of old) steps) (sym core) h.core;
-    before = subst (IsClosedAt (mark_of old)) (sym core) h.before;
-    none = ap (λ (s : State). settled_to (mark_of old) s.line) core ∙ h.none;
-    log = safe;
-    groups = subst (λ (s : State). AreGroupsOf s (mark_of old) (h.sent ++ waiting w')) (sym core) (subst (λ gs. AreGroupsOf w.core (mark_of old) (h.sent ++ gs)) (sym wait) h.groups);
+    sound = subst IsSound (sym core) h.sound;
+    core = subst (Stands (rows_of p.groups) p.steps) (sym core) h.core;
+    before = subst (IsClosedAt (mark_of p.groups)) (sym core) h.before;
+    none = ap (λ (s : State). settled_to (mark_of p.groups) s.line) core ∙ h.none;
+    store = keeps;
+    groups = subst (λ (s : State). AreGroupsOf s (mark_of p.groups) (h.sent ++ waiting w')) (sym core) (subst (λ gs. AreGroupsOf w.core (mark_of p.groups) (h.sent ++ gs)) (sym wait) h.groups);
     marks = ap (λ gs. map (λ x. x.mark) (h.sent ++ gs)) wait ∙ h.marks;
-    covers = subst (λ m. AllByRecursion (λ n. n ≤ m) acked) (sym (ap (λ m. m.0) mark)) h.covers;
+    covers = subst (λ m. AllByRecursion (λ n. n ≤ m) p.acknowledged) (sym mark) h.covers;
   }
 
-  -- a group becomes durable
-  pub stands_durable : (old : List GroupData) (steps : List Step) (acked closed : List ℕ) (w w' : Whole D) (g : GroupData) → w'.core ≡ w.core → w'.place ≡ w.place → w.log.pending ≡ Some g → w'.log.pending ≡ None → w'.log.mark.0 ≡ g.mark →
-      (h : StandsOver content may_leave fault_count old steps acked closed w) → IsSafe content may_leave fault_count w'.log (with_taken (old ++ h.sent) w.log.pending) → StandsOver content may_leave fault_count old steps (acked ++ g.mark ∷ []) closed w'
-  stands_durable old steps acked closed w w' g core place pending none mark h safe =
-      let before : waiting w ≡ g ∷ option_to_list w.place = ap (λ (q : Option GroupData). option_to_list q ++ option_to_list w.place) pending in
-      let after : waiting w' ≡ option_to_list w.place = ap (λ (q : Option GroupData). option_to_list q ++ option_to_list w'.place) none ∙ ap option_to_list place in
-      let list : h.sent ++ waiting w ≡ (h.sent ++ g ∷ []) ++ waiting w' = ap (λ gs. h.sent ++ gs) before ∙ sym (append_assoc h.sent (g ∷ []) (option_to_list w.place)) ∙ ap (λ gs. (h.sent ++ g ∷ []) ++ gs) (sym after) in
-      let groups = subst (AreGroupsOf w.core (mark_of old)) list h.groups in
-      let last : w.log.mark.0 ≡ mark_after (mark_of old) h.sent = log_mark content may_leave fault_count w.log (old ++ h.sent) h.log ∙ mark_after-append 0 old h.sent in
-      let up : mark_after (mark_of old) h.sent ≤ g.mark = marks_rise w.core (mark_after (mark_of old) h.sent) (g ∷ []) (groups_back w.core (mark_of old) h.sent (g ∷ []) (groups_front w.core (mark_of old) (h.sent ++ g ∷ []) (waiting w') groups)) in
-      record {
-        sent = h.sent ++ g ∷ [];
-        core = subst (Stands (rows_of old) steps) (sym core) h.core;
-        before = subst (IsClosedAt (mark_of old)) (sym core) h.before;
-        none = ap (λ (s : State). settled_to (mark_of old) s.line) core ∙ h.none;
-        log = subst (IsSafe content may_leave fault_count w'.log) (ap (with_taken (old ++ h.sent)) pending ∙ append_assoc old h.sent (g ∷ [])) safe;
-        groups = subst (λ (s : State). AreGroupsOf s (mark_of old) ((h.sent ++ g ∷ []) ++ waiting w')) (sym core) groups;
-        marks = ap (map (λ x. x.mark)) (sym list) ∙ h.marks;
-        covers = each_append (λ n. n ≤ w'.log.mark.0) acked (g.mark ∷ []) (each_weaker (λ n. n ≤ w.log.mark.0) (λ n. n ≤ w'.log.mark.0) (λ n le. omega (arith, le, last, up, mark)) acked h.covers) (omega (arith, mark), tt);
-      }
-
-  -- a poll answers yes
-  pub stands_polled : (old : List GroupData) (steps : List Step) (acked closed : List ℕ) (w : Whole D) (n : ℕ) → n ≤ w.log.mark.0 → StandsOver content may_leave fault_count old steps acked closed w → StandsOver content may_leave fault_count old steps (acked ++ n ∷ []) closed w
-  stands_polled old steps acked closed w n le h = record {
-    sent = h.sent;
-    core = h.core;
-    before = h.before;
-    none = h.none;
-    log = h.log;
-    groups = h.groups;
-    marks = h.marks;
-    covers = each_append (λ m. m ≤ w.log.mark.0) acked (n ∷ []) h.covers (le, tt);
+  pub moved : (IsReply : WorldData D → Event → Reply → WorldData D → Type 0) (w w' : WorldData D) (e : Event) (r : Reply) → IsSilent e r → IsReply w e r w' → w'.core ≡ w.core → waiting w' ≡ waiting w → w'.store.mark ≡ w.store.mark
+      → ((gs : List GroupData) → KeepsGroups d w.store gs → KeepsGroups d w'.store gs) → ((gs : List GroupData) → KeepsGroups d w.store gs → LeavesWithOrWithout d gs w.store w'.store) → KeepsOthers d w.store.disk w'.store.disk
+      → IsStepBy IsReply d w e r w'
+  moved IsReply w w' e r silent reply core wait mark keeps leaves others = record {
+    reply = reply;
+    after = λ p h. subst (λ (q : Past). IsAfter d q w') (silent_past p e r silent) (moved_after p w w' core wait mark h (keeps (p.groups ++ h.sent) h.store));
+    any_moment = λ p h. meanwhile p w w' h (leaves (p.groups ++ h.sent) h.store);
+    others = others;
   }
 
-  -- a world that was just opened
-  pub stands_begun : (old : List GroupData) (rows : Map) (mark : Stamp) (core : State) (log : Log D) → core ≡ opened rows mark.0 → rows ≡ rows_of old → mark.0 ≡ mark_of old → log.pending ≡ None → log.mark ≡ mark → IsSafe content may_leave fault_count log old → StandsOver content may_leave fault_count old [] (mark_of old ∷ []) [] (record { core = core; place = None; log = log })
-  stands_begun old rows mark core log is rows_are mark_is none at safe =
-      let wait : option_to_list log.pending ++ [] ≡ [] = ap (λ (q : Option GroupData). option_to_list q ++ []) none in
+  -- ---- a group becomes durable
+  pub durable : (w w' : WorldData D) (mark : Stamp) (g : GroupData) → IsReplyTo d w AppendOpen (Durable mark) w' → w'.core ≡ w.core → w'.place ≡ w.place → w.store.pending ≡ Some g → w'.store.pending ≡ None → w'.store.mark ≡ g.mark → mark.0 ≡ g.mark
+      → ((gs : List GroupData) → KeepsGroups d w.store gs → KeepsGroups d w'.store (with_taken gs w.store.pending)) → ((gs : List GroupData) → KeepsGroups d w.store gs → LeavesWithOrWithout d gs w.store w'.store) → KeepsOthers d w.store.disk w'.store.disk
+      → IsStep d w AppendOpen (Durable mark) w'
+  durable w w' mark g reply core place pending none at is keeps leaves others = record {
+    reply = reply;
+    after = after;
+    any_moment = λ p h. meanwhile p w w' h (leaves (p.groups ++ h.sent) h.store);
+    others = others;
+  }
+    where
+      after : (p : Past) → IsAfter d p w → IsAfter d (with_event p AppendOpen (Durable mark)) w'
+      after p h =
+          let first = mark_of p.groups in
+          let before : waiting w ≡ g ∷ option_to_list w.place = ap (λ (q : Option GroupData). option_to_list q ++ option_to_list w.place) pending in
+          let later : waiting w' ≡ option_to_list w.place = ap (λ (q : Option GroupData). option_to_list q ++ option_to_list w'.place) none ∙ ap option_to_list place in
+          let list : h.sent ++ waiting w ≡ (h.sent ++ g ∷ []) ++ waiting w' = ap (λ gs. h.sent ++ gs) before ∙ sym (append_assoc h.sent (g ∷ []) (option_to_list w.place)) ∙ ap (λ gs. (h.sent ++ g ∷ []) ++ gs) (sym later) in
+          let groups = subst (AreGroupsOf w.core first) list h.groups in
+          let last : w.store.mark ≡ mark_after first h.sent = h.store.mark ∙ mark_after-append 0 p.groups h.sent in
+          let up : mark_after first h.sent ≤ g.mark = marks_rise w.core (mark_after first h.sent) (g ∷ []) (groups_back w.core first h.sent (g ∷ []) (groups_front w.core first (h.sent ++ g ∷ []) (waiting w') groups)) in
+          subst (λ (q : Past). IsAfter d q w') (past_is p AppendOpen (Durable mark) p.steps (p.acknowledged ++ mark.0 ∷ []) p.closed (append-nil p.steps) refl (append-nil p.closed)) (record {
+            sent = h.sent ++ g ∷ [];
+            sound = subst IsSound (sym core) h.sound;
+            core = subst (Stands (rows_of p.groups) p.steps) (sym core) h.core;
+            before = subst (IsClosedAt first) (sym core) h.before;
+            none = ap (λ (s : State). settled_to first s.line) core ∙ h.none;
+            store = subst (KeepsGroups d w'.store) (ap (with_taken (p.groups ++ h.sent)) pending ∙ append_assoc p.groups h.sent (g ∷ [])) (keeps (p.groups ++ h.sent) h.store);
+            groups = subst (λ (s : State). AreGroupsOf s first ((h.sent ++ g ∷ []) ++ waiting w')) (sym core) groups;
+            marks = ap (map (λ x. x.mark)) (sym list) ∙ h.marks;
+            covers = each_append (λ n. n ≤ w'.store.mark) p.acknowledged (mark.0 ∷ []) (each_weaker (λ n. n ≤ w.store.mark) (λ n. n ≤ w'.store.mark) (λ n le. omega (arith, le, last, up, at)) p.acknowledged h.covers) (omega (arith, at, is), tt);
+          })
+
+  module _ (only_now : (disk : D) (image : ℕ → List ℕ) → d.left_since disk (d.moment disk) image → AllOf (d.may_leave disk) image) where
+    unmoved : (w w' : WorldData D) → w'.store ≡ w.store → (gs : List GroupData) → KeepsGroups d w.store gs → LeavesWithOrWithout d gs w.store w'.store
+    unmoved w w' same gs keeps = subst (λ (s : StoreData D). LeavesWithOrWithout d gs w.store s) (sym same) (keeps_unmoved d only_now w.store gs keeps)
+
+    others_stay : (w w' : WorldData D) → w'.store ≡ w.store → KeepsOthers d w.store.disk w'.store.disk
+    others_stay w w' same n other = ap (λ (s : StoreData D). d.content s.disk n) same
+
+    -- nothing happens
+    pub still : (IsReply : WorldData D → Event → Reply → WorldData D → Type 0) (w : WorldData D) (e : Event) (r : Reply) → IsSilent e r → IsReply w e r w → IsStepBy IsReply d w e r w
+    still IsReply w e r silent reply = moved IsReply w w e r silent reply refl refl refl (λ gs keeps. keeps) (unmoved w w refl) (λ n other. refl)
+
+    -- a step of the core
+    pub asked_step : (w : WorldData D) (s : State) (e : asked.Event) (r : answered.Reply) → core_replies.IsReplyTo w.core e r s → IsSound s → ((opening : Map) (xs : List Step) → Stands opening xs w.core → Stands opening (xs ++ core.happened e r) s) → StaysBelow w.core s
+        → IsStep d w (Asked e) (Answered r) (record { core = s; place = w.place; store = w.store })
+    asked_step w s e r reply sound stands stays = record {
+      reply = (reply, refl);
+      after = λ p h.
+          let below = stays (mark_of p.groups) h.before in
+          subst (λ (q : Past). IsAfter d q (record { core = s; place = w.place; store = w.store })) (past_is p (Asked e) (Answered r) (p.steps ++ core.happened e r) p.acknowledged p.closed refl (append-nil p.acknowledged) (append-nil p.closed)) (record {
+            sent = h.sent;
+            sound = sound;
+            core = stands (rows_of p.groups) p.steps h.core;
+            before = below.0;
+            none = below.1 ∙ h.none;
+            store = h.store;
+            groups = groups_stay w.core s (mark_of p.groups) (h.sent ++ waiting w) stays h.groups;
+            marks = h.marks;
+            covers = h.covers;
+          });
+      any_moment = λ p h. meanwhile p w (record { core = s; place = w.place; store = w.store }) h (unmoved w w refl (p.groups ++ h.sent) h.store);
+      others = λ n other. refl;
+    }
+
+    -- a group is closed
+    pub closed_step : (w w' : WorldData D) (c : closing.Closed) (g : GroupData) → why_not_closed w.core (is_some w.place) ≡ None → w'.core ≡ closed_at w.core c.mark.0 → w'.place ≡ Some g → w'.store ≡ w.store
+        → IsNextGroup w.core g → KeepsRules g → g.prev ≡ c.prev.0 → g.mark ≡ c.mark.0 → IsLinked w → IsReplyTo d w CloseGroup (Closed c) w' → IsStep d w CloseGroup (Closed c) w'
+    closed_step w w' c g why core place store next rules prev mark linked reply = record {
+      reply = reply;
+      after = after;
+      any_moment = λ p h. meanwhile p w w' h (unmoved w w' store (p.groups ++ h.sent) h.store);
+      others = others_stay w w' store;
+    }
+      where
+        at_mark : w'.core ≡ closed_at w.core g.mark
+        at_mark = core ∙ ap (closed_at w.core) (sym mark)
+
+        after : (p : Past) → IsAfter d p w → IsAfter d (with_event p CloseGroup (Closed c)) w'
+        after p h =
+            let first = mark_of p.groups in
+            let none = none_closed w.core w.place why in
+            let wait : waiting w' ≡ waiting w ++ g ∷ [] = ap (λ (s : StoreData D). option_to_list s.pending ++ option_to_list w'.place) store ∙ ap (λ (o : Option GroupData). option_to_list w.store.pending ++ option_to_list o) place ∙ with_place w g none in
+            let list : (h.sent ++ waiting w) ++ g ∷ [] ≡ h.sent ++ waiting w' = append_assoc h.sent (waiting w) (g ∷ []) ∙ ap (λ gs. h.sent ++ gs) (sym wait) in
+            let prev_is : g.prev ≡ mark_after first (h.sent ++ waiting w) =
+            next.prev ∙ sym (follow_to w.store.mark w.core.marks.closed.0 (waiting w) linked)
+            ∙ ap (λ (m : ℕ). mark_after m (waiting w)) (h.store.mark ∙ mark_after-append 0 p.groups h.sent)
+            ∙ sym (mark_after-append first h.sent (waiting w)) in
+            subst (λ (q : Past). IsAfter d q w') (past_is p CloseGroup (Closed c) p.steps p.acknowledged (p.closed ++ g.mark ∷ []) (append-nil p.steps) (append-nil p.acknowledged) (ap (λ n. p.closed ++ n ∷ []) (sym mark))) (record {
+              sent = h.sent;
+              sound = subst IsSound (sym at_mark) (sound_closed w.core g.mark h.sound);
+              core = subst (Stands (rows_of p.groups) p.steps) (sym at_mark) (record { base = h.core.base; tale = h.core.tale; ended = h.core.ended; running = h.core.running; fresh = h.core.fresh; phases = h.core.phases });
+              before = subst (IsClosedAt first) (sym at_mark) (record { drawn = h.before.drawn; above = h.before.above });
+              none = ap (λ (s : State). settled_to first s.line) at_mark ∙ h.none;
+              store = subst (λ (s : StoreData D). KeepsGroups d s (p.groups ++ h.sent)) (sym store) h.store;
+              groups = subst (λ (s : State). AreGroupsOf s first (h.sent ++ waiting w')) (sym at_mark) (subst (AreGroupsOf (closed_at w.core g.mark) first) list (groups_closed w.core g.mark first ((h.sent ++ waiting w) ++ g ∷ []) (groups_push w.core first (h.sent ++ waiting w) g h.groups prev_is (group_of_next w.core g h.sound next rules))));
+              marks = ap (map (λ x. x.mark)) (sym list) ∙ map-append (λ x. x.mark) (h.sent ++ waiting w) (g ∷ []) ∙ ap (λ ms. ms ++ g.mark ∷ []) h.marks;
+              covers = subst (λ (s : StoreData D). AllByRecursion (λ m. m ≤ s.mark) p.acknowledged) (sym store) h.covers;
+            })
+
+    -- a poll
+    pub polled_step : (w : WorldData D) (stamp : Stamp) (answer : Bool) → answer ≡ nat_le stamp.0 w.store.mark → IsStep d w (Poll stamp) (Polled answer) w
+    polled_step w stamp false is = still (IsReplyTo d) w (Poll stamp) (Polled false) (record { steps = refl; acknowledged = refl; closed = refl }) (is, refl)
+    polled_step w stamp true is = record {
+      reply = (is, refl);
+      after = λ p h. subst (λ (q : Past). IsAfter d q w) (past_is p (Poll stamp) (Polled true) p.steps (p.acknowledged ++ stamp.0 ∷ []) p.closed (append-nil p.steps) refl (append-nil p.closed)) (record {
+        sent = h.sent;
+        sound = h.sound;
+        core = h.core;
+        before = h.before;
+        none = h.none;
+        store = h.store;
+        groups = h.groups;
+        marks = h.marks;
+        covers = each_append (λ m. m ≤ w.store.mark) p.acknowledged (stamp.0 ∷ []) h.covers (leb-true stamp.0 w.store.mark (sym is), tt);
+      });
+      any_moment = λ p h. meanwhile p w w h (unmoved w w refl (p.groups ++ h.sent) h.store);
+      others = λ n other. refl;
+    }
+
+  -- ---- a world that was just opened
+  pub begun : (gs : List GroupData) (rows : Map) (mark : ℕ) (s : State) (store : StoreData D) → s ≡ opened rows mark → rows ≡ rows_of gs → mark ≡ mark_of gs → store.pending ≡ None → store.mark ≡ mark → KeepsGroups d store gs → IsAfter d (opened_over gs) (record { core = s; place = None; store = store })
+  begun gs rows mark s store is rows_are mark_is none at keeps =
+      let wait : option_to_list store.pending ++ [] ≡ [] = ap (λ (q : Option GroupData). option_to_list q ++ []) none in
       record {
         sent = [];
-        core = subst (Stands (rows_of old) []) (sym is) (subst (λ (m : Map). Stands m [] (opened rows mark.0)) rows_are (stands_opened rows mark.0));
-        before = subst (IsClosedAt (mark_of old)) (sym is) (record { drawn = omega (arith, mark_is); above = tt });
-        none = ap (λ (s : State). settled_to (mark_of old) s.line) is;
-        log = subst (IsSafe content may_leave fault_count log) (sym (append-nil old)) safe;
-        groups = subst (AreGroupsOf core (mark_of old)) (sym wait) tt;
+        sound = subst IsSound (sym is) (record { legal = tt; rising = tt; clear = tt; placed = tt; preparing = tt; running = tt });
+        core = subst (Stands (rows_of gs) []) (sym is) (subst (λ (m : Map). Stands m [] (opened rows mark)) rows_are (stands_opened rows mark));
+        before = subst (IsClosedAt (mark_of gs)) (sym is) (record { drawn = omega (arith, mark_is); above = tt });
+        none = ap (λ (t : State). settled_to (mark_of gs) t.line) is;
+        store = subst (KeepsGroups d store) (sym (append-nil gs)) keeps;
+        groups = subst (AreGroupsOf s (mark_of gs)) (sym wait) tt;
         marks = ap (map (λ x. x.mark)) wait;
-        covers = (omega (arith, mark_is, ap (λ (m : Stamp). m.0) at), tt);
+        covers = (omega (arith, mark_is, at), tt);
       }
-
-  -- ---- what a stop leaves meanwhile
-  module _ (moment : D → ℕ) (left_since : D → ℕ → (ℕ → List ℕ) → Type 0) where
-    pub good_meanwhile : (old : List GroupData) (steps : List Step) (acked closed : List ℕ) (w : Whole D) (new : D) → IsRising w.core.line → (h : StandsOver content may_leave fault_count old steps acked closed w) → LeavesOnly moment left_since w.log.disk new (λ image. HasWithOrWithout (old ++ h.sent) (opening w.log) (image 2)) → LeavesOnly moment left_since w.log.disk new (λ image. IsGood (rows_of old) (mark_of old) steps acked closed (image 2))
-    good_meanwhile old steps acked closed w new rise h only = weaker moment left_since w.log.disk new _ _ (λ image has. good_image content may_leave fault_count old steps acked closed w (image 2) rise h has) only
-
-    pub good_still : ((d : D) (image : ℕ → List ℕ) → left_since d (moment d) image → AllOf (may_leave d) image) → (old : List GroupData) (steps : List Step) (acked closed : List ℕ) (w : Whole D) (new : D) → new ≡ w.log.disk → IsRising w.core.line → StandsOver content may_leave fault_count old steps acked closed w → LeavesOnly moment left_since w.log.disk new (λ image. IsGood (rows_of old) (mark_of old) steps acked closed (image 2))
-    good_still only_now old steps acked closed w new same rise h = subst (λ (d : D). LeavesOnly moment left_since w.log.disk d (λ image. IsGood (rows_of old) (mark_of old) steps acked closed (image 2))) (sym same)
-        (good_meanwhile old steps acked closed w w.log.disk rise h (safe_unmoved content may_leave fault_count moment left_since only_now w.log (old ++ h.sent) h.log))

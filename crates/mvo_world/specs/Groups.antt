@@ -13,7 +13,8 @@ use Rattle.mvo_core.specs.Groups.{AreRecordsOf}
 abbrev pub is_due : ℕ → ℕ × History → Bool
 is_due prev c = nat_lt prev c.0 && is_there (written_keys c.1)
 
--- the group has the records of the commits that wrote with an end above its prev and at most its mark; no other will end there
+-- The group has the records of the commits that wrote with an end above its prev and at most its
+-- mark; no other will end there.
 pub record IsGroupOf (s : State) (g : GroupData) : Type 0 where
   pub closed : IsClosedAt g.mark s
   pub records : AreRecordsOf (filter (is_due g.prev) (settled_to g.mark s.line)) g.records

@@ -1,6 +1,6 @@
-pub mod Whole
-pub mod Steps
+pub mod WorldData
+pub mod Past
 pub mod Groups
 pub mod Standing
 pub mod Replies
-pub mod Runs
+pub mod Steps

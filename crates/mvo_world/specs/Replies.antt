@@ -1,14 +1,17 @@
--- What each event of a world is replied, and what it leaves.
+-- What each event of a world is answered, and what it leaves.
 use Rattle.std.specs.Prelude.{◌≡◌, ◌⊎◌, ℕ, nat_le, true, false, Option, None, Some, is_some}
 use Rattle.mvo_types.specs.declared.refusal.Refusal.{Refusal}
 use Rattle.mvo_types.specs.declared.refusal.Refusal.TheVariants.{NothingToDo, DiskFault, OutOfMemory}
+use Rattle.mvo_disk.specs.declared.disk.Disk.{Ghosts}
 use Rattle.mvo_group.specs.Data.{GroupData}
 use Rattle.mvo_group.specs.Rules.{KeepsRules}
 use Rattle.mvo_state.specs.Causes.{IsRefusal}
 use Rattle.mvo_core.specs.Replies as core
 use Rattle.mvo_core.specs.Groups.{IsNextGroup, why_not_closed, closed_at}
-use Rattle.mvo_store.specs.Steps.{why_not_take, why_not_append_body, why_not_append_open, LeftBy}
-use Rattle.mvo_world.specs.Whole.{Whole}
+use Rattle.mvo_store.specs.StoreData.{StoreData}
+use Rattle.mvo_store.specs.Causes.{why_not_take, why_not_append_body, why_not_append_open}
+use Rattle.mvo_store.specs.Steps.{LeftBy}
+use Rattle.mvo_world.specs.WorldData.{WorldData}
 use Rattle.mvo_world.specs.declared.event.Event.{Event}
 use Rattle.mvo_world.specs.declared.event.Event.TheVariants.{Core as Asked, CloseGroup, TakeGroup, AppendBody, AppendOpen, Poll}
 use Rattle.mvo_world.specs.declared.reply.Reply.{Reply}
@@ -22,8 +25,8 @@ or_nothing None None = Some NothingToDo
 or_nothing None (Some g) = None
 
 -- that of the store, and then that no group is closed
-abbrev pub why_not_taken : {D : Type 0} → Whole D → Option Refusal
-why_not_taken w = or_nothing (why_not_take w.log) w.place
+abbrev pub why_not_taken : {D : Type 0} → WorldData D → Option Refusal
+why_not_taken w = or_nothing (why_not_take w.store) w.place
 
 -- writing a body takes memory and meets faults
 abbrev pub IsBodyRefusal : Option Refusal → Refusal → Type 0
@@ -38,54 +41,89 @@ IsGateRefusal None r = r ≡ DiskFault
 -- ---- what an accepted event makes of a world
 
 -- the next group stands in the place
-pub record IsClosed {D : Type 0} (w : Whole D) (prev mark : ℕ) (w' : Whole D) : Type 0 where
+pub record IsClosed {D : Type 0} (w : WorldData D) (prev mark : ℕ) (w' : WorldData D) : Type 0 where
   pub group : GroupData
   pub next : IsNextGroup w.core group
   pub rules : KeepsRules group
   pub prev_is : group.prev ≡ prev
   pub mark_is : group.mark ≡ mark
-  pub after : w' ≡ record { core = closed_at w.core mark; place = Some group; log = w.log }
+  pub after : w' ≡ record { core = closed_at w.core mark; place = Some group; store = w.store }
 
 -- the store has the group that stood in the place
-pub record IsTaken {D : Type 0} (w w' : Whole D) : Type 0 where
+pub record IsTaken {D : Type 0} (w w' : WorldData D) : Type 0 where
   pub group : GroupData
   pub there : w.place ≡ Some group
-  pub after : w' ≡ record { core = w.core; place = None; log = record w.log { pending = Some group } }
+  pub after : w' ≡ record w { place = None; store = record w.store { pending = Some group } }
 
 -- the body of the pending group is written
-pub record IsWritten {D : Type 0} (fault_count : D → ℕ) (w w' : Whole D) : Type 0 where
-  pub after : w' ≡ record w { log = record w.log { disk = w'.log.disk; next = w'.log.next; written = true } }
-  pub count : fault_count w'.log.disk ≡ fault_count w.log.disk
+pub record IsWritten {D : Type 0} (d : Ghosts D) (w w' : WorldData D) : Type 0 where
+  pub after : w' ≡ record w {
+    store = record w.store {
+      disk = w'.store.disk;
+      next = w'.store.next;
+      written = true;
+    };
+  }
+  pub count : d.fault_count w'.store.disk ≡ d.fault_count w.store.disk
 
 -- the pending group is durable
-pub record IsDurable {D : Type 0} (fault_count : D → ℕ) (w : Whole D) (mark : ℕ) (w' : Whole D) : Type 0 where
+pub record IsDurable {D : Type 0} (d : Ghosts D) (w : WorldData D) (mark : ℕ) (w' : WorldData D) :
+    Type 0 where
   pub group : GroupData
-  pub there : w.log.pending ≡ Some group
+  pub there : w.store.pending ≡ Some group
   pub mark_is : group.mark ≡ mark
-  pub after : w' ≡ record w { log = record w'.log { mark = record { 0 = mark }; pending = None; written = false; down = false } }
-  pub count : fault_count w'.log.disk ≡ fault_count w.log.disk
+  pub after : w' ≡ record w {
+    store = record w'.store {
+      mark = mark;
+      pending = None;
+      written = false;
+      down = false;
+    };
+  }
+  pub count : d.fault_count w'.store.disk ≡ d.fault_count w.store.disk
 
 -- a refusal of the store leaves the rest alone
-pub record IsLeft {D : Type 0} (fault_count : D → ℕ) (w : Whole D) (r : Refusal) (w' : Whole D) : Type 0 where
-  pub rest : w' ≡ record w { log = w'.log }
-  pub log : LeftBy fault_count r w.log w'.log
+pub record IsLeft {D : Type 0} (d : Ghosts D) (w : WorldData D) (r : Refusal) (w' : WorldData D) :
+    Type 0 where
+  pub rest : w' ≡ record w { store = w'.store }
+  pub store : LeftBy d r w.store w'.store
 
 -- ---- the reply
 
--- The first refusal whose cause stands; where none does, the event's own answer, and what that makes of the world.
-abbrev pub IsReplyTo : {D : Type 0} → (D → ℕ) → Whole D → Event → Reply → Whole D → Type 0
-IsReplyTo fault_count w (Asked e) (Answered r) w' = core.IsReplyTo w.core e r w'.core × (w' ≡ record w { core = w'.core })
-IsReplyTo fault_count w CloseGroup (Closed c) w' = (why_not_closed w.core (is_some w.place) ≡ None) × IsClosed w c.prev.0 c.mark.0 w'
-IsReplyTo fault_count w CloseGroup (Refused r) w' = IsRefusal (why_not_closed w.core (is_some w.place)) r × (w' ≡ w)
-IsReplyTo fault_count w TakeGroup Taken w' = (why_not_taken w ≡ None) × IsTaken w w'
-IsReplyTo fault_count w TakeGroup (Refused r) w' = (why_not_taken w ≡ Some r) × (w' ≡ w)
-IsReplyTo fault_count w AppendBody Written w' = (why_not_append_body w.log ≡ None) × IsWritten fault_count w w'
-IsReplyTo fault_count w AppendBody (Refused r) w' = IsBodyRefusal (why_not_append_body w.log) r × IsLeft fault_count w r w'
-IsReplyTo fault_count w AppendOpen (Durable m) w' = (why_not_append_open w.log ≡ None) × IsDurable fault_count w m.0 w'
-IsReplyTo fault_count w AppendOpen (Refused r) w' = IsGateRefusal (why_not_append_open w.log) r × IsLeft fault_count w r w'
-IsReplyTo fault_count w (Poll stamp) (Polled answer) w' = (answer ≡ nat_le stamp.0 w.log.mark.0) × (w' ≡ w)
-IsReplyTo fault_count w e r w' = ⊥
+-- The first refusal whose cause stands; where none does, the event's own answer, and what that
+-- makes of the world.
+abbrev pub IsReplyTo : {D : Type 0} → Ghosts D → WorldData D → Event → Reply → WorldData D → Type 0
+IsReplyTo d w (Asked e) (Answered r) w' =
+    core.IsReplyTo w.core e r w'.core × (w' ≡ record w { core = w'.core })
+IsReplyTo d w CloseGroup (Closed c) w' =
+    (why_not_closed w.core (is_some w.place) ≡ None) × IsClosed w c.prev.0 c.mark.0 w'
+IsReplyTo d w CloseGroup (Refused r) w' =
+    IsRefusal (why_not_closed w.core (is_some w.place)) r × (w' ≡ w)
+IsReplyTo d w TakeGroup Taken w' = (why_not_taken w ≡ None) × IsTaken w w'
+IsReplyTo d w TakeGroup (Refused r) w' = (why_not_taken w ≡ Some r) × (w' ≡ w)
+IsReplyTo d w AppendBody Written w' = (why_not_append_body w.store ≡ None) × IsWritten d w w'
+IsReplyTo d w AppendBody (Refused r) w' =
+    IsBodyRefusal (why_not_append_body w.store) r × IsLeft d w r w'
+IsReplyTo d w AppendOpen (Durable m) w' =
+    (why_not_append_open w.store ≡ None) × IsDurable d w m.0 w'
+IsReplyTo d w AppendOpen (Refused r) w' =
+    IsGateRefusal (why_not_append_open w.store) r × IsLeft d w r w'
+IsReplyTo d w (Poll stamp) (Polled answer) w' = (answer ≡ nat_le stamp.0 w.store.mark) × (w' ≡ w)
+IsReplyTo d w e r w' = ⊥
 
--- the same of an event that is copied first: refused for want of memory it does nothing
-abbrev pub IsCopiedReplyTo : {D : Type 0} → (D → ℕ) → Whole D → Event → Reply → Whole D → Type 0
-IsCopiedReplyTo fault_count w e r w' = IsReplyTo fault_count w e r w' ⊎ ((r ≡ Refused OutOfMemory) × (w' ≡ w))
+-- a copy of the event takes memory: it has a row
+abbrev pub HasRow : Event → Type 0
+HasRow (Asked e) = core.HasRow e
+HasRow e = ⊥
+
+-- the copy was refused, and nothing happens
+pub record IsNotCopied {D : Type 0} (w : WorldData D) (e : Event) (r : Reply) (w' : WorldData D) :
+    Type 0 where
+  pub row : HasRow e
+  pub reply : r ≡ Refused OutOfMemory
+  pub same : w' ≡ w
+
+-- the same of an event that is copied first
+abbrev pub IsCopiedReplyTo : {D : Type 0} →
+    Ghosts D → WorldData D → Event → Reply → WorldData D → Type 0
+IsCopiedReplyTo d w e r w' = IsReplyTo d w e r w' ⊎ IsNotCopied w e r w'

@@ -1,39 +1,35 @@
--- What an event with its reply is in the trace, what it acknowledges, and which group it closes.
-use Rattle.std.specs.Prelude.{ℕ, true, List, [], ◌∷◌, ◌++◌}
-use Rattle.mvo_model.specs.Trace.{Step}
-use Rattle.mvo_core.specs.Events as core
+-- One step of a world, and a run of them.
+use Rattle.std.specs.Prelude.{◌≡◌, List, [], ◌∷◌}
+use Rattle.mvo_disk.specs.declared.disk.Disk.{Ghosts}
+use Rattle.mvo_store.specs.Steps.{KeepsOthers}
+use Rattle.mvo_world.specs.Past.{Past, with_event}
+use Rattle.mvo_world.specs.WorldData.{WorldData}
+use Rattle.mvo_world.specs.Standing.{IsAfter, LeavesPrefix}
+use Rattle.mvo_world.specs.Replies.{IsReplyTo, IsCopiedReplyTo}
 use Rattle.mvo_world.specs.declared.event.Event.{Event}
-use Rattle.mvo_world.specs.declared.event.Event.TheVariants.{Core as Asked, CloseGroup, AppendOpen, Poll}
 use Rattle.mvo_world.specs.declared.reply.Reply.{Reply}
-use Rattle.mvo_world.specs.declared.reply.Reply.TheVariants.{Core as Answered, Closed, Durable, Polled}
 
-abbrev pub happened : Event → Reply → List Step
-happened (Asked e) (Answered r) = core.happened e r
-happened e r = []
+-- The event has its reply. It leads from a world after a past to one after that past and this
+-- event, and a stop at any moment of it leaves an image that recovers a prefix of the past before.
+pub record IsStepBy {D : Type 0} (IsReply : WorldData D → Event → Reply → WorldData D → Type 0)
+    (d : Ghosts D) (w : WorldData D) (e : Event) (r : Reply) (w' : WorldData D) : Type 0 where
+  pub reply : IsReply w e r w'
+  pub after : (p : Past) → IsAfter d p w → IsAfter d (with_event p e r) w'
+  pub any_moment : (p : Past) → IsAfter d p w → LeavesPrefix d p w w'
+  pub others : KeepsOthers d w.store.disk w'.store.disk
 
--- an answered durable mark, or a timestamp whose poll answered yes
-abbrev pub acknowledged : Event → Reply → List ℕ
-acknowledged AppendOpen (Durable mark) = mark.0 ∷ []
-acknowledged (Poll stamp) (Polled true) = stamp.0 ∷ []
-acknowledged e r = []
+abbrev pub IsStep : {D : Type 0} → Ghosts D → WorldData D → Event → Reply → WorldData D → Type 0
+IsStep d = IsStepBy (IsReplyTo d) d
 
--- the mark of a group that was closed
-abbrev pub closed_by : Event → Reply → List ℕ
-closed_by CloseGroup (Closed c) = c.mark.0 ∷ []
-closed_by e r = []
+-- a step of a run, whose event is copied first
+abbrev pub IsRunStep : {D : Type 0} → Ghosts D → WorldData D → Event → Reply → WorldData D → Type 0
+IsRunStep d = IsStepBy (IsCopiedReplyTo d) d
 
--- those of a list of events and replies
-abbrev pub trace_of : List Event → List Reply → List Step
-trace_of [] rs = []
-trace_of (e ∷ es) [] = []
-trace_of (e ∷ es) (r ∷ rs) = happened e r ++ trace_of es rs
-
-abbrev pub all_acknowledged : List Event → List Reply → List ℕ
-all_acknowledged [] rs = []
-all_acknowledged (e ∷ es) [] = []
-all_acknowledged (e ∷ es) (r ∷ rs) = acknowledged e r ++ all_acknowledged es rs
-
-abbrev pub all_closed : List Event → List Reply → List ℕ
-all_closed [] rs = []
-all_closed (e ∷ es) [] = []
-all_closed (e ∷ es) (r ∷ rs) = closed_by e r ++ all_closed es rs
+-- one such step after another, from one world to another
+abbrev pub AreSteps : {W : Type 0} →
+    (W → Event → Reply → W → Type 0) → W → List Event → List Reply → W → Type 0
+AreSteps IsOne w [] [] w' = w' ≡ w
+AreSteps IsOne w [] (r ∷ rs) w' = ⊥
+AreSteps IsOne w (e ∷ es) [] w' = ⊥
+AreSteps {W = W} IsOne w (e ∷ es) (r ∷ rs) w' =
+    (next : W) × IsOne w e r next × AreSteps IsOne next es rs w'

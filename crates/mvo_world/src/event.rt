@@ -1,5 +1,3 @@
-ghost use Rattle.std.specs.Prelude.{◌≡◌, IfOk};
-
 use mvo_types::Stamp;
 use std::alloc::AllocError;
 
@@ -21,9 +19,13 @@ pub enum Event {
 }
 
 impl Event {
-    /// A copy of the event.
+    ghost use Rattle.std.specs.Prelude.{◌≡◌, IfOk, OnErr};
+    ghost use Rattle.mvo_world.specs.Replies.{HasRow};
+
+    /// A copy of the event. It takes memory only where the event has a row.
     pub fn copy(&self) -> Result<Event, AllocError>
-        ensures { IfOk result (λ e. e ≡ self.now) }
+        ensures same { IfOk result (λ e. e ≡ self.now) }
+        ensures memory { OnErr result (HasRow self.now) }
     {
         match self {
             Event::Core(event) => Ok(Event::Core(event.copy()?)),

@@ -2,12 +2,10 @@
 #![tactic(auto)]
 
 mod event;
+mod push;
 mod reply;
 mod world;
 
 pub use event::Event;
 pub use reply::Reply;
 pub use world::World;
-
-#[cfg(test)]
-mod tests;

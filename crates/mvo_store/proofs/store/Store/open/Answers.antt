@@ -4,15 +4,15 @@ use Rattle.mvo_store.proofs.Walk.{behind_header}
 use Rattle.mvo_store.proofs.Openings.{not_of_bytes}
 use Rattle.mvo_store.proofs.store.Store.open.Goals as goal
 
-pub returns-clause-stands : goal.returns-clause-stands
-returns-clause-stands g c =
+pub returns-clause-up : goal.returns-clause-up
+returns-clause-up g c =
     let s = c.in-Ok.segment in
     let e = c.in-Ok.ensures in
-    opens g.D.Disk.content g.D.Disk.may_leave g.D.Disk.fault_count c.read_disk.new.disk (g.D.Disk.content c.args.disk 2) s.rows s.gate s.mark e.found (e.content 2) e.durable (omega (arith, e.count.0, e.count.1))
+    opens g.D.Disk c.read_disk.new.disk (g.D.Disk.content c.args.disk 2) s.rows s.gate s.mark.0 e.found (e.content 2) e.durable (omega (arith, e.few, e.count))
 
 pub returns-clause-exactly : goal.returns-clause-exactly
 returns-clause-exactly g c = λ rows mark r.
-    let s = returns-clause-stands g c r.groups r.has in
+    let s = returns-clause-up g c r.groups r.has in
     (r.rows_are ∙ sym s.1, r.mark_is ∙ sym s.2)
 
 pub returns-clause-recovers : goal.returns-clause-recovers

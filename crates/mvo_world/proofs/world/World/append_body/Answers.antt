@@ -1,37 +1,32 @@
-use Rattle.std.proofs.Common.{◌++◌, refl, ap, subst, sym}
+use Rattle.std.proofs.Common.{◌++◌, refl, ap, ◌∙◌}
 use Rattle.std.specs.Option.{option_to_list}
-use Rattle.mvo_store.specs.Recovery.{rows_of, mark_of}
-use Rattle.mvo_disk.specs.Disk.{LeavesOnly}
-use Rattle.mvo_world.specs.Whole.{Whole}
-use Rattle.mvo_world.specs.Standing.{IsGood, StandsOver}
-use Rattle.mvo_store.specs.declared.log.Log.{Log}
-use Rattle.mvo_world.proofs.Moves.{KeepsTaken, left_taken, stands_moved, good_meanwhile}
+use Rattle.mvo_store.specs.StoreData.{StoreData}
+use Rattle.mvo_store.specs.Causes.{why_not_append_body}
+use Rattle.mvo_world.specs.WorldData.{WorldData}
+use Rattle.mvo_world.specs.Replies.{IsReplyTo}
+use Rattle.mvo_world.specs.declared.event.Event.TheVariants.{AppendBody}
+use Rattle.mvo_world.specs.declared.reply.Reply.TheVariants.{Written, Refused}
+use Rattle.mvo_world.proofs.Moves.{left_taken, accepted, body_refusal, silent_refused, moved}
+use Rattle.mvo_world.proofs.world.World.append_body.Goals.{in-Ok, in-Err}
 use Rattle.mvo_world.proofs.world.World.append_body.Goals as goal
 
-pub returns-in_err-append_body-clause-stands : goal.returns-in_err-append_body-clause-stands
-returns-in_err-append_body-clause-stands g c = λ old steps acked closed h.
-    let before : Whole _ = record { core = c.self.inside.core; place = c.self.inside.place; log = c.self.inside.store } in
-    let safe = subst (λ w. StandsOver g.D.Disk.content g.D.Disk.may_leave g.D.Disk.fault_count old steps acked closed w) (sym c.self.view_is) h in
-    let keeps = left_taken g.D.Disk.fault_count c.in_err-append_body.field-0.0 c.self.inside.store c.append_body.new.self c.in_err-append_body.ensures.err in
-    stands_moved g.D.Disk.content g.D.Disk.may_leave g.D.Disk.fault_count old steps acked closed before _ refl (ap (λ q. option_to_list q ++ option_to_list c.self.inside.place) keeps.pending) keeps.mark safe (c.in_err-append_body.ensures.safe _ safe.log)
-
-pub returns-in_err-append_body-clause-any_moment : goal.returns-in_err-append_body-clause-any_moment
-returns-in_err-append_body-clause-any_moment g c = λ old steps acked closed h.
-    let before : Whole _ = record { core = c.self.inside.core; place = c.self.inside.place; log = c.self.inside.store } in
-    let safe = subst (λ w. StandsOver g.D.Disk.content g.D.Disk.may_leave g.D.Disk.fault_count old steps acked closed w) (sym c.self.view_is) h in
-    subst (λ w. LeavesOnly g.D.Disk.moment g.D.Disk.left_since w.log.disk c.append_body.new.self.disk (λ image. IsGood (rows_of old) (mark_of old) steps acked closed (image 2))) c.self.view_is
-    (good_meanwhile g.D.Disk.content g.D.Disk.may_leave g.D.Disk.fault_count g.D.Disk.moment g.D.Disk.left_since old steps acked closed before _ c.clock-clock.ensures.sound.rising safe (c.in_err-append_body.ensures.any_moment_safe _ safe.log))
-
-pub returns-clause-stands : goal.returns-clause-stands
-returns-clause-stands g c = λ old steps acked closed h.
-    let before : Whole _ = record { core = c.self.inside.core; place = c.self.inside.place; log = c.self.inside.store } in
-    let safe = subst (λ w. StandsOver g.D.Disk.content g.D.Disk.may_leave g.D.Disk.fault_count old steps acked closed w) (sym c.self.view_is) h in
-    let keeps : KeepsTaken c.self.inside.store c.append_body.new.self = record { mark = ap (λ (l : Log _). l.mark) c.in_ok-append_body.ensures.ok; pending = ap (λ (l : Log _). l.pending) c.in_ok-append_body.ensures.ok } in
-    stands_moved g.D.Disk.content g.D.Disk.may_leave g.D.Disk.fault_count old steps acked closed before _ refl (ap (λ q. option_to_list q ++ option_to_list c.self.inside.place) keeps.pending) keeps.mark safe (c.in_ok-append_body.ensures.safe _ safe.log)
-
-pub returns-clause-any_moment : goal.returns-clause-any_moment
-returns-clause-any_moment g c = λ old steps acked closed h.
-    let before : Whole _ = record { core = c.self.inside.core; place = c.self.inside.place; log = c.self.inside.store } in
-    let safe = subst (λ w. StandsOver g.D.Disk.content g.D.Disk.may_leave g.D.Disk.fault_count old steps acked closed w) (sym c.self.view_is) h in
-    subst (λ w. LeavesOnly g.D.Disk.moment g.D.Disk.left_since w.log.disk c.append_body.new.self.disk (λ image. IsGood (rows_of old) (mark_of old) steps acked closed (image 2))) c.self.view_is
-    (good_meanwhile g.D.Disk.content g.D.Disk.may_leave g.D.Disk.fault_count g.D.Disk.moment g.D.Disk.left_since old steps acked closed before _ c.clock-clock.ensures.sound.rising safe (c.in_ok-append_body.ensures.any_moment_safe _ safe.log))
+pub returns : goal.returns
+returns g c =
+    let d = g.D.Disk in
+    let old = c.self.inside.store in
+    let new = c.append_body.new.self in
+    let before : WorldData _ = record { core = c.self.inside.core; place = c.self.inside.place; store = c.self.inside.store } in
+    let after : WorldData _ = record { core = c.self.inside.core; place = c.self.inside.place; store = new } in
+    let e = c.append_body.ensures in
+    elim c.match-append_body.branch [
+      | in-Ok w ↦ rw (w.result-is, ← c.self.view_is) (
+          let ok = w.in-Ok.ensures.ok in
+          moved d (IsReplyTo d) before after AppendBody Written (record { steps = refl; acknowledged = refl; closed = refl })
+          (accepted (why_not_append_body old) _ w.in-Ok.ensures.refused, record { after = ap (λ (s : StoreData _). record before { store = s }) ok; count = w.in-Ok.ensures.count })
+          refl (ap (λ (s : StoreData _). option_to_list s.pending ++ option_to_list c.self.inside.place) ok) (ap (λ (s : StoreData _). s.mark) ok) e.keeps e.any_moment e.others)
+      | in-Err w ↦ rw (w.result-is, ← c.self.view_is) (
+          let keeps = left_taken d w.in-Err.refusal old new w.in-Err.ensures.err in
+          moved d (IsReplyTo d) before after AppendBody (Refused w.in-Err.refusal) (silent_refused AppendBody w.in-Err.refusal)
+          (body_refusal _ (why_not_append_body old) w.in-Err.refusal w.in-Err.ensures.refused, record { rest = refl; store = w.in-Err.ensures.err })
+          refl (ap (λ q. option_to_list q ++ option_to_list c.self.inside.place) keeps.pending) keeps.mark e.keeps e.any_moment e.others)
+    ]

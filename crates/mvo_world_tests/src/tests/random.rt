@@ -5,11 +5,11 @@ use super::draws::Draws;
 use super::images::{Loose, OPEN, SEGMENT, disk_after, last_write};
 use super::observed::{Counts, Known, count};
 use super::runs::{RUNS, Run, Start, all_keys, opened};
-use crate::{Event, Reply, World};
 use mvo_core::{Event as Step, Reply as Answered};
 use mvo_disk::{Call, Disk, Left, MemDisk};
 use mvo_store::format;
 use mvo_types::{Answer, Op, Row, RowKey, Rows, Stamp, TxId};
+use mvo_world::{Event, Reply, World};
 use std::alloc::{AllocError, Global};
 use std::process::Abort;
 use std::test::Fail;
@@ -20,7 +20,7 @@ const SEEDS: [u64; 3] = [1, 0x9e37_79b9_7f4a_7c15, 2_026];
 const IMAGES: u64 = 4;
 
 /// How often the stops met things.
-#[derive(Clone, Copy, Debug)]
+#[derive(Clone, Copy)]
 struct Met {
     between: u64,
     in_body: u64,
@@ -30,7 +30,6 @@ struct Met {
     after_gate: u64,
     torn: u64,
     rows: u64,
-
     old_answers: u64,
     reopened: u64,
     strange: u64,
@@ -340,31 +339,44 @@ impl Trial {
 
 /// None of the things that are to happen is rare.
 fn assert_counts(rt: &impl Abort, counts: &Counts) {
+    let floors = [
+        (counts.commits, 100),
+        (counts.failed, 15),
+        (counts.busy, 80),
+        (counts.early, 20),
+        (counts.rolled_back, 40),
+        (counts.out_of_turn, 80),
+        (counts.groups, 60),
+        (counts.polled_yes, 50),
+        (counts.polled_no, 30),
+    ];
+    assert_floors(rt, &floors);
     assert_eq!(rt; counts.strange, 0);
-    assert!(rt; counts.commits > 100, "{counts:?}");
-    assert!(rt; counts.failed > 15, "{counts:?}");
-    assert!(rt; counts.busy > 80, "{counts:?}");
-    assert!(rt; counts.early > 20, "{counts:?}");
-    assert!(rt; counts.rolled_back > 40, "{counts:?}");
-    assert!(rt; counts.out_of_turn > 80, "{counts:?}");
-    assert!(rt; counts.groups > 60, "{counts:?}");
-    assert!(rt; counts.polled_yes > 50, "{counts:?}");
-    assert!(rt; counts.polled_no > 30, "{counts:?}");
 }
 
 /// Nor is any kind of stop.
 fn assert_met(rt: &impl Abort, met: &Met) {
+    let floors = [
+        (met.between, 300),
+        (met.in_body, 200),
+        (met.after_body, 60),
+        (met.gate_left_open, 100),
+        (met.gate_left_closed, 60),
+        (met.after_gate, 60),
+        (met.torn, 300),
+        (met.rows, 5_000),
+        (met.old_answers, 25),
+        (met.reopened, 6),
+    ];
+    assert_floors(rt, &floors);
     assert_eq!(rt; met.strange, 0);
-    assert!(rt; met.between > 300, "{met:?}");
-    assert!(rt; met.in_body > 200, "{met:?}");
-    assert!(rt; met.after_body > 60, "{met:?}");
-    assert!(rt; met.gate_left_open > 100, "{met:?}");
-    assert!(rt; met.gate_left_closed > 60, "{met:?}");
-    assert!(rt; met.after_gate > 60, "{met:?}");
-    assert!(rt; met.torn > 300, "{met:?}");
-    assert!(rt; met.rows > 5_000, "{met:?}");
-    assert!(rt; met.old_answers > 25, "{met:?}");
-    assert!(rt; met.reopened > 6, "{met:?}");
+}
+
+/// Each count is above its floor.
+fn assert_floors(rt: &impl Abort, floors: &[(u64, u64)]) {
+    for (place, (number, floor)) in floors.iter().enumerate() {
+        assert!(rt; number > floor, "count {place}: {number}");
+    }
 }
 
 #[test]

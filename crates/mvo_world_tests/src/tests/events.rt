@@ -2,9 +2,9 @@
 
 use super::draws::Draws;
 use super::observed::{Known, Observed, Open, Phase};
-use crate::Event;
 use mvo_core::Event as Step;
 use mvo_types::{Row, RowKey, Stamp, TxId};
+use mvo_world::Event;
 use std::alloc::AllocError;
 
 const MOST_AT_ONCE: u64 = 4;

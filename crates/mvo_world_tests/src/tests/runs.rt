@@ -4,10 +4,10 @@ use super::draws::Draws;
 use super::events::{KEYS, key_at};
 use super::images::disk_of;
 use super::observed::{Counts, Known, Observed};
-use crate::{Event, World};
 use mvo_disk::MemDisk;
 use mvo_model::Serial;
 use mvo_types::{Row, RowKey, Rows, Stamp};
+use mvo_world::{Event, World};
 use std::alloc::{AllocError, Global};
 use std::test::Fail;
 

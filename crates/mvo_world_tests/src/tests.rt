@@ -5,11 +5,11 @@ mod observed;
 mod random;
 mod runs;
 
-use crate::{Event, Reply, World};
 use mvo_core::{Event as Step, Reply as Answered};
 use mvo_disk::{Disk, Left, MemDisk};
 use mvo_store::format;
 use mvo_types::{Answer, Row, RowKey, Stamp, TxId};
+use mvo_world::{Event, Reply, World};
 use std::alloc::Global;
 use std::process::Abort;
 use std::test::Fail;
@@ -90,7 +90,7 @@ fn found(alloc: Global, disk: MemDisk) -> Result<(u64, Option<usize>), Fail> {
     }
 }
 
-/// Runs the events, and compares what is replied to each.
+/// Runs the events, and compares what is answered to each.
 fn assert_replies(
     rt: &impl Abort,
     world: &mut World<MemDisk>,
@@ -124,13 +124,9 @@ fn one_put_is_durable(rt: HostRuntime) -> Result<(), Fail> {
     ];
     assert_replies(&rt, &mut world, &one_put(alloc)?, &texts)?;
     assert_eq!(rt; world.mark(), Stamp(0));
-    let opened = world.step(Event::AppendOpen);
-    assert_eq!(rt;
-        format!(in alloc; "{opened:?}")?.as_str(),
-        "Durable(Stamp(2))"
-    );
-    let polled = world.step(Event::Poll(Stamp(2)));
-    assert_eq!(rt; format!(in alloc; "{polled:?}")?.as_str(), "Polled(true)");
+    let ends = vec![in alloc; Event::AppendOpen, Event::Poll(Stamp(2))]?;
+    let texts = ["Durable(Stamp(2))", "Polled(true)"];
+    assert_replies(&rt, &mut world, &ends, &texts)?;
     assert_eq!(rt; world.mark(), Stamp(2));
     let disk = world.into_disk();
     assert_eq!(rt; disk.bytes(2), SEGMENT.as_slice());

@@ -1,8 +1,9 @@
-use crate::{Store, format};
 use mvo_disk::{Call, Disk, Left, MemDisk, Work};
 use mvo_group::Group;
+use mvo_store::{Store, format};
 use mvo_types::{Refusal, Row, RowKey, Rows, Stamp};
 use std::alloc::Global;
+use std::process::Abort;
 use std::test::Fail;
 
 // The group (0, 2]: one record, end 2, one put at table 0, key 5, sort 50, data 61.
@@ -232,49 +233,65 @@ fn opens_what_is_there(rt: HostRuntime) -> Result<(), Fail> {
     Ok(())
 }
 
+// The segment cut to its first bytes.
+fn cut(alloc: Global, len: usize) -> Result<Vec<u8>, Fail> {
+    let mut bytes = SEGMENT.to_vec(alloc)?;
+    bytes.truncate(len);
+    Ok(bytes)
+}
+
+// Length bytes ffffffff.
+fn too_long(alloc: Global) -> Result<Vec<u8>, Fail> {
+    let mut bytes = SEGMENT.to_vec(alloc)?;
+    for at in 9..13usize {
+        if at < bytes.len() {
+            bytes[at] = 0xff;
+        }
+    }
+    Ok(bytes)
+}
+
+fn assert_refusals(
+    rt: &impl Abort,
+    alloc: Global,
+    images: &[Vec<u8>],
+    wanted: &str,
+) -> Result<(), Fail> {
+    for bytes in images {
+        assert_eq!(rt; refusal_of(alloc, bytes)?.as_str(), wanted);
+    }
+    Ok(())
+}
+
 #[test]
 fn tells_what_is_broken(rt: HostRuntime) -> Result<(), Fail> {
     let alloc = rt.alloc();
     assert_eq!(rt; refusal_of(alloc, &[])?.as_str(), "refused 53");
-    // Length bytes ffffffff, cut to 62 bytes, an open gate with nothing behind it, an end past the mark.
-    let mut too_long = changed(alloc, 9, 0xff)?;
-    for at in 10..13usize {
-        if at < too_long.len() {
-            too_long[at] = 0xff;
-        }
+    // Cut to 62 bytes, an open gate with nothing behind it, an end past the mark.
+    let broken = vec![in alloc;
+        too_long(alloc)?,
+        cut(alloc, 62)?,
+        changed(alloc, 62, 0xa5)?,
+        changed(alloc, 31, 3)?,
+    ]?;
+    assert_refusals(&rt, alloc, &broken, "refused 54 2")
+}
+
+#[test]
+fn tells_the_version_before_all_else(rt: HostRuntime) -> Result<(), Fail> {
+    let alloc = rt.alloc();
+    let changed = changed(alloc, 4, 2)?;
+    assert_eq!(rt; refusal_of(alloc, &changed)?.as_str(), "refused 55");
+    // But behind a whole magic alone.
+    let images = [
+        (b"MVOL\x02\0\0\0".as_slice(), "refused 55"),
+        (b"MVOM\x02\0\0\0\0".as_slice(), "refused 54 2"),
+        (b"MVOL\x02\0\0".as_slice(), "refused 54 2"),
+        (b"MVOL\x01\0\0\0".as_slice(), "refused 54 2"),
+    ];
+    for (bytes, wanted) in images {
+        assert_eq!(rt; refusal_of(alloc, bytes)?.as_str(), wanted);
     }
-    assert_eq!(rt; refusal_of(alloc, &too_long)?.as_str(), "refused 54 2");
-    let (cut, _) = SEGMENT.as_slice().split_at(62);
-    assert_eq!(rt; refusal_of(alloc, cut)?.as_str(), "refused 54 2");
-    assert_eq!(rt;
-        refusal_of(alloc, &changed(alloc, 62, 0xa5)?)?.as_str(),
-        "refused 54 2"
-    );
-    assert_eq!(rt;
-        refusal_of(alloc, &changed(alloc, 31, 3)?)?.as_str(),
-        "refused 54 2"
-    );
-    // The version before all else, but behind a whole magic alone.
-    assert_eq!(rt;
-        refusal_of(alloc, &changed(alloc, 4, 2)?)?.as_str(),
-        "refused 55"
-    );
-    assert_eq!(rt;
-        refusal_of(alloc, b"MVOL\x02\0\0\0")?.as_str(),
-        "refused 55"
-    );
-    assert_eq!(rt;
-        refusal_of(alloc, b"MVOM\x02\0\0\0\0")?.as_str(),
-        "refused 54 2"
-    );
-    assert_eq!(rt;
-        refusal_of(alloc, b"MVOL\x02\0\0")?.as_str(),
-        "refused 54 2"
-    );
-    assert_eq!(rt;
-        refusal_of(alloc, b"MVOL\x01\0\0\0")?.as_str(),
-        "refused 54 2"
-    );
     Ok(())
 }
 

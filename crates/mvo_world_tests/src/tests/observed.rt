@@ -1,8 +1,8 @@
 //! What happened in a run, as its events and their replies tell.
 
-use crate::{Event, Reply};
 use mvo_core::{Event as Step, Reply as Answered};
 use mvo_types::{Answer, Op, Refusal, Stamp, TxId};
+use mvo_world::{Event, Reply};
 use std::alloc::{AllocError, Global};
 use std::mem;
 
@@ -55,7 +55,7 @@ pub struct Known {
 }
 
 /// How often things happened.
-#[derive(Clone, Copy, Debug)]
+#[derive(Clone, Copy)]
 pub struct Counts {
     pub commits: u64,
     pub failed: u64,

@@ -1,0 +1,5 @@
+//! The tests of the store of groups.
+#![tactic(auto)]
+
+#[cfg(test)]
+mod tests;

@@ -1,0 +1,33 @@
+-- What a world holds.
+use Rattle.std.specs.Prelude.{◌≡◌, ℕ, List, [], ◌∷◌, ◌++◌, Option, None, false}
+use Rattle.std.specs.Option.{option_to_list}
+use Rattle.mvo_group.specs.Data.{GroupData}
+use Rattle.mvo_state.specs.Line.{State, opened}
+use Rattle.mvo_store.specs.StoreData.{StoreData}
+
+-- the state of its core, the group that was closed and not taken yet, and its store
+pub record WorldData (D : Type 0) : Type 0 where
+  pub core : State
+  pub place : Option GroupData
+  pub store : StoreData D
+
+-- the groups that are closed and not durable yet: the one that the store took, and the next one
+abbrev pub waiting : {D : Type 0} → WorldData D → List GroupData
+waiting w = option_to_list w.store.pending ++ option_to_list w.place
+
+-- the groups follow one another, from one mark up to another
+abbrev pub Follow : ℕ → List GroupData → ℕ → Type 0
+Follow mark [] last = mark ≡ last
+Follow mark (g ∷ gs) last = (g.prev ≡ mark) × Follow g.mark gs last
+
+-- the groups that wait lead from the store's mark to that of the last closed group
+abbrev pub IsLinked : {D : Type 0} → WorldData D → Type 0
+IsLinked w = Follow w.store.mark (waiting w) w.core.marks.closed.0
+
+-- nothing happened since the opening
+pub record HasBegun {D : Type 0} (w : WorldData D) : Type 0 where
+  pub core : w.core ≡ opened w.core.base w.store.mark
+  pub place : w.place ≡ None
+  pub down : w.store.down ≡ false
+  pub pending : w.store.pending ≡ None
+  pub written : w.store.written ≡ false

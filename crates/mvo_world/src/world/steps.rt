@@ -1,0 +1,72 @@
+//! The step of each event.
+
+use super::World;
+use crate::event::Event;
+use crate::reply::Reply;
+use mvo_disk::Disk;
+use mvo_types::{Refusal, Stamp};
+
+impl<D: Disk> World<D> {
+    ghost use Rattle.mvo_world.specs.Steps.{IsStep};
+
+    /// A step of a transaction.
+    pub(super) fn ask(&mut self, event: mvo_core::Event) -> Reply
+        ensures { IsStep D.Disk self.old (Event.Core event) result self.new }
+    {
+        let reply = self.core.step(event);
+        // From then on the proof knows what the core keeps.
+        let _clock = self.core.clock();
+        Reply::Core(reply)
+    }
+
+    pub(super) fn close_group(&mut self) -> Reply
+        ensures { IsStep D.Disk self.old Event.CloseGroup result self.new }
+    {
+        match self.core.close_group(&mut self.place) {
+            Ok(closed) => Reply::Closed(closed),
+            Err(refusal) => Reply::Refused(refusal),
+        }
+    }
+
+    pub(super) fn take_group(&mut self) -> Reply
+        ensures { IsStep D.Disk self.old Event.TakeGroup result self.new }
+    {
+        if let Some(refusal) = self.store.can_take() {
+            return Reply::Refused(refusal);
+        }
+        let Some(group) = self.place.take() else {
+            return Reply::Refused(Refusal::NothingToDo);
+        };
+        match self.store.take_group(group) {
+            Ok(()) => Reply::Taken,
+            Err((refusal, group)) => {
+                self.place = Some(group);
+                Reply::Refused(refusal)
+            }
+        }
+    }
+
+    pub(super) fn append_body(&mut self) -> Reply
+        ensures { IsStep D.Disk self.old Event.AppendBody result self.new }
+    {
+        match self.store.append_body() {
+            Ok(()) => Reply::Written,
+            Err(refusal) => Reply::Refused(refusal),
+        }
+    }
+
+    pub(super) fn append_open(&mut self) -> Reply
+        ensures { IsStep D.Disk self.old Event.AppendOpen result self.new }
+    {
+        match self.store.append_open() {
+            Ok(durable) => Reply::Durable(durable.mark()),
+            Err(refusal) => Reply::Refused(refusal),
+        }
+    }
+
+    pub(super) fn poll(&self, stamp: Stamp) -> Reply
+        ensures { IsStep D.Disk self.now (Event.Poll stamp) result self.now }
+    {
+        Reply::Polled(self.store.mark() >= stamp)
+    }
+}

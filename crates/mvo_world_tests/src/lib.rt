@@ -1,0 +1,5 @@
+//! The tests of the world.
+#![tactic(auto)]
+
+#[cfg(test)]
+mod tests;
