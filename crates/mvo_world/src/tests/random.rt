@@ -7,7 +7,7 @@ use super::observed::{Counts, Known, count};
 use super::runs::{RUNS, Run, Start, all_keys, opened};
 use crate::{Event, Reply, World};
 use mvo_core::{Event as Step, Reply as Answered};
-use mvo_disk::{Call, Disk, Left, MemDisk};
+use mvo_disk::{Call, Disk, FileImage, MemDisk};
 use mvo_store::format;
 use mvo_types::{Answer, Op, Row, RowKey, Rows, Stamp, TxId};
 use std::alloc::{AllocError, Global};
@@ -297,7 +297,7 @@ impl Trial {
             count(&mut self.met.torn);
         }
         let copy = bytes.clone()?;
-        disk.stop(&[Left {
+        disk.stop(&[FileImage {
             file: SEGMENT,
             bytes: copy,
         }])?;
