@@ -2,7 +2,7 @@ use Rattle.std.proofs.Common.{◌≡◌, ◌||◌, ℕ, List, [], ◌∷◌, eqb
 use Rattle.std.specs.List.{list_any}
 use Rattle.mvo_chain.specs.declared.version.VersionNo.{VersionNo}
 use Rattle.mvo_hash.specs.Lists.{is_among}
-use Rattle.mvo_hash.proofs.index_tests.has.Goals as goal
+use Rattle.mvo_hash_tests.proofs.index.has.Goals as goal
 
 among_map : (n : ℕ) (vs : List VersionNo) → list_any (λ v. eqb n v.0) vs ≡ is_among n (map (λ (v : VersionNo). v.0) vs)
 among_map n [] = refl

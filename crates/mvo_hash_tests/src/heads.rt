@@ -1,31 +1,13 @@
-use crate::Heads;
+use crate::numbers::Numbers;
+use mvo_hash::Heads;
 use mvo_types::RowKey;
 use std::alloc::AllocError;
 use std::test::Fail;
 
-// A generator of pseudo-random numbers with a fixed start.
-#[derive(Drop)]
-struct Numbers {
-    state: u64,
-}
-
-impl Numbers {
-    fn next(&mut self) -> u64 {
-        self.state ^= self.state << 13;
-        self.state ^= self.state >> 7;
-        self.state ^= self.state << 17;
-        self.state
-    }
-
-    fn below(&mut self, end: u64) -> u64 {
-        if end == 0 { 0 } else { self.next() % end }
-    }
-
-    fn key(&mut self) -> RowKey {
-        let table = if self.below(2) == 0 { 0 } else { 15 };
-        let key = self.below(300);
-        RowKey { table, key }
-    }
+fn some_key(numbers: &mut Numbers) -> RowKey {
+    let table = if numbers.below(2) == 0 { 0 } else { 15 };
+    let key = numbers.below(300);
+    RowKey { table, key }
 }
 
 fn listed(list: &[(RowKey, u32)], key: RowKey) -> Option<u32> {
@@ -44,49 +26,50 @@ fn taken(list: &mut Vec<(RowKey, u32)>, key: RowKey) -> Option<u32> {
     }
 }
 
+// The same call of the heads and of the list, and what each answered.
+fn done_to_both(
+    heads: &mut Heads,
+    list: &mut Vec<(RowKey, u32)>,
+    call: u64,
+    key: RowKey,
+    number: u32,
+) -> Result<(Option<u32>, Option<u32>), AllocError> {
+    let before = taken(list, key);
+    let answer = match call {
+        0 | 1 => heads.remove(key),
+        2 => {
+            if before.is_some() {
+                list.push((key, number))?;
+            }
+            heads.set(key, number)
+        }
+        _ => {
+            list.push((key, number))?;
+            heads.put(key, number)?
+        }
+    };
+    Ok((answer, before))
+}
+
 #[test]
 fn agrees_with_a_plain_list(rt: HostRuntime) -> Result<(), Fail> {
     let alloc = rt.alloc();
     for seed in 0u64..4 {
-        let mut numbers = Numbers {
-            state: 88172645463325252,
-        };
+        let mut numbers = Numbers::new();
         let mut heads = Heads::new(alloc, seed);
         let mut list: Vec<(RowKey, u32)> = Vec::new(alloc);
         if seed == 3 {
             heads.reserve(600)?;
         }
         for step in 0u32..6000 {
-            let key = numbers.key();
-            let other = numbers.key();
-            match numbers.below(5) {
-                0 | 1 => {
-                    let want = taken(&mut list, key);
-                    assert_eq!(rt; heads.remove(key), want, "at step {step}");
-                }
-                2 => {
-                    let want = taken(&mut list, key);
-                    if want.is_some() {
-                        list.push((key, step))?;
-                    }
-                    assert_eq!(rt; heads.set(key, step), want, "at step {step}");
-                }
-                _ => {
-                    let want = taken(&mut list, key);
-                    list.push((key, step))?;
-                    assert_eq!(rt; heads.put(key, step)?, want, "at step {step}");
-                }
+            let key = some_key(&mut numbers);
+            let call = numbers.below(5);
+            let (answer, wanted) = done_to_both(&mut heads, &mut list, call, key, step)?;
+            assert_eq!(rt; answer, wanted, "at step {step}");
+            for shown in [key, some_key(&mut numbers)] {
+                let wanted = listed(list.as_slice(), shown);
+                assert_eq!(rt; heads.get(shown), wanted, "at step {step}");
             }
-            assert_eq!(rt;
-                heads.get(key),
-                listed(list.as_slice(), key),
-                "at step {step}"
-            );
-            assert_eq!(rt;
-                heads.get(other),
-                listed(list.as_slice(), other),
-                "at step {step}"
-            );
         }
         for entry in &list {
             assert_eq!(rt; heads.get(entry.0), Some(entry.1));
