@@ -36,4 +36,5 @@ with_slot slots number version = slice_set slots number.0 version
 
 -- the slots where the version with the number is changed so, and no other
 abbrev pub with_change : Slots → VersionNo → (Version → Version) → Slots
-with_change slots number change = with_slot slots number (option_map change (version_at slots number))
+with_change slots number change =
+    with_slot slots number (option_map change (version_at slots number))

@@ -13,7 +13,7 @@ const MAX_SLOTS: usize = 1 << 32;
 /// Versions by number. Contracts see the list of slots, each with a version or empty.
 ///
 /// Every call takes constant time, but for the growth in `make_room` and `add`, which alone take
-/// memory. There are 2^32 numbers; once all are taken, room is refused as for want of memory.
+/// memory. There are 2^32 numbers; once all are taken, room is refused as out of memory.
 #[derive(Drop)]
 pub struct Chains {
     slots: Vec<Option<Version>>,
@@ -95,7 +95,8 @@ impl Chains {
     /// Adds a version that nobody has ended: `make_room`, and then `fill`.
     pub fn add(&mut self, row: Row, begin: Word) -> Result<VersionNo, AllocError>
         ensures hole { IfOk result (λ number. IsHole (with_room self.old) number) }
-        ensures ok { IfOk result (λ number. self.new ≡ with_slot (with_room self.old) number (Some (added row begin))) }
+        ensures ok { IfOk result (λ number. self.new ≡
+            with_slot (with_room self.old) number (Some (added row begin))) }
         ensures err { OnErr result (self.new ≡ self.old) }
         ensures only_where_full { OnErr result (hole_count self.old ≡ 0) }
     {
@@ -115,7 +116,8 @@ impl Chains {
     pub fn claim_end(&mut self, number: VersionNo, by: TxId)
         requires live { IsSome (version_at self.old number) }
         requires id { by.0 < 2 ^ 63 }
-        ensures { self.new ≡ with_change self.old number (λ version. record version { end = Held.By by }) }
+        ensures { self.new ≡ with_change self.old number
+            (λ version. record version { end = Held.By by }) }
     {
         match &mut self.slots[number.index()] {
             Some(version) => version.end = Word::id(by),
@@ -126,7 +128,8 @@ impl Chains {
     /// Replaces the version's Begin.
     pub fn set_begin(&mut self, number: VersionNo, begin: Word)
         requires { IsSome (version_at self.old number) }
-        ensures { self.new ≡ with_change self.old number (λ version. record version { begin = begin }) }
+        ensures { self.new ≡ with_change self.old number
+            (λ version. record version { begin = begin }) }
     {
         match &mut self.slots[number.index()] {
             Some(version) => version.begin = begin,
@@ -137,7 +140,8 @@ impl Chains {
     /// Replaces the version's End.
     pub fn set_end(&mut self, number: VersionNo, end: Word)
         requires { IsSome (version_at self.old number) }
-        ensures { self.new ≡ with_change self.old number (λ version. record version { end = end }) }
+        ensures { self.new ≡ with_change self.old number
+            (λ version. record version { end = end }) }
     {
         match &mut self.slots[number.index()] {
             Some(version) => version.end = end,

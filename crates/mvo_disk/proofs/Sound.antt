@@ -16,7 +16,7 @@ IsSound h = IsImage h h.state.content
 sound_work : (h : Held) (w : Work) (failed : Bool) → IsSound h → IsSound (after_work h w failed)
 sound_work h (works.Write at len bytes) failed image =
     torn_image at len (take len bytes.items) h h.state.content (overwritten h.state.content at (take len bytes.items)) image (torn_put at len (take len bytes.items) h.state.content (omega (arith, length-take len bytes.items)))
-sound_work h (works.Cut len left) failed image = cut_image len (max len left) h h.state.content (take (max len left) h.state.content) image (cut_left len left h.state.content)
+sound_work h (works.Cut len new_len) failed image = cut_image len (max len new_len) h h.state.content (take (max len new_len) h.state.content) image (cut_left len new_len h.state.content)
 sound_work h works.Sync false image = held_image h.state.content
 sound_work h works.Sync true image = image
 sound_work h (works.Read at len) failed image = image

@@ -4,11 +4,13 @@ ghost use Rattle.std.specs.Prelude.{IfOk, OnOk, OnErr, MatchResult};
 ghost use Rattle.mvo_disk.specs.Disk.{Holds, Torn, PartlyHolds, Cut, Follows, Reaches, Keeps, Only};
 ghost use Rattle.mvo_disk.specs.Disk.{OthersStay, AllStay, Settles, AllOf, Elapses, Counts};
 
+use crate::FILE_COUNT;
+
 /// A call of the device failed, and the fault counter rose by one.
 #[derive(Clone, Copy, Debug, PartialEq, Eq)]
 pub struct DiskFault;
 
-/// A device of 1,024 files, numbered from 0, each a list of bytes.
+/// A device of `FILE_COUNT` files, numbered from 0, each a list of bytes.
 ///
 /// The clauses about images hold on success and on failure alike. No clause says when a call
 /// succeeds.
@@ -30,7 +32,7 @@ pub trait Disk {
 
     /// The length of a file.
     fn len(&mut self, file: u16) -> Result<usize, DiskFault>
-        requires file { file < 1024 }
+        requires file { file < FILE_COUNT }
         requires room { fault_count self.old + 1 < 2 ^ 64 }
         ensures len { IfOk result (λ n. n ≡ length (content self.old file)) }
         ensures rest { AllStay (content self.old) (content self.new) (may_leave self.old)
@@ -41,7 +43,7 @@ pub trait Disk {
 
     /// Fills the slice from the bytes at an offset.
     fn read_at(&mut self, file: u16, at: usize, into: &mut [u8]) -> Result<(), DiskFault>
-        requires file { file < 1024 }
+        requires file { file < FILE_COUNT }
         requires range { at + length into.old ≤ length (content self.old file) }
         requires room { fault_count self.old + 1 < 2 ^ 64 }
         ensures bytes { OnOk result (into.new ≡ take (length into.old)
@@ -55,7 +57,7 @@ pub trait Disk {
     /// Writes over what is there, and past the end. A write that fails may leave any bytes in its
     /// range, and any length from the old one to the one that success would give.
     fn write_at(&mut self, file: u16, at: usize, bytes: &[u8]) -> Result<(), DiskFault>
-        requires file { file < 1024 }
+        requires file { file < FILE_COUNT }
         requires start { at ≤ length (content self.old file) }
         requires room { fault_count self.old + 1 < 2 ^ 64 }
         ensures written { OnOk result (Holds (content self.old file) at bytes.now
@@ -78,7 +80,7 @@ pub trait Disk {
 
     /// Cuts a file to a length. A cut that fails leaves the old length or the new one.
     fn cut(&mut self, file: u16, len: usize) -> Result<(), DiskFault>
-        requires file { file < 1024 }
+        requires file { file < FILE_COUNT }
         requires shorter { len ≤ length (content self.old file) }
         requires room { fault_count self.old + 1 < 2 ^ 64 }
         ensures cut { OnOk result (content self.new file ≡ take len (content self.old file)) }
@@ -98,7 +100,7 @@ pub trait Disk {
 
     /// After it succeeds, a stop leaves what a read gives. One that fails closes nothing.
     fn sync(&mut self, file: u16) -> Result<(), DiskFault>
-        requires file { file < 1024 }
+        requires file { file < FILE_COUNT }
         requires room { fault_count self.old + 1 < 2 ^ 64 }
         ensures durable { OnOk result (Only (content self.old file) (may_leave self.new file)) }
         ensures failed { OnErr result (Keeps (may_leave self.old file) (may_leave self.new file)) }

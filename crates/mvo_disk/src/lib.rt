@@ -1,11 +1,12 @@
-//! A disk of 1,024 files: what a read gives, and what a stop may leave.
+//! A disk of files: what a read gives, and what a stop may leave.
 #![tactic(auto)]
 
 mod call;
 mod disk;
 mod file;
 mod files;
-mod left;
+mod image;
+mod limits;
 mod memory;
 mod read;
 mod steps;
@@ -13,10 +14,8 @@ mod stop;
 
 pub use call::{Call, Work};
 pub use disk::{Disk, DiskFault};
-pub use left::{Left, StopRefusal};
+pub use image::{FileImage, StopRefusal};
+pub use limits::FILE_COUNT;
 pub use memory::MemDisk;
 pub use read::{ReadFailure, read_whole};
 pub use steps::{rewrite_synced, write_synced};
-
-#[cfg(test)]
-mod tests;

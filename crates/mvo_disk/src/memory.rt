@@ -1,16 +1,12 @@
 //! A disk in memory, which keeps a record of its calls.
-ghost use Rattle.std.specs.Prelude.{◌≡◌, ◌≢◌, ◌≤◌, ◌<◌, ◌+◌, ◌^◌, ◌∷◌, [], ◌++◌, List, ℕ};
-ghost use Rattle.std.specs.Prelude.{length, take, drop, vec_len, vec_capacity, IfOk, OnOk, OnErr, IsErr, IsErrOf};
-ghost use Rattle.mvo_disk.specs.Disk.{AllOf, Only};
-ghost use Rattle.mvo_disk.specs.Held.{whole, after_write, after_cut};
-ghost use Rattle.mvo_disk.specs.Memory.{state_at, held_at, MayLeave, LeftSince};
-ghost use Rattle.mvo_disk.specs.Memory.{counts_now, only_now, counts_later};
-ghost use Rattle.mvo_disk.specs.Stop.{AreImages, left_of};
+ghost use Rattle.std.specs.Prelude.{◌≡◌, ◌<◌, ℕ, length, vec_len, vec_capacity, OnOk};
+ghost use Rattle.mvo_disk.specs.declared.limits.TheConstants.{FILE_COUNT};
+ghost use Rattle.mvo_disk.specs.Memory.{state_at, held_at, MayLeave};
 
 use crate::file::File;
 use crate::files::{copied, cut_in, empty_files, file_at, sync_in, synced_files, write_in};
 use crate::stop::{allows_all, images_after};
-use crate::{Call, Disk, DiskFault, Left, StopRefusal, Work};
+use crate::{Call, Disk, DiskFault, FILE_COUNT, FileImage, StopRefusal, Work};
 use std::alloc::{AllocError, Global};
 
 /// A disk in memory that can stop at any moment. It keeps a record of its calls.
@@ -22,7 +18,7 @@ pub struct MemDisk {
     start: Vec<Vec<u8>>,
     calls: Vec<Call>,
     fault_count: u64,
-    ghost full: { length files.items ≡ 1024 },
+    ghost full: { length files.items ≡ FILE_COUNT },
     ghost current: { (n : ℕ) → state_at files.items n ≡ (held_at start.items calls.items n).state },
     ghost sound: { (n : ℕ) → MayLeave start.items calls.items n (state_at files.items n).content },
 }
@@ -37,12 +33,18 @@ fn make_room(calls: &mut Vec<Call>) -> Result<(), AllocError>
 }
 
 impl MemDisk {
-    /// A disk whose files are empty.
+    ghost use Rattle.std.specs.Prelude.{◌≡◌, ◌<◌, ◌+◌, ◌^◌, [], ℕ, length, IfOk, OnOk, OnErr};
+    ghost use Rattle.std.specs.Prelude.{IsErr, IsErrOf};
+    ghost use Rattle.mvo_disk.specs.Disk.{AllOf, Only};
+    ghost use Rattle.mvo_disk.specs.Record.{calls_of, content_of, images_of};
+    ghost use Rattle.mvo_disk.specs.Stop.{AreImages, after_stop};
+
+    /// A disk whose files are empty, and an empty record.
     pub fn new(alloc: Global) -> Result<MemDisk, AllocError>
-        ensures content { IfOk result (λ disk. (n : ℕ) → ⟦<MemDisk as Disk>⟧.content disk n ≡ []) }
-        ensures synced { IfOk result (λ disk. (n : ℕ) → Only []
-            (⟦<MemDisk as Disk>⟧.may_leave disk n)) }
-        ensures count { IfOk result (λ disk. ⟦<MemDisk as Disk>⟧.fault_count disk ≡ 0) }
+        ensures content { IfOk result (λ disk. (n : ℕ) → content_of disk n ≡ []) }
+        ensures synced { IfOk result (λ disk. (n : ℕ) → Only [] (images_of disk n)) }
+        ensures count { IfOk result (λ disk. disk.fault_count ≡ 0) }
+        ensures record { IfOk result (λ disk. calls_of disk ≡ []) }
     {
         let start = empty_files(alloc)?;
         let files = synced_files(alloc, &start)?;
@@ -55,30 +57,30 @@ impl MemDisk {
         })
     }
 
-    /// The calls since the record began, in order. One that was refused memory is not among them.
+    /// The calls since the record began, in order. One that failed is not among them.
     pub fn calls(&self) -> &[Call]
-        ensures { length result.now ≡ ⟦<MemDisk as Disk>⟧.moment self.now }
+        ensures record { result.now ≡ calls_of self.now }
+        ensures moment { length result.now ≡ ⟦<MemDisk as Disk>⟧.moment self.now }
     {
         &self.calls
     }
 
-    /// Stops the disk. Each chosen file is left with the chosen bytes, the last choice where there
-    /// are several, and each other file with its content. That is then the content, synced, the
-    /// counter is 0, and the record begins anew.
-    pub fn stop(&mut self, chosen: &[Left]) -> Result<(), StopRefusal>
-        ensures left { OnOk result ((n : ℕ) → n < 1024 → ⟦<MemDisk as Disk>⟧.content self.new n ≡
-            left_of (⟦<MemDisk as Disk>⟧.content self.old) chosen.now n) }
-        ensures image { OnOk result (AllOf (⟦<MemDisk as Disk>⟧.may_leave self.old)
-            (⟦<MemDisk as Disk>⟧.content self.new)) }
-        ensures durable { OnOk result ((n : ℕ) → Only (⟦<MemDisk as Disk>⟧.content self.new n)
-            (⟦<MemDisk as Disk>⟧.may_leave self.new n)) }
-        ensures count { OnOk result (⟦<MemDisk as Disk>⟧.fault_count self.new ≡ 0) }
+    /// Stops the disk. Each chosen file then holds the chosen bytes, the last choice where there
+    /// are several, and each other file its content. That is synced, the counter is 0, and the
+    /// record begins anew.
+    pub fn stop(&mut self, chosen: &[FileImage]) -> Result<(), StopRefusal>
+        ensures content { OnOk result ((n : ℕ) → n < FILE_COUNT → content_of self.new n ≡
+            after_stop (content_of self.old) chosen.now n) }
+        ensures image { OnOk result (AllOf (images_of self.old) (content_of self.new)) }
+        ensures durable { OnOk result ((n : ℕ) →
+            Only (content_of self.new n) (images_of self.new n)) }
+        ensures count { OnOk result (self.new.fault_count ≡ 0) }
+        ensures record { OnOk result (calls_of self.new ≡ []) }
 
         // Every image can be chosen, and nothing else.
-        ensures allowed { OnOk result (AreImages (⟦<MemDisk as Disk>⟧.may_leave self.old)
-            chosen.now) }
-        ensures refused { IsErrOf result StopRefusal.NotAnImage → ¬ AreImages
-            (⟦<MemDisk as Disk>⟧.may_leave self.old) chosen.now }
+        ensures allowed { OnOk result (AreImages (images_of self.old) chosen.now) }
+        ensures refused { IsErrOf result StopRefusal.NotAnImage →
+            ¬ AreImages (images_of self.old) chosen.now }
         ensures err { OnErr result (self.new ≡ self.old) }
     {
         if !allows_all(&self.files, chosen) {
@@ -98,8 +100,8 @@ impl MemDisk {
 
     /// The bytes of a file, with no call of the device.
     pub fn bytes(&self, file: u16) -> &[u8]
-        requires { file < 1024 }
-        ensures { result.now ≡ ⟦<MemDisk as Disk>⟧.content self.now file }
+        requires { file < FILE_COUNT }
+        ensures { result.now ≡ content_of self.now file }
     {
         &file_at(&self.files, file).bytes
     }
@@ -118,25 +120,43 @@ impl MemDisk {
 }
 
 impl Disk for MemDisk {
-    ghost content = { λ m n. (state_at m.files.items n).content };
+    ghost use Rattle.std.specs.Prelude.{◌≡◌, ◌⊎◌, ◌≤◌, ◌<◌, ◌+◌, ◌^◌, length, take, drop};
+    ghost use Rattle.std.specs.Prelude.{IfOk, OnOk, OnErr, MatchResult};
+    ghost use Rattle.mvo_disk.specs.Disk.{Only, Holds, PartlyHolds, Torn, Cut, Follows, Reaches};
+    ghost use Rattle.mvo_disk.specs.Disk.{Keeps, Counts};
+    ghost use Rattle.mvo_disk.specs.Memory.{counts_now, only_now, counts_later};
+    ghost use Rattle.mvo_disk.specs.Record.{calls_of, content_of, images_of, left_since, Records};
+    ghost use Rattle.mvo_disk.specs.Record.{FilesStay, OtherFilesStay, FileSettles, GoesOn};
+    ghost use Rattle.mvo_disk.specs.Record.{RecordsWrite};
 
-    ghost may_leave = { λ m n c. MayLeave m.start.items m.calls.items n c };
+    ghost content = { content_of };
 
-    ghost moment = { λ m. length m.calls.items };
+    ghost may_leave = { images_of };
 
-    ghost left_since = { λ m t image. LeftSince m.start.items m.calls.items t image };
+    ghost moment = { λ m. length (calls_of m) };
+
+    ghost left_since = { left_since };
 
     ghost fault_count = { λ m. m.fault_count };
 
     ghost content_may_stay = { λ m n. m.sound n };
 
-    ghost counts_now = { λ m t image le now. counts_now m.start.items m.calls.items t image le now };
+    ghost counts_now = { λ m. counts_now m.start.items (calls_of m) };
 
-    ghost only_now = { λ m image left. only_now m.start.items m.calls.items image left };
+    ghost only_now = { λ m. only_now m.start.items (calls_of m) };
 
-    ghost counts_later = { λ m t u image le left. counts_later m.start.items m.calls.items t u image le left };
+    ghost counts_later = { λ m. counts_later m.start.items (calls_of m) };
 
-    fn len(&mut self, file: u16) -> Result<usize, DiskFault> {
+    // Each call is refused for memory alone. It is then not recorded, and no file has changed.
+    fn len(&mut self, file: u16) -> Result<usize, DiskFault>
+        requires file { file < FILE_COUNT }
+        requires room { self.old.fault_count + 1 < 2 ^ 64 }
+        ensures len { IfOk result (λ n. n ≡ length (content_of self.old file)) }
+        ensures rest { FilesStay self.old self.new }
+        ensures time { GoesOn self.old self.new }
+        ensures count { Counts self.old.fault_count self.new.fault_count result }
+        ensures record { Records (calls_of self.old) file Work.Length (calls_of self.new) result }
+    {
         let Ok(()) = make_room(&mut self.calls) else {
             return self.fail();
         };
@@ -149,7 +169,18 @@ impl Disk for MemDisk {
         Ok(len)
     }
 
-    fn read_at(&mut self, file: u16, at: usize, into: &mut [u8]) -> Result<(), DiskFault> {
+    fn read_at(&mut self, file: u16, at: usize, into: &mut [u8]) -> Result<(), DiskFault>
+        requires file { file < FILE_COUNT }
+        requires range { at + length into.old ≤ length (content_of self.old file) }
+        requires room { self.old.fault_count + 1 < 2 ^ 64 }
+        ensures bytes { OnOk result (into.new ≡ take (length into.old)
+            (drop at (content_of self.old file))) }
+        ensures rest { FilesStay self.old self.new }
+        ensures time { GoesOn self.old self.new }
+        ensures count { Counts self.old.fault_count self.new.fault_count result }
+        ensures record { Records (calls_of self.old) file (Work.Read at (length into.old))
+            (calls_of self.new) result }
+    {
         let Ok(()) = make_room(&mut self.calls) else {
             return self.fail();
         };
@@ -168,7 +199,26 @@ impl Disk for MemDisk {
         Ok(())
     }
 
-    fn write_at(&mut self, file: u16, at: usize, bytes: &[u8]) -> Result<(), DiskFault> {
+    fn write_at(&mut self, file: u16, at: usize, bytes: &[u8]) -> Result<(), DiskFault>
+        requires file { file < FILE_COUNT }
+        requires start { at ≤ length (content_of self.old file) }
+        requires room { self.old.fault_count + 1 < 2 ^ 64 }
+        ensures written { OnOk result (Holds (content_of self.old file) at bytes.now
+            (content_of self.new file)) }
+        ensures failed { OnErr result (PartlyHolds at (length bytes.now)
+            (content_of self.old file) (content_of self.new file)) }
+        ensures kept { OnErr result (FilesStay self.old self.new) }
+        ensures images { Follows (Torn at (length bytes.now)) (images_of self.old file)
+            (images_of self.new file) }
+        ensures no_fewer { MatchResult result (λ _. Reaches (Torn at (length bytes.now))
+            (images_of self.old file) (images_of self.new file))
+            (λ _. Keeps (images_of self.old file) (images_of self.new file)) }
+        ensures rest { OtherFilesStay file self.old self.new }
+        ensures time { GoesOn self.old self.new }
+        ensures count { Counts self.old.fault_count self.new.fault_count result }
+        ensures record { RecordsWrite (calls_of self.old) file at bytes.now (calls_of self.new)
+            result }
+    {
         let Ok(()) = make_room(&mut self.calls) else {
             return self.fail();
         };
@@ -190,20 +240,47 @@ impl Disk for MemDisk {
         Ok(())
     }
 
-    fn cut(&mut self, file: u16, len: usize) -> Result<(), DiskFault> {
+    fn cut(&mut self, file: u16, len: usize) -> Result<(), DiskFault>
+        requires file { file < FILE_COUNT }
+        requires shorter { len ≤ length (content_of self.old file) }
+        requires room { self.old.fault_count + 1 < 2 ^ 64 }
+        ensures cut { OnOk result (content_of self.new file ≡ take len (content_of self.old file)) }
+        ensures failed { OnErr result ((content_of self.new file ≡ content_of self.old file) ⊎
+            (content_of self.new file ≡ take len (content_of self.old file))) }
+        ensures kept { OnErr result (FilesStay self.old self.new) }
+        ensures images { Follows (Cut len) (images_of self.old file) (images_of self.new file) }
+        ensures no_fewer { MatchResult result (λ _. Reaches (Cut len) (images_of self.old file)
+            (images_of self.new file))
+            (λ _. Keeps (images_of self.old file) (images_of self.new file)) }
+        ensures rest { OtherFilesStay file self.old self.new }
+        ensures time { GoesOn self.old self.new }
+        ensures count { Counts self.old.fault_count self.new.fault_count result }
+        ensures record { Records (calls_of self.old) file (Work.Cut len len)
+            (calls_of self.new) result }
+    {
         let Ok(()) = make_room(&mut self.calls) else {
             return self.fail();
         };
         cut_in(&mut self.files, file, len);
         self.calls.push_reserved(Call {
             file,
-            work: Work::Cut { len, left: len },
+            work: Work::Cut { len, new_len: len },
             failed: false,
         });
         Ok(())
     }
 
-    fn sync(&mut self, file: u16) -> Result<(), DiskFault> {
+    fn sync(&mut self, file: u16) -> Result<(), DiskFault>
+        requires file { file < FILE_COUNT }
+        requires room { self.old.fault_count + 1 < 2 ^ 64 }
+        ensures durable { OnOk result (Only (content_of self.old file) (images_of self.new file)) }
+        ensures failed { OnErr result (Keeps (images_of self.old file) (images_of self.new file)) }
+        ensures kept { OnErr result (FilesStay self.old self.new) }
+        ensures rest { FileSettles file self.old self.new }
+        ensures time { GoesOn self.old self.new }
+        ensures count { Counts self.old.fault_count self.new.fault_count result }
+        ensures record { Records (calls_of self.old) file Work.Sync (calls_of self.new) result }
+    {
         let Ok(()) = make_room(&mut self.calls) else {
             return self.fail();
         };

@@ -1,10 +1,11 @@
 -- How many slots are used, and how many hold a key.
-use Rattle.std.proofs.Common.{◌≡◌, ◌≢◌, ℕ, ◌+◌, ◌<◌, ◌≤◌, List, [], ◌∷◌, ◌++◌, true, false, cond, length, set, take, refl, ap, arith}
+use Rattle.std.proofs.Common.{◌≡◌, ◌≢◌, inl, inr, ℕ, zero, suc, ◌+◌, ◌<◌, ◌≤◌, List, [], ◌∷◌, ◌++◌, true, false, cond, length, set, take, refl, ap, subst, arith, add-one}
 use Rattle.std.proofs.lemmas.List.Sums.{sum_by-set, sum_by-cons, sum_by_push, sum_by-take-le, count_by_more_no, count_by_more_yes}
+use Rattle.std.proofs.lemmas.Bool.{cases_lt}
 use Rattle.mvo_hash.specs.declared.slot.Slot.{Slot}
 use Rattle.mvo_hash.specs.declared.slot.State.{State}
 use Rattle.mvo_hash.specs.declared.slot.State.TheVariants.{Empty, Left, Live}
-use Rattle.mvo_hash.specs.Slots.{slot, empty_slot, IsLive, is_used, is_used_state, used_count, is_live, is_live_state, live_count}
+use Rattle.mvo_hash.specs.Slots.{slot, empty_slot, IsLive, IsFilled, is_used, is_used_state, used_count, is_live, is_live_state, live_count}
 
 -- what a slot adds to the count
 abbrev pub share : Slot → ℕ
@@ -36,6 +37,25 @@ pub used_push : (ss : List Slot) (s : Slot) → s.state ≢ Empty → used_count
 used_push ss s full =
     let e : used_count (ss ++ s ∷ []) ≡ used_count ss + share s = sum_by_push share ss s in
     omega (arith, e, share_full s full)
+
+used_next : (ss : List Slot) (i : ℕ) → i < length ss → (slot ss i).state ≢ Empty → used_count (take (suc i) ss) ≡ used_count (take i ss) + 1
+used_next ss i within full =
+    subst (λ m. used_count (take m ss) ≡ used_count (take i ss) + 1) (add-one i) (count_by_more_yes is_used ss i empty_slot within (full_state (slot ss i).state full))
+
+filled_front : (ss : List Slot) (home i : ℕ) → IsFilled ss home i → i ≤ length ss → i ≤ home + used_count (take i ss)
+filled_front ss home zero filled le = omega arith
+filled_front ss home (suc i) filled le = elim (cases_lt i home) [
+  | inl lt ↦ omega (arith, lt)
+  | inr ge ↦
+      let before : IsFilled ss home i = record { at = λ j from to. filled.at j from (omega (arith, to)) } in
+      omega (arith, filled_front ss home i before (omega (arith, le)), used_next ss i (omega (arith, le)) (filled.at i ge (omega arith)))
+]
+
+-- where no slot is empty, each is used
+pub filled_used : (ss : List Slot) (home i : ℕ) → IsFilled ss home i → i ≤ length ss → i ≤ home + used_count ss
+filled_used ss home i filled le =
+    let front : used_count (take i ss) ≤ used_count ss = sum_by-take-le share ss i in
+    omega (arith, front, filled_front ss home i filled le)
 
 -- what a slot adds to the keys
 abbrev pub presence : Slot → ℕ

@@ -1,14 +1,17 @@
 -- A new table, and changes of one key, which keep the used slots and the keys counted.
-use Rattle.std.proofs.Common.{◌≡◌, ◌≢◌, ℕ, ◌+◌, ◌-◌, ◌*◌, ◌/◌, ◌<◌, List, [], ◌∷◌, ◌++◌, None, length, set, replicate, refl, ap, ◌∙◌, arith}
+use Rattle.std.proofs.Common.{◌≡◌, ◌≢◌, ℕ, zero, suc, ◌+◌, ◌-◌, ◌*◌, ◌/◌, ◌<◌, ◌≤◌, List, [], ◌∷◌, ◌++◌, None, length, set, take, replicate, refl, sym, ap, subst, ◌∙◌, arith}
+use Rattle.std.proofs.Math.Seq.{take-nil}
+use Rattle.std.proofs.lemmas.List.{length-replicate}
+use Rattle.std.proofs.lemmas.List.Sums.{sum_by-cons}
 use Rattle.std.specs.FinMap.{get, empty, from_entries}
 use Rattle.mvo_types.specs.declared.row.RowKey.{RowKey}
 use Rattle.mvo_types.specs.Keys.{key_cmp}
 use Rattle.mvo_hash.specs.declared.slot.Slot.{Slot}
-use Rattle.mvo_hash.specs.declared.slot.State.TheVariants.{Empty}
+use Rattle.mvo_hash.specs.declared.slot.State.TheVariants.{Empty, Live}
 use Rattle.mvo_hash.specs.Home.{home_of}
-use Rattle.mvo_hash.specs.Slots.{slot, empty_slot, left_slot, live_slot, IsFreeFrom, IsFoundAt}
+use Rattle.mvo_hash.specs.Slots.{slot, empty_slot, left_slot, live_slot, used_count, live_count, IsLive, IsFreeFrom, IsFoundAt}
 use Rattle.mvo_hash.specs.Table.{map_of, table_of, no_keys, IsHeads}
-use Rattle.mvo_hash.proofs.Counts.{used_kept, used_more, used_push, live_kept, live_more, live_less, live_push}
+use Rattle.mvo_hash.proofs.Counts.{share, live_used, used_kept, used_more, used_push, live_kept, live_more, live_less, live_push}
 use Rattle.mvo_hash.proofs.Finds.{entries_of-replicate}
 use Rattle.mvo_hash.proofs.Tables.{table_set, table_take, table_place, table_push}
 
@@ -62,9 +65,50 @@ module _ (first second homes used keys : ℕ) (ss : List Slot) (h : IsHeads firs
     half = h.half;
   }
 
+empty_at : (n i : ℕ) → slot (replicate n empty_slot) i ≡ empty_slot
+empty_at zero i = refl
+empty_at (suc n) zero = refl
+empty_at (suc n) (suc i) = empty_at n i
+
+not_live : (n i : ℕ) → IsLive (slot (replicate n empty_slot) i) → ⊥
+not_live n i live =
+    let f : Empty ≡ Live = sym (ap (λ (s : Slot). s.state) (empty_at n i)) ∙ live in
+    cc
+
+used_none : (n : ℕ) → used_count (replicate n empty_slot) ≡ 0
+used_none zero = refl
+used_none (suc n) =
+    let e : used_count (empty_slot ∷ replicate n empty_slot) ≡ share empty_slot + used_count (replicate n empty_slot) = sum_by-cons share empty_slot (replicate n empty_slot) in
+    omega (arith, e, used_none n)
+
+live_none : (n : ℕ) → live_count (replicate n empty_slot) ≡ 0
+live_none n = omega (arith, live_used (replicate n empty_slot), used_none n)
+
 -- a table that was just made
+pub new_heads : (first second homes count : ℕ) (ss : List Slot) → ss ≡ replicate count empty_slot → homes ≤ count → IsHeads first second homes 0 0 ss
+new_heads first second homes count ss is le = subst (IsHeads first second homes 0 0) (sym is) (record {
+  table = record {
+    long = omega (arith, length-replicate count empty_slot, le);
+    reached = λ key. record {
+      ahead = λ i live e. absurd (not_live count i live);
+      filled = λ i live e. absurd (not_live count i live);
+    };
+    apart = λ i j live other e. absurd (not_live count i live);
+  };
+  counted = sym (used_none count);
+  live = sym (live_none count);
+  half = omega arith;
+})
+
 pub new_table : (homes keys count : ℕ) (ss : List Slot) → homes ≡ keys * 2 → ss ≡ replicate count empty_slot → table_of homes 0 ss ≡ no_keys keys
 new_table homes keys count ss twice is =
     let numbers : map_of ss ≡ empty = ap map_of is ∙ ap (from_entries {R = key_cmp}) (entries_of-replicate count) in
     let room : homes / 2 - 0 ≡ keys = omega (arith, twice) in
     cc
+
+-- an empty list that was filled up
+pub filled_up : (old : List Slot) (n len : ℕ) (s : Slot) (new : List Slot) → new ≡ take n old ++ replicate (n - len) s → old ≡ [] → len ≡ 0 → s ≡ empty_slot → new ≡ replicate n empty_slot
+filled_up old n len s new is none start same =
+    let front : take n old ≡ [] = ap (take n) none ∙ take-nil n in
+    is ∙ ap (λ (l : List Slot). l ++ replicate (n - len) s) front
+    ∙ ap (λ (m : ℕ). replicate m s) (omega (arith, start)) ∙ ap (replicate n) same

@@ -1,7 +1,7 @@
 -- What the heads and the links show.
-use Rattle.std.proofs.Common.{◌≡◌, ◌≢◌, ℕ, ◌<◌, inl, inr, Bool, List, [], ◌∷◌, true, false, cond, length, map, get_or, take, drop, ◌++◌, Result, Ok, Err, Option, None, Some, refl, sym, ap, ◌∙◌, subst, arith}
+use Rattle.std.proofs.Common.{◌≡◌, ◌≢◌, ℕ, ◌<◌, ◌≤◌, inl, inr, Bool, List, [], ◌∷◌, true, false, cond, length, map, get_or, take, drop, ◌++◌, Result, Ok, Err, Option, None, Some, refl, sym, ap, ◌∙◌, subst, arith}
 use Rattle.std.proofs.lemmas.Bool.{cond-true, cond-false, cases_Bool, false_from_ne_true, false≢true}
-use Rattle.std.proofs.lemmas.List.{get_or_read}
+use Rattle.std.proofs.lemmas.List.{get_or_read, get_or_past}
 use Rattle.std.proofs.Math.Seq.{take-append_seam}
 use Rattle.std.specs.Option.{option_map}
 use Rattle.std.specs.Result.{OnErr}
@@ -12,7 +12,7 @@ use Rattle.mvo_types.specs.Keys.{key_cmp}
 use Rattle.mvo_types.proofs.Maps.{keys_total, exact_keys}
 use Rattle.mvo_hash.specs.declared.link.Link.{Link}
 use Rattle.mvo_hash.specs.Table.{Map, Table, no_keys}
-use Rattle.mvo_hash.specs.Lists.{Lists, no_versions, newest_of, older_of, is_among, numbers_of, or_empty, with_numbers, IsHeld, IsFresh}
+use Rattle.mvo_hash.specs.Lists.{Lists, no_versions, newest_of, older_of, is_among, numbers_of, or_empty, with_numbers, IsHeld, IsFresh, IsPastAll}
 use Rattle.mvo_hash.specs.Links.{unheld, no_link, link, number_or_none, walk, numbers, listed, lists_of, index_of, first_or_none, some_unless_none, IsIndexOf, IsIndex, IsGrown}
 use Rattle.mvo_hash.proofs.Finds.{same_key, other_key}
 use Rattle.mvo_hash.proofs.Chains.{walk_chain, chain_short, chain_kept, among_held, among_within, older_is}
@@ -161,6 +161,11 @@ grown_lists heads old new g t =
 
 pub grown_same : (heads : Table) (old new : List Link) → IsGrown old new → IsIndex heads.numbers old → index_of heads new ≡ index_of heads old
 grown_same heads old new g t = let e = grown_lists heads.numbers old new g t in cc
+
+-- no key has a number that the links don't reach to
+pub past_all : (heads : Map) (ls : List Link) → IsIndex heads ls → (n : ℕ) → length ls ≤ n → IsPastAll (lists_of heads ls) n
+past_all heads ls t n past m above =
+    shown_fresh heads ls (numbers heads ls) t m (ap (λ (l : Link). l.newer) (get_or_past ls m no_link (omega (arith, past, above))))
 
 pub on_err : {T E P : Type 0} (r : Result T E) → P → OnErr r P
 on_err (Ok x) p = tt

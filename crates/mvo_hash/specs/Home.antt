@@ -8,4 +8,5 @@ folded a b = bit_xor (bit_and (a * b) 0xFFFF_FFFF_FFFF_FFFF) ((a * b) / 2 ^ 64)
 
 -- the key's hash, as a fraction of the homes
 unfoldable pub home_of : ℕ → ℕ → ℕ → RowKey → ℕ
-home_of first second homes key = (folded (bit_xor key.key first) (bit_xor second key.table) * homes) / 2 ^ 64
+home_of first second homes key =
+    (folded (bit_xor key.key first) (bit_xor second key.table) * homes) / 2 ^ 64

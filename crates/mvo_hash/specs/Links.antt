@@ -30,7 +30,10 @@ first_or_none ns = number_or_none (newest_of ns)
 
 -- the heads once a link goes, which may be that of the newest number of the key
 abbrev pub beheaded : Map → RowKey → Link → Map
-beheaded heads key gone = cond (eqb gone.newer no_number) (cond (eqb gone.older no_number) (finite_map.remove heads key) (finite_map.insert heads key gone.older)) heads
+beheaded heads key gone =
+    cond (eqb gone.newer no_number)
+    (cond (eqb gone.older no_number) (finite_map.remove heads key)
+    (finite_map.insert heads key gone.older)) heads
 
 -- at most so many numbers, from this one on to ever older ones
 abbrev pub walk : List Link → ℕ → ℕ → List ℕ
@@ -53,7 +56,9 @@ index_of heads ls = record { versions = lists_of heads.numbers ls; room = heads.
 -- each number's links lead to its neighbours, where this one is newer than the first
 abbrev pub IsChain : List Link → ℕ → List ℕ → Type 0
 IsChain ls newer [] = Unit {0}
-IsChain ls newer (n ∷ ns) = (n < length ls) × ((link ls n).newer ≡ newer) × ((link ls n).older ≡ first_or_none ns) × IsChain ls n ns
+IsChain ls newer (n ∷ ns) =
+    (n < length ls) × ((link ls n).newer ≡ newer) × ((link ls n).older ≡ first_or_none ns)
+    × IsChain ls n ns
 
 -- no number stands twice
 abbrev pub IsApart : List ℕ → Type 0
@@ -84,25 +89,32 @@ pub record IsGrown (old new : List Link) : Type 0 where
 -- another newer neighbour at one place
 pub record HasNewer (old new : List Link) (at value : ℕ) : Type 0 where
   pub size : length new ≡ length old
-  pub newer : (n : ℕ) → n < length old → (link new n).newer ≡ cond (eqb n at) value (link old n).newer
+  pub newer : (n : ℕ) → n < length old
+      → (link new n).newer ≡ cond (eqb n at) value (link old n).newer
   pub older : (n : ℕ) → (link new n).older ≡ (link old n).older
 
 -- another older neighbour at one place
 pub record HasOlder (old new : List Link) (at value : ℕ) : Type 0 where
   pub size : length new ≡ length old
-  pub older : (n : ℕ) → n < length old → (link new n).older ≡ cond (eqb n at) value (link old n).older
+  pub older : (n : ℕ) → n < length old
+      → (link new n).older ≡ cond (eqb n at) value (link old n).older
   pub newer : (n : ℕ) → (link new n).newer ≡ (link old n).newer
 
 -- a number without newer ones in front of the older one
 pub record IsJoined (old new : List Link) (number behind : ℕ) : Type 0 where
   pub size : length new ≡ length old
   pub here : link new number ≡ record { older = behind; newer = no_number }
-  pub newer : (n : ℕ) → n < length old → n ≢ number → (link new n).newer ≡ cond (eqb n behind) number (link old n).newer
+  pub newer : (n : ℕ) → n < length old → n ≢ number
+      → (link new n).newer ≡ cond (eqb n behind) number (link old n).newer
   pub older : (n : ℕ) → n ≢ number → (link new n).older ≡ (link old n).older
 
 -- a number's neighbours lead to each other, and none to it
 pub record IsUnlinked (old new : List Link) (number : ℕ) : Type 0 where
   pub size : length new ≡ length old
   pub here : link new number ≡ no_link
-  pub newer : (n : ℕ) → n < length old → n ≢ number → (link new n).newer ≡ cond (eqb n (link old number).older) (link old number).newer (link old n).newer
-  pub older : (n : ℕ) → n < length old → n ≢ number → (link new n).older ≡ cond (eqb n (link old number).newer) (link old number).older (link old n).older
+  pub newer : (n : ℕ) → n < length old → n ≢ number
+      → (link new n).newer
+      ≡ cond (eqb n (link old number).older) (link old number).newer (link old n).newer
+  pub older : (n : ℕ) → n < length old → n ≢ number
+      → (link new n).older
+      ≡ cond (eqb n (link old number).newer) (link old number).older (link old n).older

@@ -1,12 +1,13 @@
 -- The numbers of each key, newest first.
-use Rattle.std.specs.Prelude.{◌≡◌, ℕ, List, [], ◌∷◌, Bool, true, false, not, cond, eqb, IsTrue, Option, None, Some, refl}
+use Rattle.std.specs.Prelude.{◌≡◌, ℕ, ◌≤◌, List, [], ◌∷◌, Bool, true, false, not, cond, eqb, IsTrue, Option, None, Some, refl}
 use Rattle.std.specs.List.{filter, list_any}
 use Rattle.std.specs.Coded.{Coded, code_by, coded×, coded_ℕ, coded_list}
 use Rattle.std.specs.FinMap as map
 use Rattle.mvo_types.specs.declared.row.RowKey.{RowKey}
 use Rattle.mvo_types.specs.Keys.{key_cmp, coded_key}
 
--- a finite map from keys to the numbers of their versions, newest first, where each key has one at least
+-- a finite map from keys to the numbers of their versions, newest first, where each key has one at
+-- least
 abbrev pub Lists : Type 0
 Lists = map.FinMap key_cmp (List ℕ)
 
@@ -19,7 +20,9 @@ pub record Index : Type 0 where
   pub room : ℕ
 
 abbrev pub coded_index : Coded Index
-coded_index = code_by (Lists × ℕ) (coded× coded_lists coded_ℕ) (λ i. (i.versions, i.room)) (λ p. record { versions = p.0; room = p.1 }) (λ _. refl)
+coded_index =
+    code_by (Lists × ℕ) (coded× coded_lists coded_ℕ) (λ i. (i.versions, i.room))
+    (λ p. record { versions = p.0; room = p.1 }) (λ _. refl)
 
 -- no version yet, and no room
 abbrev pub no_versions : Index
@@ -62,6 +65,11 @@ IsHeld lists n = (key : RowKey) × IsTrue (is_among n (numbers_of lists key))
 pub record IsFresh (lists : Lists) (n : ℕ) : Type 0 where
   pub at : (key : RowKey) → is_among n (numbers_of lists key) ≡ false
 
+-- no key has the number, or one above it
+abbrev pub IsPastAll : Lists → ℕ → Type 0
+IsPastAll lists n = (m : ℕ) → n ≤ m → IsFresh lists m
+
 -- the answer is the number behind this one, with whichever key has it
 pub record IsOlder (lists : Lists) (n : ℕ) (answer : Option ℕ) : Type 0 where
-  pub at : (key : RowKey) → is_among n (numbers_of lists key) ≡ true → answer ≡ older_of n (numbers_of lists key)
+  pub at : (key : RowKey) → is_among n (numbers_of lists key) ≡ true
+      → answer ≡ older_of n (numbers_of lists key)

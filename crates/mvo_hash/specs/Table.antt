@@ -1,5 +1,5 @@
 -- An open table as a finite map.
-use Rattle.std.specs.Prelude.{◌≡◌, ℕ, ◌≤◌, ◌-◌, ◌/◌, List, length, refl}
+use Rattle.std.specs.Prelude.{◌≡◌, ℕ, ◌≤◌, ◌+◌, ◌-◌, ◌/◌, List, length, refl}
 use Rattle.std.specs.Coded.{Coded, code_by, coded×, coded_ℕ}
 use Rattle.std.specs.FinMap as map
 use Rattle.mvo_types.specs.declared.row.RowKey.{RowKey}
@@ -24,7 +24,9 @@ pub record Table : Type 0 where
   pub room : ℕ
 
 abbrev pub coded_table : Coded Table
-coded_table = code_by (Map × ℕ) (coded× coded_map coded_ℕ) (λ t. (t.numbers, t.room)) (λ p. record { numbers = p.0; room = p.1 }) (λ _. refl)
+coded_table =
+    code_by (Map × ℕ) (coded× coded_map coded_ℕ) (λ t. (t.numbers, t.room))
+    (λ p. record { numbers = p.0; room = p.1 }) (λ _. refl)
 
 -- no key yet, and room for so many
 abbrev pub no_keys : ℕ → Table
@@ -38,7 +40,12 @@ table_of homes used ss = record { numbers = map_of ss; room = homes / 2 - used }
 pub record IsTable (first second homes : ℕ) (ss : List Slot) : Type 0 where
   pub long : homes ≤ length ss
   pub reached : (key : RowKey) → IsReached ss (home_of first second homes key) key
-  pub apart : (i j : ℕ) → IsLive (slot ss i) → IsLive (slot ss j) → slot_key (slot ss i) ≡ slot_key (slot ss j) → i ≡ j
+  pub apart : (i j : ℕ) → IsLive (slot ss i) → IsLive (slot ss j)
+      → slot_key (slot ss i) ≡ slot_key (slot ss j) → i ≡ j
+
+-- memory for a slot of each home, and behind them for one of each key that there is room for
+abbrev pub IsSpacious : ℕ → ℕ → Type 0
+IsSpacious homes capacity = homes + homes / 2 ≤ capacity
 
 -- a table whose used slots and keys are counted, with at most half as many used slots as homes
 pub record IsHeads (first second homes used keys : ℕ) (ss : List Slot) : Type 0 where

@@ -9,7 +9,8 @@ use mvo_types::RowKey;
 use std::alloc::{AllocError, Global};
 use std::marker::Model;
 
-// Slots behind the last home, for keys whose search runs past it.
+// Slots behind the last home that a new table has, for keys whose search runs past it. There is
+// memory for as many more as there can be keys, which is touched where they are needed.
 const TAIL: usize = 64;
 
 const LEAST_ROOM: usize = 8;
@@ -39,11 +40,14 @@ impl Model for Heads {
 
     ghost coded = { coded_table };
 
-    ghost use Rattle.mvo_hash.specs.Table.{table_of, IsHeads};
+    ghost use Rattle.std.specs.Prelude.{vec_capacity};
+    ghost use Rattle.mvo_hash.specs.Table.{table_of, IsHeads, IsSpacious};
 
     ghost view = { λ t. table_of t.homes t.used t.slots.items };
 
-    ghost invariant = { λ t. IsHeads t.seeds.first t.seeds.second t.homes t.used t.keys t.slots.items };
+    ghost invariant = { λ t.
+        IsHeads t.seeds.first t.seeds.second t.homes t.used t.keys t.slots.items
+        × IsSpacious t.homes (vec_capacity t.slots) };
 }
 
 impl Heads {
@@ -106,19 +110,18 @@ impl Heads {
         let Some(at) = find(&self.slots, home, key) else {
             return None;
         };
-        let before = self.slots[at].number;
+        let number = self.slots[at].number;
         self.slots[at] = Slot::left();
         self.keys -= 1;
-        Some(before)
+        Some(number)
     }
 
     // Puts a key that isn't there at the first free slot from its home.
-    fn place(&mut self, key: RowKey, number: u32) -> Result<(), AllocError>
+    fn place(&mut self, key: RowKey, number: u32)
         requires new { map.get self.old.numbers key ≡ None }
         requires room { 0 < self.old.room }
-        ensures ok { OnOk result (self.new.numbers ≡ map.insert self.old.numbers key number) }
+        ensures numbers { self.new.numbers ≡ map.insert self.old.numbers key number }
         ensures room { self.old.room ≤ self.new.room + 1 }
-        ensures err { OnErr result (self.new ≡ self.old) }
     {
         let home = self.seeds.home(key, self.homes);
         let at = free(&self.slots, home);
@@ -128,26 +131,27 @@ impl Heads {
                 self.used += 1;
             }
             self.slots[at] = Slot::live(key, number);
-            return Ok(());
+            return;
         }
-        self.slots.push(Slot::live(key, number))?;
+        self.slots.push_reserved(Slot::live(key, number));
         self.used += 1;
         self.keys += 1;
-        Ok(())
     }
 
     // No keys, and room for so many.
     fn with_room(alloc: Global, seeds: Seeds, keys: usize) -> Result<Heads, AllocError>
         ensures { IfOk result (λ t. t ≡ no_keys keys) }
     {
-        let homes = keys.checked_mul(2).ok_or(AllocError)?;
-        let count = homes.checked_add(TAIL).ok_or(AllocError)?;
+        let most = keys.checked_mul(3).ok_or(AllocError)?;
+        let homes = keys * 2;
+        let mut slots = Vec::with_capacity(alloc, most)?;
+        slots.resize(homes + keys.min(TAIL), Slot::empty())?;
         Ok(Heads {
             seeds,
             homes,
             used: 0,
             keys: 0,
-            slots: vec![in alloc; Slot::empty(); count]?,
+            slots,
         })
     }
 
@@ -163,7 +167,7 @@ impl Heads {
         let mut larger = Heads::with_room(*self.slots.allocator(), self.seeds, all)?;
         for slot in &self.slots {
             if slot.is_live() {
-                larger.place(slot.row_key(), slot.number)?;
+                larger.place(slot.row_key(), slot.number);
             }
         }
         Ok(larger)
@@ -179,23 +183,24 @@ impl Heads {
         ensures again { IsSome (map.get self.old.numbers key) → self.new.room ≡ self.old.room }
         ensures err { OnErr result (self.new ≡ self.old) }
         ensures absent { OnErr result (map.get self.old.numbers key ≡ None) }
+        ensures full { OnErr result (self.old.room ≡ 0) }
     {
         if let Some(before) = self.set(key, number) {
             return Ok(Some(before));
         }
         if self.room() > 0 {
-            self.place(key, number)?;
+            self.place(key, number);
             return Ok(None);
         }
         let mut larger = self.moved(1)?;
-        larger.place(key, number)?;
+        larger.place(key, number);
         *self = larger;
         Ok(None)
     }
 
     /// Makes room for so many more keys, so that no key is moved while they are put. Where the room
-    /// is short it takes the time of moving every key, and 32 bytes or more for each of them and of
-    /// those that are to come.
+    /// is short it takes the time of moving every key, and 48 bytes or more for each of them and of
+    /// those that are to come, of which it touches 32.
     pub fn reserve(&mut self, keys: usize) -> Result<(), AllocError>
         ensures numbers { self.new.numbers ≡ self.old.numbers }
         ensures ok { OnOk result (keys ≤ self.new.room) }

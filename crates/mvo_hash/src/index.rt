@@ -1,10 +1,10 @@
-ghost use Rattle.std.specs.Prelude.{◌≡◌, ◌≤◌, ◌+◌, ◌∷◌, map, OnOk, OnErr, IfOk, IsTrue, IsSome};
+ghost use Rattle.std.specs.Prelude.{◌≡◌, ◌⊎◌, ◌≤◌, ◌+◌, ◌∷◌, map, OnOk, OnErr, IfOk, IsTrue, IsSome};
 ghost use Rattle.std.specs.Bool.{OnTrue, OnFalse};
 ghost use Rattle.std.specs.Option.{option_map};
 ghost use Rattle.std.specs.FinMap as finite_map;
 ghost use Rattle.mvo_hash.specs.Links.{beheaded};
 ghost use Rattle.mvo_hash.specs.Lists.{no_versions, numbers_of, with_numbers, newest_of, without};
-ghost use Rattle.mvo_hash.specs.Lists.{is_among, IsFresh, IsHeld, IsOlder};
+ghost use Rattle.mvo_hash.specs.Lists.{is_among, IsFresh, IsHeld, IsOlder, IsPastAll};
 
 use crate::heads::Heads;
 use crate::link::{Link, NONE, UNHELD, or_none};
@@ -21,7 +21,7 @@ use std::marker::Model;
 /// Every call takes constant time, or constant time a version that it answers, but for the growth
 /// in `add` and `reserve`. These two alone take memory, besides the list that `versions_of` makes:
 /// 8 bytes for each number up to the largest, and the slots of each key in `Heads`. The last two of
-/// the 2^32 numbers are refused as for want of memory.
+/// the 2^32 numbers are refused as out of memory.
 #[derive(Drop)]
 pub struct HashIndex {
     heads: Heads,
@@ -105,7 +105,8 @@ impl HashIndex {
 
     /// The versions of a key, newest first.
     pub fn versions_of(&self, alloc: Global, key: RowKey) -> Result<Vec<VersionNo>, AllocError>
-        ensures { IfOk result (λ versions. map (λ v. v.0) versions.items ≡ numbers_of self.now.versions key) }
+        ensures { IfOk result (λ versions. map (λ v. v.0) versions.items ≡
+            numbers_of self.now.versions key) }
     {
         let newest = or_none(self.heads.get(key));
         listed(alloc, &self.links, newest)
@@ -115,14 +116,17 @@ impl HashIndex {
     /// where its key has versions; where there is none, it takes the time of moving every key.
     pub fn add(&mut self, key: RowKey, version: VersionNo) -> Result<(), AllocError>
         requires { IsFresh self.old.versions version.0 }
-        ensures ok { OnOk result (self.new.versions ≡ with_numbers self.old.versions key (version.0 ∷ numbers_of self.old.versions key)) }
+        ensures ok { OnOk result (self.new.versions ≡ with_numbers self.old.versions key
+            (version.0 ∷ numbers_of self.old.versions key)) }
         ensures room { self.old.room ≤ self.new.room + 1 }
-        ensures again { IsSome (newest_of (numbers_of self.old.versions key)) → self.new.room ≡ self.old.room }
+        ensures again { IsSome (newest_of (numbers_of self.old.versions key)) →
+            self.new.room ≡ self.old.room }
         ensures err { OnErr result (self.new ≡ self.old) }
+
+        // Only where the heads have to grow, or the links, which reach to the largest number.
+        ensures full { OnErr result ((self.old.room ≡ 0) ⊎
+            IsPastAll self.old.versions version.0) }
     {
-        if version.0 >= UNHELD {
-            return Err(AllocError);
-        }
         reach(&mut self.links, version.0)?;
         let older = or_none(self.heads.put(key, version.0)?);
         join(&mut self.links, version.0, older);
@@ -132,7 +136,8 @@ impl HashIndex {
     /// Removes a version of the key. It takes no memory and no room, and gives none back.
     pub fn remove(&mut self, key: RowKey, version: VersionNo)
         requires { IsTrue (is_among version.0 (numbers_of self.old.versions key)) }
-        ensures gone { self.new.versions ≡ with_numbers self.old.versions key (without version.0 (numbers_of self.old.versions key)) }
+        ensures gone { self.new.versions ≡ with_numbers self.old.versions key
+            (without version.0 (numbers_of self.old.versions key)) }
         ensures room { self.new.room ≡ self.old.room }
     {
         let gone = self.links[version.index()];

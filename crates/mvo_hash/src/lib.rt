@@ -11,8 +11,3 @@ mod slot;
 
 pub use heads::Heads;
 pub use index::HashIndex;
-
-#[cfg(test)]
-mod index_tests;
-#[cfg(test)]
-mod tests;

@@ -1,18 +1,21 @@
-ghost use Rattle.std.specs.Prelude.{◌≡◌, ◌≢◌, ◌<◌, ◌≤◌, OnOk, IfOk, length, map};
+ghost use Rattle.std.specs.Prelude.{◌≡◌, ◌≢◌, ◌<◌, ◌≤◌, OnOk, OnErr, IfOk, length, map};
 ghost use Rattle.mvo_hash.specs.Links.{no_number, unheld, link, first_or_none, walk, IsChain};
 ghost use Rattle.mvo_hash.specs.Links.{IsGrown, HasNewer, HasOlder, IsJoined, IsUnlinked};
 
-use crate::link::{Link, NONE};
+use crate::link::{Link, NONE, UNHELD};
 use mvo_chain::VersionNo;
 use std::alloc::{AllocError, Global};
 
-/// Makes room for the number.
+/// Makes room for the number. The last two are refused.
 pub fn reach(links: &mut Vec<Link>, number: u32) -> Result<(), AllocError>
-    requires numbered { length links.old.items ≤ unheld }
-    requires number { number < unheld }
+    requires { length links.old.items ≤ unheld }
     ensures within { OnOk result (number < length links.new.items) }
+    ensures short { OnErr result (length links.old.items ≤ number) }
     ensures kept { IsGrown links.old.items links.new.items }
 {
+    if number >= UNHELD {
+        return Err(AllocError);
+    }
     let count = number as usize + 1;
     if links.len() < count {
         links.resize(count, Link::unheld())?;
@@ -56,8 +59,10 @@ pub fn join(links: &mut [Link], number: u32, older: u32)
 pub fn unlink(links: &mut [Link], number: u32)
     requires numbered { length links.old ≤ unheld }
     requires number { number < length links.old }
-    requires newer { let at = (link links.old number).newer in at ≢ no_number → at < length links.old }
-    requires older { let at = (link links.old number).older in at ≢ no_number → at < length links.old }
+    requires newer { let at = (link links.old number).newer in
+        at ≢ no_number → at < length links.old }
+    requires older { let at = (link links.old number).older in
+        at ≢ no_number → at < length links.old }
     ensures { IsUnlinked links.old links.new number }
 {
     let gone = links[number as usize];
@@ -71,7 +76,8 @@ pub fn listed(alloc: Global, links: &[Link], newest: u32) -> Result<Vec<VersionN
     requires numbered { length links.now ≤ unheld }
     requires starts { newest ≡ first_or_none (walk links.now (length links.now) newest) }
     requires chain { IsChain links.now no_number (walk links.now (length links.now) newest) }
-    ensures { IfOk result (λ versions. map (λ v. v.0) versions.items ≡ walk links.now (length links.now) newest) }
+    ensures { IfOk result (λ versions. map (λ v. v.0) versions.items ≡
+        walk links.now (length links.now) newest) }
 {
     let mut versions = Vec::new(alloc);
     let mut at = newest;

@@ -22,7 +22,7 @@ use Rattle.std.specs.BTreeMap.{insert_entry, BTreeMap, IsFromIterResult}
 use Rattle.std.proofs.lemmas.Map.Views.{All-keys_from_lookup, btree_map_contains_key_from_list}
 use Rattle.std.specs.Ordering.{match_ordering}
 use Rattle.std.proofs.lemmas.List.Elements.{All-nil, All-cons, All-head, All-tail, All-contains, All-map}
-use Rattle.mvo_range.specs.Place.{place_cmp, Map, all_added, has_key}
+use Rattle.mvo_range.specs.Place.{place_cmp, Map, all_added, HasKey}
 
 sort_key_cmp : ℕ × ℕ → ℕ × ℕ → Ordering
 sort_key_cmp a b = ordering_then (nat_cmp a.0 b.0) (nat_cmp a.1 b.1)
@@ -96,36 +96,36 @@ get-all_added es q = added_from es empty (λ _. None) (get-empty place_cmp) q
 pub built : (es fs : List (Place × ℕ)) → ((q : Place) → held_at fs q ≡ update_all (eq_by_cmp place_cmp) (λ _. None) es q) → from_entries {R = place_cmp} fs ≡ all_added es
 built es fs h = same_map places_total exact_places _ _ (λ q. get_held fs q ∙ h q ∙ sym (get-all_added es q))
 
-pub has_key-insert_entry : (es : List (Place × ℕ)) (k : Place) (n : ℕ) → k.key < 2 ^ 64 → All has_key es → All has_key (insert_entry place_cmp es k n)
-has_key-insert_entry [] k n h all = All-cons has_key (k, n) [] h all
-has_key-insert_entry (e ∷ es) k n h all =
-    let head = All-head has_key e es all in
-    let tail = All-tail has_key e es all in
-    elim (place_cmp k e.0) as (λ o. All has_key (match_ordering o ((k, n) ∷ e ∷ es) ((e.0, n) ∷ es) (e ∷ insert_entry place_cmp es k n))) [
-      | Less ↦ All-cons has_key (k, n) (e ∷ es) h all
-      | Equal ↦ All-cons has_key (e.0, n) es head tail
-      | Greater ↦ All-cons has_key e (insert_entry place_cmp es k n) head (has_key-insert_entry es k n h tail)
+pub HasKey-insert_entry : (es : List (Place × ℕ)) (k : Place) (n : ℕ) → k.key < 2 ^ 64 → All HasKey es → All HasKey (insert_entry place_cmp es k n)
+HasKey-insert_entry [] k n h all = All-cons HasKey (k, n) [] h all
+HasKey-insert_entry (e ∷ es) k n h all =
+    let head = All-head HasKey e es all in
+    let tail = All-tail HasKey e es all in
+    elim (place_cmp k e.0) as (λ o. All HasKey (match_ordering o ((k, n) ∷ e ∷ es) ((e.0, n) ∷ es) (e ∷ insert_entry place_cmp es k n))) [
+      | Less ↦ All-cons HasKey (k, n) (e ∷ es) h all
+      | Equal ↦ All-cons HasKey (e.0, n) es head tail
+      | Greater ↦ All-cons HasKey e (insert_entry place_cmp es k n) head (HasKey-insert_entry es k n h tail)
     ]
 
-pub has_key-remove_entry : (test : Place → Bool) (es : List (Place × ℕ)) → All has_key es → All has_key (remove_entry test es)
-has_key-remove_entry test [] all = all
-has_key-remove_entry test (e ∷ es) all =
-    let head = All-head has_key e es all in
-    let tail = All-tail has_key e es all in
-    elim (test e.0) as (λ b. All has_key (cond b es (e ∷ remove_entry test es))) [
+pub HasKey-remove_entry : (test : Place → Bool) (es : List (Place × ℕ)) → All HasKey es → All HasKey (remove_entry test es)
+HasKey-remove_entry test [] all = all
+HasKey-remove_entry test (e ∷ es) all =
+    let head = All-head HasKey e es all in
+    let tail = All-tail HasKey e es all in
+    elim (test e.0) as (λ b. All HasKey (cond b es (e ∷ remove_entry test es))) [
       | true ↦ tail
-      | false ↦ All-cons has_key e (remove_entry test es) head (has_key-remove_entry test es tail)
+      | false ↦ All-cons HasKey e (remove_entry test es) head (HasKey-remove_entry test es tail)
     ]
 
 abbrev is_key : Place → Type 0
 is_key p = p.key < 2 ^ 64
 
-keys_to_entries : (es : List (Place × ℕ)) → All is_key (keys_of es) → All has_key es
-keys_to_entries [] h = All-nil has_key
-keys_to_entries (e ∷ es) h = All-cons has_key e es (All-head is_key e.0 (keys_of es) h) (keys_to_entries es (All-tail is_key e.0 (keys_of es) h))
+keys_to_entries : (es : List (Place × ℕ)) → All is_key (keys_of es) → All HasKey es
+keys_to_entries [] h = All-nil HasKey
+keys_to_entries (e ∷ es) h = All-cons HasKey e es (All-head is_key e.0 (keys_of es) h) (keys_to_entries es (All-tail is_key e.0 (keys_of es) h))
 
 -- a tree that was built of entries whose keys fit
-pub has_key-built : (es : List (Place × ℕ)) (m : BTreeMap Place ℕ) → IsFromIterResult place_cmp es m → All has_key es → All has_key m.entries
-has_key-built es m h all =
+pub HasKey-built : (es : List (Place × ℕ)) (m : BTreeMap Place ℕ) → IsFromIterResult place_cmp es m → All HasKey es → All HasKey m.entries
+HasKey-built es m h all =
     keys_to_entries m.entries (All-keys_from_lookup (eq_by_cmp_equiv places_total) is_key m.entries (λ q found.
     All-contains is_key (keys_of es) q (All-map is_key (λ e. e.0) es all) ((btree_map_contains_key_from_list places_total exact_places es m h q).0 found)))

@@ -8,11 +8,15 @@ use Rattle.mvo_range.specs.declared.place.Place.{Place}
 
 -- by table, then by sort, then by key
 abbrev pub place_cmp : Place → Place → Ordering
-place_cmp a b = ordering_then (nat_cmp a.table b.table) (ordering_then (nat_cmp a.sort b.sort) (nat_cmp a.key b.key))
+place_cmp a b =
+    ordering_then (nat_cmp a.table b.table)
+    (ordering_then (nat_cmp a.sort b.sort) (nat_cmp a.key b.key))
 
 abbrev pub coded_place : Coded Place
 coded_place =
-    code_by (ℕ × (ℕ × ℕ)) (coded× coded_ℕ (coded× coded_ℕ coded_ℕ)) (λ p. (p.table, (p.sort, p.key))) (λ t. record { table = t.0; sort = t.1.0; key = t.1.1 }) (λ _. refl)
+    code_by (ℕ × (ℕ × ℕ)) (coded× coded_ℕ (coded× coded_ℕ coded_ℕ))
+    (λ p. (p.table, (p.sort, p.key)))
+    (λ t. record { table = t.0; sort = t.1.0; key = t.1.1 }) (λ _. refl)
 
 -- a finite map from places to numbers
 abbrev pub Map : Type 0
@@ -31,8 +35,9 @@ is_between table lo hi e = (e.0.table == table) && (nat_le lo e.0.sort && nat_le
 
 -- whether an entry stands behind a place of its table and has a sort of at most hi
 abbrev pub is_between_after : Place → ℕ → Place × ℕ → Bool
-is_between_after place hi e = (e.0.table == place.table) && (is_lt (place_cmp place e.0) && nat_le e.0.sort hi)
+is_between_after place hi e =
+    (e.0.table == place.table) && (is_lt (place_cmp place e.0) && nat_le e.0.sort hi)
 
 -- an entry's key is one of 64 bits
-abbrev pub has_key : Place × ℕ → Type 0
-has_key e = e.0.key < 2 ^ 64
+abbrev pub HasKey : Place × ℕ → Type 0
+HasKey e = e.0.key < 2 ^ 64

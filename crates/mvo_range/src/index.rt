@@ -1,6 +1,6 @@
 ghost use Rattle.std.specs.Prelude.{◌≡◌, ◌↔◌, ◌<◌, ◌^◌, OnOk, OnErr, IfOk, IsTrue, All, filter, None};
 ghost use Rattle.std.specs.FinMap as map;
-ghost use Rattle.mvo_range.specs.Place.{is_between, is_between_after, all_added, has_key};
+ghost use Rattle.mvo_range.specs.Place.{is_between, is_between_after, all_added, HasKey};
 
 use crate::place::Place;
 use crate::walk::Walk;
@@ -9,9 +9,9 @@ use std::collections::BTreeMap;
 use std::marker::Model;
 use std::ops::Bound;
 
-/// The ordered index. It has one entry for a place, however many versions of that key have that sort;
-/// the entry holds a number that leads to them. Contracts see a finite map from places to numbers,
-/// whose entries stand in the order of table, sort and key.
+/// The ordered index. It has one entry for a place, however many versions of that key have that
+/// sort; the entry holds a number that leads to them. Contracts see a finite map from places to
+/// numbers, whose entries stand in the order of table, sort and key.
 #[derive(Drop)]
 pub struct RangeIndex {
     held: BTreeMap<Place, u32>,
@@ -28,10 +28,10 @@ impl Model for RangeIndex {
 
     ghost view = { λ m. map.from_entries m.held.entries };
 
-    ghost use Rattle.mvo_range.specs.Place.{has_key};
+    ghost use Rattle.mvo_range.specs.Place.{HasKey};
 
-    // What walks up to the last key of a sort rest on.
-    ghost invariant = { λ m. All has_key m.held.entries };
+    // What walks up to the last key of a sort depend on.
+    ghost invariant = { λ m. All HasKey m.held.entries };
 }
 
 impl RangeIndex {
@@ -44,11 +44,12 @@ impl RangeIndex {
         }
     }
 
-    /// The index of these entries, as if each had been added in turn. It is built in one go, fastest
-    /// where they stand in order.
+    /// The index of these entries, as if each had been added in turn. It is built in one go,
+    /// fastest where they stand in order.
     pub fn from_entries(alloc: Global, entries: Vec<(Place, u32)>) -> Result<RangeIndex, AllocError>
         ensures { IfOk result (λ m. m ≡ all_added entries.items) }
     {
+        // The keys are of 64 bits, which the invariant asks for.
         read_keys(&entries);
         let held = entries.into_iter().collect(alloc)?;
         Ok(RangeIndex { held })
@@ -75,14 +76,15 @@ impl RangeIndex {
         self.held.get(&place).copied()
     }
 
-    /// Puts the number at a place, and answers the one that stood there before. Only a place with no
-    /// entry takes memory.
+    /// Puts the number at a place, and answers the one that stood there before. Only a place with
+    /// no entry takes memory, a node's now and then.
     pub fn add(&mut self, place: Place, number: u32) -> Result<Option<u32>, AllocError>
         ensures ok { OnOk result (self.new ≡ map.insert self.old place number) }
         ensures before { IfOk result (λ r. r ≡ map.get self.old place) }
         ensures err { OnErr result (self.new ≡ self.old) }
         ensures absent { OnErr result (map.get self.old place ≡ None) }
     {
+        // The key is one of 64 bits, which the invariant asks for.
         fits(place.key);
         Ok(self.held.insert(place, number)?)
     }
@@ -95,8 +97,8 @@ impl RangeIndex {
         self.held.remove(&place)
     }
 
-    /// A walk over the entries of the table whose sort is at least `lo` and at most `hi`, in the order
-    /// of sort and key.
+    /// A walk over the entries of the table whose sort is at least `lo` and at most `hi`, in the
+    /// order of sort and key.
     pub fn between(&self, table: u8, lo: u64, hi: u64) -> Walk<'_>
         ensures { result ≡ filter (is_between table lo hi) (map.entries self.now) }
     {
@@ -111,8 +113,8 @@ impl RangeIndex {
         Walk::over(self.held.range(first..=last_of(table, hi)))
     }
 
-    /// A walk over those entries of the place's table that stand behind the place and whose sort is at
-    /// most `hi`, so that a walk goes on where it was left.
+    /// A walk over those entries of the place's table that stand behind the place and whose sort is
+    /// at most `hi`, so that a walk goes on where it was left.
     pub fn after(&self, place: Place, hi: u64) -> Walk<'_>
         ensures { result ≡ filter (is_between_after place hi) (map.entries self.now) }
     {
@@ -137,15 +139,17 @@ fn last_of(table: u8, sort: u64) -> Place
     }
 }
 
+// For the proof alone: a key that was read is known to be one of 64 bits. The loop has no effect,
+// so that a compiler that optimises leaves it out.
 fn read_keys(entries: &[(Place, u32)])
-    ensures { All has_key entries.now }
+    ensures { All HasKey entries.now }
 {
     for (place, _) in entries {
         fits(place.key);
     }
 }
 
-// What the type of a number says of it.
+// For the proof alone: what the type of a number says of it.
 fn fits(key: u64)
     ensures { key < 2 ^ 64 }
 {

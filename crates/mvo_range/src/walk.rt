@@ -2,8 +2,8 @@ use crate::place::Place;
 use std::collections::btree_map;
 use std::marker::Model;
 
-/// A walk over entries of the index, in their order. Contracts see it as the list of the entries that
-/// are still to come.
+/// A walk over entries of the index, in their order. Contracts see it as the list of the entries
+/// that are still to come.
 #[derive(Drop)]
 pub struct Walk<'a> {
     entries: btree_map::Range<'a, Place, u32>,

@@ -1,4 +1,4 @@
-use mvo_disk::{Call, Disk, Left, MemDisk, Work};
+use mvo_disk::{Call, Disk, FileImage, MemDisk, Work};
 use mvo_group::Group;
 use mvo_store::{Store, format};
 use mvo_types::{Refusal, Row, RowKey, Rows, Stamp};
@@ -164,7 +164,7 @@ fn found_at_gate(alloc: Global, gate: u8) -> Result<(u64, Option<usize>), Fail> 
     disk.write_at(2, 8, &[0xa5])?;
     let mut bytes = SEGMENT.to_vec(alloc)?;
     bytes[8] = gate;
-    disk.stop(&[Left { file: 2, bytes }])?;
+    disk.stop(&[FileImage { file: 2, bytes }])?;
     found(alloc, disk)
 }
 
@@ -206,7 +206,7 @@ fn stops_within_the_write_of_a_body(rt: HostRuntime) -> Result<(), Fail> {
     bytes[8] = 0;
     bytes[20] = 0xff;
     bytes.push(0xa5)?;
-    disk.stop(&[Left { file: 2, bytes }])?;
+    disk.stop(&[FileImage { file: 2, bytes }])?;
     assert_eq!(rt; found(alloc, disk)?, (0, None));
     Ok(())
 }

@@ -6,7 +6,7 @@ mod random;
 mod runs;
 
 use mvo_core::{Event as Step, Reply as Answered};
-use mvo_disk::{Disk, Left, MemDisk};
+use mvo_disk::{Disk, FileImage, MemDisk};
 use mvo_store::format;
 use mvo_types::{Answer, Row, RowKey, Stamp, TxId};
 use mvo_world::{Event, Reply, World};
@@ -228,7 +228,7 @@ fn found_at_gate(alloc: Global, gate: u8) -> Result<(u64, Option<usize>), Fail> 
     disk.write_at(2, 8, &[0xa5])?;
     let mut bytes = SEGMENT.to_vec(alloc)?;
     bytes[8] = gate;
-    disk.stop(&[Left { file: 2, bytes }])?;
+    disk.stop(&[FileImage { file: 2, bytes }])?;
     found(alloc, disk)
 }
 

@@ -6,7 +6,7 @@ use super::images::{Loose, OPEN, SEGMENT, disk_after, last_write};
 use super::observed::{Counts, Known, count};
 use super::runs::{RUNS, Run, Start, all_keys, opened};
 use mvo_core::{Event as Step, Reply as Answered};
-use mvo_disk::{Call, Disk, Left, MemDisk};
+use mvo_disk::{Call, Disk, FileImage, MemDisk};
 use mvo_store::format;
 use mvo_types::{Answer, Op, Row, RowKey, Rows, Stamp, TxId};
 use mvo_world::{Event, Reply, World};
@@ -296,7 +296,7 @@ impl Trial {
             count(&mut self.met.torn);
         }
         let copy = bytes.clone()?;
-        disk.stop(&[Left {
+        disk.stop(&[FileImage {
             file: SEGMENT,
             bytes: copy,
         }])?;

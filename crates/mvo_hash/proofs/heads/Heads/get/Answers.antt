@@ -10,7 +10,7 @@ use Rattle.mvo_hash.proofs.heads.Heads.get.Goals as goal
 pub returns-in-Some : goal.returns-in-Some
 returns-in-Some c =
     let ss = c.self.inside.slots.items in
-    let t = c.self.invariant.table in
+    let t = c.self.invariant.0.table in
     let key = c.args.key in
     let found : IsFoundAt ss key c.in-Some.at = subst (λ xs. IsFoundAt xs key c.in-Some.at) c.deref.ensures.value c.in-Some.ensures.found in
     ap (λ (s : Slot). Some s.number) (slot_read ss c.in-Some.at c.index.result.now found.within c.index.ensures)
@@ -19,7 +19,7 @@ returns-in-Some c =
 pub returns-in-None : goal.returns-in-None
 returns-in-None c =
     let ss = c.self.inside.slots.items in
-    let t = c.self.invariant.table in
+    let t = c.self.invariant.0.table in
     let key = c.args.key in
     let none : map.get (map_of ss) key ≡ None = get_missing ss key (subst (λ xs. IsNowhere xs key) c.deref.ensures.value c.in-None.ensures.nowhere) in
     sym none ∙ ap (λ (m : Table). map.get m.numbers key) c.self.view_is

@@ -1,9 +1,9 @@
-use Rattle.std.proofs.Common.{◌≡◌, IsSome, sym, ap, ◌∙◌, subst, arith}
+use Rattle.std.proofs.Common.{◌≡◌, IsSome, inr, sym, ap, ◌∙◌, subst, arith}
 use Rattle.std.specs.FinMap.{get}
-use Rattle.mvo_hash.specs.Lists.{Index, newest_of, numbers_of}
+use Rattle.mvo_hash.specs.Lists.{Index, newest_of, numbers_of, IsPastAll}
 use Rattle.mvo_hash.specs.Table.{Table}
 use Rattle.mvo_hash.specs.Links.{number_or_none, lists_of, index_of, IsIndex, IsJoined}
-use Rattle.mvo_hash.proofs.Views.{shown_newest, grown_is, grown_same, on_err, given_back}
+use Rattle.mvo_hash.proofs.Views.{shown_newest, grown_is, grown_same, past_all, on_err, given_back}
 use Rattle.mvo_hash.proofs.Joins.{not_newest, added_index, added_lists}
 use Rattle.mvo_hash.proofs.index.HashIndex.add.Goals as goal
 
@@ -55,3 +55,8 @@ returns-clause-again c =
     shown_newest c.self.inside.heads.numbers c.self.inside.links.items c.self.invariant c.args.key
     ∙ ap (λ (i : Index). newest_of (numbers_of i.versions c.args.key)) c.self.view_is in
     c.in_ok-put.ensures.again (subst IsSome (sym newest) some) ∙ ap (λ (i : Index). i.room) c.self.view_is
+
+pub returns-in_err-reach-clause-full : goal.returns-in_err-reach-clause-full
+returns-in_err-reach-clause-full c =
+    on_err c.from_residual.result (inr (subst (λ m. IsPastAll m c.args.version.0) (ap (λ (i : Index). i.versions) c.self.view_is)
+    (past_all c.self.inside.heads.numbers c.self.inside.links.items c.self.invariant c.args.version.0 c.in_err-reach.ensures.short)))

@@ -1,8 +1,8 @@
 use Rattle.std.proofs.Common.{◌≡◌, None, sym, ap, ◌∙◌, rules, subst}
 use Rattle.std.specs.List.{All}
-use Rattle.mvo_range.specs.Place.{has_key}
+use Rattle.mvo_range.specs.Place.{HasKey}
 use Rattle.std.specs.FinMap as map
-use Rattle.mvo_range.proofs.Places.{one_put, get_held, has_key-insert_entry}
+use Rattle.mvo_range.proofs.Places.{one_put, get_held, HasKey-insert_entry}
 use Rattle.mvo_range.proofs.index.RangeIndex.add.Goals as goal
 
 pub returns-in_err-insert-clause-absent : goal.returns-in_err-insert-clause-absent
@@ -21,4 +21,4 @@ returns-clause-before c =
     c.in_ok-insert.ensures.old ∙ sym (get_held c.self.inside.held.entries c.args.place) ∙ ap (λ m. map.get m c.args.place) c.self.view_is
 
 pub invariant_of-self-2 : goal.invariant_of-self-2
-invariant_of-self-2 c = subst (All has_key) (sym c.in_ok-insert.ensures.entries) (has_key-insert_entry c.self.inside.held.entries c.args.place c.args.number c.fits.ensures c.self.invariant)
+invariant_of-self-2 c = subst (All HasKey) (sym c.in_ok-insert.ensures.entries) (HasKey-insert_entry c.self.inside.held.entries c.args.place c.args.number c.fits.ensures c.self.invariant)

@@ -1,8 +1,8 @@
 use Rattle.std.proofs.Common.{sym, ap, ◌∙◌, subst}
 use Rattle.std.specs.List.{All}
-use Rattle.mvo_range.specs.Place.{has_key}
+use Rattle.mvo_range.specs.Place.{HasKey}
 use Rattle.std.specs.FinMap as map
-use Rattle.mvo_range.proofs.Places.{one_gone, get_held, has_key-remove_entry}
+use Rattle.mvo_range.proofs.Places.{one_gone, get_held, HasKey-remove_entry}
 use Rattle.mvo_range.proofs.index.RangeIndex.remove.Goals as goal
 
 pub returns-clause-number : goal.returns-clause-number
@@ -15,4 +15,4 @@ returns-clause-gone c =
     ∙ ap (λ m. map.remove m c.args.place) c.self.view_is
 
 pub invariant_of-self : goal.invariant_of-self
-invariant_of-self c = subst (All has_key) (sym c.remove.ensures.entries) (has_key-remove_entry _ c.self.inside.held.entries c.self.invariant)
+invariant_of-self c = subst (All HasKey) (sym c.remove.ensures.entries) (HasKey-remove_entry _ c.self.inside.held.entries c.self.invariant)

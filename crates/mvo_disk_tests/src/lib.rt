@@ -1,0 +1,7 @@
+//! Tests of `mvo_disk`.
+#![tactic(auto)]
+
+#[cfg(test)]
+mod record;
+#[cfg(test)]
+mod stops;

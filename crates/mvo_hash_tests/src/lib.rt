@@ -1,0 +1,9 @@
+//! Tests of `mvo_hash`.
+#![tactic(auto)]
+
+#[cfg(test)]
+mod heads;
+#[cfg(test)]
+mod index;
+#[cfg(test)]
+mod numbers;
