@@ -1,0 +1,4 @@
+pub mod Words
+pub mod Begun
+pub mod Bound
+pub mod Fresh
