@@ -2,3 +2,4 @@ pub mod Words
 pub mod Begun
 pub mod Bound
 pub mod Fresh
+pub mod Answers

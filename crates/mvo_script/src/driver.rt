@@ -7,7 +7,7 @@ use crate::line::{Line, RowText};
 use crate::names::Names;
 use crate::reply::LineReply;
 use mvo_core::{Event as CoreEvent, Reply as CoreReply};
-use mvo_disk::MemDisk;
+use mvo_disk::{Disk, MemDisk};
 use mvo_store::format;
 use mvo_types::{Refusal, Row, TxId};
 use mvo_world::{Event, Reply, World};
@@ -22,9 +22,14 @@ pub struct Driver {
 }
 
 impl Driver {
-    ghost use Rattle.std.specs.Prelude.{◌≡◌, IfNone, IfOk, IfErr};
-    ghost use Rattle.mvo_script.specs.Bound.{is_covered};
+    ghost use Rattle.std.specs.Prelude.{◌≡◌, IfOk, IfErr, MatchOption};
+    ghost use Rattle.mvo_script.specs.Answers.{IsAnswer, IsBegun, IsInserted, IsNoCommit, IsOfNoName};
+    ghost use Rattle.mvo_script.specs.Answers.{IsSettled, IsStepOf, NotesCommit};
+    ghost use Rattle.mvo_script.specs.Bound.{bound_by, is_covered};
+    ghost use Rattle.mvo_script.specs.declared.line.Line.{Line};
+    ghost use Rattle.mvo_world.specs.declared.reply.Reply.{Reply};
     ghost use Rattle.mvo_script.specs.Fresh.{IsFresh};
+    ghost use Rattle.mvo_world.specs.Replies.{IsReplyTo};
 
     /// A driver with the clock at 0, no rows and no names. Refused with 90 alone.
     pub fn new(alloc: Global) -> Result<Driver, Refusal>
@@ -42,7 +47,10 @@ impl Driver {
 
     /// The reply to a line, without its line feed. A bad line changes nothing.
     pub fn answer(&mut self, bytes: &[u8]) -> LineReply
-        ensures { result ≡ LineReply.BadLine → self.new ≡ self.old }
+        ensures bad { result ≡ LineReply.BadLine → self.new ≡ self.old }
+        ensures answered { let step = IsReplyTo ⟦<MemDisk as Disk>⟧.fault_count in
+            (r : Reply) → result ≡ LineReply.Answered r →
+            (line : Line) × IsAnswer step self.old line r self.new }
     {
         let Some(line) = Line::parse(bytes) else {
             return LineReply::BadLine;
@@ -55,83 +63,79 @@ impl Driver {
 
     /// The reply to a line. None where its name was never begun.
     fn reply_to(&mut self, line: Line<'_>) -> Option<Reply>
-        ensures { IfNone result (self.new ≡ self.old) }
+        ensures { let step = IsReplyTo ⟦<MemDisk as Disk>⟧.fault_count in
+            MatchOption result (IsOfNoName self.old.names line.entry × (self.new ≡ self.old))
+            (λ r. IsAnswer step self.old line.entry r self.new) }
     {
         match line {
             Line::Begin(name) => Some(self.begin(name)),
-            Line::Read(name, key) => {
-                let tx = self.tx_of(name)?;
-                Some(self.step(CoreEvent::Read(tx, key)))
-            }
-            Line::Insert(name, row) => {
-                let tx = self.tx_of(name)?;
-                Some(self.insert(tx, row))
-            }
-            Line::Precommit(name) => {
-                let tx = self.tx_of(name)?;
-                Some(self.step(CoreEvent::Precommit(tx)))
-            }
-            Line::Validate(name) => {
-                let tx = self.tx_of(name)?;
-                Some(self.step(CoreEvent::Validate(tx)))
-            }
-            Line::Settle(name) => {
-                let tx = self.tx_of(name)?;
-                Some(self.settle(name, tx))
-            }
-            Line::Rollback(name) => {
-                let tx = self.tx_of(name)?;
-                Some(self.step(CoreEvent::Rollback(tx)))
-            }
-            Line::Finish(name) => {
-                let tx = self.tx_of(name)?;
-                Some(self.step(CoreEvent::Finish(tx)))
-            }
-            Line::Commit(name) => {
-                let tx = self.tx_of(name)?;
-                Some(self.commit(name, tx))
-            }
-            Line::Poll(name) => {
-                let bound = self.names.get(name)?;
-                Some(self.poll(bound))
-            }
-            Line::Group => Some(self.world.step(Event::CloseGroup)),
-            Line::Take => Some(self.world.step(Event::TakeGroup)),
-            Line::Body => Some(self.world.step(Event::AppendBody)),
-            Line::Open => Some(self.world.step(Event::AppendOpen)),
+            Line::Read(name, key) => Some(self.step(CoreEvent::Read(self.bound(name)?.tx, key))),
+            Line::Insert(name, row) => Some(self.insert(self.bound(name)?.tx, row)),
+            Line::Precommit(name) => Some(self.step(CoreEvent::Precommit(self.bound(name)?.tx))),
+            Line::Validate(name) => Some(self.step(CoreEvent::Validate(self.bound(name)?.tx))),
+            Line::Rollback(name) => Some(self.step(CoreEvent::Rollback(self.bound(name)?.tx))),
+            Line::Finish(name) => Some(self.step(CoreEvent::Finish(self.bound(name)?.tx))),
+            Line::Settle(name) => Some(self.settle(name, self.bound(name)?.tx)),
+            Line::Commit(name) => Some(self.commit(name, self.bound(name)?.tx)),
+            Line::Poll(name) => Some(self.poll(self.bound(name)?)),
+            Line::Group => Some(self.ask(Event::CloseGroup)),
+            Line::Take => Some(self.ask(Event::TakeGroup)),
+            Line::Body => Some(self.ask(Event::AppendBody)),
+            Line::Open => Some(self.ask(Event::AppendOpen)),
             Line::Flush => Some(flush(&mut self.world)),
         }
     }
 
-    /// The transaction that the name is bound to.
-    fn tx_of(&self, name: &str) -> Option<TxId> {
-        let bound = self.names.get(name)?;
-        Some(bound.tx)
+    /// What the name is bound to.
+    fn bound(&self, name: &str) -> Option<BoundTx>
+        ensures { result ≡ bound_by self.now.names name.now }
+    {
+        self.names.get(name)
     }
 
     /// One step of a transaction.
-    fn step(&mut self, event: CoreEvent) -> Reply {
-        self.world.step(Event::Core(event))
+    fn step(&mut self, event: CoreEvent) -> Reply
+        ensures { let step = IsReplyTo ⟦<MemDisk as Disk>⟧.fault_count in
+            IsStepOf step self.old (Event.Core event) result self.new }
+    {
+        self.ask(Event::Core(event))
     }
 
-    fn begin(&mut self, name: &str) -> Reply {
+    /// One step of the world.
+    fn ask(&mut self, event: Event) -> Reply
+        ensures { let step = IsReplyTo ⟦<MemDisk as Disk>⟧.fault_count in
+            IsStepOf step self.old event result self.new }
+    {
+        self.world.step(event)
+    }
+
+    fn begin(&mut self, name: &str) -> Reply
+        ensures { let step = IsReplyTo ⟦<MemDisk as Disk>⟧.fault_count in
+            IsBegun step self.old name.now result self.new }
+    {
         match self.names.begin(name, &mut self.world) {
             Ok(reply) => reply,
             Err(_) => Reply::Refused(Refusal::OutOfMemory),
         }
     }
 
-    fn insert(&mut self, tx: TxId, row: RowText<'_>) -> Reply {
+    fn insert(&mut self, tx: TxId, row: RowText<'_>) -> Reply
+        ensures { let step = IsReplyTo ⟦<MemDisk as Disk>⟧.fault_count in
+            IsInserted step self.old tx row.entry result self.new }
+    {
         let RowText { key, sort, digits } = row;
         // The digits are even in number and hexadecimal, so only memory can be lacking.
         match hex::decode(self.alloc, digits) {
-            Ok(bytes) => self.step(CoreEvent::Insert(tx, Row { key, sort, bytes })),
+            Ok(bytes) => self.ask(Event::Core(CoreEvent::Insert(tx, Row { key, sort, bytes }))),
             Err(_) => Reply::Refused(Refusal::OutOfMemory),
         }
     }
 
     /// Settles the transaction that the name is bound to, and notes its end for the name.
-    fn settle(&mut self, name: &str, tx: TxId) -> Reply {
+    fn settle(&mut self, name: &str, tx: TxId) -> Reply
+        ensures { let step = IsReplyTo ⟦<MemDisk as Disk>⟧.fault_count in
+            IsSettled step self.old name.now tx result self.new }
+    {
         let settled = self.step(CoreEvent::Settle(tx));
         if let Reply::Core(CoreReply::Committed(end)) = settled {
             self.names.note_end(name, end);
@@ -141,7 +145,9 @@ impl Driver {
 
     /// Precommit, validation to Valid, one settle, and after a commit finishing to Done. It stops
     /// at the first refusal.
-    fn commit(&mut self, name: &str, tx: TxId) -> Reply {
+    fn commit(&mut self, name: &str, tx: TxId) -> Reply
+        ensures { NotesCommit self.old.names self.new.names name.now result }
+    {
         match self.step(CoreEvent::Precommit(tx)) {
             Reply::Core(CoreReply::Preparing(_)) => {}
             refused => return refused,
@@ -161,7 +167,10 @@ impl Driver {
     }
 
     /// Checks entries while more are left.
-    fn validate(&mut self, tx: TxId) -> Reply {
+    fn validate(&mut self, tx: TxId) -> Reply
+        ensures names { self.new.names ≡ self.old.names }
+        ensures reply { IsNoCommit result }
+    {
         for _ in 0..u64::MAX {
             match self.step(CoreEvent::Validate(tx)) {
                 Reply::Core(CoreReply::More) => {}
@@ -172,7 +181,10 @@ impl Driver {
     }
 
     /// Finishes while more is left.
-    fn finish(&mut self, tx: TxId) -> Reply {
+    fn finish(&mut self, tx: TxId) -> Reply
+        ensures names { self.new.names ≡ self.old.names }
+        ensures reply { IsNoCommit result }
+    {
         for _ in 0..u64::MAX {
             match self.step(CoreEvent::Finish(tx)) {
                 Reply::Core(CoreReply::More) => {}
