@@ -2,4 +2,5 @@ pub mod Words
 pub mod Begun
 pub mod Bound
 pub mod Fresh
+pub mod Forms
 pub mod Answers

@@ -26,6 +26,7 @@ impl Driver {
     ghost use Rattle.mvo_script.specs.Answers.{IsAnswer, IsBegun, IsInserted, IsNoCommit, IsOfNoName};
     ghost use Rattle.mvo_script.specs.Answers.{IsSettled, IsStepOf, NotesCommit};
     ghost use Rattle.mvo_script.specs.Bound.{bound_by, is_covered};
+    ghost use Rattle.mvo_script.specs.Forms.{HasForm};
     ghost use Rattle.mvo_script.specs.declared.line.Line.{Line};
     ghost use Rattle.mvo_world.specs.declared.reply.Reply.{Reply};
     ghost use Rattle.mvo_script.specs.Fresh.{IsFresh};
@@ -50,7 +51,7 @@ impl Driver {
         ensures bad { result ≡ LineReply.BadLine → self.new ≡ self.old }
         ensures answered { let step = IsReplyTo ⟦<MemDisk as Disk>⟧.fault_count in
             (r : Reply) → result ≡ LineReply.Answered r →
-            (line : Line) × IsAnswer step self.old line r self.new }
+            (line : Line) × HasForm line × IsAnswer step self.old line r self.new }
     {
         let Some(line) = Line::parse(bytes) else {
             return LineReply::BadLine;

@@ -1,3 +1,6 @@
+ghost use Rattle.std.specs.Prelude.{◌≡◌, ◌<◌, IfSome, length};
+ghost use Rattle.mvo_script.specs.Forms.{HasForm, IsData};
+
 use crate::words::{digits_of, name_of, number_of, table_of};
 use mvo_types::RowKey;
 use std::str;
@@ -51,7 +54,10 @@ pub struct RowText<'a> {
 
 impl<'a> Line<'a> {
     /// The line that these bytes are, without its line feed.
-    pub fn parse(bytes: &'a [u8]) -> Option<Line<'a>> {
+    pub fn parse(bytes: &'a [u8]) -> Option<Line<'a>>
+        ensures form { IfSome result HasForm }
+        ensures too_long { MAX_LINE_LEN < length bytes.now → result ≡ None }
+    {
         if bytes.len() > MAX_LINE_LEN {
             return None;
         }
@@ -66,7 +72,9 @@ impl<'a> Line<'a> {
 }
 
 /// The line with this first word, from the words after it.
-fn line_of<'a>(first: &str, rest: &mut str::Split<'a, char>) -> Option<Line<'a>> {
+fn line_of<'a>(first: &str, rest: &mut str::Split<'a, char>) -> Option<Line<'a>>
+    ensures { IfSome result HasForm }
+{
     match first {
         "group" => Some(Line::Group),
         "take" => Some(Line::Take),
@@ -78,7 +86,9 @@ fn line_of<'a>(first: &str, rest: &mut str::Split<'a, char>) -> Option<Line<'a>>
 }
 
 /// The line of a transaction with this first word, from the words after it.
-fn named_line_of<'a>(first: &str, rest: &mut str::Split<'a, char>) -> Option<Line<'a>> {
+fn named_line_of<'a>(first: &str, rest: &mut str::Split<'a, char>) -> Option<Line<'a>>
+    ensures { IfSome result HasForm }
+{
     let name = name_of(rest.next()?)?;
     match first {
         "begin" => Some(Line::Begin(name)),
@@ -103,7 +113,9 @@ fn key_of(words: &mut str::Split<'_, char>) -> Option<RowKey> {
 }
 
 /// The words TABLE KEY SORT DATA.
-fn row_of<'a>(words: &mut str::Split<'a, char>) -> Option<RowText<'a>> {
+fn row_of<'a>(words: &mut str::Split<'a, char>) -> Option<RowText<'a>>
+    ensures { IfSome result (λ row. IsData row.digits.now) }
+{
     let key = key_of(words)?;
     let sort = number_of(words.next()?)?;
     let digits = digits_of(words.next()?)?;
