@@ -1,12 +1,13 @@
 -- The reply to each line of a script, and what that leaves.
-use Rattle.std.specs.Prelude.{◌≡◌, ◌⊎◌, ℕ, List, Option, Some, None, Ok, IsSomeAnd}
+use Rattle.std.specs.Prelude.{◌≡◌, ◌≢◌, ◌⊎◌, ℕ, zero, suc, List, None, Ok, IsSomeAnd}
 use Rattle.hex.specs.Hex.{decode_of}
 use Rattle.mvo_types.specs.RowData.{RowData}
 use Rattle.mvo_types.specs.declared.ids.TxId.{TxId}
+use Rattle.mvo_types.specs.declared.ids.Stamp.{Stamp}
 use Rattle.mvo_types.specs.declared.refusal.Refusal.TheVariants.{OutOfMemory}
 use Rattle.mvo_core.specs.declared.event.Event.{Event as CoreEvent}
 use Rattle.mvo_core.specs.declared.event.Event.TheVariants as core
-use Rattle.mvo_core.specs.declared.reply.Reply.TheVariants.{Committed}
+use Rattle.mvo_core.specs.declared.reply.Reply.TheVariants.{Committed, Preparing, More, Valid, Done}
 use Rattle.mvo_disk.specs.declared.memory.MemDisk.{MemDisk}
 use Rattle.mvo_world.specs.Whole.{Whole}
 use Rattle.mvo_world.specs.declared.event.Event.{Event}
@@ -38,16 +39,6 @@ IsOfNoName names _ = ⊥
 abbrev pub NotesEnd : Names → Names → List ℕ → Reply → Type 0
 NotesEnd old new name (Core (Committed end')) = Ends old new name end'
 NotesEnd old new name _ = new ≡ old
-
--- a commit has noted the transaction's end
-abbrev pub NotesCommit : Names → Names → List ℕ → Reply → Type 0
-NotesCommit old new name (Core (Committed end')) = Ends old new name end'
-NotesCommit old new name _ = Unit {0}
-
--- nothing is committed by it
-abbrev pub IsNoCommit : Reply → Type 0
-IsNoCommit (Core (Committed end')) = ⊥
-IsNoCommit _ = Unit {0}
 
 -- after a flush no group is closed or taken, and the mark is the store's; else it is refused
 abbrev pub IsFlushed : {D : Type 0} → Whole D → Reply → Type 0
@@ -89,9 +80,47 @@ module _ (IsStep : Whole MemDisk → Event → Reply → Whole MemDisk → Type 
   IsInserted d tx text r d' = Inserts d tx text r d' ⊎ ((r ≡ Refused OutOfMemory) × (d' ≡ d))
 
   -- the transaction is settled, and its end is noted for the name
-  pub record IsSettled (d : Driver) (name : List ℕ) (tx : TxId) (r : Reply) (d' : Driver) : Type 0 where
-    pub step : IsStep d.world (event.Core (core.Settle tx)) r d'.world
-    pub names : NotesEnd d.names d'.names name r
+  pub record IsSettled (d : Driver) (name : List ℕ) (tx : TxId) (r : Reply) (d' : Driver) : Type 0
+    where
+      pub step : IsStep d.world (event.Core (core.Settle tx)) r d'.world
+      pub names : NotesEnd d.names d'.names name r
+
+  -- so many steps of one event, each answered that more is left
+  abbrev pub AreMore : ℕ → Event → Driver → Driver → Type 0
+  AreMore zero e d d' = d' ≡ d
+  AreMore (suc n) e d d' = (v : Driver) × AreMore n e d v × IsStepOf v e (Core More) d'
+
+  -- steps of one event while more is left, and the reply to the last
+  pub record AreStepsOf (d : Driver) (e : Event) (r : Reply) (d' : Driver) : Type 0 where
+    pub count : ℕ
+    pub before : Driver
+    pub more : AreMore count e d before
+    pub last : IsStepOf before e r d' ⊎ ((r ≡ Core More) × (d' ≡ before))
+
+  -- the transaction is prepared, and validated
+  pub record IsValidated (d : Driver) (tx : TxId) (d' : Driver) : Type 0 where
+    pub stop : Stamp
+    pub then_on : Driver
+    pub prepared : IsStepOf d (event.Core (core.Precommit tx)) (Core (Preparing stop)) then_on
+    pub checked : AreStepsOf then_on (event.Core (core.Validate tx)) (Core Valid) d'
+
+  -- A commit: it is answered as its first part that isn't as it should be, or as the settle. The
+  -- parts are a precommit, a validation, a settle and a finish.
+  pub data IsCommit (d : Driver) (name : List ℕ) (tx : TxId) (r : Reply) (d' : Driver) : Type 0
+    where
+      AtPrecommit : ((stop : Stamp) → r ≢ Core (Preparing stop))
+          → IsStepOf d (event.Core (core.Precommit tx)) r d' → IsCommit d name tx r d'
+      AtValidate : (stop : Stamp) (v : Driver) → r ≢ Core Valid
+          → IsStepOf d (event.Core (core.Precommit tx)) (Core (Preparing stop)) v
+          → AreStepsOf v (event.Core (core.Validate tx)) r d' → IsCommit d name tx r d'
+      AtSettle : (v : Driver) → ((end' : Stamp) → r ≢ Core (Committed end'))
+          → IsValidated d tx v → IsSettled v name tx r d' → IsCommit d name tx r d'
+      AtFinish : (v u : Driver) (end' : Stamp) → r ≢ Core Done
+          → IsValidated d tx v → IsSettled v name tx (Core (Committed end')) u
+          → AreStepsOf u (event.Core (core.Finish tx)) r d' → IsCommit d name tx r d'
+      AtEnd : (v u : Driver) (end' : Stamp) → r ≡ Core (Committed end')
+          → IsValidated d tx v → IsSettled v name tx r u
+          → AreStepsOf u (event.Core (core.Finish tx)) (Core Done) d' → IsCommit d name tx r d'
 
   -- one step of the transaction that the name is bound to
   abbrev pub IsTxStep : Driver → List ℕ → (TxId → CoreEvent) → Reply → Driver → Type 0
@@ -115,7 +144,7 @@ module _ (IsStep : Whole MemDisk → Event → Reply → Whole MemDisk → Type 
   IsAnswer d (line.Rollback name) r d' = IsTxStep d name.now core.Rollback r d'
   IsAnswer d (line.Finish name) r d' = IsTxStep d name.now core.Finish r d'
   IsAnswer d (line.Commit name) r d' =
-      IsSomeAnd (bound_by d.names name.now) (λ b. NotesCommit d.names d'.names name.now r)
+      IsSomeAnd (bound_by d.names name.now) (λ b. IsCommit d name.now b.tx r d')
   IsAnswer d (line.Poll name) r d' =
       IsSomeAnd (bound_by d.names name.now) (λ b. IsPolled d b r d')
   IsAnswer d line.Group r d' = IsStepOf d event.CloseGroup r d'

@@ -1,7 +1,6 @@
 -- What a script begins with.
-use Rattle.std.specs.Prelude.{◌≡◌, ℕ, None}
+use Rattle.std.specs.Prelude.{◌≡◌, None}
 use Rattle.std.specs.FinMap as map
-use Rattle.mvo_disk.specs.declared.memory.MemDisk.{MemDisk}
 use Rattle.mvo_state.specs.Line.{opened}
 use Rattle.mvo_world.specs.Whole.{Whole}
 use Rattle.mvo_script.specs.Bound.{BindsNone}

@@ -23,8 +23,8 @@ pub struct Driver {
 
 impl Driver {
     ghost use Rattle.std.specs.Prelude.{◌≡◌, IfOk, IfErr, MatchOption};
-    ghost use Rattle.mvo_script.specs.Answers.{IsAnswer, IsBegun, IsInserted, IsNoCommit, IsOfNoName};
-    ghost use Rattle.mvo_script.specs.Answers.{IsSettled, IsStepOf, NotesCommit};
+    ghost use Rattle.mvo_script.specs.Answers.{AreStepsOf, IsAnswer, IsBegun, IsCommit, IsInserted, IsOfNoName};
+    ghost use Rattle.mvo_script.specs.Answers.{IsSettled, IsStepOf};
     ghost use Rattle.mvo_script.specs.Bound.{bound_by, is_covered};
     ghost use Rattle.mvo_script.specs.Forms.{HasForm};
     ghost use Rattle.mvo_script.specs.declared.line.Line.{Line};
@@ -147,7 +147,8 @@ impl Driver {
     /// Precommit, validation to Valid, one settle, and after a commit finishing to Done. It stops
     /// at the first refusal.
     fn commit(&mut self, name: &str, tx: TxId) -> Reply
-        ensures { NotesCommit self.old.names self.new.names name.now result }
+        ensures { let step = IsReplyTo ⟦<MemDisk as Disk>⟧.fault_count in
+            IsCommit step self.old name.now tx result self.new }
     {
         match self.step(CoreEvent::Precommit(tx)) {
             Reply::Core(CoreReply::Preparing(_)) => {}
@@ -169,8 +170,8 @@ impl Driver {
 
     /// Checks entries while more are left.
     fn validate(&mut self, tx: TxId) -> Reply
-        ensures names { self.new.names ≡ self.old.names }
-        ensures reply { IsNoCommit result }
+        ensures { let step = IsReplyTo ⟦<MemDisk as Disk>⟧.fault_count in
+            AreStepsOf step self.old (Event.Core (CoreEvent.Validate tx)) result self.new }
     {
         for _ in 0..u64::MAX {
             match self.step(CoreEvent::Validate(tx)) {
@@ -183,8 +184,8 @@ impl Driver {
 
     /// Finishes while more is left.
     fn finish(&mut self, tx: TxId) -> Reply
-        ensures names { self.new.names ≡ self.old.names }
-        ensures reply { IsNoCommit result }
+        ensures { let step = IsReplyTo ⟦<MemDisk as Disk>⟧.fault_count in
+            AreStepsOf step self.old (Event.Core (CoreEvent.Finish tx)) result self.new }
     {
         for _ in 0..u64::MAX {
             match self.step(CoreEvent::Finish(tx)) {

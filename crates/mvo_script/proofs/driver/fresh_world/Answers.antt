@@ -1,4 +1,4 @@
-use Rattle.std.proofs.Common.{refl, ℕ, [], inl, inr, ◌≡◌, ◌⊎◌, ◌∙◌, ap₂}
+use Rattle.std.proofs.Common.{refl, [], inl, inr, ◌≡◌, ◌∙◌, ap₂}
 use Rattle.std.specs.FinMap as map
 use Rattle.mvo_world.specs.Standing.{IsUpTo}
 use Rattle.mvo_state.specs.Line.{opened}
