@@ -46,7 +46,8 @@ impl Driver {
         })
     }
 
-    /// The reply to a line, without its line feed. A bad line changes nothing.
+    /// The reply to a line, without its line feed. A bad line changes nothing. No clause says which
+    /// line the bytes are, nor which steps of groups a flush takes.
     pub fn answer(&mut self, bytes: &[u8]) -> LineReply
         ensures bad { result ≡ LineReply.BadLine → self.new ≡ self.old }
         ensures answered { let step = IsReplyTo ⟦<MemDisk as Disk>⟧.fault_count in

@@ -53,7 +53,7 @@ pub struct RowText<'a> {
 }
 
 impl<'a> Line<'a> {
-    /// The line that these bytes are, without its line feed.
+    /// The line that these bytes are, without its line feed. No clause says when it is one.
     pub fn parse(bytes: &'a [u8]) -> Option<Line<'a>>
         ensures form { IfSome result HasForm }
         ensures too_long { MAX_LINE_LEN < length bytes.now → result ≡ None }
