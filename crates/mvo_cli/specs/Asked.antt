@@ -6,7 +6,9 @@ use Rattle.mvo_cli.specs.declared.asked.Task.TheVariants.{Run}
 
 -- the program's commands, one of which must be there
 abbrev pub commands : App
-commands = with_subcommand (record { top = record (new_app (codes "mvo")).top { subcommand_required = true }; subs = [] }) (new_app (codes "run")).top
+commands =
+    let mvo = record (new_app (codes "mvo")).top { subcommand_required = true } in
+    with_subcommand (record { top = mvo; subs = [] }) (new_app (codes "run")).top
 
 -- the command that the words name
 abbrev pub command_of : List Text → Option Text

@@ -6,7 +6,7 @@ use Rattle.clap.specs.declared.error.ErrorKind.TheVariants as kind
 use Rattle.mvo_cli.specs.declared.fault.Fault.{Fault}
 use Rattle.mvo_cli.specs.declared.fault.Fault.TheVariants as fault
 
--- help is no fault, and want of memory is none of the command line's
+-- help is no fault, and out of memory is none of the command line's
 abbrev pub status_by : ErrorKind → ℕ
 status_by kind.DisplayHelp = 0
 status_by kind.DisplayVersion = 0

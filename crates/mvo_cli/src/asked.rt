@@ -14,10 +14,11 @@ pub enum Task {
 }
 
 /// The task that the words ask for, the program's own name first. An error is help that was asked
-/// for, a wrong or lacking word, or want of memory.
+/// for, a wrong or lacking word, or out of memory.
 pub fn command<'a>(alloc: Global, words: &'a [&'a str]) -> Result<Task, Error>
     ensures asked { IfOk result (λ t. AsksFor (map (λ w. w.now) words.entry.now) t) }
-    ensures run { (name : Text) → map (λ w. w.now) words.entry.now ≡ name ∷ codes "run" ∷ [] → IfErr result (λ e. kind_of e ≡ ErrorKind.OutOfMemory) }
+    ensures run { (name : Text) → map (λ w. w.now) words.entry.now ≡ name ∷ codes "run" ∷ [] →
+        IfErr result (λ e. kind_of e ≡ ErrorKind.OutOfMemory) }
 {
     let mut mvo = command_line(alloc)?;
     let matches = mvo.try_get_matches_from_mut(words)?;

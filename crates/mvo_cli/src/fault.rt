@@ -1,8 +1,8 @@
 ghost use Rattle.std.specs.Prelude.{◌≡◌, ◌↔◌, IsTrue};
 ghost use Rattle.mvo_cli.specs.Status.{status_of};
 
-use crate::script::ScriptError;
 use clap::error::ErrorKind;
+use mvo_script::ScriptError;
 use std::alloc::AllocError;
 use std::io;
 use thiserror::Error;

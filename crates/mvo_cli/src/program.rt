@@ -1,6 +1,6 @@
 use crate::asked::{Task, command};
 use crate::fault::Fault;
-use crate::script::run_script;
+use mvo_script::run_script;
 use std::process::ExitCode;
 use std::rt::Env;
 use std::{env, io};

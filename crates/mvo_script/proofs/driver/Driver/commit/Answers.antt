@@ -1,0 +1,61 @@
+use Rattle.std.proofs.Common.{arith, ap, subst, ℕ, List, ◌≡◌, ◌≢◌, ◌∙◌}
+use Rattle.mvo_types.specs.declared.ids.Stamp.{Stamp}
+use Rattle.mvo_core.specs.declared.reply.Reply.TheVariants.{Committed, Preparing, Valid, Done}
+use Rattle.mvo_disk.specs.declared.memory.MemDisk.{MemDisk}
+use Rattle.mvo_world.specs.Whole.{Whole}
+use Rattle.mvo_world.specs.declared.event.Event.{Event}
+use Rattle.mvo_world.specs.declared.reply.Reply.{Reply}
+use Rattle.mvo_world.specs.declared.reply.Reply.TheVariants.{Core}
+use Rattle.mvo_types.specs.declared.ids.TxId.{TxId}
+use Rattle.mvo_script.specs.Answers.{IsCommit, IsStepOf, IsSettled, AreStepsOf}
+use Rattle.mvo_script.specs.Answers.IsCommit.{AtValidate, AtSettle, AtFinish, AtEnd}
+use Rattle.mvo_script.specs.declared.driver.Driver.{Driver}
+use Rattle.mvo_script.proofs.driver.Driver.commit.Goals as goal
+
+step_at : {P : Whole MemDisk → Event → Reply → Whole MemDisk → Type 0} {d : Driver} {e : Event} {r s : Reply} {d' : Driver} → r ≡ s → IsStepOf P d e r d' → IsStepOf P d e s d'
+step_at {P} {d} {e} {r} {s} {d'} same it = subst (λ (x : Reply). IsStepOf P d e x d') same it
+
+steps_at : {P : Whole MemDisk → Event → Reply → Whole MemDisk → Type 0} {d : Driver} {e : Event} {r s : Reply} {d' : Driver} → r ≡ s → AreStepsOf P d e r d' → AreStepsOf P d e s d'
+steps_at {P} {d} {e} {r} {s} {d'} same it = subst (λ (x : Reply). AreStepsOf P d e x d') same it
+
+settled_at : {P : Whole MemDisk → Event → Reply → Whole MemDisk → Type 0} {d : Driver} {n : List ℕ} {t : TxId} {r s : Reply} {d' : Driver} → r ≡ s → IsSettled P d n t r d' → IsSettled P d n t s d'
+settled_at {P} {d} {n} {t} {r} {s} {d'} same it = subst (λ (x : Reply). IsSettled P d n t x d') same it
+
+commit_at : {P : Whole MemDisk → Event → Reply → Whole MemDisk → Type 0} {d : Driver} {n : List ℕ} {t : TxId} {r s : Reply} {d' : Driver} → r ≡ s → IsCommit P d n t r d' → IsCommit P d n t s d'
+commit_at {P} {d} {n} {t} {r} {s} {d'} same it = subst (λ (x : Reply). IsCommit P d n t x d') same it
+
+pub returns-in_default-validate : goal.returns-in_default-validate
+returns-in_default-validate c =
+    let stop = c.in-Core-Preparing.field-0-0 in
+    let prepares : c.step.result ≡ Core (Preparing stop) = c.in-Core-Preparing.is ∙ ap Core c.in-Core-Preparing.field-0-is in
+    let other : c.validate.result ≢ Core Valid = λ e. grind (arith, e) in
+    commit_at (grind arith) (AtValidate stop c.step.new.self other (step_at prepares c.step.ensures) c.validate.ensures)
+
+pub returns-in_default-settled : goal.returns-in_default-settled
+returns-in_default-settled c =
+    let stop = c.in-Core-Preparing.field-0-0 in
+    let prepares : c.step.result ≡ Core (Preparing stop) = c.in-Core-Preparing.is ∙ ap Core c.in-Core-Preparing.field-0-is in
+    let valid : c.validate.result ≡ Core Valid = c.in-Core-Valid.is ∙ ap Core c.in-Core-Valid.field-0-is in
+    let other : (end' : Stamp) → c.settle-settled.result ≢ Core (Committed end') = λ end' e. grind (arith, e) in
+    AtSettle c.validate.new.self other
+    (record { stop = stop; then_on = c.step.new.self; prepared = step_at prepares c.step.ensures; checked = steps_at valid c.validate.ensures }) c.settle-settled.ensures
+
+pub returns-in-Core-Done : goal.returns-in-Core-Done
+returns-in-Core-Done c =
+    let stop = c.in-Core-Preparing.field-0-0 in
+    let prepares : c.step.result ≡ Core (Preparing stop) = c.in-Core-Preparing.is ∙ ap Core c.in-Core-Preparing.field-0-is in
+    let valid : c.validate.result ≡ Core Valid = c.in-Core-Valid.is ∙ ap Core c.in-Core-Valid.field-0-is in
+    let commits : c.settle-settled.result ≡ Core (Committed c.in-Core-Committed.field-0-0) = grind arith in
+    let done : c.finish.result ≡ Core Done = c.in-Core-Done.is ∙ ap Core c.in-Core-Done.field-0-is in
+    AtEnd c.validate.new.self c.settle-settled.new.self c.in-Core-Committed.field-0-0 commits
+    (record { stop = stop; then_on = c.step.new.self; prepared = step_at prepares c.step.ensures; checked = steps_at valid c.validate.ensures }) c.settle-settled.ensures (steps_at done c.finish.ensures)
+
+pub returns-in_default-finish : goal.returns-in_default-finish
+returns-in_default-finish c =
+    let stop = c.in-Core-Preparing.field-0-0 in
+    let prepares : c.step.result ≡ Core (Preparing stop) = c.in-Core-Preparing.is ∙ ap Core c.in-Core-Preparing.field-0-is in
+    let valid : c.validate.result ≡ Core Valid = c.in-Core-Valid.is ∙ ap Core c.in-Core-Valid.field-0-is in
+    let commits : c.settle-settled.result ≡ Core (Committed c.in-Core-Committed.field-0-0) = grind arith in
+    let other : c.finish.result ≢ Core Done = λ e. grind (arith, e) in
+    commit_at (grind arith) (AtFinish c.validate.new.self c.settle-settled.new.self c.in-Core-Committed.field-0-0 other
+    (record { stop = stop; then_on = c.step.new.self; prepared = step_at prepares c.step.ensures; checked = steps_at valid c.validate.ensures }) (settled_at commits c.settle-settled.ensures) c.finish.ensures)

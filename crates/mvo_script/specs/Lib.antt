@@ -1,0 +1,6 @@
+pub mod Words
+pub mod Begun
+pub mod Bound
+pub mod Fresh
+pub mod Forms
+pub mod Answers

@@ -1,0 +1,225 @@
+ghost use Rattle.std.specs.Prelude.{◌≡◌, IfOk, IfErr};
+ghost use Rattle.mvo_script.specs.Fresh.{IsFreshWorld};
+
+use crate::bound::BoundTx;
+use crate::flush::flush;
+use crate::line::{Line, RowText};
+use crate::names::Names;
+use crate::reply::LineReply;
+use mvo_core::{Event as CoreEvent, Reply as CoreReply};
+use mvo_disk::{Disk, MemDisk};
+use mvo_store::format;
+use mvo_types::{Refusal, Row, TxId};
+use mvo_world::{Event, Reply, World};
+use std::alloc::Global;
+
+/// Answers the lines of a script, one after another, over a fresh store on a disk in memory.
+#[derive(Drop)]
+pub struct Driver {
+    alloc: Global,
+    world: World<MemDisk>,
+    names: Names,
+}
+
+impl Driver {
+    ghost use Rattle.std.specs.Prelude.{◌≡◌, IfOk, IfErr, MatchOption};
+    ghost use Rattle.mvo_script.specs.Answers.{AreStepsOf, IsAnswer, IsBegun, IsCommit, IsInserted, IsOfNoName};
+    ghost use Rattle.mvo_script.specs.Answers.{IsSettled, IsStepOf};
+    ghost use Rattle.mvo_script.specs.Bound.{bound_by, is_covered};
+    ghost use Rattle.mvo_script.specs.Forms.{HasForm};
+    ghost use Rattle.mvo_script.specs.declared.line.Line.{Line};
+    ghost use Rattle.mvo_world.specs.declared.reply.Reply.{Reply};
+    ghost use Rattle.mvo_script.specs.Fresh.{IsFresh};
+    ghost use Rattle.mvo_world.specs.Replies.{IsReplyTo};
+
+    /// A driver with the clock at 0, no rows and no names. Refused with 90 alone.
+    pub fn new(alloc: Global) -> Result<Driver, Refusal>
+        ensures fresh { IfOk result IsFresh }
+        ensures memory { IfErr result (λ r. r ≡ Refusal.OutOfMemory) }
+    {
+        let world = fresh_world(alloc)?;
+        let names = Names::new(alloc);
+        Ok(Driver {
+            alloc,
+            world,
+            names,
+        })
+    }
+
+    /// The reply to a line, without its line feed. A bad line changes nothing. No clause says which
+    /// line the bytes are, nor which steps of groups a flush takes.
+    pub fn answer(&mut self, bytes: &[u8]) -> LineReply
+        ensures bad { result ≡ LineReply.BadLine → self.new ≡ self.old }
+        ensures answered { let step = IsReplyTo ⟦<MemDisk as Disk>⟧.fault_count in
+            (r : Reply) → result ≡ LineReply.Answered r →
+            (line : Line) × HasForm line × IsAnswer step self.old line r self.new }
+    {
+        let Some(line) = Line::parse(bytes) else {
+            return LineReply::BadLine;
+        };
+        match self.reply_to(line) {
+            Some(reply) => LineReply::Answered(reply),
+            None => LineReply::BadLine,
+        }
+    }
+
+    /// The reply to a line. None where its name was never begun.
+    fn reply_to(&mut self, line: Line<'_>) -> Option<Reply>
+        ensures { let step = IsReplyTo ⟦<MemDisk as Disk>⟧.fault_count in
+            MatchOption result (IsOfNoName self.old.names line.entry × (self.new ≡ self.old))
+            (λ r. IsAnswer step self.old line.entry r self.new) }
+    {
+        match line {
+            Line::Begin(name) => Some(self.begin(name)),
+            Line::Read(name, key) => Some(self.step(CoreEvent::Read(self.bound(name)?.tx, key))),
+            Line::Insert(name, row) => Some(self.insert(self.bound(name)?.tx, row)),
+            Line::Precommit(name) => Some(self.step(CoreEvent::Precommit(self.bound(name)?.tx))),
+            Line::Validate(name) => Some(self.step(CoreEvent::Validate(self.bound(name)?.tx))),
+            Line::Rollback(name) => Some(self.step(CoreEvent::Rollback(self.bound(name)?.tx))),
+            Line::Finish(name) => Some(self.step(CoreEvent::Finish(self.bound(name)?.tx))),
+            Line::Settle(name) => Some(self.settle(name, self.bound(name)?.tx)),
+            Line::Commit(name) => Some(self.commit(name, self.bound(name)?.tx)),
+            Line::Poll(name) => Some(self.poll(self.bound(name)?)),
+            Line::Group => Some(self.ask(Event::CloseGroup)),
+            Line::Take => Some(self.ask(Event::TakeGroup)),
+            Line::Body => Some(self.ask(Event::AppendBody)),
+            Line::Open => Some(self.ask(Event::AppendOpen)),
+            Line::Flush => Some(flush(&mut self.world)),
+        }
+    }
+
+    /// What the name is bound to.
+    fn bound(&self, name: &str) -> Option<BoundTx>
+        ensures { result ≡ bound_by self.now.names name.now }
+    {
+        self.names.get(name)
+    }
+
+    /// One step of a transaction.
+    fn step(&mut self, event: CoreEvent) -> Reply
+        ensures { let step = IsReplyTo ⟦<MemDisk as Disk>⟧.fault_count in
+            IsStepOf step self.old (Event.Core event) result self.new }
+    {
+        self.ask(Event::Core(event))
+    }
+
+    /// One step of the world.
+    fn ask(&mut self, event: Event) -> Reply
+        ensures { let step = IsReplyTo ⟦<MemDisk as Disk>⟧.fault_count in
+            IsStepOf step self.old event result self.new }
+    {
+        self.world.step(event)
+    }
+
+    fn begin(&mut self, name: &str) -> Reply
+        ensures { let step = IsReplyTo ⟦<MemDisk as Disk>⟧.fault_count in
+            IsBegun step self.old name.now result self.new }
+    {
+        match self.names.begin(name, &mut self.world) {
+            Ok(reply) => reply,
+            Err(_) => Reply::Refused(Refusal::OutOfMemory),
+        }
+    }
+
+    fn insert(&mut self, tx: TxId, row: RowText<'_>) -> Reply
+        ensures { let step = IsReplyTo ⟦<MemDisk as Disk>⟧.fault_count in
+            IsInserted step self.old tx row.entry result self.new }
+    {
+        let RowText { key, sort, digits } = row;
+        // The digits are even in number and hexadecimal, so only memory can be lacking.
+        match hex::decode(self.alloc, digits) {
+            Ok(bytes) => self.ask(Event::Core(CoreEvent::Insert(tx, Row { key, sort, bytes }))),
+            Err(_) => Reply::Refused(Refusal::OutOfMemory),
+        }
+    }
+
+    /// Settles the transaction that the name is bound to, and notes its end for the name.
+    fn settle(&mut self, name: &str, tx: TxId) -> Reply
+        ensures { let step = IsReplyTo ⟦<MemDisk as Disk>⟧.fault_count in
+            IsSettled step self.old name.now tx result self.new }
+    {
+        let settled = self.step(CoreEvent::Settle(tx));
+        if let Reply::Core(CoreReply::Committed(end)) = settled {
+            self.names.note_end(name, end);
+        }
+        settled
+    }
+
+    /// Precommit, validation to Valid, one settle, and after a commit finishing to Done. It stops
+    /// at the first refusal.
+    fn commit(&mut self, name: &str, tx: TxId) -> Reply
+        ensures { let step = IsReplyTo ⟦<MemDisk as Disk>⟧.fault_count in
+            IsCommit step self.old name.now tx result self.new }
+    {
+        match self.step(CoreEvent::Precommit(tx)) {
+            Reply::Core(CoreReply::Preparing(_)) => {}
+            refused => return refused,
+        }
+        match self.validate(tx) {
+            Reply::Core(CoreReply::Valid) => {}
+            refused => return refused,
+        }
+        let settled = self.settle(name, tx);
+        let Reply::Core(CoreReply::Committed(_)) = settled else {
+            return settled;
+        };
+        match self.finish(tx) {
+            Reply::Core(CoreReply::Done) => settled,
+            refused => refused,
+        }
+    }
+
+    /// Checks entries while more are left.
+    fn validate(&mut self, tx: TxId) -> Reply
+        ensures { let step = IsReplyTo ⟦<MemDisk as Disk>⟧.fault_count in
+            AreStepsOf step self.old (Event.Core (CoreEvent.Validate tx)) result self.new }
+    {
+        for _ in 0..u64::MAX {
+            match self.step(CoreEvent::Validate(tx)) {
+                Reply::Core(CoreReply::More) => {}
+                reply => return reply,
+            }
+        }
+        Reply::Core(CoreReply::More)
+    }
+
+    /// Finishes while more is left.
+    fn finish(&mut self, tx: TxId) -> Reply
+        ensures { let step = IsReplyTo ⟦<MemDisk as Disk>⟧.fault_count in
+            AreStepsOf step self.old (Event.Core (CoreEvent.Finish tx)) result self.new }
+    {
+        for _ in 0..u64::MAX {
+            match self.step(CoreEvent::Finish(tx)) {
+                Reply::Core(CoreReply::More) => {}
+                reply => return reply,
+            }
+        }
+        Reply::Core(CoreReply::More)
+    }
+
+    /// Whether the store's mark is at least the end of the transaction, which may be none yet.
+    fn poll(&mut self, bound: BoundTx) -> Reply
+        ensures reply { result ≡ Reply.Polled (is_covered self.old.world.log.mark.0 bound.end) }
+        ensures same { self.new ≡ self.old }
+    {
+        match bound.end {
+            Some(end) => self.world.step(Event::Poll(end)),
+            None => Reply::Polled(false),
+        }
+    }
+}
+
+/// A world over a fresh disk in memory. Such a disk fails only where memory is refused.
+fn fresh_world(alloc: Global) -> Result<World<MemDisk>, Refusal>
+    ensures fresh { IfOk result IsFreshWorld }
+    ensures memory { IfErr result (λ r. r ≡ Refusal.OutOfMemory) }
+{
+    let disk = MemDisk::new(alloc)?;
+    let Ok(disk) = format(disk) else {
+        return Err(Refusal::OutOfMemory);
+    };
+    match World::open(alloc, disk) {
+        Ok(world) => Ok(world),
+        Err(_) => Err(Refusal::OutOfMemory),
+    }
+}

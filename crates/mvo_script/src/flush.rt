@@ -1,0 +1,40 @@
+ghost use Rattle.mvo_script.specs.Answers.{IsFlushed, IsAppended};
+
+use mvo_disk::Disk;
+use mvo_types::Refusal;
+use mvo_world::{Event, Reply, World};
+
+/// Closes the next group, where there is one to close and a place for it, and makes each closed
+/// group durable. It answers Durable with the store's mark, also where there was nothing to do, or
+/// the refusal at which it stopped.
+pub fn flush<D: Disk>(world: &mut World<D>) -> Reply
+    ensures { IsFlushed world.new result }
+{
+    match world.step(Event::CloseGroup) {
+        Reply::Closed(_) | Reply::Refused(Refusal::NothingToDo | Refusal::RingFull) => {}
+        refused => return refused,
+    }
+    for _ in 0..u64::MAX {
+        // A group that is pending already comes first: the store is Busy with it.
+        match world.step(Event::TakeGroup) {
+            Reply::Taken | Reply::Refused(Refusal::Busy) => {}
+            Reply::Refused(Refusal::NothingToDo) => return Reply::Durable(world.mark()),
+            refused => return refused,
+        }
+        match append(world) {
+            Reply::Durable(_) => {}
+            refused => return refused,
+        }
+    }
+    Reply::Refused(Refusal::Busy)
+}
+
+/// Makes the pending group durable. Its body may be written already.
+fn append<D: Disk>(world: &mut World<D>) -> Reply
+    ensures { IsAppended result }
+{
+    match world.step(Event::AppendBody) {
+        Reply::Written | Reply::Refused(Refusal::Busy) => world.step(Event::AppendOpen),
+        refused => refused,
+    }
+}

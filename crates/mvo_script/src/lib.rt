@@ -1,0 +1,16 @@
+//! Scripts: their lines, the replies to these, and the run of a script from a reader to a writer.
+#![tactic(auto)]
+
+mod bound;
+mod driver;
+mod flush;
+mod line;
+mod names;
+mod reply;
+mod script;
+mod words;
+
+pub use driver::Driver;
+pub use line::{Line, MAX_LINE_LEN, RowText};
+pub use reply::LineReply;
+pub use script::{ScriptError, run_script};

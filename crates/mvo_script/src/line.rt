@@ -1,0 +1,123 @@
+ghost use Rattle.std.specs.Prelude.{◌≡◌, ◌<◌, IfSome, length};
+ghost use Rattle.mvo_script.specs.Forms.{HasForm, IsData};
+
+use crate::words::{digits_of, name_of, number_of, table_of};
+use mvo_types::RowKey;
+use std::str;
+
+/// The most bytes of a line, its line feed not counted. A longer one is a bad line.
+pub const MAX_LINE_LEN: usize = 4_096;
+
+/// A line of a script. Its first word says which.
+#[derive(Clone, Copy, Debug)]
+pub enum Line<'a> {
+    /// `begin NAME`
+    Begin(&'a str),
+    /// `read NAME TABLE KEY`
+    Read(&'a str, RowKey),
+    /// `insert NAME TABLE KEY SORT DATA`
+    Insert(&'a str, RowText<'a>),
+    /// `precommit NAME`
+    Precommit(&'a str),
+    /// `validate NAME`
+    Validate(&'a str),
+    /// `settle NAME`
+    Settle(&'a str),
+    /// `rollback NAME`
+    Rollback(&'a str),
+    /// `finish NAME`
+    Finish(&'a str),
+    /// `commit NAME`
+    Commit(&'a str),
+    /// `poll NAME`
+    Poll(&'a str),
+    /// `group`
+    Group,
+    /// `take`
+    Take,
+    /// `body`
+    Body,
+    /// `open`
+    Open,
+    /// `flush`
+    Flush,
+}
+
+/// A row as a line gives it.
+#[derive(Clone, Copy, Debug)]
+pub struct RowText<'a> {
+    pub key: RowKey,
+    pub sort: u64,
+    /// Its data in lower-case hexadecimal digits, two a byte.
+    pub digits: &'a str,
+}
+
+impl<'a> Line<'a> {
+    /// The line that these bytes are, without its line feed. No clause says when it is one.
+    pub fn parse(bytes: &'a [u8]) -> Option<Line<'a>>
+        ensures form { IfSome result HasForm }
+        ensures too_long { MAX_LINE_LEN < length bytes.now → result ≡ None }
+    {
+        if bytes.len() > MAX_LINE_LEN {
+            return None;
+        }
+        let text = str::from_utf8(bytes).ok()?;
+        let mut words = text.split(' ');
+        let line = line_of(words.next()?, &mut words)?;
+        match words.next() {
+            Some(_) => None,
+            None => Some(line),
+        }
+    }
+}
+
+/// The line with this first word, from the words after it.
+fn line_of<'a>(first: &str, rest: &mut str::Split<'a, char>) -> Option<Line<'a>>
+    ensures { IfSome result HasForm }
+{
+    match first {
+        "group" => Some(Line::Group),
+        "take" => Some(Line::Take),
+        "body" => Some(Line::Body),
+        "open" => Some(Line::Open),
+        "flush" => Some(Line::Flush),
+        _ => named_line_of(first, rest),
+    }
+}
+
+/// The line of a transaction with this first word, from the words after it.
+fn named_line_of<'a>(first: &str, rest: &mut str::Split<'a, char>) -> Option<Line<'a>>
+    ensures { IfSome result HasForm }
+{
+    let name = name_of(rest.next()?)?;
+    match first {
+        "begin" => Some(Line::Begin(name)),
+        "read" => Some(Line::Read(name, key_of(rest)?)),
+        "insert" => Some(Line::Insert(name, row_of(rest)?)),
+        "precommit" => Some(Line::Precommit(name)),
+        "validate" => Some(Line::Validate(name)),
+        "settle" => Some(Line::Settle(name)),
+        "rollback" => Some(Line::Rollback(name)),
+        "finish" => Some(Line::Finish(name)),
+        "commit" => Some(Line::Commit(name)),
+        "poll" => Some(Line::Poll(name)),
+        _ => None,
+    }
+}
+
+/// The words TABLE KEY.
+fn key_of(words: &mut str::Split<'_, char>) -> Option<RowKey> {
+    let table = table_of(words.next()?)?;
+    let key = number_of(words.next()?)?;
+    Some(RowKey { table, key })
+}
+
+/// The words TABLE KEY SORT DATA.
+fn row_of<'a>(words: &mut str::Split<'a, char>) -> Option<RowText<'a>>
+    ensures { IfSome result (λ row. IsData row.digits.now) }
+{
+    let key = key_of(words)?;
+    let sort = number_of(words.next()?)?;
+    let digits = digits_of(words.next()?)?;
+    Some(RowText { key, sort, digits })
+}

@@ -1,0 +1,68 @@
+ghost use Rattle.std.specs.Prelude.{◌≡◌, IfOk, OnErr};
+ghost use Rattle.mvo_world.specs.Replies.{IsReplyTo};
+ghost use Rattle.mvo_script.specs.Bound.{bound_by, BindsNone, BindsBegun, Ends, KeepsBound};
+
+use crate::bound::BoundTx;
+use mvo_core::{Event as CoreEvent, Reply as CoreReply};
+use mvo_disk::Disk;
+use mvo_types::Stamp;
+use mvo_world::{Event, Reply, World};
+use std::alloc::{AllocError, Global};
+use std::collections::BTreeMap;
+
+/// The transactions that a script has begun, by their names.
+#[derive(Drop)]
+pub struct Names {
+    alloc: Global,
+    // None where a begin was refused, and none was accepted before.
+    bound: BTreeMap<String, Option<BoundTx>>,
+}
+
+impl Names {
+    /// No names.
+    pub fn new(alloc: Global) -> Names
+        ensures { BindsNone result }
+    {
+        Names {
+            alloc,
+            bound: BTreeMap::new(alloc),
+        }
+    }
+
+    /// What the name is bound to, if it is bound.
+    pub fn get(&self, name: &str) -> Option<BoundTx>
+        ensures { result ≡ bound_by self.now name.now }
+    {
+        self.bound.get(name).copied().flatten()
+    }
+
+    /// Asks the world to begin a transaction, and binds the name to it, as one that isn't
+    /// Committed. Where that is refused, each name stays as it was. Room for the name is taken
+    /// first: an error has asked for nothing.
+    pub fn begin<D: Disk>(&mut self, name: &str, world: &mut World<D>) -> Result<Reply, AllocError>
+        ensures asked { let begin = Event.Core CoreEvent.Begin in
+            IfOk result (λ r. IsReplyTo D.fault_count world.old begin r world.new) }
+        ensures names { IfOk result (BindsBegun self.old self.new name.now) }
+        ensures names_err { OnErr result (KeepsBound self.old self.new) }
+        ensures world_err { OnErr result (world.new ≡ world.old) }
+    {
+        let name = String::from_str(self.alloc, name)?;
+        let place = self.bound.entry(name)?.or_insert(None);
+        let reply = world.step(Event::Core(CoreEvent::Begin));
+        if let Reply::Core(CoreReply::Began(tx)) = &reply {
+            *place = Some(BoundTx::begun(*tx));
+        }
+        Ok(reply)
+    }
+
+    /// Notes the end timestamp of the transaction that the name is bound to, which is Committed.
+    pub fn note_end(&mut self, name: &str, end: Stamp)
+        ensures { Ends self.old self.new name.now end }
+    {
+        if let Some(place) = self.bound.get_mut(name) {
+            if let Some(BoundTx { tx, .. }) = *place {
+                *place = Some(BoundTx { tx, end: Some(end) });
+            }
+        }
+    }
+}

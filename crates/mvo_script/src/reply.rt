@@ -1,0 +1,97 @@
+use mvo_core::Closed;
+use mvo_types::{Answer, Row};
+use mvo_world::Reply;
+use std::fmt;
+
+/// What is answered to a line of a script. It is printed as the reply line, without a line feed.
+#[derive(Debug, Drop)]
+pub enum LineReply {
+    /// The line isn't one of a script, or its name was never begun.
+    BadLine,
+    /// What the step answered, or the step at which a shorthand ended.
+    Answered(Reply),
+}
+
+impl fmt::Display for LineReply {
+    fn fmt<W: fmt::Write>(&self, f: &mut fmt::Formatter<W>) -> fmt::Result {
+        match self {
+            LineReply::BadLine => write!(f, "bad line"),
+            LineReply::Answered(reply) => write_reply(f, reply),
+        }
+    }
+}
+
+/// Writes the text of a reply.
+fn write_reply<W: fmt::Write>(f: &mut fmt::Formatter<W>, reply: &Reply) -> fmt::Result {
+    match reply {
+        Reply::Core(reply) => write_core_reply(f, reply),
+        Reply::Closed(Closed { prev, mark }) => write!(f, "closed {prev} {mark}"),
+        Reply::Taken => write!(f, "taken"),
+        Reply::Written => write!(f, "written"),
+        Reply::Durable(mark) => write!(f, "durable {mark}"),
+        Reply::Polled(true) => write!(f, "yes"),
+        Reply::Polled(false) => write!(f, "no"),
+        Reply::Refused(refusal) => write!(f, "{refusal}"),
+    }
+}
+
+/// Writes the text of a reply to a step of a transaction.
+fn write_core_reply<W: fmt::Write>(
+    f: &mut fmt::Formatter<W>,
+    reply: &mvo_core::Reply,
+) -> fmt::Result {
+    use mvo_core::Reply;
+    match reply {
+        Reply::Began(id) => write!(f, "began {id}"),
+        Reply::Answered(answer) => write_answer(f, answer),
+        Reply::Preparing(end) => write!(f, "preparing {end}"),
+        Reply::More => write!(f, "more"),
+        Reply::Valid => write!(f, "valid"),
+        Reply::Committed(end) => write!(f, "committed {end}"),
+        Reply::Waiting(id) => write!(f, "waiting {id}"),
+        Reply::RolledBack => write!(f, "rolled back"),
+        Reply::Done => write!(f, "done"),
+        Reply::Refused(refusal) => write!(f, "{refusal}"),
+    }
+}
+
+/// Writes the text of an answer.
+fn write_answer<W: fmt::Write>(f: &mut fmt::Formatter<W>, answer: &Answer) -> fmt::Result {
+    match answer {
+        Answer::Found(Some(row)) => {
+            let sort = row.sort;
+            write!(f, "row {sort} ")?;
+            write_data(f, &row.bytes)
+        }
+        Answer::Found(None) => write!(f, "none"),
+        Answer::Rows(rows) => write_rows(f, rows),
+        Answer::Inserted => write!(f, "inserted"),
+        Answer::Exists => write!(f, "exists"),
+        Answer::Updated => write!(f, "updated"),
+        Answer::Deleted => write!(f, "deleted"),
+        Answer::Absent => write!(f, "absent"),
+    }
+}
+
+/// Writes how many rows there are, and each as KEY:SORT:DATA.
+fn write_rows<W: fmt::Write>(f: &mut fmt::Formatter<W>, rows: &[Row]) -> fmt::Result {
+    let count = rows.len();
+    write!(f, "rows {count}")?;
+    for row in rows {
+        let (key, sort) = (row.key.key, row.sort);
+        write!(f, " {key}:{sort}:")?;
+        write_data(f, &row.bytes)?;
+    }
+    Ok(())
+}
+
+/// Writes bytes in lower-case hexadecimal digits, and `-` for none.
+fn write_data<W: fmt::Write>(f: &mut fmt::Formatter<W>, bytes: &[u8]) -> fmt::Result {
+    if bytes.is_empty() {
+        return write!(f, "-");
+    }
+    for byte in bytes {
+        write!(f, "{byte:02x}")?;
+    }
+    Ok(())
+}

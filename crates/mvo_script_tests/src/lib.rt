@@ -1,0 +1,13 @@
+//! Tests of scripts, by their replies.
+#![tactic(auto)]
+
+#[cfg(test)]
+mod assert;
+#[cfg(test)]
+mod durable;
+#[cfg(test)]
+mod lines;
+#[cfg(test)]
+mod streams;
+#[cfg(test)]
+mod transactions;

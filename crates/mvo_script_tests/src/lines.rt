@@ -1,0 +1,141 @@
+//! Lines that are none of a script, and the longest ones.
+use crate::assert::assert_replies;
+use mvo_script::run_script;
+use std::alloc::AllocError;
+use std::test::Fail;
+
+/// Lines that are none of a script, where t1 was begun.
+const BAD_LINES: [&[u8]; 57] = [
+    b"",
+    b" ",
+    b"begin",
+    b"begin ",
+    b" begin t2",
+    b"begin t2 ",
+    b"begin  t2",
+    b"begin t2 t3",
+    b"Begin t2",
+    b"begins t2",
+    b"begin tX",
+    b"begin t_2",
+    b"begin t23456789012345678",
+    b"begin t2\r",
+    b"begin\tt2",
+    b"begin t2\t",
+    b"begin t2\0",
+    b"begin t\xff",
+    b"begin t\xc3\xa4",
+    b"read t2 0 5",
+    b"commit t2",
+    b"read t1 0",
+    b"read t1 0 5 5",
+    b"read t1 00 5",
+    b"read t1 0 05",
+    b"read t1 +0 5",
+    b"read t1 0 +5",
+    b"read t1 0 -5",
+    b"read t1 256 5",
+    b"read t1 0 18446744073709551616",
+    b"read t1 0 5a",
+    b"read t1 0 0x5",
+    b"read t1 0 5.0",
+    b"read t1 0 ",
+    b"read  t1 0 5",
+    b"read t1  0 5",
+    b"insert t1 0 5 50",
+    b"insert t1 0 5 50 6",
+    b"insert t1 0 5 50 6A",
+    b"insert t1 0 5 50 6g",
+    b"insert t1 0 5 50 --",
+    b"insert t1 0 5 50 ",
+    b"insert t1 0 5 050 61",
+    b"insert t1 0 5 50 61 61",
+    b"delete t1 0 5",
+    b"# a comment",
+    b"poll",
+    b"poll t2",
+    b"poll t1 0",
+    b"group t1",
+    b"group ",
+    b"take t1",
+    b"body t1",
+    b"open t1",
+    b"flush t1",
+    b"Flush",
+    b"durable",
+];
+
+#[test]
+fn bad_lines_change_nothing(rt: HostRuntime) -> Result<(), Fail> {
+    let alloc = rt.alloc();
+    for bad in BAD_LINES {
+        let mut script = b"begin t1\n".to_vec(alloc)?;
+        script.extend_from_slice(bad)?;
+        script.extend_from_slice(b"\nread t1 0 5\nbegin t1\n")?;
+        let mut replies = Vec::new(alloc);
+        run_script(alloc, script.as_slice(), &mut replies)?;
+        let expected = b"began 1\nbad line\nnone\nbegan 2\n".as_slice();
+        assert_eq!(rt; replies.as_slice(), expected, "at {bad:?}");
+    }
+    Ok(())
+}
+
+#[test]
+fn names_and_numbers_reach_their_limits(rt: HostRuntime) -> Result<(), Fail> {
+    let script = b"begin 0123456789abcdef\nread 0123456789abcdef 255 18446744073709551615\n\
+        begin t2345678901234567\nread z 0 0\nbegin z\nread z 0 0\n";
+    let expected = b"began 1\nrefused 34\nbad line\nbad line\nbegan 2\nnone\n";
+    assert_replies(&rt, rt.alloc(), script.as_slice(), expected.as_slice())
+}
+
+#[test]
+fn one_reply_a_line(rt: HostRuntime) -> Result<(), Fail> {
+    let alloc = rt.alloc();
+    assert_replies(&rt, alloc, b"".as_slice(), b"".as_slice())?;
+    assert_replies(&rt, alloc, b"\n".as_slice(), b"bad line\n".as_slice())?;
+    assert_replies(&rt, alloc, b"begin a".as_slice(), b"began 1\n".as_slice())?;
+    let expected = b"began 1\nbad line\n".as_slice();
+    assert_replies(&rt, alloc, b"begin a\n\n".as_slice(), expected)
+}
+
+/// A line that begins so, with this many digits behind it.
+fn push_digits(script: &mut Vec<u8>, start: &[u8], digits: usize) -> Result<(), AllocError> {
+    script.extend_from_slice(start)?;
+    for _ in 0..digits {
+        script.push(b'0')?;
+    }
+    script.push(b'\n')?;
+    Ok(())
+}
+
+#[test]
+fn a_line_has_4096_bytes_at_most(rt: HostRuntime) -> Result<(), Fail> {
+    let alloc = rt.alloc();
+    let mut script = b"begin t1\n".to_vec(alloc)?;
+    push_digits(&mut script, b"insert t1 0 5 500 ", 4_078)?;
+    push_digits(&mut script, b"insert t1 0 5 50 ", 4_080)?;
+    push_digits(&mut script, b"insert t1 0 5 50 ", 100_000)?;
+    script.extend_from_slice(b"read t1 0 5\n")?;
+    let expected = b"began 1\nrefused 33\nbad line\nbad line\nnone\n";
+    assert_replies(&rt, alloc, script.as_slice(), expected.as_slice())?;
+    script.truncate(9);
+    push_digits(&mut script, b"insert t1 0 5 50 ", 4_080)?;
+    script.pop();
+    assert_replies(
+        &rt,
+        alloc,
+        script.as_slice(),
+        b"began 1\nbad line\n".as_slice(),
+    )
+}
+
+#[test]
+fn data_has_1024_bytes_at_most(rt: HostRuntime) -> Result<(), Fail> {
+    let alloc = rt.alloc();
+    let mut script = b"begin t1\n".to_vec(alloc)?;
+    push_digits(&mut script, b"insert t1 0 5 50 ", 2_048)?;
+    push_digits(&mut script, b"insert t1 0 6 50 ", 2_050)?;
+    script.extend_from_slice(b"insert t1 16 7 50 -\n")?;
+    let expected = b"began 1\ninserted\nrefused 33\nrefused 34\n";
+    assert_replies(&rt, alloc, script.as_slice(), expected.as_slice())
+}
