@@ -9,7 +9,7 @@ use Rattle.mvo_core.specs.declared.event.Event.{Event as CoreEvent}
 use Rattle.mvo_core.specs.declared.event.Event.TheVariants as core
 use Rattle.mvo_core.specs.declared.reply.Reply.TheVariants.{Committed, Preparing, More, Valid, Done}
 use Rattle.mvo_disk.specs.declared.memory.MemDisk.{MemDisk}
-use Rattle.mvo_world.specs.Whole.{Whole}
+use Rattle.mvo_world.specs.WorldData.{WorldData}
 use Rattle.mvo_world.specs.declared.event.Event.{Event}
 use Rattle.mvo_world.specs.declared.event.Event.TheVariants as event
 use Rattle.mvo_world.specs.declared.reply.Reply.{Reply}
@@ -41,8 +41,8 @@ NotesEnd old new name (Core (Committed end')) = Ends old new name end'
 NotesEnd old new name _ = new ≡ old
 
 -- after a flush no group is closed or taken, and the mark is the store's; else it is refused
-abbrev pub IsFlushed : {D : Type 0} → Whole D → Reply → Type 0
-IsFlushed w (Durable mark) = (w.log.mark ≡ mark) × (w.place ≡ None) × (w.log.pending ≡ None)
+abbrev pub IsFlushed : {D : Type 0} → WorldData D → Reply → Type 0
+IsFlushed w (Durable mark) = (w.store.mark ≡ mark.0) × (w.place ≡ None) × (w.store.pending ≡ None)
 IsFlushed w (Refused r) = Unit {0}
 IsFlushed w _ = ⊥
 
@@ -57,7 +57,7 @@ abbrev pub row_of : RowText → List ℕ → RowData
 row_of text bytes = record { key = text.key; sort = text.sort; bytes = bytes }
 
 -- ---- by the steps of the world that the driver makes
-module _ (IsStep : Whole MemDisk → Event → Reply → Whole MemDisk → Type 0) where
+module _ (IsStep : WorldData MemDisk → Event → Reply → WorldData MemDisk → Type 0) where
   -- the world makes this step, and the names stay
   pub record IsStepOf (d : Driver) (e : Event) (r : Reply) (d' : Driver) : Type 0 where
     pub step : IsStep d.world e r d'.world
@@ -129,7 +129,7 @@ module _ (IsStep : Whole MemDisk → Event → Reply → Whole MemDisk → Type 
 
   -- whether the transaction that the name is bound to is durable; nothing changes
   abbrev pub IsPolled : Driver → BoundTx → Reply → Driver → Type 0
-  IsPolled d b r d' = (r ≡ Polled (is_covered d.world.log.mark.0 b.end)) × (d' ≡ d)
+  IsPolled d b r d' = (r ≡ Polled (is_covered d.world.store.mark b.end)) × (d' ≡ d)
 
   -- a line is answered
   abbrev pub IsAnswer : Driver → Line → Reply → Driver → Type 0

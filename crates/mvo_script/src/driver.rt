@@ -50,7 +50,7 @@ impl Driver {
     /// line the bytes are, nor which steps of groups a flush takes.
     pub fn answer(&mut self, bytes: &[u8]) -> LineReply
         ensures bad { result ≡ LineReply.BadLine → self.new ≡ self.old }
-        ensures answered { let step = IsReplyTo ⟦<MemDisk as Disk>⟧.fault_count in
+        ensures answered { let step = IsReplyTo ⟦<MemDisk as Disk>⟧ in
             (r : Reply) → result ≡ LineReply.Answered r →
             (line : Line) × HasForm line × IsAnswer step self.old line r self.new }
     {
@@ -65,7 +65,7 @@ impl Driver {
 
     /// The reply to a line. None where its name was never begun.
     fn reply_to(&mut self, line: Line<'_>) -> Option<Reply>
-        ensures { let step = IsReplyTo ⟦<MemDisk as Disk>⟧.fault_count in
+        ensures { let step = IsReplyTo ⟦<MemDisk as Disk>⟧ in
             MatchOption result (IsOfNoName self.old.names line.entry × (self.new ≡ self.old))
             (λ r. IsAnswer step self.old line.entry r self.new) }
     {
@@ -97,7 +97,7 @@ impl Driver {
 
     /// One step of a transaction.
     fn step(&mut self, event: CoreEvent) -> Reply
-        ensures { let step = IsReplyTo ⟦<MemDisk as Disk>⟧.fault_count in
+        ensures { let step = IsReplyTo ⟦<MemDisk as Disk>⟧ in
             IsStepOf step self.old (Event.Core event) result self.new }
     {
         self.ask(Event::Core(event))
@@ -105,14 +105,14 @@ impl Driver {
 
     /// One step of the world.
     fn ask(&mut self, event: Event) -> Reply
-        ensures { let step = IsReplyTo ⟦<MemDisk as Disk>⟧.fault_count in
+        ensures { let step = IsReplyTo ⟦<MemDisk as Disk>⟧ in
             IsStepOf step self.old event result self.new }
     {
         self.world.step(event)
     }
 
     fn begin(&mut self, name: &str) -> Reply
-        ensures { let step = IsReplyTo ⟦<MemDisk as Disk>⟧.fault_count in
+        ensures { let step = IsReplyTo ⟦<MemDisk as Disk>⟧ in
             IsBegun step self.old name.now result self.new }
     {
         match self.names.begin(name, &mut self.world) {
@@ -122,7 +122,7 @@ impl Driver {
     }
 
     fn insert(&mut self, tx: TxId, row: RowText<'_>) -> Reply
-        ensures { let step = IsReplyTo ⟦<MemDisk as Disk>⟧.fault_count in
+        ensures { let step = IsReplyTo ⟦<MemDisk as Disk>⟧ in
             IsInserted step self.old tx row.entry result self.new }
     {
         let RowText { key, sort, digits } = row;
@@ -135,7 +135,7 @@ impl Driver {
 
     /// Settles the transaction that the name is bound to, and notes its end for the name.
     fn settle(&mut self, name: &str, tx: TxId) -> Reply
-        ensures { let step = IsReplyTo ⟦<MemDisk as Disk>⟧.fault_count in
+        ensures { let step = IsReplyTo ⟦<MemDisk as Disk>⟧ in
             IsSettled step self.old name.now tx result self.new }
     {
         let settled = self.step(CoreEvent::Settle(tx));
@@ -148,7 +148,7 @@ impl Driver {
     /// Precommit, validation to Valid, one settle, and after a commit finishing to Done. It stops
     /// at the first refusal.
     fn commit(&mut self, name: &str, tx: TxId) -> Reply
-        ensures { let step = IsReplyTo ⟦<MemDisk as Disk>⟧.fault_count in
+        ensures { let step = IsReplyTo ⟦<MemDisk as Disk>⟧ in
             IsCommit step self.old name.now tx result self.new }
     {
         match self.step(CoreEvent::Precommit(tx)) {
@@ -171,7 +171,7 @@ impl Driver {
 
     /// Checks entries while more are left.
     fn validate(&mut self, tx: TxId) -> Reply
-        ensures { let step = IsReplyTo ⟦<MemDisk as Disk>⟧.fault_count in
+        ensures { let step = IsReplyTo ⟦<MemDisk as Disk>⟧ in
             AreStepsOf step self.old (Event.Core (CoreEvent.Validate tx)) result self.new }
     {
         for _ in 0..u64::MAX {
@@ -185,7 +185,7 @@ impl Driver {
 
     /// Finishes while more is left.
     fn finish(&mut self, tx: TxId) -> Reply
-        ensures { let step = IsReplyTo ⟦<MemDisk as Disk>⟧.fault_count in
+        ensures { let step = IsReplyTo ⟦<MemDisk as Disk>⟧ in
             AreStepsOf step self.old (Event.Core (CoreEvent.Finish tx)) result self.new }
     {
         for _ in 0..u64::MAX {
@@ -199,7 +199,7 @@ impl Driver {
 
     /// Whether the store's mark is at least the end of the transaction, which may be none yet.
     fn poll(&mut self, bound: BoundTx) -> Reply
-        ensures reply { result ≡ Reply.Polled (is_covered self.old.world.log.mark.0 bound.end) }
+        ensures reply { result ≡ Reply.Polled (is_covered self.old.world.store.mark bound.end) }
         ensures same { self.new ≡ self.old }
     {
         match bound.end {

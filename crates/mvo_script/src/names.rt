@@ -41,7 +41,7 @@ impl Names {
     /// first: an error has asked for nothing.
     pub fn begin<D: Disk>(&mut self, name: &str, world: &mut World<D>) -> Result<Reply, AllocError>
         ensures asked { let begin = Event.Core CoreEvent.Begin in
-            IfOk result (λ r. IsReplyTo D.fault_count world.old begin r world.new) }
+            IfOk result (λ r. IsReplyTo D.Disk world.old begin r world.new) }
         ensures names { IfOk result (BindsBegun self.old self.new name.now) }
         ensures names_err { OnErr result (KeepsBound self.old self.new) }
         ensures world_err { OnErr result (world.new ≡ world.old) }

@@ -2,7 +2,7 @@ use Rattle.std.proofs.Common.{arith, ap, subst, ℕ, List, ◌≡◌, ◌≢◌,
 use Rattle.mvo_types.specs.declared.ids.Stamp.{Stamp}
 use Rattle.mvo_core.specs.declared.reply.Reply.TheVariants.{Committed, Preparing, Valid, Done}
 use Rattle.mvo_disk.specs.declared.memory.MemDisk.{MemDisk}
-use Rattle.mvo_world.specs.Whole.{Whole}
+use Rattle.mvo_world.specs.WorldData.{WorldData}
 use Rattle.mvo_world.specs.declared.event.Event.{Event}
 use Rattle.mvo_world.specs.declared.reply.Reply.{Reply}
 use Rattle.mvo_world.specs.declared.reply.Reply.TheVariants.{Core}
@@ -12,16 +12,16 @@ use Rattle.mvo_script.specs.Answers.IsCommit.{AtValidate, AtSettle, AtFinish, At
 use Rattle.mvo_script.specs.declared.driver.Driver.{Driver}
 use Rattle.mvo_script.proofs.driver.Driver.commit.Goals as goal
 
-step_at : {P : Whole MemDisk → Event → Reply → Whole MemDisk → Type 0} {d : Driver} {e : Event} {r s : Reply} {d' : Driver} → r ≡ s → IsStepOf P d e r d' → IsStepOf P d e s d'
+step_at : {P : WorldData MemDisk → Event → Reply → WorldData MemDisk → Type 0} {d : Driver} {e : Event} {r s : Reply} {d' : Driver} → r ≡ s → IsStepOf P d e r d' → IsStepOf P d e s d'
 step_at {P} {d} {e} {r} {s} {d'} same it = subst (λ (x : Reply). IsStepOf P d e x d') same it
 
-steps_at : {P : Whole MemDisk → Event → Reply → Whole MemDisk → Type 0} {d : Driver} {e : Event} {r s : Reply} {d' : Driver} → r ≡ s → AreStepsOf P d e r d' → AreStepsOf P d e s d'
+steps_at : {P : WorldData MemDisk → Event → Reply → WorldData MemDisk → Type 0} {d : Driver} {e : Event} {r s : Reply} {d' : Driver} → r ≡ s → AreStepsOf P d e r d' → AreStepsOf P d e s d'
 steps_at {P} {d} {e} {r} {s} {d'} same it = subst (λ (x : Reply). AreStepsOf P d e x d') same it
 
-settled_at : {P : Whole MemDisk → Event → Reply → Whole MemDisk → Type 0} {d : Driver} {n : List ℕ} {t : TxId} {r s : Reply} {d' : Driver} → r ≡ s → IsSettled P d n t r d' → IsSettled P d n t s d'
+settled_at : {P : WorldData MemDisk → Event → Reply → WorldData MemDisk → Type 0} {d : Driver} {n : List ℕ} {t : TxId} {r s : Reply} {d' : Driver} → r ≡ s → IsSettled P d n t r d' → IsSettled P d n t s d'
 settled_at {P} {d} {n} {t} {r} {s} {d'} same it = subst (λ (x : Reply). IsSettled P d n t x d') same it
 
-commit_at : {P : Whole MemDisk → Event → Reply → Whole MemDisk → Type 0} {d : Driver} {n : List ℕ} {t : TxId} {r s : Reply} {d' : Driver} → r ≡ s → IsCommit P d n t r d' → IsCommit P d n t s d'
+commit_at : {P : WorldData MemDisk → Event → Reply → WorldData MemDisk → Type 0} {d : Driver} {n : List ℕ} {t : TxId} {r s : Reply} {d' : Driver} → r ≡ s → IsCommit P d n t r d' → IsCommit P d n t s d'
 commit_at {P} {d} {n} {t} {r} {s} {d'} same it = subst (λ (x : Reply). IsCommit P d n t x d') same it
 
 pub returns-in_default-validate : goal.returns-in_default-validate
