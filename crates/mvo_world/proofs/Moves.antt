@@ -3,7 +3,7 @@ use Rattle.std.proofs.Common.{◌≡◌, ◌≢◌, ◌⊎◌, inl, inr, ℕ, �
 use Rattle.std.specs.Prelude.{is_some, IfSome, nat_le}
 use Rattle.std.specs.Option.{option_to_list}
 use Rattle.std.specs.List.{AllByRecursion}
-use Rattle.std.proofs.lemmas.Bool.{true≢false, false≢true, leb-true}
+use Rattle.std.proofs.lemmas.Bool.{false≢true, leb-true}
 use Rattle.std.proofs.lemmas.List.{map-append}
 use Rattle.mvo_types.specs.declared.refusal.Refusal.{Refusal}
 use Rattle.mvo_types.specs.declared.refusal.Refusal.TheVariants.{RingFull, DiskFault, Down, Busy, NothingToDo, OutOfMemory}
@@ -11,7 +11,7 @@ use Rattle.mvo_types.specs.declared.ids.Stamp.{Stamp}
 use Rattle.mvo_types.specs.Keys.{Map}
 use Rattle.mvo_model.specs.Trace.{Step}
 use Rattle.mvo_disk.specs.declared.disk.Disk.{Ghosts}
-use Rattle.mvo_disk.specs.Disk.{AllOf, LeavesOnly}
+use Rattle.mvo_disk.specs.Disk.{AllOf}
 use Rattle.mvo_disk.specs.Moments.{weaker}
 use Rattle.mvo_group.specs.Data.{GroupData}
 use Rattle.mvo_group.specs.Rules.{KeepsRules}
@@ -30,8 +30,8 @@ use Rattle.mvo_core.specs.declared.reply.Reply as answered
 use Rattle.mvo_core.specs.declared.closed.Closed as closing
 use Rattle.mvo_store.specs.Frames.{mark_after}
 use Rattle.mvo_store.specs.Recovery.{rows_of, mark_of}
-use Rattle.mvo_store.specs.StoreData.{StoreData, opening}
-use Rattle.mvo_store.specs.Standing.{KeepsGroups, HasWithOrWithout, LeavesWithOrWithout, with_taken}
+use Rattle.mvo_store.specs.StoreData.{StoreData}
+use Rattle.mvo_store.specs.Standing.{KeepsGroups, LeavesWithOrWithout, with_taken}
 use Rattle.mvo_store.specs.Causes.{why_not_take}
 use Rattle.mvo_store.specs.Steps.{RefusedFor, LeftBy, IsMarkOf, KeepsOthers}
 use Rattle.mvo_store.proofs.Images.{keeps_unmoved}

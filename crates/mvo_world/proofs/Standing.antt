@@ -7,7 +7,6 @@ use Rattle.mvo_model.specs.Trace.{rows_up_to}
 use Rattle.mvo_disk.specs.declared.disk.Disk.{Ghosts}
 use Rattle.mvo_group.specs.Data.{GroupData}
 use Rattle.mvo_state.specs.Line.{State}
-use Rattle.mvo_state.specs.Marks.{settled_to}
 use Rattle.mvo_state.proofs.Each.{each_weaker}
 use Rattle.mvo_store.specs.Frames.{HasGroups, mark_after}
 use Rattle.mvo_store.specs.Recovery.{after_groups, rows_of, mark_of}

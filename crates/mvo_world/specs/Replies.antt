@@ -8,7 +8,6 @@ use Rattle.mvo_group.specs.Rules.{KeepsRules}
 use Rattle.mvo_state.specs.Causes.{IsRefusal}
 use Rattle.mvo_core.specs.Replies as core
 use Rattle.mvo_core.specs.Groups.{IsNextGroup, why_not_closed, closed_at}
-use Rattle.mvo_store.specs.StoreData.{StoreData}
 use Rattle.mvo_store.specs.Causes.{why_not_take, why_not_append_body, why_not_append_open}
 use Rattle.mvo_store.specs.Steps.{LeftBy}
 use Rattle.mvo_world.specs.WorldData.{WorldData}

@@ -2,7 +2,7 @@ use Rattle.std.proofs.Common.{arith, ◌≡◌, ◌++◌, ◌∷◌, ◌+◌, []
 use Rattle.std.proofs.lemmas.List.{take_more, take_all, length-take-le}
 use Rattle.mvo_state.proofs.Tales.{stands_serializable}
 use Rattle.mvo_store.specs.Recovery.{rows_of}
-use Rattle.mvo_world.specs.Past.{Past, with_events, IsSerialPast}
+use Rattle.mvo_world.specs.Past.{Past, with_events}
 use Rattle.mvo_world.specs.Standing.{IsAfter}
 use Rattle.mvo_world.specs.Steps.{IsRunStep, AreSteps}
 use Rattle.mvo_world.specs.declared.event.Event.{Event}
