@@ -24,11 +24,11 @@ unwrap_cond : (b : Bool) (h v : Option ContentData) → unwrap_or (cond b (Some 
 unwrap_cond true h v = refl
 unwrap_cond false h v = refl
 
-get-after_effect : (q : RowKey) (k : RowKey) (h : Option ContentData) (m : Map) → fin.get (after_effect k h m) q ≡ cond (eq_by_cmp key_cmp q k) h (fin.get m q)
+pub get-after_effect : (q : RowKey) (k : RowKey) (h : Option ContentData) (m : Map) → fin.get (after_effect k h m) q ≡ cond (eq_by_cmp key_cmp q k) h (fin.get m q)
 get-after_effect q k None m = fin.get-remove keys_total m k q
 get-after_effect q k (Some h) m = fin.get-insert keys_total m k h q
 
-get-after_write : (q : RowKey) (w : Option Write) (m : Map) → fin.get (after_write w m) q ≡ unwrap_or (write_at q w) (fin.get m q)
+pub get-after_write : (q : RowKey) (w : Option Write) (m : Map) → fin.get (after_write w m) q ≡ unwrap_or (write_at q w) (fin.get m q)
 get-after_write q None m = refl
 get-after_write q (Some w) m = get-after_effect q w.0 w.1 m ∙ sym (unwrap_cond (eq_by_cmp key_cmp q w.0) w.1 (fin.get m q))
 
@@ -43,7 +43,7 @@ later_assoc : (a b c : Option (Option ContentData)) → later a (later b c) ≡ 
 later_assoc None b c = refl
 later_assoc (Some h) b c = refl
 
-later-none : (a : Option (Option ContentData)) → later a None ≡ a
+pub later-none : (a : Option (Option ContentData)) → later a None ≡ a
 later-none None = refl
 later-none (Some h) = refl
 

@@ -1,0 +1,13 @@
+pub mod Entries
+pub mod Ranges
+pub mod State
+pub mod Sound
+pub mod Causes
+pub mod Steps
+pub mod Phases
+pub mod AfterTrace
+pub mod Marks
+pub mod Calls
+pub mod Traced
+pub mod Claimed
+pub mod Snapshots
