@@ -1,16 +1,16 @@
 -- The places of those that wrote: what the others say is nothing.
 use Rattle.std.proofs.Common.{◌≡◌, ℕ, zero, suc, ◌+◌, ◌<◌, ◌≤◌, Bool, true, false, cond, List, [], ◌∷◌, ◌++◌, Option, None, Some, take, length, get_or, refl, sym, ap, ◌∙◌, arith, append_assoc, length-append}
 use Rattle.std.specs.Prelude.{nat_lt, ◌&&◌, is_some, slice_get}
-use Rattle.std.specs.Option.{option_map, option_to_list, unwrap_or}
+use Rattle.std.specs.Option.{option_map, option_to_list}
 use Rattle.std.specs.List.{AllByRecursion, filter, list_any}
 use Rattle.std.specs.FinMap as fin
 use Rattle.std.specs.Ordering.{eq_by_cmp}
 use Rattle.std.proofs.lemmas.Bool.{true≢false, false≢true, ltb-true, ltb-false}
 use Rattle.std.proofs.lemmas.List.{take_more}
 use Rattle.mvo_types.specs.declared.row.RowKey.{RowKey}
-use Rattle.mvo_types.specs.RowData.{ContentData}
 use Rattle.mvo_types.specs.Keys.{Map, key_cmp}
-use Rattle.mvo_model.specs.History.{History, Write, write_of, write_at, after_history, later, net_write}
+use Rattle.mvo_types.specs.Write.{Write, Effect, content_after_last}
+use Rattle.mvo_model.specs.History.{History, write_of, write_at, after_history, later, net_write}
 use Rattle.mvo_model.proofs.Serials.{get-after_history, net_write-append}
 use Rattle.mvo_state.specs.Entries.{noted, noted_key, written_from, written_keys}
 use Rattle.mvo_state.specs.Line.{Slot, told_below, seen_by}
@@ -60,7 +60,7 @@ pub changed_more : (b e : ℕ) (k : RowKey) (tale : List Slot) (ws : List ℕ) (
 changed_more b e k tale ws n lt = ap (key_change b e k) (places_more tale ws n lt) ∙ key_change-append b e k (at_places tale (take n ws)) (at_place tale (get_or ws n 0))
 
 -- ---- one that wrote no key
-later-none : (a : Option (Option ContentData)) → later a None ≡ a
+later-none : (a : Option Effect) → later a None ≡ a
 later-none None = refl
 later-none (Some h) = refl
 
@@ -115,7 +115,7 @@ written_writers b k (x ∷ xs) = go (is_writing x) refl (written_writers b k xs)
 pub seen_writers : (b : ℕ) (k : RowKey) (own : History) (base : Map) (tale : List Slot) (ws : List ℕ) → at_places tale ws ≡ filter is_writing tale → fin.get (after_history own (seen_by base (at_places tale ws) b)) k ≡ fin.get (after_history own (seen_by base tale b)) k
 seen_writers b k own base tale ws e =
     get-after_history k own (seen_by base (at_places tale ws) b)
-    ∙ ap (unwrap_or (net_write k own)) (get-after_history k (told_below b (at_places tale ws)) base ∙ ap (λ w. unwrap_or w (fin.get base k)) (ap (λ xs. net_write k (told_below b xs)) e ∙ written_writers b k tale) ∙ sym (get-after_history k (told_below b tale) base))
+    ∙ ap (content_after_last (net_write k own)) (get-after_history k (told_below b (at_places tale ws)) base ∙ ap (λ w. content_after_last w (fin.get base k)) (ap (λ xs. net_write k (told_below b xs)) e ∙ written_writers b k tale) ∙ sym (get-after_history k (told_below b tale) base))
     ∙ sym (get-after_history k own (seen_by base tale b))
 
 no_changer : (b e : ℕ) (k : RowKey) (x : Slot) → is_writing x ≡ false → is_key_changer b e k x ≡ false

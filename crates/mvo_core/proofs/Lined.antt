@@ -1,13 +1,12 @@
 -- A line of stored commits, and behind them one that is Preparing.
 use Rattle.std.proofs.Common.{◌≡◌, ℕ, ◌+◌, ◌<◌, ◌≤◌, Bool, true, false, cond, not, ◌||◌, List, [], ◌∷◌, ◌++◌, Option, None, Some, map, refl, sym, ap, ◌∙◌, arith}
 use Rattle.std.specs.Prelude.{nat_lt, ◌==◌, ◌&&◌, is_some}
-use Rattle.std.specs.Option.{unwrap_or}
 use Rattle.std.specs.List.{AllByRecursion, filter, list_any}
 use Rattle.std.specs.FinMap as fin
 use Rattle.std.proofs.lemmas.Bool.{ne_eqb, eq-eqb, true≢false, le-ltb}
 use Rattle.mvo_types.specs.declared.row.RowKey.{RowKey}
-use Rattle.mvo_types.specs.RowData.{ContentData}
 use Rattle.mvo_types.specs.Keys.{Map}
+use Rattle.mvo_types.specs.Write.{Effect, content_after_last}
 use Rattle.mvo_model.specs.History.{History, after_history, net_write, later}
 use Rattle.mvo_model.proofs.Serials.{get-after_history, net_write-append}
 use Rattle.mvo_state.specs.Line.{Slot, Running, told_below, seen_by, is_writer, but, last_writer, has, with_settled, with_check, with_doom, doomed_by, running_doom, not_at}
@@ -84,21 +83,21 @@ writer_line k b tale (Some x) h o = ap is_open (last_writer-append k b tale (x �
 unwritten : (k : RowKey) (b : ℕ) (x : Slot) → is_writer k b x ≡ false → net_write k (cond (nat_lt x.stop b) x.told []) ≡ None
 unwritten k b x f = go (nat_lt x.stop b) (net_write k x.told) refl f
   where
-    go : (c : Bool) (w : Option (Option ContentData)) → net_write k x.told ≡ w → (c && is_some w) ≡ false → net_write k (cond c x.told []) ≡ None
+    go : (c : Bool) (w : Option Effect) → net_write k x.told ≡ w → (c && is_some w) ≡ false → net_write k (cond c x.told []) ≡ None
     go false w e g = refl
     go true None e g = e
     go true (Some v) e g = absurd (true≢false g)
 
-later-none_first : (a : Option (Option ContentData)) → later None a ≡ a
+later-none_first : (a : Option Effect) → later None a ≡ a
 later-none_first a = refl
 
 pub seen_line : (k : RowKey) (b : ℕ) (own : History) (base : Map) (tale : List Slot) (one : Option Slot) → one_is (is_writer k b) one ≡ false → fin.get (after_history own (seen_by base tale b)) k ≡ fin.get (after_history own (seen_by base (line_of tale one) b)) k
 seen_line k b own base tale None f = ap (λ (l : List Slot). fin.get (after_history own (seen_by base l b)) k) (sym (append-nil tale))
 seen_line k b own base tale (Some x) f =
     get-after_history k own (seen_by base tale b)
-    ∙ ap (unwrap_or (net_write k own)) (
+    ∙ ap (content_after_last (net_write k own)) (
     get-after_history k (told_below b tale) base
-    ∙ ap (λ w. unwrap_or w (fin.get base k)) (sym (ap (net_write k) (told_below-append b tale (x ∷ [])) ∙ net_write-append k (told_below b tale) (cond (nat_lt x.stop b) x.told [] ++ []) ∙ ap (λ ts. later (net_write k ts) (net_write k (told_below b tale))) (append-nil (cond (nat_lt x.stop b) x.told [])) ∙ ap (λ w. later w (net_write k (told_below b tale))) (unwritten k b x f)))
+    ∙ ap (λ w. content_after_last w (fin.get base k)) (sym (ap (net_write k) (told_below-append b tale (x ∷ [])) ∙ net_write-append k (told_below b tale) (cond (nat_lt x.stop b) x.told [] ++ []) ∙ ap (λ ts. later (net_write k ts) (net_write k (told_below b tale))) (append-nil (cond (nat_lt x.stop b) x.told [])) ∙ ap (λ w. later w (net_write k (told_below b tale))) (unwritten k b x f)))
     ∙ sym (get-after_history k (told_below b (tale ++ x ∷ [])) base))
     ∙ sym (get-after_history k own (seen_by base (tale ++ x ∷ []) b))
 

@@ -18,14 +18,16 @@ use Rattle.std.proofs.lemmas.Map.Keys.{IsDistinct-push, IsDistinct-IsPermutation
 use Rattle.std.proofs.lemmas.Map.Steps.{list_any_congr}
 use Rattle.mvo_types.specs.declared.row.RowKey.{RowKey}
 use Rattle.mvo_types.specs.declared.op.Op.{Op}
-use Rattle.mvo_types.specs.declared.op.Op.TheVariants.{Read, Scan, Insert, Update, Delete}
-use Rattle.mvo_types.specs.RowData.{ContentData, content_of}
+use Rattle.mvo_types.specs.declared.op.Op.TheVariants.{Read, Scan, Insert, Update, Delete as DeleteAt}
+use Rattle.mvo_types.specs.RowData.{content_of}
 use Rattle.mvo_types.specs.Keys.{key_cmp}
 use Rattle.mvo_types.specs.AnswerData.{AnswerData}
 use Rattle.mvo_types.specs.AnswerData.AnswerData.{Found, Rows, Inserted, Exists, Updated, Deleted, Absent}
 use Rattle.mvo_types.proofs.Maps.{keys_total, exact_keys}
-use Rattle.mvo_model.specs.History.{History, Write, write_of, write_at, later, net_write}
-use Rattle.mvo_group.specs.Data.{NetWrite, RecordData}
+use Rattle.mvo_types.specs.Write.{Write, Effect}
+use Rattle.mvo_types.specs.Write.Effect.{Put, Delete}
+use Rattle.mvo_model.specs.History.{History, write_of, write_at, later, net_write}
+use Rattle.mvo_group.specs.Data.{RecordData}
 use Rattle.mvo_group.specs.Rules.{KeepsLimits, IsRecord}
 use Rattle.mvo_state.specs.Entries.{is_noted, noted, noted_key, written_from, written_keys}
 use Rattle.mvo_core.specs.Groups.{write_in, IsRecordOf}
@@ -77,7 +79,7 @@ pub sorted_apart : (ks js : List RowKey) → IsPermutation ks js → IsDistinct 
 sorted_apart ks js p h = IsDistinct-IsPermutation (eq_by_cmp key_cmp) keys_equal.symm ks js p h
 
 -- ---- a key is noted where it has a net write
-or_some : (a b : Option (Option ContentData)) → is_some (later a b) ≡ (is_some b || is_some a)
+or_some : (a b : Option Effect) → is_some (later a b) ≡ (is_some b || is_some a)
 or_some None None = refl
 or_some None (Some x) = refl
 or_some (Some x) None = refl
@@ -103,7 +105,7 @@ noted_more ks j k = go (is_noted ks j) refl (eq_by_cmp key_cmp k j) refl
     go true e false f = or_false (is_noted ks k)
     go false e c f = list_any-append (eq_by_cmp key_cmp k) ks (j ∷ []) ∙ ap (λ b. is_noted ks k || b) (sym (or_false (eq_by_cmp key_cmp k j)) ∙ f)
 
-some_at : (b : Bool) (h : Option ContentData) → b ≡ is_some (cond b (Some h) None)
+some_at : (b : Bool) (h : Effect) → b ≡ is_some (cond b (Some h) None)
 some_at true h = refl
 some_at false h = refl
 
@@ -132,7 +134,7 @@ in_net_writes : (ts : History) (ks : List RowKey) (k : RowKey) → write_in k (n
 in_net_writes ts [] k = refl
 in_net_writes ts (j ∷ js) k = go (key_cmp k j) refl (net_write j ts) refl (in_net_writes ts js k)
   where
-    go : (o : Ordering) → key_cmp k j ≡ o → (w : Option (Option ContentData)) → net_write j ts ≡ w → write_in k (net_writes ts js) ≡ cond (is_noted js k) (net_write k ts) None → write_in k (and_write j w (net_writes ts js)) ≡ cond (is_eq o || is_noted js k) (net_write k ts) None
+    go : (o : Ordering) → key_cmp k j ≡ o → (w : Option Effect) → net_write j ts ≡ w → write_in k (net_writes ts js) ≡ cond (is_noted js k) (net_write k ts) None → write_in k (and_write j w (net_writes ts js)) ≡ cond (is_eq o || is_noted js k) (net_write k ts) None
     go Less e None f r = r
     go Less e (Some h) f r = ap (λ p. cond (is_eq p) (Some h) (write_in k (net_writes ts js))) e ∙ r
     go Equal e None f r = r ∙ none_cond (is_noted js k) (net_write k ts) (ap (λ i. net_write i ts) (exact_keys k j e) ∙ f)
@@ -156,7 +158,7 @@ above : (ts : History) (j : RowKey) (ks : List RowKey) → AllByRecursion (λ k.
 above ts j [] h = tt
 above ts j (k ∷ ks) h = go (net_write k ts) (above ts j ks h.1)
   where
-    go : (w : Option (Option ContentData)) → AllByRecursion (λ i. key_cmp j i ≡ Less) (map (λ v. v.0) (net_writes ts ks)) → AllByRecursion (λ i. key_cmp j i ≡ Less) (map (λ v. v.0) (and_write k w (net_writes ts ks)))
+    go : (w : Option Effect) → AllByRecursion (λ i. key_cmp j i ≡ Less) (map (λ v. v.0) (net_writes ts ks)) → AllByRecursion (λ i. key_cmp j i ≡ Less) (map (λ v. v.0) (and_write k w (net_writes ts ks)))
     go None r = r
     go (Some x) r = (h.0, r)
 
@@ -165,15 +167,15 @@ unfolding IsStrictlySortedBy
 writes_rise ts [] h = tt
 writes_rise ts (k ∷ ks) h = go (net_write k ts) (writes_rise ts ks h.1)
   where
-    go : (w : Option (Option ContentData)) → IsStrictlySortedBy key_cmp (map (λ v. v.0) (net_writes ts ks)) → IsStrictlySortedBy key_cmp (map (λ v. v.0) (and_write k w (net_writes ts ks)))
+    go : (w : Option Effect) → IsStrictlySortedBy key_cmp (map (λ v. v.0) (net_writes ts ks)) → IsStrictlySortedBy key_cmp (map (λ v. v.0) (and_write k w (net_writes ts ks)))
     go None r = r
     go (Some x) r = (above ts k ks h.0, r)
 
 -- ---- limits
-abbrev KeepsAt : RowKey → Option (Option ContentData) → Type 0
+abbrev KeepsAt : RowKey → Option Effect → Type 0
 KeepsAt k w = IfSome w (λ h. KeepsLimits (k, h))
 
-at_key : (k j : RowKey) (h : Option ContentData) → KeepsLimits (j, h) → KeepsAt k (write_at k (Some (j, h)))
+at_key : (k j : RowKey) (h : Effect) → KeepsLimits (j, h) → KeepsAt k (write_at k (Some (j, h)))
 at_key k j h l = go (key_cmp k j) refl
   where
     go : (o : Ordering) → key_cmp k j ≡ o → KeepsAt k (cond (is_eq o) (Some h) None)
@@ -186,7 +188,7 @@ limits_of (Read j) a k h = tt
 limits_of (Scan table lo hi) a k h = tt
 limits_of (Insert r) (Found x) k h = tt
 limits_of (Insert r) (Rows x) k h = tt
-limits_of (Insert r) Inserted k h = at_key k r.key (Some (content_of r)) (record { table = h.table; size = h.size })
+limits_of (Insert r) Inserted k h = at_key k r.key (Put (content_of r)) (record { table = h.table; size = h.size })
 limits_of (Insert r) Exists k h = tt
 limits_of (Insert r) Updated k h = tt
 limits_of (Insert r) Deleted k h = tt
@@ -195,18 +197,18 @@ limits_of (Update r) (Found x) k h = tt
 limits_of (Update r) (Rows x) k h = tt
 limits_of (Update r) Inserted k h = tt
 limits_of (Update r) Exists k h = tt
-limits_of (Update r) Updated k h = at_key k r.key (Some (content_of r)) (record { table = h.table; size = h.size })
+limits_of (Update r) Updated k h = at_key k r.key (Put (content_of r)) (record { table = h.table; size = h.size })
 limits_of (Update r) Deleted k h = tt
 limits_of (Update r) Absent k h = tt
-limits_of (Delete j) (Found x) k h = tt
-limits_of (Delete j) (Rows x) k h = tt
-limits_of (Delete j) Inserted k h = tt
-limits_of (Delete j) Exists k h = tt
-limits_of (Delete j) Updated k h = tt
-limits_of (Delete j) Deleted k h = at_key k j None (record { table = h; size = omega arith })
-limits_of (Delete j) Absent k h = tt
+limits_of (DeleteAt j) (Found x) k h = tt
+limits_of (DeleteAt j) (Rows x) k h = tt
+limits_of (DeleteAt j) Inserted k h = tt
+limits_of (DeleteAt j) Exists k h = tt
+limits_of (DeleteAt j) Updated k h = tt
+limits_of (DeleteAt j) Deleted k h = at_key k j Delete (record { table = h; size = omega arith })
+limits_of (DeleteAt j) Absent k h = tt
 
-later_limits : (k : RowKey) (a b : Option (Option ContentData)) → KeepsAt k a → KeepsAt k b → KeepsAt k (later a b)
+later_limits : (k : RowKey) (a b : Option Effect) → KeepsAt k a → KeepsAt k b → KeepsAt k (later a b)
 later_limits k None b p q = q
 later_limits k (Some h) b p q = p
 
@@ -218,7 +220,7 @@ each_limited : (ts : History) (ks : List RowKey) → AllByRecursion (λ t. IsInL
 each_limited ts [] h = tt
 each_limited ts (k ∷ ks) h = go (net_write k ts) (net_limits ts k h) (each_limited ts ks h)
   where
-    go : (w : Option (Option ContentData)) → KeepsAt k w → AllByRecursion KeepsLimits (net_writes ts ks) → AllByRecursion KeepsLimits (and_write k w (net_writes ts ks))
+    go : (w : Option Effect) → KeepsAt k w → AllByRecursion KeepsLimits (net_writes ts ks) → AllByRecursion KeepsLimits (and_write k w (net_writes ts ks))
     go None p r = r
     go (Some x) p r = (p, r)
 
@@ -227,11 +229,11 @@ few_writes : (ts : History) (ks : List RowKey) → length (net_writes ts ks) ≤
 few_writes ts [] = omega arith
 few_writes ts (k ∷ ks) = go (net_write k ts) (few_writes ts ks)
   where
-    go : (w : Option (Option ContentData)) → length (net_writes ts ks) ≤ length ks → length (and_write k w (net_writes ts ks)) ≤ length (k ∷ ks)
+    go : (w : Option Effect) → length (net_writes ts ks) ≤ length ks → length (and_write k w (net_writes ts ks)) ≤ length (k ∷ ks)
     go None le = omega arith
     go (Some x) le = omega arith
 
-some_there : (ws : List NetWrite) (k : RowKey) → is_some (write_in k ws) ≡ true → 1 ≤ length ws
+some_there : (ws : List Write) (k : RowKey) → is_some (write_in k ws) ≡ true → 1 ≤ length ws
 some_there [] k e = absurd (false≢true e)
 some_there (w ∷ ws) k e = omega arith
 
@@ -248,7 +250,7 @@ some_writes ts ks p = go (written_keys ts) refl
 pub record_is : (end : ℕ) (ts : History) (ks : List RowKey) (r : RecordData) → r.end ≡ end → r.writes ≡ net_writes ts ks → IsPermutation (written_keys ts) ks → IsStrictlySortedBy key_cmp ks → IsRecordOf (end, ts) r
 record_is end ts ks r e f p h = record {
   end' = e;
-  rise = subst (λ (ws : List NetWrite). IsStrictlySortedBy key_cmp (map (λ w. w.0) ws)) (sym f) (writes_rise ts ks h);
+  rise = subst (λ (ws : List Write). IsStrictlySortedBy key_cmp (map (λ w. w.0) ws)) (sym f) (writes_rise ts ks h);
   writes = λ k. ap (write_in k) f ∙ writes_of_keys ts ks k p;
 }
 
@@ -258,12 +260,12 @@ record_keeps ts ks r f p h limits there =
     let few = few_writes ts ks in
     let same = length_permutation (written_keys ts) ks p in
     let most = limits.few in
-    let len : length r.writes ≡ length (net_writes ts ks) = ap (λ (ws : List NetWrite). length ws) f in
+    let len : length r.writes ≡ length (net_writes ts ks) = ap (λ (ws : List Write). length ws) f in
     record {
       some = omega arith;
       few = omega arith;
-      rise = subst (λ (ws : List NetWrite). IsStrictlySortedBy key_cmp (map (λ w. w.0) ws)) (sym f) (writes_rise ts ks h);
-      each = subst (λ (ws : List NetWrite). All KeepsLimits ws) (sym f) (All-from_recursion KeepsLimits (net_writes ts ks) (each_limited ts ks limits.each));
+      rise = subst (λ (ws : List Write). IsStrictlySortedBy key_cmp (map (λ w. w.0) ws)) (sym f) (writes_rise ts ks h);
+      each = subst (λ (ws : List Write). All KeepsLimits ws) (sym f) (All-from_recursion KeepsLimits (net_writes ts ks) (each_limited ts ks limits.each));
     }
 
 -- ---- as a loop goes over the keys
@@ -271,12 +273,12 @@ net_writes-append : (ts : History) (ks js : List RowKey) → net_writes ts (ks +
 net_writes-append ts [] js = refl
 net_writes-append ts (k ∷ ks) js = go (net_write k ts) (net_writes-append ts ks js)
   where
-    go : (w : Option (Option ContentData)) → net_writes ts (ks ++ js) ≡ net_writes ts ks ++ net_writes ts js → and_write k w (net_writes ts (ks ++ js)) ≡ and_write k w (net_writes ts ks) ++ net_writes ts js
+    go : (w : Option Effect) → net_writes ts (ks ++ js) ≡ net_writes ts ks ++ net_writes ts js → and_write k w (net_writes ts (ks ++ js)) ≡ and_write k w (net_writes ts ks) ++ net_writes ts js
     go None e = e
     go (Some x) e = ap (λ ws. (k, x) ∷ ws) e
 
 -- with the write at one key more
-pub writes_more : (ts : History) (ks : List RowKey) (i : ℕ) (d : RowKey) (w : Option (Option ContentData)) → i < length ks → net_write (get_or ks i d) ts ≡ w → net_writes ts (take (i + 1) ks) ≡ net_writes ts (take i ks) ++ and_write (get_or ks i d) w []
+pub writes_more : (ts : History) (ks : List RowKey) (i : ℕ) (d : RowKey) (w : Option Effect) → i < length ks → net_write (get_or ks i d) ts ≡ w → net_writes ts (take (i + 1) ks) ≡ net_writes ts (take i ks) ++ and_write (get_or ks i d) w []
 writes_more ts ks i d w lt e =
     ap (net_writes ts) (take_more ks i d lt)
     ∙ net_writes-append ts (take i ks) (get_or ks i d ∷ [])

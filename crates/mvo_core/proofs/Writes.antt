@@ -11,12 +11,12 @@ use Rattle.std.specs.Prelude.{nat_lt}
 use Rattle.mvo_state.specs.Entries.{noted, noted_key, entry_keys, entry_keys_from, written_keys, written_from, key_of}
 use Rattle.mvo_state.specs.Line.{Slot, told_below, seen_by}
 use Rattle.mvo_state.proofs.Lines.{told_below-append, append-nil}
-use Rattle.mvo_model.specs.History.{History, Write, write_of, write_at, later, net_write}
+use Rattle.mvo_model.specs.History.{History, write_of, write_at, later, net_write}
 use Rattle.mvo_model.proofs.Serials.{net_write-append, get-after_history, later_later}
 use Rattle.std.specs.FinMap as fin
-use Rattle.std.specs.Option.{unwrap_or, option_map}
-use Rattle.mvo_types.specs.RowData.{ContentData}
+use Rattle.std.specs.Option.{option_map}
 use Rattle.mvo_types.specs.Keys.{Map}
+use Rattle.mvo_types.specs.Write.{Write, Effect, content_after_last}
 use Rattle.mvo_model.specs.History.{after_history}
 use Rattle.mvo_core.specs.View.{told_view}
 
@@ -47,12 +47,12 @@ below_step b k es i e lt is =
     ∙ ap (λ ts. later (net_write k ts) (net_write k (told_below b (take i es)))) (append-nil (cond (nat_lt e.stop b) e.told []))
 
 -- what a transaction sees at a key
-pub get-seen : (k : RowKey) (own : History) (base : Map) (tale : List Slot) (b : ℕ) (w x : Option (Option ContentData)) → w ≡ net_write k own → x ≡ net_write k (told_below b tale) → unwrap_or (later w x) (fin.get base k) ≡ fin.get (after_history own (seen_by base tale b)) k
+pub get-seen : (k : RowKey) (own : History) (base : Map) (tale : List Slot) (b : ℕ) (w x : Option Effect) → w ≡ net_write k own → x ≡ net_write k (told_below b tale) → content_after_last (later w x) (fin.get base k) ≡ fin.get (after_history own (seen_by base tale b)) k
 get-seen k own base tale b w x e f =
     later_later w x (fin.get base k)
-    ∙ ap (λ v. unwrap_or v (unwrap_or x (fin.get base k))) e
-    ∙ ap (λ v. unwrap_or (net_write k own) (unwrap_or v (fin.get base k))) f
-    ∙ ap (unwrap_or (net_write k own)) (sym (get-after_history k (told_below b tale) base))
+    ∙ ap (λ v. content_after_last v (content_after_last x (fin.get base k))) e
+    ∙ ap (λ v. content_after_last (net_write k own) (content_after_last v (fin.get base k))) f
+    ∙ ap (content_after_last (net_write k own)) (sym (get-after_history k (told_below b tale) base))
     ∙ sym (get-after_history k own (seen_by base tale b))
 
 pub written_from-push : (ks : List RowKey) (ts : History) (x : Op × AnswerData) → written_from ks (ts ++ x ∷ []) ≡ noted_key (written_from ks ts) (option_map (λ w. w.0) (write_of x.0 x.1))

@@ -6,10 +6,10 @@ use Rattle.std.specs.Ordering.{eq_by_cmp}
 use Rattle.mvo_types.specs.declared.row.RowKey.{RowKey}
 use Rattle.mvo_types.specs.declared.refusal.Refusal.{Refusal}
 use Rattle.mvo_types.specs.declared.refusal.Refusal.TheVariants.{Busy, NothingToDo, RingFull}
-use Rattle.mvo_types.specs.RowData.{ContentData}
 use Rattle.mvo_types.specs.Keys.{key_cmp}
+use Rattle.mvo_types.specs.Write.{Write, Effect}
 use Rattle.mvo_model.specs.History.{History, net_write}
-use Rattle.mvo_group.specs.Data.{NetWrite, RecordData, GroupData}
+use Rattle.mvo_group.specs.Data.{RecordData, GroupData}
 use Rattle.mvo_group.specs.Rules.{record_len}
 use Rattle.mvo_state.specs.Line.{State, Slot}
 use Rattle.mvo_state.specs.Causes.{if_stands}
@@ -17,7 +17,7 @@ use Rattle.mvo_state.specs.Marks.{low_water}
 use Rattle.mvo_core.specs.Writers.{is_writing}
 
 -- the write at a key, if one of these is of it
-abbrev pub write_in : RowKey → List NetWrite → Option (Option ContentData)
+abbrev pub write_in : RowKey → List Write → Option Effect
 write_in k [] = None
 write_in k (w ∷ ws) = cond (eq_by_cmp key_cmp k w.0) (Some w.1) (write_in k ws)
 

@@ -1,10 +1,13 @@
 -- What the fields of the core's parts stand for.
 use Rattle.std.specs.Prelude.{ℕ, Bool, false, List, ◌++◌, map, Option, None, Some}
-use Rattle.std.specs.Option.{option_map, option_to_list}
-use Rattle.std.specs.Borrow.{Bor}
+use Rattle.std.specs.Option.{option_to_list}
 use Rattle.mvo_types.specs.declared.op.Op.{Op}
 use Rattle.mvo_types.specs.declared.answer.Answer.{Answer}
-use Rattle.mvo_types.specs.RowData.{RowData, ContentData, content_of}
+use Rattle.mvo_types.specs.RowData.{content_of}
+use Rattle.mvo_types.specs.Write.{Effect}
+use Rattle.mvo_types.specs.Write.Effect.{Put, Delete}
+use Rattle.mvo_core.specs.declared.effect.Effect.{Effect as EffectAt}
+use Rattle.mvo_core.specs.declared.effect.Effect.TheVariants as effect
 use Rattle.mvo_types.specs.AnswerData.{answer_data}
 use Rattle.mvo_model.specs.History.{History}
 use Rattle.mvo_types.specs.Keys.{Map}
@@ -16,9 +19,10 @@ use Rattle.mvo_state.specs.Line.{State, Slot, Running}
 abbrev pub told_view : List (Op × Answer) → History
 told_view ops = map (λ x. (x.0, answer_data x.1)) ops
 
--- a row or its absence, behind a reference
-abbrev pub held_view : Option (Bor RowData) → Option ContentData
-held_view r = option_map (λ b. content_of b.now) r
+-- what a write leaves, apart from where it lies in memory
+abbrev pub effect_view : EffectAt → Effect
+effect_view (effect.Put row) = Put (content_of row.now)
+effect_view effect.Delete = Delete
 
 -- the stored commits, and behind them the one that is Preparing
 abbrev pub line_of : List Slot → Option Slot → List Slot

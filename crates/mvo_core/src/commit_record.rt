@@ -3,17 +3,18 @@ ghost use Rattle.std.specs.List.Sorted.{IsPermutation, IsStrictlySortedBy};
 ghost use Rattle.std.specs.List.{IsDistinct};
 ghost use Rattle.std.specs.Ordering.{eq_by_cmp};
 ghost use Rattle.mvo_types.specs.Keys.{key_cmp};
-ghost use Rattle.mvo_group.specs.Data.{net_write};
+ghost use Rattle.mvo_group.specs.Data.{write_data};
 ghost use Rattle.mvo_group.specs.Rules.{IsRecord};
 ghost use Rattle.mvo_core.specs.Groups.{IsRecordOf};
 ghost use Rattle.mvo_core.specs.Records.{net_writes};
-ghost use Rattle.mvo_core.specs.View.{told_view, held_view};
+ghost use Rattle.mvo_core.specs.View.{told_view, effect_view};
 ghost use Rattle.mvo_core.specs.Writers.{is_writing};
 
+use crate::effect::Effect;
 use crate::tale::TaleEntry;
 use crate::told::last_write;
 use mvo_group::{Record, Write};
-use mvo_types::{Answer, Op, Row, RowKey};
+use mvo_types::{Answer, Op, RowKey};
 use std::alloc::{AllocError, Global};
 
 /// The record of a stored commit: its end, and by key what it left at each key that it wrote.
@@ -49,27 +50,27 @@ fn copy_keys(keys: &Vec<RowKey>) -> Result<Vec<RowKey>, AllocError>
 
 /// The last write at each of the keys, where there is one.
 fn writes_at(alloc: Global, ops: &[(Op, Answer)], keys: &[RowKey]) -> Result<Vec<Write>, AllocError>
-    ensures { IfOk result (λ ws. map net_write ws.items ≡ net_writes (told_view ops.now) keys.now) }
+    ensures { IfOk result (λ ws. map write_data ws.items ≡ net_writes (told_view ops.now) keys.now) }
 {
     let mut writes = Vec::new(alloc);
     for key in keys {
-        if let Some(row) = last_write(ops, *key) {
-            writes.push(left_at(*key, row)?)?;
+        if let Some(effect) = last_write(ops, *key) {
+            writes.push(left_at(*key, effect)?)?;
         }
     }
     Ok(writes)
 }
 
 /// The write that leaves this at the key: a copy of the row, or no row.
-fn left_at(key: RowKey, row: Option<&Row>) -> Result<Write, AllocError>
-    ensures { IfOk result (λ w. net_write w ≡ (key, held_view row.entry)) }
+fn left_at(key: RowKey, effect: Effect) -> Result<Write, AllocError>
+    ensures { IfOk result (λ w. write_data w ≡ (key, effect_view effect.entry)) }
 {
-    match row {
-        Some(row) => {
+    match effect {
+        Effect::Put(row) => {
             let mut left = row.copy()?;
             left.key = key;
             Ok(Write::Put(left))
         }
-        None => Ok(Write::Delete(key)),
+        Effect::Delete => Ok(Write::Delete(key)),
     }
 }

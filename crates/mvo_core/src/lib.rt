@@ -4,6 +4,7 @@
 mod active;
 mod closed;
 mod commit_record;
+mod effect;
 mod engine;
 mod event;
 mod look;

@@ -1,15 +1,17 @@
 ghost use Rattle.std.specs.Prelude.{◌≡◌, ◌&&◌, [], nat_lt, if◌then◌else◌, IfOk, slice_get, option_and_then};
-ghost use Rattle.std.specs.Option.{option_map, unwrap_or, is_some};
+ghost use Rattle.std.specs.Option.{option_map, is_some};
 ghost use Rattle.std.specs.FinMap as map;
 ghost use Rattle.mvo_types.specs.RowData.{content_of, row_with};
+ghost use Rattle.mvo_types.specs.Write.{content_after_last};
 ghost use Rattle.mvo_types.specs.Keys.{row_at};
 ghost use Rattle.mvo_model.specs.History.{net_write, later, after_history};
 ghost use Rattle.mvo_state.specs.Entries.{entry_keys};
 ghost use Rattle.mvo_state.specs.Line.{told_below, seen_by, is_writer};
 ghost use Rattle.mvo_state.specs.Causes.{is_key_changer, or_first, key_change};
-ghost use Rattle.mvo_core.specs.View.{told_view, held_view};
+ghost use Rattle.mvo_core.specs.View.{told_view, effect_view};
 ghost use Rattle.mvo_core.specs.Writers.{at_place, at_places};
 
+use crate::effect::Effect;
 use crate::preparing::PreparingTx;
 use crate::tale::TaleEntry;
 use crate::told::last_write;
@@ -17,21 +19,18 @@ use mvo_types::{Answer, Op, Row, RowKey, Rows, copy_bytes};
 use std::alloc::AllocError;
 
 /// The later of two writes.
-fn later_of<'a>(
-    write: Option<Option<&'a Row>>,
-    before: Option<Option<&'a Row>>,
-) -> Option<Option<&'a Row>>
-    ensures { option_map held_view result ≡ later (option_map held_view write.entry) (option_map held_view before.entry) }
+fn later_of<'a>(write: Option<Effect<'a>>, before: Option<Effect<'a>>) -> Option<Effect<'a>>
+    ensures { option_map effect_view result ≡ later (option_map effect_view write.entry) (option_map effect_view before.entry) }
 {
     match write {
-        Some(row) => Some(row),
+        Some(effect) => Some(effect),
         None => before,
     }
 }
 
 /// What the transaction wrote at a key, if it ends below the begin.
-fn write_if_below<'a>(tx: &'a TaleEntry, begin: u64, key: RowKey) -> Option<Option<&'a Row>>
-    ensures { option_map held_view result ≡ net_write key (if nat_lt tx.now.stop begin then tx.now.told else []) }
+fn write_if_below<'a>(tx: &'a TaleEntry, begin: u64, key: RowKey) -> Option<Effect<'a>>
+    ensures { option_map effect_view result ≡ net_write key (if nat_lt tx.now.stop begin then tx.now.told else []) }
 {
     if tx.end.0 < begin {
         last_write(&tx.ops, key)
@@ -46,8 +45,8 @@ fn write_at_place<'a>(
     place: usize,
     begin: u64,
     key: RowKey,
-) -> Option<Option<&'a Row>>
-    ensures { option_map held_view result ≡ net_write key (told_below begin (at_place tale.now place)) }
+) -> Option<Effect<'a>>
+    ensures { option_map effect_view result ≡ net_write key (told_below begin (at_place tale.now place)) }
 {
     match tale.get(place) {
         Some(tx) => write_if_below(tx, begin, key),
@@ -61,8 +60,8 @@ fn write_below<'a>(
     writers: &[usize],
     begin: u64,
     key: RowKey,
-) -> Option<Option<&'a Row>>
-    ensures { option_map held_view result ≡ net_write key (told_below begin (at_places tale.now writers.now)) }
+) -> Option<Effect<'a>>
+    ensures { option_map effect_view result ≡ net_write key (told_below begin (at_places tale.now writers.now)) }
 {
     let mut last = None;
     for place in writers {
@@ -79,22 +78,23 @@ pub fn is_written_below(tx: &PreparingTx, begin: u64, key: RowKey) -> bool
 }
 
 /// The row that the write leaves at a key.
-fn left_at(base: &Rows, write: Option<Option<&Row>>, key: RowKey) -> Result<Option<Row>, AllocError>
-    ensures { IfOk result (λ r. r ≡ option_map (row_with key) (unwrap_or (option_map held_view write.entry) (map.get base.now key))) }
+fn left_at(base: &Rows, write: Option<Effect>, key: RowKey) -> Result<Option<Row>, AllocError>
+    ensures { IfOk result (λ r. r ≡ option_map (row_with key) (content_after_last (option_map effect_view write.entry) (map.get base.now key))) }
 {
     match write {
-        Some(Some(row)) => Ok(Some(row_of(row, key)?)),
-        Some(None) => Ok(None),
+        Some(Effect::Put(row)) => Ok(Some(row_of(row, key)?)),
+        Some(Effect::Delete) => Ok(None),
         None => base.get(key),
     }
 }
 
 /// Whether the write leaves a row at a key.
-fn is_left_at(base: &Rows, write: Option<Option<&Row>>, key: RowKey) -> bool
-    ensures { result ≡ is_some (unwrap_or (option_map held_view write.entry) (map.get base.now key)) }
+fn is_left_at(base: &Rows, write: Option<Effect>, key: RowKey) -> bool
+    ensures { result ≡ is_some (content_after_last (option_map effect_view write.entry) (map.get base.now key)) }
 {
     match write {
-        Some(row) => row.is_some(),
+        Some(Effect::Put(_)) => true,
+        Some(Effect::Delete) => false,
         None => base.contains(key),
     }
 }

@@ -6,21 +6,22 @@ ghost use Rattle.mvo_types.specs.AnswerData.{answer_data};
 ghost use Rattle.mvo_model.specs.History.{write_of, net_write, write_at, later};
 ghost use Rattle.mvo_state.specs.Entries.{noted, noted_key, is_noted, key_of};
 ghost use Rattle.mvo_core.specs.Limits.{AreLimited};
-ghost use Rattle.mvo_core.specs.View.{told_view, held_view};
+ghost use Rattle.mvo_core.specs.View.{told_view, effect_view};
 
 use crate::active::ActiveTx;
-use mvo_types::{Answer, Op, Row, RowKey};
+use crate::effect::Effect;
+use mvo_types::{Answer, Op, RowKey};
 use std::alloc::AllocError;
 use std::cmp::Ordering;
 
-/// What the operation wrote: the key, and the row that it put there, or none after a delete.
-pub fn write_by<'a>(op: &'a Op, answer: &Answer) -> Option<(RowKey, Option<&'a Row>)>
-    ensures { option_map (λ w. (w.0, held_view w.1)) result ≡ write_of op.now (answer_data answer.now) }
+/// What the operation wrote: the key, and what it left there.
+pub fn write_by<'a>(op: &'a Op, answer: &Answer) -> Option<(RowKey, Effect<'a>)>
+    ensures { option_map (λ w. (w.0, effect_view w.1)) result ≡ write_of op.now (answer_data answer.now) }
 {
     match (op, answer) {
-        (Op::Insert(row), Answer::Inserted) => Some((row.row_key(), Some(row))),
-        (Op::Update(row), Answer::Updated) => Some((row.row_key(), Some(row))),
-        (Op::Delete(key), Answer::Deleted) => Some((*key, None)),
+        (Op::Insert(row), Answer::Inserted) => Some((row.row_key(), Effect::Put(row))),
+        (Op::Update(row), Answer::Updated) => Some((row.row_key(), Effect::Put(row))),
+        (Op::Delete(key), Answer::Deleted) => Some((*key, Effect::Delete)),
         _ => None,
     }
 }
@@ -34,21 +35,21 @@ fn is_key(key: RowKey, other: RowKey) -> bool
 
 /// The write, if it is of the key, and else the one before.
 fn newer<'a>(
-    last: Option<Option<&'a Row>>,
-    write: Option<(RowKey, Option<&'a Row>)>,
+    last: Option<Effect<'a>>,
+    write: Option<(RowKey, Effect<'a>)>,
     key: RowKey,
-) -> Option<Option<&'a Row>>
-    ensures { option_map held_view result ≡ later (write_at key (option_map (λ w. (w.0, held_view w.1)) write.entry)) (option_map held_view last.entry) }
+) -> Option<Effect<'a>>
+    ensures { option_map effect_view result ≡ later (write_at key (option_map (λ w. (w.0, effect_view w.1)) write.entry)) (option_map effect_view last.entry) }
 {
     match write {
-        Some((at, row)) if is_key(key, at) => Some(row),
+        Some((at, effect)) if is_key(key, at) => Some(effect),
         _ => last,
     }
 }
 
 /// The last write of a key, if there is one.
-pub fn last_write<'a>(ops: &'a [(Op, Answer)], key: RowKey) -> Option<Option<&'a Row>>
-    ensures { option_map held_view result ≡ net_write key (told_view ops.now) }
+pub fn last_write<'a>(ops: &'a [(Op, Answer)], key: RowKey) -> Option<Effect<'a>>
+    ensures { option_map effect_view result ≡ net_write key (told_view ops.now) }
 {
     let mut last = None;
     for told in ops {

@@ -6,10 +6,12 @@ use Rattle.std.proofs.lemmas.Bool.{eqb-true, ltb-false, le-ltb}
 use Rattle.std.proofs.lemmas.List.{append-nil, nil_from_length, take_at, drop_at, take-append-drop, length-append, length-take}
 use Rattle.std.proofs.lemmas.List.Elements.{All-from_recursion, recursion_from_All}
 use Rattle.mvo_types.specs.RowData.{ContentData}
-use Rattle.mvo_group.specs.Data.{NetWrite, RecordData, GroupData}
+use Rattle.mvo_types.specs.Write.{Write, Effect}
+use Rattle.mvo_types.specs.Write.Effect.{Put, Delete}
+use Rattle.mvo_group.specs.Data.{RecordData, GroupData}
 use Rattle.mvo_group.specs.Rules.{sort_of, data_of, KeepsLimits, IsRecord, KeepsRules, HasWords, IsGroup}
 use Rattle.mvo_group.specs.Body.{field, bytes_at, write_bytes, record_bytes, body_of}
-use Rattle.mvo_group.specs.Reading.{◌>>=◌, number_at, data_at, put_at, held_at, write_at, times, record_at, group_at}
+use Rattle.mvo_group.specs.Reading.{◌>>=◌, number_at, data_at, put_at, effect_at, write_at, times, record_at, group_at}
 use Rattle.mvo_group.proofs.Fields.{IsBytes, IsBytes-drop, bind_some, guard_some, some_is, Takes, Takes-then, number_takes, number_again}
 use Rattle.mvo_group.proofs.Loop.{times_take, times_again}
 
@@ -29,13 +31,13 @@ data_again text rest =
 abbrev put_text : ContentData → List ℕ
 put_text h = field 8 h.sort ++ (field 2 (length h.bytes) ++ h.bytes)
 
-abbrev held_text : Option ContentData → List ℕ
-held_text None = []
-held_text (Some h) = put_text h
+abbrev effect_text : Effect → List ℕ
+effect_text Delete = []
+effect_text (Put h) = put_text h
 
-abbrev tag_of : Option ContentData → ℕ
-tag_of None = 2
-tag_of (Some h) = 1
+abbrev tag_of : Effect → ℕ
+tag_of Delete = 2
+tag_of (Put h) = 1
 
 put_takes : (bytes : List ℕ) (x : ContentData × List ℕ) → IsBytes bytes → put_at bytes ≡ Some x → Takes bytes (put_text x.0) x.1 × (x.0.sort < 2 ^ 64)
 unfolding put_at
@@ -58,82 +60,82 @@ put_again h rest word few =
     let regrouped : put_text h ++ rest ≡ field 8 h.sort ++ (field 2 (length h.bytes) ++ (h.bytes ++ rest)) = append_assoc (field 8 h.sort) (field 2 (length h.bytes) ++ h.bytes) rest ∙ ap (λ (l : List ℕ). field 8 h.sort ++ l) (append_assoc (field 2 (length h.bytes)) h.bytes rest) in
     ap put_at regrouped ∙ rw (number_again 8 h.sort (field 2 (length h.bytes) ++ (h.bytes ++ rest)) word, number_again 2 (length h.bytes) (h.bytes ++ rest) few, data_again h.bytes rest) refl
 
-held_takes : (tag : ℕ) (bytes : List ℕ) (x : Option ContentData × List ℕ) → IsBytes bytes → held_at tag bytes ≡ Some x → (tag ≡ tag_of x.0) × Takes bytes (held_text x.0) x.1 × (sort_of x.0 < 2 ^ 64)
-unfolding held_at
-held_takes tag bytes x fits e = two (eqb tag 2) refl e
+effect_takes : (tag : ℕ) (bytes : List ℕ) (x : Effect × List ℕ) → IsBytes bytes → effect_at tag bytes ≡ Some x → (tag ≡ tag_of x.0) × Takes bytes (effect_text x.0) x.1 × (sort_of x.0 < 2 ^ 64)
+unfolding effect_at
+effect_takes tag bytes x fits e = two (eqb tag 2) refl e
   where
-    one : (b : Bool) → eqb tag 1 ≡ b → cond b (put_at bytes >>= λ h. Some (Some h.0, h.1)) None ≡ Some x → (tag ≡ tag_of x.0) × Takes bytes (held_text x.0) x.1 × (sort_of x.0 < 2 ^ 64)
+    one : (b : Bool) → eqb tag 1 ≡ b → cond b (put_at bytes >>= λ h. Some (Put h.0, h.1)) None ≡ Some x → (tag ≡ tag_of x.0) × Takes bytes (effect_text x.0) x.1 × (sort_of x.0 < 2 ^ 64)
     one true is f =
-        let a = bind_some (put_at bytes) (λ h. Some (Some h.0, h.1)) x f in
+        let a = bind_some (put_at bytes) (λ h. Some (Put h.0, h.1)) x f in
         let t = put_takes bytes a.0 fits a.1 in
-        let made : Option ContentData × List ℕ = (Some a.0.0, a.0.1) in
-        subst (λ (y : Option ContentData × List ℕ). (tag ≡ tag_of y.0) × Takes bytes (held_text y.0) y.1 × (sort_of y.0 < 2 ^ 64)) (some_is made x a.2) (eqb-true _ _ is, t.0, t.1)
+        let made : Effect × List ℕ = (Put a.0.0, a.0.1) in
+        subst (λ (y : Effect × List ℕ). (tag ≡ tag_of y.0) × Takes bytes (effect_text y.0) y.1 × (sort_of y.0 < 2 ^ 64)) (some_is made x a.2) (eqb-true _ _ is, t.0, t.1)
     one false is f = absurd cc
 
-    two : (b : Bool) → eqb tag 2 ≡ b → cond b (Some (None, bytes)) (cond (eqb tag 1) (put_at bytes >>= λ h. Some (Some h.0, h.1)) None) ≡ Some x → (tag ≡ tag_of x.0) × Takes bytes (held_text x.0) x.1 × (sort_of x.0 < 2 ^ 64)
+    two : (b : Bool) → eqb tag 2 ≡ b → cond b (Some (Delete, bytes)) (cond (eqb tag 1) (put_at bytes >>= λ h. Some (Put h.0, h.1)) None) ≡ Some x → (tag ≡ tag_of x.0) × Takes bytes (effect_text x.0) x.1 × (sort_of x.0 < 2 ^ 64)
     two true is f =
-        let made : Option ContentData × List ℕ = (None, bytes) in
-        subst (λ (y : Option ContentData × List ℕ). (tag ≡ tag_of y.0) × Takes bytes (held_text y.0) y.1 × (sort_of y.0 < 2 ^ 64)) (some_is made x f) (eqb-true _ _ is, record { parts = refl; rest_fits = fits }, omega arith)
+        let made : Effect × List ℕ = (Delete, bytes) in
+        subst (λ (y : Effect × List ℕ). (tag ≡ tag_of y.0) × Takes bytes (effect_text y.0) y.1 × (sort_of y.0 < 2 ^ 64)) (some_is made x f) (eqb-true _ _ is, record { parts = refl; rest_fits = fits }, omega arith)
     two false is f = one (eqb tag 1) refl f
 
-held_again : (held : Option ContentData) (rest : List ℕ) → sort_of held < 2 ^ 64 → length (data_of held) < 2 ^ 16 → held_at (tag_of held) (held_text held ++ rest) ≡ Some (held, rest)
-unfolding held_at
-held_again None rest word few = refl
-held_again (Some h) rest word few = rw (put_again h rest word few) refl
+effect_again : (effect : Effect) (rest : List ℕ) → sort_of effect < 2 ^ 64 → length (data_of effect) < 2 ^ 16 → effect_at (tag_of effect) (effect_text effect ++ rest) ≡ Some (effect, rest)
+unfolding effect_at
+effect_again Delete rest word few = refl
+effect_again (Put h) rest word few = rw (put_again h rest word few) refl
 
 -- a write by its parts
-write_text : (w : NetWrite) → write_bytes w ≡ tag_of w.1 ∷ w.0.table ∷ (field 8 w.0.key ++ held_text w.1)
-write_text w = by_held w.1
+write_text : (w : Write) → write_bytes w ≡ tag_of w.1 ∷ w.0.table ∷ (field 8 w.0.key ++ effect_text w.1)
+write_text w = by_effect w.1
   where
-    by_held : (held : Option ContentData) → bytes_at w.0 held ≡ tag_of held ∷ w.0.table ∷ (field 8 w.0.key ++ held_text held)
-    by_held None = ap (λ (l : List ℕ). 2 ∷ w.0.table ∷ l) (sym (append-nil (field 8 w.0.key)))
-    by_held (Some h) = ap (λ (l : List ℕ). 1 ∷ w.0.table ∷ l) (append_assoc (field 8 w.0.key ++ field 8 h.sort) (field 2 (length h.bytes)) h.bytes ∙ append_assoc (field 8 w.0.key) (field 8 h.sort) (field 2 (length h.bytes) ++ h.bytes))
+    by_effect : (effect : Effect) → bytes_at w.0 effect ≡ tag_of effect ∷ w.0.table ∷ (field 8 w.0.key ++ effect_text effect)
+    by_effect Delete = ap (λ (l : List ℕ). 2 ∷ w.0.table ∷ l) (sym (append-nil (field 8 w.0.key)))
+    by_effect (Put h) = ap (λ (l : List ℕ). 1 ∷ w.0.table ∷ l) (append_assoc (field 8 w.0.key ++ field 8 h.sort) (field 2 (length h.bytes)) h.bytes ∙ append_assoc (field 8 w.0.key) (field 8 h.sort) (field 2 (length h.bytes) ++ h.bytes))
 
 byte_is : (x : ℕ) → x < 256 → field 1 x ≡ x ∷ []
 unfolding field
 byte_is x lt = let same : x % 256 ≡ x = omega arith in ap (λ y. y ∷ []) same
 
-pub write_takes : (bytes : List ℕ) (x : NetWrite × List ℕ) → IsBytes bytes → write_at bytes ≡ Some x → Takes bytes (write_bytes x.0) x.1 × HasWords x.0
+pub write_takes : (bytes : List ℕ) (x : Write × List ℕ) → IsBytes bytes → write_at bytes ≡ Some x → Takes bytes (write_bytes x.0) x.1 × HasWords x.0
 unfolding write_at
 write_takes bytes x fits e =
-    let a = bind_some (number_at 1 bytes) (λ tag. number_at 1 tag.1 >>= λ table. number_at 8 table.1 >>= λ key. held_at tag.0 key.1 >>= λ held. Some ((record { table = table.0; key = key.0 }, held.0), held.1)) x e in
-    let b = bind_some (number_at 1 a.0.1) (λ table. number_at 8 table.1 >>= λ key. held_at a.0.0 key.1 >>= λ held. Some ((record { table = table.0; key = key.0 }, held.0), held.1)) x a.2 in
-    let c = bind_some (number_at 8 b.0.1) (λ key. held_at a.0.0 key.1 >>= λ held. Some ((record { table = b.0.0; key = key.0 }, held.0), held.1)) x b.2 in
-    let d = bind_some (held_at a.0.0 c.0.1) (λ held. Some ((record { table = b.0.0; key = c.0.0 }, held.0), held.1)) x c.2 in
-    let made : NetWrite × List ℕ = ((record { table = b.0.0; key = c.0.0 }, d.0.0), d.0.1) in
+    let a = bind_some (number_at 1 bytes) (λ tag. number_at 1 tag.1 >>= λ table. number_at 8 table.1 >>= λ key. effect_at tag.0 key.1 >>= λ effect. Some ((record { table = table.0; key = key.0 }, effect.0), effect.1)) x e in
+    let b = bind_some (number_at 1 a.0.1) (λ table. number_at 8 table.1 >>= λ key. effect_at a.0.0 key.1 >>= λ effect. Some ((record { table = table.0; key = key.0 }, effect.0), effect.1)) x a.2 in
+    let c = bind_some (number_at 8 b.0.1) (λ key. effect_at a.0.0 key.1 >>= λ effect. Some ((record { table = b.0.0; key = key.0 }, effect.0), effect.1)) x b.2 in
+    let d = bind_some (effect_at a.0.0 c.0.1) (λ effect. Some ((record { table = b.0.0; key = c.0.0 }, effect.0), effect.1)) x c.2 in
+    let made : Write × List ℕ = ((record { table = b.0.0; key = c.0.0 }, d.0.0), d.0.1) in
     let t0 = number_takes 1 bytes a.0 fits a.1 in
     let t1 = number_takes 1 a.0.1 b.0 t0.0.rest_fits b.1 in
     let t2 = number_takes 8 b.0.1 c.0 t1.0.rest_fits c.1 in
-    let t3 = held_takes a.0.0 c.0.1 d.0 t2.0.rest_fits d.1 in
-    let e23 = Takes-then b.0.1 (field 8 c.0.0) c.0.1 (held_text d.0.0) d.0.1 t2.0 t3.1 in
-    let e13 = Takes-then a.0.1 (field 1 b.0.0) b.0.1 (field 8 c.0.0 ++ held_text d.0.0) d.0.1 t1.0 e23 in
-    let e03 = Takes-then bytes (field 1 a.0.0) a.0.1 (field 1 b.0.0 ++ (field 8 c.0.0 ++ held_text d.0.0)) d.0.1 t0.0 e13 in
-    let tidy : field 1 a.0.0 ++ (field 1 b.0.0 ++ (field 8 c.0.0 ++ held_text d.0.0)) ≡ write_bytes made.0 =
-    ap (λ (l : List ℕ). l ++ (field 1 b.0.0 ++ (field 8 c.0.0 ++ held_text d.0.0))) (byte_is a.0.0 t0.1 ∙ ap (λ y. y ∷ []) t3.0)
-    ∙ ap (λ (l : List ℕ). tag_of d.0.0 ∷ (l ++ (field 8 c.0.0 ++ held_text d.0.0))) (byte_is b.0.0 t1.1) ∙ sym (write_text made.0) in
-    subst (λ (y : NetWrite × List ℕ). Takes bytes (write_bytes y.0) y.1 × HasWords y.0) (some_is made x d.2) (subst (λ (l : List ℕ). Takes bytes l d.0.1) tidy e03, record { key = t2.1; sort = t3.2 })
+    let t3 = effect_takes a.0.0 c.0.1 d.0 t2.0.rest_fits d.1 in
+    let e23 = Takes-then b.0.1 (field 8 c.0.0) c.0.1 (effect_text d.0.0) d.0.1 t2.0 t3.1 in
+    let e13 = Takes-then a.0.1 (field 1 b.0.0) b.0.1 (field 8 c.0.0 ++ effect_text d.0.0) d.0.1 t1.0 e23 in
+    let e03 = Takes-then bytes (field 1 a.0.0) a.0.1 (field 1 b.0.0 ++ (field 8 c.0.0 ++ effect_text d.0.0)) d.0.1 t0.0 e13 in
+    let tidy : field 1 a.0.0 ++ (field 1 b.0.0 ++ (field 8 c.0.0 ++ effect_text d.0.0)) ≡ write_bytes made.0 =
+    ap (λ (l : List ℕ). l ++ (field 1 b.0.0 ++ (field 8 c.0.0 ++ effect_text d.0.0))) (byte_is a.0.0 t0.1 ∙ ap (λ y. y ∷ []) t3.0)
+    ∙ ap (λ (l : List ℕ). tag_of d.0.0 ∷ (l ++ (field 8 c.0.0 ++ effect_text d.0.0))) (byte_is b.0.0 t1.1) ∙ sym (write_text made.0) in
+    subst (λ (y : Write × List ℕ). Takes bytes (write_bytes y.0) y.1 × HasWords y.0) (some_is made x d.2) (subst (λ (l : List ℕ). Takes bytes l d.0.1) tidy e03, record { key = t2.1; sort = t3.2 })
 
 -- what a write of a group is
-pub record IsWrite (w : NetWrite) : Type 0 where
+pub record IsWrite (w : Write) : Type 0 where
   pub limits : KeepsLimits w
   pub words : HasWords w
 
-pub write_again : (w : NetWrite) (rest : List ℕ) → IsWrite w → write_at (write_bytes w ++ rest) ≡ Some (w, rest)
+pub write_again : (w : Write) (rest : List ℕ) → IsWrite w → write_at (write_bytes w ++ rest) ≡ Some (w, rest)
 unfolding write_at
 write_again w rest is =
     let table : w.0.table < 256 = omega (arith, is.limits.table) in
     let size : length (data_of w.1) < 2 ^ 16 = omega (arith, is.limits.size) in
     let one : field 1 (tag_of w.1) ≡ tag_of w.1 ∷ [] = byte_is (tag_of w.1) (tag_small w.1) in
     let two : field 1 w.0.table ≡ w.0.table ∷ [] = byte_is w.0.table table in
-    let tail = field 8 w.0.key ++ (held_text w.1 ++ rest) in
+    let tail = field 8 w.0.key ++ (effect_text w.1 ++ rest) in
     let regrouped : write_bytes w ++ rest ≡ field 1 (tag_of w.1) ++ (field 1 w.0.table ++ tail) =
-    ap (λ (l : List ℕ). l ++ rest) (write_text w) ∙ ap (λ (l : List ℕ). tag_of w.1 ∷ w.0.table ∷ l) (append_assoc (field 8 w.0.key) (held_text w.1) rest)
+    ap (λ (l : List ℕ). l ++ rest) (write_text w) ∙ ap (λ (l : List ℕ). tag_of w.1 ∷ w.0.table ∷ l) (append_assoc (field 8 w.0.key) (effect_text w.1) rest)
     ∙ sym (ap (λ (l : List ℕ). l ++ (field 1 w.0.table ++ tail)) one ∙ ap (λ (l : List ℕ). tag_of w.1 ∷ (l ++ tail)) two) in
-    ap write_at regrouped ∙ rw (number_again 1 (tag_of w.1) (field 1 w.0.table ++ tail) (tag_small w.1), number_again 1 w.0.table tail table, number_again 8 w.0.key (held_text w.1 ++ rest) is.words.key, held_again w.1 rest is.words.sort size) refl
+    ap write_at regrouped ∙ rw (number_again 1 (tag_of w.1) (field 1 w.0.table ++ tail) (tag_small w.1), number_again 1 w.0.table tail table, number_again 8 w.0.key (effect_text w.1 ++ rest) is.words.key, effect_again w.1 rest is.words.sort size) refl
   where
-    tag_small : (held : Option ContentData) → tag_of held < 256
-    tag_small None = omega arith
-    tag_small (Some h) = omega arith
+    tag_small : (effect : Effect) → tag_of effect < 256
+    tag_small Delete = omega arith
+    tag_small (Put h) = omega arith
 
 -- ---- records and groups
 
@@ -205,7 +207,7 @@ each_spelled hi top (r ∷ rs) ends rules words = (
   each_spelled hi top rs ends.1 rules.1 words.1,
 )
   where
-    joined : (ws : List NetWrite) → AllByRecursion KeepsLimits ws → AllByRecursion HasWords ws → AllByRecursion IsWrite ws
+    joined : (ws : List Write) → AllByRecursion KeepsLimits ws → AllByRecursion HasWords ws → AllByRecursion IsWrite ws
     joined [] p q = tt
     joined (w ∷ ws) p q = (record { limits = p.0; words = q.0 }, joined ws p.1 q.1)
 

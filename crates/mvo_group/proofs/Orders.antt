@@ -13,8 +13,8 @@ use Rattle.std.proofs.lemmas.Map.Keys.{IsStrictlyIncreasing-from_sorted, sorted_
 use Rattle.mvo_types.specs.declared.row.RowKey.{RowKey}
 use Rattle.mvo_types.specs.Keys.{key_cmp}
 use Rattle.mvo_types.proofs.Maps.{keys_total}
-use Rattle.mvo_group.specs.declared.write.Write.{Write}
-use Rattle.mvo_group.specs.Data.{RecordData, net_write}
+use Rattle.mvo_group.specs.declared.write.Write.{Write as RustWrite}
+use Rattle.mvo_group.specs.Data.{RecordData, write_data}
 
 both_of : (a b : Bool) → (a && b) ≡ true → (a ≡ true) × (b ≡ true)
 both_of true b e = (refl, e)
@@ -124,13 +124,13 @@ ends_answer b lo hi rs e =
     e
 
 -- two writes at the front that don't rise
-pub front_falls : (ws after : List Write) (a b : Write) → after ≡ take (length ws - 1) (drop 1 ws) → 1 ≤ length ws → 1 ≤ length after → a ≡ get_or ws 0 a → b ≡ get_or after 0 b → is_lt (key_cmp (net_write a).0 (net_write b).0) ≡ false → do_keys_rise (map (λ w. w.0) (map net_write ws)) ≡ false
+pub front_falls : (ws after : List RustWrite) (a b : RustWrite) → after ≡ take (length ws - 1) (drop 1 ws) → 1 ≤ length ws → 1 ≤ length after → a ≡ get_or ws 0 a → b ≡ get_or after 0 b → is_lt (key_cmp (write_data a).0 (write_data b).0) ≡ false → do_keys_rise (map (λ w. w.0) (map write_data ws)) ≡ false
 front_falls [] after a b tail some more p q e = absurd (omega (arith, some))
 front_falls (x ∷ ws) after a b tail some more p q e = rest_falls ws (tail ∙ take_all (length (x ∷ ws) - 1) ws (omega arith))
   where
-    rest_falls : (ws : List Write) → after ≡ ws → do_keys_rise (map (λ w. w.0) (map net_write (x ∷ ws))) ≡ false
-    rest_falls [] same = absurd (omega (arith, more, ap (λ (l : List Write). length l) same))
+    rest_falls : (ws : List RustWrite) → after ≡ ws → do_keys_rise (map (λ w. w.0) (map write_data (x ∷ ws))) ≡ false
+    rest_falls [] same = absurd (omega (arith, more, ap (λ (l : List RustWrite). length l) same))
     rest_falls (y ∷ ws) same =
-        let second : b ≡ y = q ∙ ap (λ (l : List Write). get_or l 0 b) same in
-        let at_front : is_lt (key_cmp (net_write x).0 (net_write y).0) ≡ false = subst (λ (v : Write). is_lt (key_cmp (net_write x).0 (net_write v).0) ≡ false) second (subst (λ (v : Write). is_lt (key_cmp (net_write v).0 (net_write b).0) ≡ false) p e) in
-        ap (λ t. t && do_keys_rise (map (λ w. w.0) (map net_write (y ∷ ws)))) at_front
+        let second : b ≡ y = q ∙ ap (λ (l : List RustWrite). get_or l 0 b) same in
+        let at_front : is_lt (key_cmp (write_data x).0 (write_data y).0) ≡ false = subst (λ (v : RustWrite). is_lt (key_cmp (write_data x).0 (write_data v).0) ≡ false) second (subst (λ (v : RustWrite). is_lt (key_cmp (write_data v).0 (write_data b).0) ≡ false) p e) in
+        ap (λ t. t && do_keys_rise (map (λ w. w.0) (map write_data (y ∷ ws)))) at_front

@@ -1,21 +1,22 @@
 -- The bytes of a group.
-use Rattle.std.specs.Prelude.{ℕ, List, ◌∷◌, ◌++◌, length, Option, Some, None}
+use Rattle.std.specs.Prelude.{ℕ, List, ◌∷◌, ◌++◌, length}
 use Rattle.std.specs.List.{flat_map}
 use Rattle.byteorder.specs.Endian.{little_bytes}
 use Rattle.mvo_types.specs.declared.row.RowKey.{RowKey}
-use Rattle.mvo_types.specs.RowData.{ContentData}
-use Rattle.mvo_group.specs.Data.{NetWrite, RecordData, GroupData}
+use Rattle.mvo_types.specs.Write.{Write, Effect}
+use Rattle.mvo_types.specs.Write.Effect.{Put, Delete}
+use Rattle.mvo_group.specs.Data.{RecordData, GroupData}
 
 -- the number x in n bytes, the lowest first
 unfoldable pub field : ℕ → ℕ → List ℕ
 field n x = little_bytes n x
 
 -- tag 1 and the row of a put, tag 2 and the key of a delete
-abbrev pub bytes_at : RowKey → Option ContentData → List ℕ
-bytes_at k (Some h) = 1 ∷ k.table ∷ field 8 k.key ++ field 8 h.sort ++ field 2 (length h.bytes) ++ h.bytes
-bytes_at k None = 2 ∷ k.table ∷ field 8 k.key
+abbrev pub bytes_at : RowKey → Effect → List ℕ
+bytes_at k (Put h) = 1 ∷ k.table ∷ field 8 k.key ++ field 8 h.sort ++ field 2 (length h.bytes) ++ h.bytes
+bytes_at k Delete = 2 ∷ k.table ∷ field 8 k.key
 
-abbrev pub write_bytes : NetWrite → List ℕ
+abbrev pub write_bytes : Write → List ℕ
 write_bytes w = bytes_at w.0 w.1
 
 abbrev pub record_bytes : RecordData → List ℕ

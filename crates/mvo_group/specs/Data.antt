@@ -1,28 +1,26 @@
 -- What a group holds, apart from where it lies in memory.
-use Rattle.std.specs.Prelude.{ℕ, List, Option, Some, None}
-use Rattle.mvo_types.specs.declared.row.RowKey.{RowKey}
-use Rattle.mvo_types.specs.RowData.{ContentData, content_of}
-use Rattle.mvo_group.specs.declared.write.Write.{Write}
-use Rattle.mvo_group.specs.declared.write.Write.TheVariants.{Put, Delete}
+use Rattle.std.specs.Prelude.{ℕ, List}
+use Rattle.mvo_types.specs.RowData.{content_of}
+use Rattle.mvo_types.specs.Write.{Write}
+use Rattle.mvo_types.specs.Write.Effect.{Put, Delete}
+use Rattle.mvo_group.specs.declared.write.Write.{Write as RustWrite}
+use Rattle.mvo_group.specs.declared.write.Write.TheVariants as write
 
--- the last write of a transaction to a key, with what stands there afterwards: nothing after a delete
-abbrev pub NetWrite : Type 0
-NetWrite = RowKey × Option ContentData
+-- a write, apart from where it lies in memory
+abbrev pub write_data : RustWrite → Write
+write_data (write.Put r) = (r.key, Put (content_of r))
+write_data (write.Delete k) = (k, Delete)
 
--- a committed transaction
+-- a committed transaction: its end timestamp, and its last write to each key
 pub record RecordData : Type 0 where
   pub end : ℕ
-  pub writes : List NetWrite
+  pub writes : List Write
 
 -- the committed transactions with an end above prev and at most mark
 pub record GroupData : Type 0 where
   pub prev : ℕ
   pub mark : ℕ
   pub records : List RecordData
-
-abbrev pub net_write : Write → NetWrite
-net_write (Put r) = (r.key, Some (content_of r))
-net_write (Delete k) = (k, None)
 
 abbrev pub group_of : ℕ → ℕ → List RecordData → GroupData
 group_of prev mark records = record { prev = prev; mark = mark; records = records }

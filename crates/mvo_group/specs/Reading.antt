@@ -2,7 +2,9 @@
 use Rattle.std.specs.Prelude.{◌≡◌, ℕ, zero, suc, List, [], ◌∷◌, length, take, drop, Option, Some, None, nat_lt, ◌==◌, if◌then◌else◌}
 use Rattle.byteorder.specs.Endian.{little_number}
 use Rattle.mvo_types.specs.RowData.{ContentData}
-use Rattle.mvo_group.specs.Data.{NetWrite, RecordData, GroupData}
+use Rattle.mvo_types.specs.Write.{Write, Effect}
+use Rattle.mvo_types.specs.Write.Effect.{Put, Delete}
+use Rattle.mvo_group.specs.Data.{RecordData, GroupData}
 
 infixl 10 ◌>>=◌
 abbrev pub ◌>>=◌ : {A B : Type 0} → Option A → (A → Option B) → Option B
@@ -30,17 +32,17 @@ put_at bytes = do
   text ← data_at len.0 len.1
   Some (record { sort = sort.0; bytes = text.0 }, text.1)
 
--- what stands behind the key, by the tag
-unfoldable pub held_at : ℕ → List ℕ → Option (Option ContentData × List ℕ)
-held_at tag bytes = if tag == 2 then Some (None, bytes) else (if tag == 1 then (put_at bytes >>= λ h. Some (Some h.0, h.1)) else None)
+-- what the write leaves, by the tag
+unfoldable pub effect_at : ℕ → List ℕ → Option (Effect × List ℕ)
+effect_at tag bytes = if tag == 2 then Some (Delete, bytes) else (if tag == 1 then (put_at bytes >>= λ h. Some (Put h.0, h.1)) else None)
 
-unfoldable pub write_at : List ℕ → Option (NetWrite × List ℕ)
+unfoldable pub write_at : List ℕ → Option (Write × List ℕ)
 write_at bytes = do
   tag ← number_at 1 bytes
   table ← number_at 1 tag.1
   key ← number_at 8 table.1
-  held ← held_at tag.0 key.1
-  Some ((record { table = table.0; key = key.0 }, held.0), held.1)
+  effect ← effect_at tag.0 key.1
+  Some ((record { table = table.0; key = key.0 }, effect.0), effect.1)
 
 -- n of them, one after the other
 unfoldable pub times : {X : Type 0} → (List ℕ → Option (X × List ℕ)) → ℕ → List ℕ → Option (List X × List ℕ)

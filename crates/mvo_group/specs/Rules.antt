@@ -1,26 +1,27 @@
 -- The rules that a group keeps, and how long its body is.
-use Rattle.std.specs.Prelude.{ℕ, ◌+◌, ◌<◌, ◌≤◌, ◌^◌, List, [], length, map, Option, Some, None, All, sum_by}
+use Rattle.std.specs.Prelude.{ℕ, ◌+◌, ◌<◌, ◌≤◌, ◌^◌, List, [], length, map, All, sum_by}
 use Rattle.std.specs.List.Sorted.{IsStrictlyIncreasing, IsStrictlySortedBy}
-use Rattle.mvo_types.specs.RowData.{ContentData}
 use Rattle.mvo_types.specs.Keys.{key_cmp}
-use Rattle.mvo_group.specs.Data.{NetWrite, RecordData, GroupData}
+use Rattle.mvo_types.specs.Write.{Write, Effect}
+use Rattle.mvo_types.specs.Write.Effect.{Put, Delete}
+use Rattle.mvo_group.specs.Data.{RecordData, GroupData}
 
-abbrev pub sort_of : Option ContentData → ℕ
-sort_of None = 0
-sort_of (Some h) = h.sort
+abbrev pub sort_of : Effect → ℕ
+sort_of Delete = 0
+sort_of (Put h) = h.sort
 
-abbrev pub data_of : Option ContentData → List ℕ
-data_of None = []
-data_of (Some h) = h.bytes
+abbrev pub data_of : Effect → List ℕ
+data_of Delete = []
+data_of (Put h) = h.bytes
 
 -- ---- lengths, in bytes
 
-abbrev pub held_len : Option ContentData → ℕ
-held_len None = 10
-held_len (Some h) = 20 + length h.bytes
+abbrev pub effect_len : Effect → ℕ
+effect_len Delete = 10
+effect_len (Put h) = 20 + length h.bytes
 
-abbrev pub write_len : NetWrite → ℕ
-write_len w = held_len w.1
+abbrev pub write_len : Write → ℕ
+write_len w = effect_len w.1
 
 abbrev pub record_len : RecordData → ℕ
 record_len r = 10 + sum_by write_len r.writes
@@ -31,7 +32,7 @@ body_len g = 18 + sum_by record_len g.records
 -- ---- rules
 
 -- the limits of a row
-pub record KeepsLimits (w : NetWrite) : Type 0 where
+pub record KeepsLimits (w : Write) : Type 0 where
   pub table : w.0.table ≤ 15
   pub size : length (data_of w.1) ≤ 1024
 
@@ -53,7 +54,7 @@ pub record KeepsRules (g : GroupData) : Type 0 where
   pub size : body_len g ≤ 4194304
 
 -- the numbers of a write have 64 bits, as each value of the program has it
-pub record HasWords (w : NetWrite) : Type 0 where
+pub record HasWords (w : Write) : Type 0 where
   pub key : w.0.key < 2 ^ 64
   pub sort : sort_of w.1 < 2 ^ 64
 

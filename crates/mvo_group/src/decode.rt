@@ -1,6 +1,6 @@
 ghost use Rattle.std.specs.Prelude.{◌≡◌, List, length, map, IfOk, IfSome, Ok, Option, Some, None};
-ghost use Rattle.mvo_group.specs.Data.{net_write, group_of};
-ghost use Rattle.mvo_group.specs.Reading.{Gives, number_at, data_at, put_at, held_at, write_at, times, record_at, group_at};
+ghost use Rattle.mvo_group.specs.Data.{write_data, group_of};
+ghost use Rattle.mvo_group.specs.Reading.{Gives, number_at, data_at, put_at, effect_at, write_at, times, record_at, group_at};
 
 use crate::record::Record;
 use crate::write::{DELETE, PUT, Write};
@@ -67,9 +67,9 @@ fn put_of(alloc: Global, bytes: &[u8]) -> Result<Option<((u64, Vec<u8>), &[u8])>
     Ok(Some(((sort, data), rest)))
 }
 
-#[tactic(auto, unfolding(crate::specs::Reading::write_at, crate::specs::Reading::held_at))]
+#[tactic(auto, unfolding(crate::specs::Reading::write_at, crate::specs::Reading::effect_at))]
 fn write_of(alloc: Global, bytes: &[u8]) -> Result<Option<(Write, &[u8])>, AllocError>
-    ensures { IfOk result (λ found. Gives (λ x. (net_write x.0, x.1.now)) found (write_at bytes.now)) }
+    ensures { IfOk result (λ found. Gives (λ x. (write_data x.0, x.1.now)) found (write_at bytes.now)) }
 {
     let Some((tag, rest)) = u8_at(bytes) else {
         return Ok(None);
@@ -98,7 +98,7 @@ fn writes_of(
     count: u16,
     bytes: &[u8],
 ) -> Result<Option<(Vec<Write>, &[u8])>, AllocError>
-    ensures { IfOk result (λ found. Gives (λ x. (map net_write x.0.items, x.1.now)) found (times write_at count bytes.now)) }
+    ensures { IfOk result (λ found. Gives (λ x. (map write_data x.0.items, x.1.now)) found (times write_at count bytes.now)) }
 {
     let mut writes = Vec::with_capacity(alloc, MAX_WRITES.min(count as usize))?;
     let mut rest = bytes;

@@ -1,6 +1,6 @@
 ghost use Rattle.std.specs.Prelude.{◌≡◌, ◌++◌, ◌∷◌, ◌+◌, ◌<◌, ◌≤◌, ◌^◌, length, map, vec_capacity, All};
 ghost use Rattle.std.specs.List.{flat_map};
-ghost use Rattle.mvo_group.specs.Data.{net_write, group_of};
+ghost use Rattle.mvo_group.specs.Data.{write_data, group_of};
 ghost use Rattle.mvo_group.specs.Body.{field, write_bytes, record_bytes, body_of};
 ghost use Rattle.mvo_group.specs.Rules.{KeepsLimits, IsRecord, KeepsRules, body_len};
 
@@ -65,9 +65,9 @@ fn append(out: &mut Vec<u8>, bytes: &[u8])
 }
 
 fn append_write(out: &mut Vec<u8>, write: &Write)
-    requires limits { KeepsLimits (net_write write.now) }
-    requires room { length out.old.items + length (write_bytes (net_write write.now)) ≤ vec_capacity out.old }
-    ensures items { out.new.items ≡ out.old.items ++ write_bytes (net_write write.now) }
+    requires limits { KeepsLimits (write_data write.now) }
+    requires room { length out.old.items + length (write_bytes (write_data write.now)) ≤ vec_capacity out.old }
+    ensures items { out.new.items ≡ out.old.items ++ write_bytes (write_data write.now) }
     ensures room { vec_capacity out.old ≤ vec_capacity out.new }
 {
     match write {
@@ -80,9 +80,9 @@ fn append_write(out: &mut Vec<u8>, write: &Write)
 }
 
 fn append_writes(out: &mut Vec<u8>, writes: &[Write])
-    requires limits { All KeepsLimits (map net_write writes.now) }
-    requires room { length out.old.items + length (flat_map write_bytes (map net_write writes.now)) ≤ vec_capacity out.old }
-    ensures items { out.new.items ≡ out.old.items ++ flat_map write_bytes (map net_write writes.now) }
+    requires limits { All KeepsLimits (map write_data writes.now) }
+    requires room { length out.old.items + length (flat_map write_bytes (map write_data writes.now)) ≤ vec_capacity out.old }
+    ensures items { out.new.items ≡ out.old.items ++ flat_map write_bytes (map write_data writes.now) }
     ensures room { vec_capacity out.old ≤ vec_capacity out.new }
 {
     for write in writes {

@@ -1,5 +1,5 @@
 ghost use Rattle.std.specs.Prelude.{◌≡◌, ◌+◌, ◌<◌, ◌^◌, map, sum_by};
-ghost use Rattle.mvo_group.specs.Data.{net_write};
+ghost use Rattle.mvo_group.specs.Data.{write_data};
 ghost use Rattle.mvo_group.specs.Rules.{write_len};
 
 use crate::write::Write;
@@ -16,11 +16,11 @@ pub struct Record {
 
 impl Model for Record {
     ghost use Rattle.std.specs.Prelude.{map};
-    ghost use Rattle.mvo_group.specs.Data.{RecordData, net_write};
+    ghost use Rattle.mvo_group.specs.Data.{RecordData, write_data};
 
     ghost Value = { RecordData };
 
-    ghost view = { λ r. record { end = r.end.0; writes = map net_write r.writes.items } };
+    ghost view = { λ r. record { end = r.end.0; writes = map write_data r.writes.items } };
 }
 
 impl Record {
@@ -38,8 +38,8 @@ impl Record {
 
 /// How many bytes a record with these writes takes.
 fn len_of(writes: &[Write]) -> usize
-    requires { 10 + sum_by write_len (map net_write writes.now) < 2 ^ 64 }
-    ensures { result ≡ 10 + sum_by write_len (map net_write writes.now) }
+    requires { 10 + sum_by write_len (map write_data writes.now) < 2 ^ 64 }
+    ensures { result ≡ 10 + sum_by write_len (map write_data writes.now) }
 {
     let mut len = 10;
     for write in writes {

@@ -2,7 +2,7 @@ ghost use Rattle.std.specs.Prelude.{◌≡◌, ◌+◌, ◌<◌, ◌≤◌, ◌^
 ghost use Rattle.std.specs.List.Sorted.{IsStrictlyIncreasing, IsStrictlySortedBy};
 ghost use Rattle.std.specs.Ordering.{is_lt};
 ghost use Rattle.mvo_types.specs.Keys.{key_cmp};
-ghost use Rattle.mvo_group.specs.Data.{net_write, group_of};
+ghost use Rattle.mvo_group.specs.Data.{write_data, group_of};
 ghost use Rattle.mvo_group.specs.Rules.{KeepsLimits, IsRecord, HasWords, KeepsRules, record_len};
 
 use crate::record::Record;
@@ -11,8 +11,8 @@ use mvo_types::{MAX_BODY_LEN, MAX_DATA_LEN, MAX_RECORDS, MAX_STAMP, MAX_TABLE, M
 
 /// Whether the write keeps the limits of a row.
 fn keeps_limits(write: &Write) -> bool
-    ensures answer { IsTrue result ↔ KeepsLimits (net_write write.now) }
-    ensures words { HasWords (net_write write.now) }
+    ensures answer { IsTrue result ↔ KeepsLimits (write_data write.now) }
+    ensures words { HasWords (write_data write.now) }
 {
     match write {
         Write::Put(row) => {
@@ -28,8 +28,8 @@ fn keeps_limits(write: &Write) -> bool
 }
 
 fn all_keep_limits(writes: &[Write]) -> bool
-    ensures answer { IsTrue result ↔ All KeepsLimits (map net_write writes.now) }
-    ensures words { IsTrue result → All HasWords (map net_write writes.now) }
+    ensures answer { IsTrue result ↔ All KeepsLimits (map write_data writes.now) }
+    ensures words { IsTrue result → All HasWords (map write_data writes.now) }
 {
     for write in writes {
         if !keeps_limits(write) {
@@ -41,14 +41,14 @@ fn all_keep_limits(writes: &[Write]) -> bool
 
 /// Whether the first write goes below the second.
 fn is_below(first: &Write, second: &Write) -> bool
-    ensures { result ≡ is_lt (key_cmp (net_write first.now).0 (net_write second.now).0) }
+    ensures { result ≡ is_lt (key_cmp (write_data first.now).0 (write_data second.now).0) }
 {
     first.key() < second.key()
 }
 
 /// Whether (table, key) rises strictly.
 fn keys_rise(writes: &[Write]) -> bool
-    ensures { IsTrue result ↔ IsStrictlySortedBy key_cmp (map (λ w. w.0) (map net_write writes.now)) }
+    ensures { IsTrue result ↔ IsStrictlySortedBy key_cmp (map (λ w. w.0) (map write_data writes.now)) }
 {
     let mut rest = writes;
     while let [first, after @ ..] = rest {

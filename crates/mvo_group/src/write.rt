@@ -20,12 +20,12 @@ pub enum Write {
 
 impl Write {
     ghost use Rattle.std.specs.Prelude.{◌≡◌, ◌<◌, ◌^◌};
-    ghost use Rattle.mvo_group.specs.Data.{net_write};
+    ghost use Rattle.mvo_group.specs.Data.{write_data};
     ghost use Rattle.mvo_group.specs.Rules.{write_len};
 
     /// Where the write goes.
     pub fn key(&self) -> RowKey
-        ensures { result ≡ (net_write self.now).0 }
+        ensures { result ≡ (write_data self.now).0 }
     {
         match self {
             Write::Put(row) => row.key,
@@ -35,8 +35,8 @@ impl Write {
 
     /// How many bytes it takes in a body.
     pub fn encoded_len(&self) -> usize
-        requires { write_len (net_write self.now) < 2 ^ 64 }
-        ensures { result ≡ write_len (net_write self.now) }
+        requires { write_len (write_data self.now) < 2 ^ 64 }
+        ensures { result ≡ write_len (write_data self.now) }
     {
         match self {
             Write::Put(row) => 20 + row.bytes.len(),

@@ -1,49 +1,52 @@
 -- What the serial steps answer depends on the rows at the operations' keys alone.
 use Rattle.std.proofs.Common.{◌≡◌, Bool, true, false, cond, List, [], ◌∷◌, ◌++◌, Option, None, Some, map, refl, sym, ap, ◌∙◌, subst}
 use Rattle.std.specs.Prelude.{⊤}
-use Rattle.std.specs.Option.{unwrap_or, option_map, is_some}
+use Rattle.std.specs.Option.{option_map, is_some}
 use Rattle.std.specs.Ordering.{eq_by_cmp}
 use Rattle.std.specs.FinMap as fin
 use Rattle.mvo_types.specs.declared.row.RowKey.{RowKey}
 use Rattle.mvo_types.specs.declared.op.Op.{Op}
-use Rattle.mvo_types.specs.declared.op.Op.TheVariants.{Read, Scan, Insert, Update, Delete}
+use Rattle.mvo_types.specs.declared.op.Op.TheVariants.{Read, Scan, Insert, Update, Delete as DeleteAt}
 use Rattle.mvo_types.specs.RowData.{RowData, ContentData, content_of, row_with}
+use Rattle.mvo_types.specs.Write.{Write, Effect, content_after, content_after_last}
+use Rattle.mvo_types.specs.Write.Effect.{Put, Delete}
 use Rattle.mvo_types.specs.Keys.{Map, key_cmp}
 use Rattle.mvo_model.specs.Serial.{answer_to, rows_after}
 use Rattle.mvo_types.specs.AnswerData.{AnswerData}
 use Rattle.mvo_types.specs.AnswerData.AnswerData.{Found, Inserted, Exists, Updated, Deleted, Absent}
 use Rattle.mvo_types.proofs.Maps.{keys_total}
-use Rattle.mvo_model.specs.History.{History, Write, write_of, after_effect, after_write, after_history, write_at, later, net_write, AreSerial, rows_after_all, Legal}
+use Rattle.mvo_model.specs.History.{History, write_of, after_effect, after_write, after_history, write_at, later, net_write, AreSerial, rows_after_all, Legal}
 
 -- ---- the net write at a key
-pub later_later : (a b : Option (Option ContentData)) (v : Option ContentData) → unwrap_or (later a b) v ≡ unwrap_or a (unwrap_or b v)
+pub later_later : (a b : Option Effect) (v : Option ContentData) → content_after_last (later a b) v ≡ content_after_last a (content_after_last b v)
 later_later None b v = refl
-later_later (Some h) b v = refl
+later_later (Some e) b v = refl
 
-unwrap_cond : (b : Bool) (h v : Option ContentData) → unwrap_or (cond b (Some h) None) v ≡ cond b h v
-unwrap_cond true h v = refl
-unwrap_cond false h v = refl
+last_cond : (b : Bool) (e : Effect) (v : Option ContentData) → content_after_last (cond b (Some e) None) v ≡ cond b (content_after e) v
+last_cond true e v = refl
+last_cond false e v = refl
 
-pub get-after_effect : (q : RowKey) (k : RowKey) (h : Option ContentData) (m : Map) → fin.get (after_effect k h m) q ≡ cond (eq_by_cmp key_cmp q k) h (fin.get m q)
-get-after_effect q k None m = fin.get-remove keys_total m k q
-get-after_effect q k (Some h) m = fin.get-insert keys_total m k h q
+pub get-after_effect : (q k : RowKey) (e : Effect) (m : Map) → fin.get (after_effect k e m) q ≡ cond (eq_by_cmp key_cmp q k) (content_after e) (fin.get m q)
+get-after_effect q k (Put h) m = fin.get-insert keys_total m k h q
+get-after_effect q k Delete m = fin.get-remove keys_total m k q
 
-pub get-after_write : (q : RowKey) (w : Option Write) (m : Map) → fin.get (after_write w m) q ≡ unwrap_or (write_at q w) (fin.get m q)
+pub get-after_write : (q : RowKey) (w : Option Write) (m : Map) → fin.get (after_write w m) q ≡ content_after_last (write_at q w) (fin.get m q)
 get-after_write q None m = refl
-get-after_write q (Some w) m = get-after_effect q w.0 w.1 m ∙ sym (unwrap_cond (eq_by_cmp key_cmp q w.0) w.1 (fin.get m q))
+get-after_write q (Some w) m = get-after_effect q w.0 w.1 m ∙ sym (last_cond (eq_by_cmp key_cmp q w.0) w.1 (fin.get m q))
 
-pub get-after_history : (q : RowKey) (ts : History) (m : Map) → fin.get (after_history ts m) q ≡ unwrap_or (net_write q ts) (fin.get m q)
+-- what stands at a key after a history: what its net write leaves there
+pub get-after_history : (q : RowKey) (ts : History) (m : Map) → fin.get (after_history ts m) q ≡ content_after_last (net_write q ts) (fin.get m q)
 get-after_history q [] m = refl
 get-after_history q (t ∷ ts) m =
     get-after_history q ts (after_write (write_of t.0 t.1) m)
-    ∙ ap (unwrap_or (net_write q ts)) (get-after_write q (write_of t.0 t.1) m)
+    ∙ ap (content_after_last (net_write q ts)) (get-after_write q (write_of t.0 t.1) m)
     ∙ sym (later_later (net_write q ts) (write_at q (write_of t.0 t.1)) (fin.get m q))
 
-later_assoc : (a b c : Option (Option ContentData)) → later a (later b c) ≡ later (later a b) c
+later_assoc : (a b c : Option Effect) → later a (later b c) ≡ later (later a b) c
 later_assoc None b c = refl
 later_assoc (Some h) b c = refl
 
-pub later-none : (a : Option (Option ContentData)) → later a None ≡ a
+pub later-none : (a : Option Effect) → later a None ≡ a
 later-none None = refl
 later-none (Some h) = refl
 
@@ -64,7 +67,7 @@ update_writes : (b : Bool) (r : RowData) (m : Map) → cond b (fin.insert m r.ke
 update_writes true r m = refl
 update_writes false r m = refl
 
-delete_writes : (b : Bool) (k : RowKey) (m : Map) → cond b (fin.remove m k) m ≡ after_write (write_of (Delete k) (cond b Deleted Absent)) m
+delete_writes : (b : Bool) (k : RowKey) (m : Map) → cond b (fin.remove m k) m ≡ after_write (write_of (DeleteAt k) (cond b Deleted Absent)) m
 delete_writes true k m = refl
 delete_writes false k m = refl
 
@@ -73,7 +76,7 @@ rows_after-answer (Read k) m = refl
 rows_after-answer (Scan t lo hi) m = refl
 rows_after-answer (Insert r) m = insert_writes (fin.contains_key m r.key) r m
 rows_after-answer (Update r) m = update_writes (fin.contains_key m r.key) r m
-rows_after-answer (Delete k) m = delete_writes (fin.contains_key m k) k m
+rows_after-answer (DeleteAt k) m = delete_writes (fin.contains_key m k) k m
 
 pub rows_after-told : (op : Op) (s : AnswerData) (m : Map) → s ≡ answer_to op m → rows_after op m ≡ after_write (write_of op s) m
 rows_after-told op s m e = rows_after-answer op m ∙ ap (λ a. after_write (write_of op a) m) (sym e)
@@ -95,7 +98,7 @@ Agree (Read k) m n = fin.get m k ≡ fin.get n k
 Agree (Scan t lo hi) m n = m ≡ n
 Agree (Insert r) m n = fin.get m r.key ≡ fin.get n r.key
 Agree (Update r) m n = fin.get m r.key ≡ fin.get n r.key
-Agree (Delete k) m n = fin.get m k ≡ fin.get n k
+Agree (DeleteAt k) m n = fin.get m k ≡ fin.get n k
 
 abbrev pub AllAgree : History → Map → Map → Type 0
 AllAgree [] m n = ⊤
@@ -106,17 +109,17 @@ answer_agrees (Read k) m n e = ap (λ h. Found (option_map (row_with k) h)) e
 answer_agrees (Scan t lo hi) m n e = ap (answer_to (Scan t lo hi)) e
 answer_agrees (Insert r) m n e = ap (λ h. cond (is_some h) Exists Inserted) e
 answer_agrees (Update r) m n e = ap (λ h. cond (is_some h) Updated Absent) e
-answer_agrees (Delete k) m n e = ap (λ h. cond (is_some h) Deleted Absent) e
+answer_agrees (DeleteAt k) m n e = ap (λ h. cond (is_some h) Deleted Absent) e
 
 get_agrees : (q : RowKey) (w : Option Write) (m n : Map) → fin.get m q ≡ fin.get n q → fin.get (after_write w m) q ≡ fin.get (after_write w n) q
-get_agrees q w m n e = get-after_write q w m ∙ ap (unwrap_or (write_at q w)) e ∙ sym (get-after_write q w n)
+get_agrees q w m n e = get-after_write q w m ∙ ap (content_after_last (write_at q w)) e ∙ sym (get-after_write q w n)
 
 written_agrees : (op : Op) (w : Option Write) (m n : Map) → Agree op m n → Agree op (after_write w m) (after_write w n)
 written_agrees (Read k) w m n e = get_agrees k w m n e
 written_agrees (Scan t lo hi) w m n e = ap (after_write w) e
 written_agrees (Insert r) w m n e = get_agrees r.key w m n e
 written_agrees (Update r) w m n e = get_agrees r.key w m n e
-written_agrees (Delete k) w m n e = get_agrees k w m n e
+written_agrees (DeleteAt k) w m n e = get_agrees k w m n e
 
 all_written_agree : (ts : History) (w : Option Write) (m n : Map) → AllAgree ts m n → AllAgree ts (after_write w m) (after_write w n)
 all_written_agree [] w m n h = tt

@@ -4,8 +4,10 @@ use Rattle.std.specs.Ordering.{eq_by_cmp}
 use Rattle.std.specs.FinMap as map
 use Rattle.mvo_types.specs.declared.row.RowKey.{RowKey}
 use Rattle.mvo_types.specs.declared.op.Op.{Op}
-use Rattle.mvo_types.specs.declared.op.Op.TheVariants.{Insert, Update, Delete}
-use Rattle.mvo_types.specs.RowData.{ContentData, content_of}
+use Rattle.mvo_types.specs.declared.op.Op.TheVariants as op
+use Rattle.mvo_types.specs.RowData.{content_of}
+use Rattle.mvo_types.specs.Write.{Write, Effect}
+use Rattle.mvo_types.specs.Write.Effect.{Put, Delete}
 use Rattle.mvo_types.specs.Keys.{Map, key_cmp}
 use Rattle.mvo_model.specs.Serial.{answer_to, rows_after}
 use Rattle.mvo_types.specs.AnswerData.{AnswerData}
@@ -15,21 +17,17 @@ use Rattle.mvo_types.specs.AnswerData.AnswerData.{Inserted, Updated, Deleted}
 abbrev pub History : Type 0
 History = List (Op × AnswerData)
 
--- a write: the key, and what it leaves there
-abbrev pub Write : Type 0
-Write = RowKey × Option ContentData
-
 -- the write of a writing answer
 abbrev pub write_of : Op → AnswerData → Option Write
-write_of (Insert r) Inserted = Some (r.key, Some (content_of r))
-write_of (Update r) Updated = Some (r.key, Some (content_of r))
-write_of (Delete k) Deleted = Some (k, None)
-write_of op s = None
+write_of (op.Insert r) Inserted = Some (r.key, Put (content_of r))
+write_of (op.Update r) Updated = Some (r.key, Put (content_of r))
+write_of (op.Delete k) Deleted = Some (k, Delete)
+write_of asked answer = None
 
 -- the rows after a write
-abbrev pub after_effect : RowKey → Option ContentData → Map → Map
-after_effect k None m = map.remove m k
-after_effect k (Some h) m = map.insert m k h
+abbrev pub after_effect : RowKey → Effect → Map → Map
+after_effect k (Put h) m = map.insert m k h
+after_effect k Delete m = map.remove m k
 
 abbrev pub after_write : Option Write → Map → Map
 after_write None m = m
@@ -41,17 +39,17 @@ after_history [] m = m
 after_history (t ∷ ts) m = after_history ts (after_write (write_of t.0 t.1) m)
 
 -- what a write leaves at the key k, if it is of k
-abbrev pub write_at : RowKey → Option Write → Option (Option ContentData)
+abbrev pub write_at : RowKey → Option Write → Option Effect
 write_at k None = None
 write_at k (Some w) = cond (eq_by_cmp key_cmp k w.0) (Some w.1) None
 
 -- the later of two writes
-abbrev pub later : Option (Option ContentData) → Option (Option ContentData) → Option (Option ContentData)
+abbrev pub later : Option Effect → Option Effect → Option Effect
 later None first = first
-later (Some h) first = Some h
+later (Some e) first = Some e
 
 -- the net write at a key: that of the last writing answer on it
-abbrev pub net_write : RowKey → History → Option (Option ContentData)
+abbrev pub net_write : RowKey → History → Option Effect
 net_write k [] = None
 net_write k (t ∷ ts) = later (net_write k ts) (write_at k (write_of t.0 t.1))
 

@@ -2,11 +2,11 @@
 use Rattle.std.proofs.Common.{◌≡◌, ◌≢◌, ℕ, ◌<◌, Bool, true, false, cond, List, [], ◌∷◌, ◌++◌, Option, None, Some, map, refl, sym, ap, ◌∙◌, subst, ◌⊎◌, inl, inr, arith, append_assoc}
 use Rattle.std.specs.Prelude.{⊤}
 use Rattle.std.specs.List.{AllByRecursion}
-use Rattle.std.specs.Option.{unwrap_or}
 use Rattle.std.specs.FinMap as fin
 use Rattle.mvo_types.specs.declared.row.RowKey.{RowKey}
 use Rattle.mvo_types.specs.RowData.{ContentData}
 use Rattle.mvo_types.specs.Keys.{Map}
+use Rattle.mvo_types.specs.Write.{Effect, content_after_last}
 use Rattle.mvo_model.specs.History.{History, after_history, later, net_write, AreSerial, rows_after_all, Legal}
 use Rattle.mvo_model.proofs.Serials.{get-after_history, net_write-append, after_history-append, AllAgree, AreSerial-agree, left_by_all, rows_after_all-after_history}
 use Rattle.mvo_state.specs.Entries.{key_of}
@@ -37,13 +37,13 @@ abbrev pub IsCoveredBy : History → History → List History → Type 0
 IsCoveredBy t seen [] = ⊤
 IsCoveredBy t seen (u ∷ us) = AllByRecursion (λ x. (net_write (key_of x.0) t ≡ None) ⊎ (net_write (key_of x.0) seen ≢ None)) u × IsCoveredBy t (seen ++ u) us
 
-same_under : (w x : Option (Option ContentData)) (v : Option ContentData) → (x ≡ None) ⊎ (w ≢ None) → unwrap_or w v ≡ unwrap_or w (unwrap_or x v)
+same_under : (w x : Option Effect) (v : Option ContentData) → (x ≡ None) ⊎ (w ≢ None) → content_after_last w v ≡ content_after_last w (content_after_last x v)
 same_under (Some h) x v c = refl
-same_under None x v (inl e) = ap (λ y. unwrap_or y v) (sym e)
+same_under None x v (inl e) = ap (λ y. content_after_last y v) (sym e)
 same_under None x v (inr n) = absurd (n refl)
 
 same_key : (k : RowKey) (t seen : History) (m : Map) → (net_write k t ≡ None) ⊎ (net_write k seen ≢ None) → fin.get (after_history seen m) k ≡ fin.get (after_history seen (after_history t m)) k
-same_key k t seen m c = get-after_history k seen m ∙ same_under (net_write k seen) (net_write k t) (fin.get m k) c ∙ ap (unwrap_or (net_write k seen)) (sym (get-after_history k t m)) ∙ sym (get-after_history k seen (after_history t m))
+same_key k t seen m c = get-after_history k seen m ∙ same_under (net_write k seen) (net_write k t) (fin.get m k) c ∙ ap (content_after_last (net_write k seen)) (sym (get-after_history k t m)) ∙ sym (get-after_history k seen (after_history t m))
 
 pub covered_alike : (us : List History) (t seen : History) (m : Map) → AllByRecursion (AllByRecursion (λ x. IsKeyed x.0)) us → IsCoveredBy t seen us → LookAlike us (after_history seen m) (after_history seen (after_history t m))
 covered_alike [] t seen m k c = tt

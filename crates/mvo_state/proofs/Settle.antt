@@ -1,7 +1,6 @@
 -- A settled transaction takes its place in the middle of the tale.
 use Rattle.std.proofs.Common.{◌≡◌, ◌≢◌, ℕ, ◌<◌, ◌≤◌, Bool, true, false, cond, not, ◌||◌, List, [], ◌∷◌, ◌++◌, Option, None, Some, map, refl, sym, ap, ◌∙◌, subst, ◌⊎◌, inl, inr, arith, append_assoc}
 use Rattle.std.specs.Prelude.{⊤, nat_lt, ◌==◌, ◌&&◌, is_some}
-use Rattle.std.specs.Option.{unwrap_or}
 use Rattle.std.specs.FinMap as fin
 use Rattle.std.specs.List.{AllByRecursion, filter, list_any}
 use Rattle.std.specs.Ordering.{eq_by_cmp}
@@ -11,11 +10,11 @@ use Rattle.mvo_types.proofs.Maps.{exact_keys}
 use Rattle.mvo_types.specs.declared.row.RowKey.{RowKey}
 use Rattle.mvo_types.specs.declared.op.Op.{Op}
 use Rattle.mvo_types.specs.declared.op.Op.TheVariants.{Read, Scan, Insert, Update, Delete}
-use Rattle.mvo_types.specs.RowData.{ContentData}
 use Rattle.mvo_types.specs.Keys.{Map, key_cmp}
 use Rattle.mvo_types.specs.AnswerData.{AnswerData}
 use Rattle.mvo_types.specs.AnswerData.AnswerData.{Found, Rows, Inserted, Exists, Updated, Deleted, Absent}
-use Rattle.mvo_model.specs.History.{History, Write, write_of, write_at, after_history, later, net_write, AreSerial, Legal}
+use Rattle.mvo_types.specs.Write.{Write, Effect, content_after_last}
+use Rattle.mvo_model.specs.History.{History, write_of, write_at, after_history, later, net_write, AreSerial, Legal}
 use Rattle.mvo_model.proofs.Serials.{net_write-append, get-after_history, after_history-append, AreSerial-agree, left_by_all}
 use Rattle.mvo_state.specs.Entries.{key_of}
 use Rattle.mvo_state.specs.Entries.{IsKeyed, IsApart}
@@ -58,7 +57,7 @@ apart_writer k w (t ∷ ts) a h = go (is_some (net_write k ts)) refl (apart_writ
     go : (b : Bool) → is_some (net_write k ts) ≡ b → (is_some (net_write k ts) ≡ true → net_write k w ≡ None) → net_write k w ≡ None
     go true e r = r e
     go false e r =
-        let here : is_some (write_at k (write_of t.0 t.1)) ≡ true = ap (λ (x : Option (Option ContentData)). is_some (later x (write_at k (write_of t.0 t.1)))) (sym (none_unless (net_write k ts) e)) ∙ h in
+        let here : is_some (write_at k (write_of t.0 t.1)) ≡ true = ap (λ (x : Option Effect). is_some (later x (write_at k (write_of t.0 t.1)))) (sym (none_unless (net_write k ts) e)) ∙ h in
         subst (λ (j : RowKey). net_write j w ≡ None) (sym (write_here k (key_of t.0) (write_of t.0 t.1) here (write_key t.0 t.1))) a.0
 
 -- ---- those before the end that aren't settled wrote nowhere where this one looked
@@ -96,7 +95,7 @@ abbrev pub settled_below : ℕ → List Slot → History
 settled_below e [] = []
 settled_below e (x ∷ xs) = cond (x.settled && nat_lt x.stop e) x.told [] ++ settled_below e xs
 
-later-none : (a : Option (Option ContentData)) → later a None ≡ a
+later-none : (a : Option Effect) → later a None ≡ a
 later-none None = refl
 later-none (Some h) = refl
 
@@ -123,7 +122,7 @@ serial_settled base line id stop ts ds lt h k u f o =
     AreSerial-agree ts (seen_by base line id) (after_history (settled_below stop line) base)
     (all_agree_at ts (seen_by base line id) (after_history (settled_below stop line) base) k
     (each_both (λ x. IsUnchanged line id stop (key_of x.0)) (λ x. AllByRecursion (λ y. y.settled ≡ false → y.stop < stop → net_write (key_of x.0) y.told ≡ None) line) (λ x. fin.get (seen_by base line id) (key_of x.0) ≡ fin.get (after_history (settled_below stop line) base) (key_of x.0))
-    (λ x a b. get-after_history (key_of x.0) (told_below id line) base ∙ ap (λ w. unwrap_or w (fin.get base (key_of x.0))) (same_seen (key_of x.0) id stop line lt a b o) ∙ sym (get-after_history (key_of x.0) (settled_below stop line) base)) ts u f))
+    (λ x a b. get-after_history (key_of x.0) (told_below id line) base ∙ ap (λ w. content_after_last w (fin.get base (key_of x.0))) (same_seen (key_of x.0) id stop line lt a b o) ∙ sym (get-after_history (key_of x.0) (settled_below stop line) base)) ts u f))
     h.serial
 
 -- each of these, and each of those

@@ -1,7 +1,6 @@
 -- Each step keeps what a core keeps.
 use Rattle.std.proofs.Common.{suc, zero, take, length, add-one, ◌≡◌, ◌≢◌, ◌||◌, ℕ, ◌+◌, ◌<◌, ◌≤◌, Bool, true, false, cond, not, List, [], ◌∷◌, ◌++◌, Option, None, Some, map, refl, sym, ap, ◌∙◌, subst, arith, ◌⊎◌, inl, inr}
 use Rattle.std.specs.Prelude.{⊤, nat_lt, ◌==◌, slice_get, is_some}
-use Rattle.std.specs.Option.{unwrap_or}
 use Rattle.std.specs.FinMap as fin
 use Rattle.std.specs.List.{AllByRecursion, filter, list_any}
 use Rattle.std.proofs.lemmas.Bool.{eqb-true, false≢true, true≢false, not-false, ltb-true, and_parts}
@@ -10,6 +9,7 @@ use Rattle.mvo_types.specs.declared.row.RowKey.{RowKey}
 use Rattle.mvo_types.specs.declared.op.Op.{Op}
 use Rattle.mvo_types.specs.Keys.{Map}
 use Rattle.mvo_types.specs.AnswerData.{AnswerData}
+use Rattle.mvo_types.specs.Write.{content_after_last}
 use Rattle.mvo_model.specs.Serial.{answer_to}
 use Rattle.mvo_model.specs.History.{History, after_history, net_write, AreSerial, Legal}
 use Rattle.mvo_model.proofs.Serials.{get-after_history, AreSerial-push, AreSerial-agree}
@@ -42,7 +42,7 @@ resting_filter p base line id ts ds o k h = record {
   serial = AreSerial-agree ts (seen_by base line id) (seen_by base (filter p line) id)
       (all_agree_at ts (seen_by base line id) (seen_by base (filter p line) id) k
       (each_weaker (λ x. IsDecided (key_of x.0) id ds line) (λ x. fin.get (seen_by base line id) (key_of x.0) ≡ fin.get (seen_by base (filter p line) id) (key_of x.0))
-      (λ x d. get-after_history (key_of x.0) (told_below id line) base ∙ ap (λ w. unwrap_or w (fin.get base (key_of x.0))) (sym (seen_filter p (key_of x.0) id ds line o d)) ∙ sym (get-after_history (key_of x.0) (told_below id (filter p line)) base)) ts h.decided))
+      (λ x d. get-after_history (key_of x.0) (told_below id line) base ∙ ap (λ w. content_after_last w (fin.get base (key_of x.0))) (sym (seen_filter p (key_of x.0) id ds line o d)) ∙ sym (get-after_history (key_of x.0) (told_below id (filter p line)) base)) ts h.decided))
       h.serial;
   decided = each_weaker (λ x. IsDecided (key_of x.0) id ds line) (λ x. IsDecided (key_of x.0) id ds (filter p line)) (λ x. decided_filter p (key_of x.0) id ds line o) ts h.decided;
 }

@@ -8,8 +8,9 @@ use Rattle.mvo_types.specs.declared.refusal.Refusal.TheVariants.{NoSuchTransacti
 use Rattle.std.specs.Option.{option_map}
 use Rattle.mvo_types.specs.RowData.{RowData, row_with}
 use Rattle.mvo_types.specs.Keys.{Map, row_at}
+use Rattle.mvo_types.specs.Write.{Write, content_after}
 use Rattle.mvo_model.specs.Serial.{is_in_range}
-use Rattle.mvo_model.specs.History.{History, Write, write_of, after_write, net_write}
+use Rattle.mvo_model.specs.History.{History, write_of, after_write, net_write}
 use Rattle.mvo_state.specs.Entries.{Entry, entries, has_entry, entry_keys, is_noted, written_keys}
 use Rattle.mvo_state.specs.Entries.Entry.{Key, Range}
 use Rattle.mvo_state.specs.Line.{State, Slot, Running, has, last_writer, seen_by}
@@ -136,7 +137,7 @@ is_row_in table lo hi (Some r) = is_in_range table lo hi r
 -- whether a write on these rows ends a row in the range, or puts one there
 abbrev pub writes_in : ℕ → ℕ → ℕ → Map → Option Write → Bool
 writes_in table lo hi m None = false
-writes_in table lo hi m (Some w) = is_row_in table lo hi (row_at m w.0) || is_row_in table lo hi (option_map (row_with w.0) w.1)
+writes_in table lo hi m (Some w) = is_row_in table lo hi (row_at m w.0) || is_row_in table lo hi (option_map (row_with w.0) (content_after w.1))
 
 -- whether one of the writes does, each on the rows that those before it leave
 abbrev pub changes_range : ℕ → ℕ → ℕ → History → Map → Bool

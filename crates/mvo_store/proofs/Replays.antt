@@ -1,11 +1,12 @@
 -- The rows after one write, record or group more.
 use Rattle.std.proofs.Common.{◌≡◌, List, [], ◌∷◌, ◌++◌, refl}
 use Rattle.mvo_types.specs.Keys.{Map}
+use Rattle.mvo_types.specs.Write.{Write}
 use Rattle.mvo_model.specs.History.{after_effect}
-use Rattle.mvo_group.specs.Data.{NetWrite, RecordData, GroupData}
+use Rattle.mvo_group.specs.Data.{RecordData, GroupData}
 use Rattle.mvo_store.specs.Recovery.{after_writes, after_records, after_groups}
 
-pub after_writes-push : (ws : List NetWrite) (w : NetWrite) (m : Map) → after_writes (ws ++ w ∷ []) m ≡ after_effect w.0 w.1 (after_writes ws m)
+pub after_writes-push : (ws : List Write) (w : Write) (m : Map) → after_writes (ws ++ w ∷ []) m ≡ after_effect w.0 w.1 (after_writes ws m)
 after_writes-push [] w m = refl
 after_writes-push (x ∷ ws) w m = after_writes-push ws w (after_effect x.0 x.1 m)
 

@@ -2,12 +2,13 @@
 use Rattle.std.specs.Prelude.{◌≡◌, ℕ, ◌<◌, List, [], ◌∷◌, length}
 use Rattle.std.specs.FinMap as map
 use Rattle.mvo_types.specs.Keys.{Map}
+use Rattle.mvo_types.specs.Write.{Write}
 use Rattle.mvo_model.specs.History.{after_effect}
-use Rattle.mvo_group.specs.Data.{NetWrite, RecordData, GroupData}
+use Rattle.mvo_group.specs.Data.{RecordData, GroupData}
 use Rattle.mvo_store.specs.Frames.{HasGroups, HasFrames, Frames, front, mark_after}
 
 -- the rows after some writes, one after another
-abbrev pub after_writes : List NetWrite → Map → Map
+abbrev pub after_writes : List Write → Map → Map
 after_writes [] m = m
 after_writes (w ∷ ws) m = after_writes ws (after_effect w.0 w.1 m)
 

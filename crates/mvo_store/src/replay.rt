@@ -2,7 +2,7 @@
 ghost use Rattle.std.specs.Prelude.{◌≡◌, map, OnOk};
 ghost use Rattle.mvo_types.specs.Keys.{Map};
 ghost use Rattle.mvo_model.specs.History.{after_effect};
-ghost use Rattle.mvo_group.specs.Data.{net_write};
+ghost use Rattle.mvo_group.specs.Data.{write_data};
 ghost use Rattle.mvo_store.specs.Recovery.{after_writes, after_records};
 
 use mvo_group::{Group, Record, Write};
@@ -10,7 +10,7 @@ use mvo_types::Rows;
 use std::alloc::AllocError;
 
 fn apply_write(rows: &mut Rows, write: Write) -> Result<(), AllocError>
-    ensures { OnOk result (rows.new ≡ after_effect (net_write write).0 (net_write write).1 rows.old) }
+    ensures { OnOk result (rows.new ≡ after_effect (write_data write).0 (write_data write).1 rows.old) }
 {
     match write {
         Write::Put(row) => rows.put(row)?,
@@ -20,7 +20,7 @@ fn apply_write(rows: &mut Rows, write: Write) -> Result<(), AllocError>
 }
 
 fn apply_writes(rows: &mut Rows, writes: Vec<Write>) -> Result<(), AllocError>
-    ensures { OnOk result (rows.new ≡ after_writes (map net_write writes.items) rows.old) }
+    ensures { OnOk result (rows.new ≡ after_writes (map write_data writes.items) rows.old) }
 {
     for write in writes {
         apply_write(rows, write)?;

@@ -1,7 +1,7 @@
 -- The rows after the records of commits are those after what the commits were told.
 use Rattle.std.proofs.Common.{◌≡◌, ℕ, Bool, true, false, cond, List, [], ◌∷◌, ◌++◌, Option, None, Some, map, refl, sym, ap, ◌∙◌}
 use Rattle.std.specs.Prelude.{nat_lt, ◌&&◌}
-use Rattle.std.specs.Option.{option_map, unwrap_or}
+use Rattle.std.specs.Option.{option_map}
 use Rattle.std.specs.List.{AllByRecursion, filter}
 use Rattle.std.specs.List.Sorted.{IsStrictlySortedBy}
 use Rattle.std.specs.Ordering.{eq_by_cmp}
@@ -10,26 +10,22 @@ use Rattle.std.specs.declared.cmp.Ordering.TheVariants.{Less, Equal, Greater}
 use Rattle.std.specs.FinMap as fin
 use Rattle.std.proofs.lemmas.Bool.{true≢false, false≢true}
 use Rattle.mvo_types.specs.declared.row.RowKey.{RowKey}
-use Rattle.mvo_types.specs.RowData.{ContentData}
 use Rattle.mvo_types.specs.Keys.{Map, key_cmp}
 use Rattle.mvo_types.proofs.Maps.{keys_total, exact_keys}
-use Rattle.mvo_model.specs.History.{History, Write, write_of, after_write, after_effect, after_history}
-use Rattle.mvo_model.proofs.Serials.{get-after_history}
-use Rattle.mvo_group.specs.Data.{NetWrite, RecordData}
+use Rattle.mvo_types.specs.Write.{Write, content_after, content_after_last}
+use Rattle.mvo_model.specs.History.{History, write_of, after_write, after_effect, after_history}
+use Rattle.mvo_model.proofs.Serials.{get-after_effect, get-after_history}
+use Rattle.mvo_group.specs.Data.{RecordData}
 use Rattle.mvo_state.specs.Entries.{noted, noted_key, written_from, written_keys}
 use Rattle.mvo_store.specs.Recovery.{after_writes, after_records}
 use Rattle.mvo_core.specs.Writers.{is_there}
 use Rattle.mvo_core.specs.Groups.{IsRecordOf, AreRecordsOf, write_in}
 
 -- ---- one record
-get-put : (q k : RowKey) (h : Option ContentData) (m : Map) → fin.get (after_effect k h m) q ≡ cond (eq_by_cmp key_cmp q k) h (fin.get m q)
-get-put q k None m = fin.get-remove keys_total m k q
-get-put q k (Some h) m = fin.get-insert keys_total m k h q
-
 unequal : (o : Ordering) → o ≡ Less → o ≡ Equal → ⊥
 unequal o e f = cc
 
-no_later : (q k : RowKey) (ws : List NetWrite) → q ≡ k → AllByRecursion (λ (j : RowKey). key_cmp k j ≡ Less) (map (λ w. w.0) ws) → write_in q ws ≡ None
+no_later : (q k : RowKey) (ws : List Write) → q ≡ k → AllByRecursion (λ (j : RowKey). key_cmp k j ≡ Less) (map (λ w. w.0) ws) → write_in q ws ≡ None
 no_later q k [] e h = refl
 no_later q k (w ∷ ws) e h = go (eq_by_cmp key_cmp q w.0) refl (no_later q k ws e h.1)
   where
@@ -53,20 +49,20 @@ same_key q k t = exact_keys q k (go (key_cmp q k) t)
     go Equal t' = refl
     go Greater t' = absurd (false≢true t')
 
-get-after_writes : (q : RowKey) (ws : List NetWrite) (m : Map) → IsStrictlySortedBy key_cmp (map (λ w. w.0) ws) → fin.get (after_writes ws m) q ≡ unwrap_or (write_in q ws) (fin.get m q)
+get-after_writes : (q : RowKey) (ws : List Write) (m : Map) → IsStrictlySortedBy key_cmp (map (λ w. w.0) ws) → fin.get (after_writes ws m) q ≡ content_after_last (write_in q ws) (fin.get m q)
 unfolding IsStrictlySortedBy
 get-after_writes q [] m h = refl
 get-after_writes q (w ∷ ws) m h =
     get-after_writes q ws (after_effect w.0 w.1 m) h.1
-    ∙ ap (unwrap_or (write_in q ws)) (get-put q w.0 w.1 m)
+    ∙ ap (content_after_last (write_in q ws)) (get-after_effect q w.0 w.1 m)
     ∙ go (eq_by_cmp key_cmp q w.0) refl
   where
-    go : (b : Bool) → eq_by_cmp key_cmp q w.0 ≡ b → unwrap_or (write_in q ws) (cond b w.1 (fin.get m q)) ≡ unwrap_or (cond b (Some w.1) (write_in q ws)) (fin.get m q)
-    go true t = ap (λ o. unwrap_or o w.1) (no_later q w.0 ws (same_key q w.0 t) h.0)
+    go : (b : Bool) → eq_by_cmp key_cmp q w.0 ≡ b → content_after_last (write_in q ws) (cond b (content_after w.1) (fin.get m q)) ≡ content_after_last (cond b (Some w.1) (write_in q ws)) (fin.get m q)
+    go true t = ap (λ o. content_after_last o (content_after w.1)) (no_later q w.0 ws (same_key q w.0 t) h.0)
     go false t = refl
 
 record_rows : (c : ℕ × History) (r : RecordData) (m : Map) → IsRecordOf c r → after_writes r.writes m ≡ after_history c.1 m
-record_rows c r m is = fin.same_map keys_total exact_keys _ _ (λ q. get-after_writes q r.writes m is.rise ∙ ap (λ o. unwrap_or o (fin.get m q)) (is.writes q) ∙ sym (get-after_history q c.1 m))
+record_rows c r m is = fin.same_map keys_total exact_keys _ _ (λ q. get-after_writes q r.writes m is.rise ∙ ap (λ o. content_after_last o (fin.get m q)) (is.writes q) ∙ sym (get-after_history q c.1 m))
 
 -- ---- one that wrote no key
 cons_nil : (k : RowKey) (ks : List RowKey) → ◌≡◌ {A = List RowKey} (k ∷ ks) [] → ⊥

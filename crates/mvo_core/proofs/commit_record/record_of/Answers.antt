@@ -4,7 +4,7 @@ use Rattle.std.specs.List.Sorted.{IsPermutation}
 use Rattle.std.specs.Ordering.{eq_by_cmp}
 use Rattle.mvo_types.specs.declared.row.RowKey.{RowKey}
 use Rattle.mvo_types.specs.Keys.{key_cmp}
-use Rattle.mvo_group.specs.Data.{RecordData, net_write}
+use Rattle.mvo_group.specs.Data.{RecordData, write_data}
 use Rattle.mvo_group.specs.Rules.{IsRecord}
 use Rattle.mvo_state.specs.Entries.{written_keys}
 use Rattle.mvo_state.specs.Line.{Slot}
@@ -19,7 +19,7 @@ use Rattle.mvo_core.proofs.commit_record.record_of.Goals.{After-drop-keys-2}
 pub in_order-requires : goal.in_order-requires
 in_order-requires c = subst (λ (ks : List RowKey). IsDistinct (eq_by_cmp key_cmp) ks) (sym c.tx.invariant.1) (written_apart (told_view c.tx.inside.ops.items))
 
-writes : (c : After-drop-keys-2) → map net_write c.in_ok-writes_at.field-0.items ≡ net_writes (told_view c.tx.inside.ops.items) c.in_ok-keys.keys.items
+writes : (c : After-drop-keys-2) → map write_data c.in_ok-writes_at.field-0.items ≡ net_writes (told_view c.tx.inside.ops.items) c.in_ok-keys.keys.items
 writes c =
     c.in_ok-writes_at.ensures
     ∙ ap (λ ops. net_writes (told_view ops) c.deref-2.result.now) c.deref.ensures.value
@@ -30,7 +30,7 @@ keys c = subst (λ (ks : List RowKey). IsPermutation ks c.in_ok-keys.keys.items)
 
 -- what the record holds
 left : After-drop-keys-2 → RecordData
-left c = record { end = c.tx.inside.end.0; writes = map net_write c.in_ok-writes_at.field-0.items }
+left c = record { end = c.tx.inside.end.0; writes = map write_data c.in_ok-writes_at.field-0.items }
 
 pub returns-clause-written : goal.returns-clause-written
 unfolding left

@@ -1,8 +1,8 @@
 use Rattle.std.proofs.Common.{◌≡◌, ◌-◌, map}
-use Rattle.mvo_group.specs.Data.{net_write}
+use Rattle.mvo_group.specs.Data.{write_data}
 use Rattle.mvo_group.specs.Reading.{times, write_at}
 use Rattle.mvo_group.proofs.Loop.{with_front}
 use Rattle.mvo_group.proofs.decode.writes_of.Given as goal
 
 abbrev pub invariant-loop : goal.invariant-loop
-invariant-loop l = with_front (map net_write l.writes.items) (times write_at (l.count - l.counter) l.rest) ≡ times write_at l.count l.bytes
+invariant-loop l = with_front (map write_data l.writes.items) (times write_at (l.count - l.counter) l.rest) ≡ times write_at l.count l.bytes

@@ -1,11 +1,11 @@
 use Rattle.std.proofs.Common.{map, take}
 use Rattle.std.specs.List.{All}
-use Rattle.mvo_group.specs.Data.{net_write}
+use Rattle.mvo_group.specs.Data.{write_data}
 use Rattle.mvo_group.specs.Rules.{KeepsLimits, HasWords}
 use Rattle.mvo_group.proofs.rules.all_keep_limits.Given as goal
 
 abbrev pub invariant-loop-write : goal.invariant-loop-write
 invariant-loop-write l = record {
-  limits : All KeepsLimits (map net_write (take l.write-index l.writes));
-  words : All HasWords (map net_write (take l.write-index l.writes));
+  limits : All KeepsLimits (map write_data (take l.write-index l.writes));
+  words : All HasWords (map write_data (take l.write-index l.writes));
 }
