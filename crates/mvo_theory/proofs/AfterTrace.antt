@@ -12,7 +12,7 @@ use Rattle.mvo_model.specs.Trace.Step.{Begins, Answers, Prepares, Checks, Commit
 use Rattle.mvo_model.proofs.Traces.{history_of-push, commits-push}
 use Rattle.mvo_theory.specs.State.{State, StampedTx, ActiveTx, after_settled, opened, after_begin, after_operation, with_answer, after_prepare, to_stamped, after_check, with_check, after_commit, with_settled, after_abort_of_active, after_abort_of_preparing, with_flag, active_with_flag, not_at, after_termination}
 use Rattle.mvo_theory.specs.Causes.{active_of, preparing_of, is_ended}
-use Rattle.mvo_theory.specs.Steps.{after_precommit_of, after_next_precommit, after_validate_of, after_validate, after_commit_of, after_commit_now, after_abort_of, after_abort}
+use Rattle.mvo_theory.specs.Steps.{after_precommit_of, after_precommit, after_validate_of, after_validate, after_commit_of, after_commit_now, after_abort_of, after_abort}
 use Rattle.mvo_theory.specs.Sound.{IsSound, IsNumbered, IsSingle, IsActive, IsRising, IsLegal, IsPast, IsStarted}
 use Rattle.mvo_theory.specs.AfterTrace.{IsAfterTrace, pairs}
 use Rattle.mvo_theory.proofs.Each.{each_weaker, each_both, each_append, each_back, each_map, each_filter}
@@ -94,7 +94,7 @@ says_after_operation opening xs s t op a mine f k n h =
     }
 
 -- ---- precommit
-says_after_prepare : (opening : Map) (xs : List Step) (s : State) (t : ℕ) (mine : ActiveTx) → active_of t s.active ≡ Some mine → SaysTold opening xs s → SaysTold opening (xs ++ Prepares t (s.clock + 1) ∷ []) (after_next_precommit s t)
+says_after_prepare : (opening : Map) (xs : List Step) (s : State) (t : ℕ) (mine : ActiveTx) → active_of t s.active ≡ Some mine → SaysTold opening xs s → SaysTold opening (xs ++ Prepares t (s.clock + 1) ∷ []) (after_precommit s t)
 says_after_prepare opening xs s t mine f h =
     let e = s.clock + 1 in
     subst (SaysTold opening (xs ++ Prepares t e ∷ [])) (sym (ap (after_precommit_of s) f))
@@ -239,10 +239,10 @@ stands_after_begin opening xs s t lt k n h = after_trace_by opening xs (Begins t
 pub stands_after_operation : (opening : Map) (xs : List Step) (s : State) (t : ℕ) (op : Op) (a : AnswerData) (mine : ActiveTx) → active_of t s.active ≡ Some mine → IsSound s → IsNumbered s → IsAfterTrace opening xs s → IsAfterTrace opening (xs ++ Answers t op a ∷ []) (after_operation s t op a)
 stands_after_operation opening xs s t op a mine f k n h = after_trace_by opening xs (Answers t op a) s (after_operation s t op a) (leads_after_operation s t op a) (says_after_operation opening xs s t op a mine f k n (says opening xs s h)) h
 
-pub stands_after_prepare : (opening : Map) (xs : List Step) (s : State) (t : ℕ) (mine : ActiveTx) → active_of t s.active ≡ Some mine → IsSingle s → IsAfterTrace opening xs s → IsAfterTrace opening (xs ++ Prepares t (s.clock + 1) ∷ []) (after_next_precommit s t)
+pub stands_after_prepare : (opening : Map) (xs : List Step) (s : State) (t : ℕ) (mine : ActiveTx) → active_of t s.active ≡ Some mine → IsSingle s → IsAfterTrace opening xs s → IsAfterTrace opening (xs ++ Prepares t (s.clock + 1) ∷ []) (after_precommit s t)
 stands_after_prepare opening xs s t mine f n h =
     let e = s.clock + 1 in
-    after_trace_by opening xs (Prepares t e) s (after_next_precommit s t)
+    after_trace_by opening xs (Prepares t e) s (after_precommit s t)
     (subst (Leads (Prepares t e) s) (sym (ap (after_precommit_of s) f)) (leads_after_prepare s t mine e f (id_of t s.active mine f) n))
     (says_after_prepare opening xs s t mine f (says opening xs s h)) h
 

@@ -8,7 +8,7 @@ use Rattle.mvo_types.specs.AnswerData.{AnswerData}
 use Rattle.mvo_model.specs.History.{History}
 use Rattle.mvo_theory.specs.State.{State, StampedTx, ActiveTx, after_begin, after_operation, to_stamped, after_check, with_check, with_settled, with_flag, not_at, after_termination}
 use Rattle.mvo_theory.specs.Causes.{active_of, preparing_of}
-use Rattle.mvo_theory.specs.Steps.{after_precommit_of, after_next_precommit, after_validate_of, after_validate, after_commit_of, after_commit_now, after_abort_of, after_abort}
+use Rattle.mvo_theory.specs.Steps.{after_precommit_of, after_precommit, after_validate_of, after_validate, after_commit_of, after_commit_now, after_abort_of, after_abort}
 use Rattle.mvo_theory.specs.Marks.{settled_to, IsClosedAt}
 use Rattle.mvo_theory.proofs.Each.{each_append, each_map, each_filter}
 
@@ -36,7 +36,7 @@ settled_last : (m : ℕ) (xs : List StampedTx) (y : StampedTx) → y.settled ≡
 settled_last m [] y o = ap (λ (b : Bool). cond b ((y.end, y.history) ∷ []) []) (and_none y.settled (nat_le y.end m) o)
 settled_last m (x ∷ xs) y o = ap (λ (zs : List (ℕ × History)). cond (x.settled && nat_le x.end m) ((x.end, x.history) ∷ zs) zs) (settled_last m xs y o)
 
-pub stays_after_prepare : (s : State) (t : ℕ) → EndsStay s (after_next_precommit s t)
+pub stays_after_prepare : (s : State) (t : ℕ) → EndsStay s (after_precommit s t)
 stays_after_prepare s t m h = go (active_of t s.active)
   where
     go : (w : Option ActiveTx) → IsClosedAt m (after_precommit_of s w) × (settled_to m (after_precommit_of s w).stamped ≡ settled_to m s.stamped)

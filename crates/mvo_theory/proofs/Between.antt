@@ -1,7 +1,6 @@
 -- What a transaction saw at its begin, the settled ones leave at its end, if no other changed it and none that decides it is Preparing.
 use Rattle.std.proofs.Common.{◌≡◌, ◌≢◌, ℕ, ◌<◌, ◌≤◌, Bool, true, false, cond, List, [], ◌∷◌, ◌++◌, Option, None, Some, refl, sym, ap, ◌∙◌, subst, inl, inr, arith}
 use Rattle.std.specs.Prelude.{nat_lt, ◌&&◌, is_some}
-use Rattle.std.specs.Option.{unwrap_or}
 use Rattle.std.specs.FinMap as fin
 use Rattle.std.specs.List.{AllByRecursion}
 use Rattle.std.specs.Ordering.{eq_by_cmp}
@@ -9,7 +8,8 @@ use Rattle.std.proofs.lemmas.Bool.{ltb-true, ltb-false, le-ltb, lt-ltb, false≢
 use Rattle.mvo_types.specs.declared.row.RowKey.{RowKey}
 use Rattle.mvo_types.specs.RowData.{ContentData}
 use Rattle.mvo_types.specs.Keys.{Map, key_cmp}
-use Rattle.mvo_model.specs.History.{History, Write, write_of, write_at, after_history, later, net_write}
+use Rattle.mvo_types.specs.Write.{Effect, Write, content_after_last}
+use Rattle.mvo_model.specs.History.{History, write_of, write_at, after_history, later, net_write}
 use Rattle.mvo_model.proofs.Serials.{net_write-append, get-after_history, after_history-append, later-none}
 use Rattle.mvo_theory.specs.Entries.{Entry, entry_of}
 use Rattle.mvo_theory.specs.Entries.Entry.{Key}
@@ -40,7 +40,7 @@ apart_writer k x (t ∷ ts) a h = go (is_some (net_write k ts)) refl (apart_writ
     go : (b : Bool) → is_some (net_write k ts) ≡ b → (is_some (net_write k ts) ≡ true → net_write k x.history ≡ None) → net_write k x.history ≡ None
     go true e r = r e
     go false e r =
-        let here : is_some (write_at k (write_of t.0 t.1)) ≡ true = ap (λ (w : Option (Option ContentData)). is_some (later w (write_at k (write_of t.0 t.1)))) (sym (none_unless (net_write k ts) e)) ∙ h in
+        let here : is_some (write_at k (write_of t.0 t.1)) ≡ true = ap (λ (w : Option Effect). is_some (later w (write_at k (write_of t.0 t.1)))) (sym (none_unless (net_write k ts) e)) ∙ h in
         subst (LeavesAlone x) (write_here k (entry_of t.0) (write_of t.0 t.1) here (write_entry t.0 t.1)) a.0
 
 -- ---- a key that is decided by none that it depends on has no writer below the begin that isn't settled
@@ -98,7 +98,7 @@ at_begin : (e : Entry) (b : ℕ) (ds : List ℕ) (base : Map) (stamped : List St
 at_begin e b ds base stamped d c n q = go (counts_for e q b base stamped) refl
   where
     go : (w : Bool) → counts_for e q b base stamped ≡ w → pass (shows e) q (fin.get (seen_by base stamped b) q) ≡ pass (shows e) q (fin.get (after_history (settled_below b stamped) base) q)
-    go true f = ap (pass (shows e) q) (get-after_history q (history_below b stamped) base ∙ ap (λ w. unwrap_or w (fin.get base q)) (same_seen q b stamped (free_key q b ds stamped (d q f) c n)) ∙ sym (get-after_history q (settled_below b stamped) base))
+    go true f = ap (pass (shows e) q) (get-after_history q (history_below b stamped) base ∙ ap (λ w. content_after_last w (fin.get base q)) (same_seen q b stamped (free_key q b ds stamped (d q f) c n)) ∙ sym (get-after_history q (settled_below b stamped) base))
     go false f = uncounted_seen e q b base stamped f ∙ sym (uncounted_some e q b base (λ x. x.settled && nat_lt x.end b) (λ x g. (and_parts x.settled (nat_lt x.end b) g).1) stamped f)
 
 -- ---- from the begin to the end

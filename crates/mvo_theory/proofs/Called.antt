@@ -15,7 +15,7 @@ use Rattle.mvo_theory.specs.Entries.{entries}
 use Rattle.mvo_theory.specs.State.{State, StampedTx, ActiveTx, seen_by, ended_key, opened, after_begin, after_operation, after_check, after_abort_of_active, after_termination, history_of_active, after_prepare, after_trim, snapshot}
 use Rattle.mvo_theory.specs.Marks.{why_not_trim}
 use Rattle.mvo_theory.specs.Causes.{active_of, preparing_of, or_flagged, claimed_by, change_of, differs, entry_differs, not_op, why_not_do, why_not_precommit, not_checked_at, why_not_validate, why_not_settle, waiting_for, awaited_by, awaited, end_at, end_of, is_failure, why_not_finish}
-use Rattle.mvo_theory.specs.Steps.{after_precommit_of, after_next_precommit, after_validate_of, after_validate, after_commit_of, after_commit_now, after_settle_unless, after_settle, after_abort_of, after_abort, after_refusal, steps_of_refusal}
+use Rattle.mvo_theory.specs.Steps.{after_precommit_of, after_precommit, after_validate_of, after_validate, after_commit_of, after_commit_now, after_settle_unless, after_settle, after_abort_of, after_abort, after_refusal, steps_of_refusal}
 use Rattle.mvo_theory.specs.Sound.{IsRising, IsActive, IsSound, AreDistinct, IsNumbered, IsSingle, IsStarted, AreExclusive}
 use Rattle.mvo_theory.specs.AfterTrace.{IsAfterTrace}
 use Rattle.mvo_theory.specs.Traced.{IsTraced, AreTraced}
@@ -112,7 +112,7 @@ kept_begun opening xs s h = record {
 }
 
 -- ---- precommit
-kept_prepared : (opening : Map) (xs : List Step) (s : State) (t : ℕ) → why_not_precommit s t ≡ None → IsKept opening xs s → IsKept opening (xs ++ Prepares t (s.clock + 1) ∷ []) (after_next_precommit s t)
+kept_prepared : (opening : Map) (xs : List Step) (s : State) (t : ℕ) → why_not_precommit s t ≡ None → IsKept opening xs s → IsKept opening (xs ++ Prepares t (s.clock + 1) ∷ []) (after_precommit s t)
 kept_prepared opening xs s t w h =
     let found = active_after_prepare s t w in
     let r = found.0 in

@@ -11,6 +11,9 @@ use Rattle.mvo_types.specs.Keys.{Map, key_cmp}
 use Rattle.mvo_types.specs.RowData.{ContentData, content_of}
 use Rattle.mvo_types.specs.AnswerData.{AnswerData}
 use Rattle.mvo_types.specs.AnswerData.AnswerData.{Updated, Deleted}
+use Rattle.mvo_types.specs.Write.Effect.{Put, Delete as Gone}
+
+use Rattle.mvo_types.specs.Write.{Effect}
 use Rattle.mvo_model.specs.History.{History, write_of, write_at, later, net_write}
 use Rattle.mvo_model.proofs.Serials.{net_write-append}
 use Rattle.mvo_model.specs.Trace.{Step, history_of}
@@ -32,11 +35,11 @@ same_key : (j k : RowKey) → ◌≡◌ {A = Option RowKey} (Some j) (Some k) �
 same_key j k e = cc
 
 -- ---- the first writing answer, after one more
-is_none : (w : Option (Option ContentData)) → is_some w ≡ false → w ≡ None
+is_none : (w : Option Effect) → is_some w ≡ false → w ≡ None
 is_none None e = refl
 is_none (Some h) e = absurd (true≢false e)
 
-later_none : (a b : Option (Option ContentData)) → is_some a ≡ false → is_some b ≡ false → is_some (later a b) ≡ false
+later_none : (a b : Option Effect) → is_some a ≡ false → is_some b ≡ false → is_some (later a b) ≡ false
 later_none None b e f = f
 later_none (Some h) b e f = absurd (true≢false e)
 
@@ -55,7 +58,7 @@ ended_push k (t ∷ ts) op a h = go (is_some (write_at k (write_of t.0 t.1))) re
     go false e g r = elim (r g) [ inl x ↦ inl x | inr y ↦ inr (later_none (net_write k ts) (write_at k (write_of t.0 t.1)) y.0 e, y.1, y.2) ]
 
 -- the key that is ended is the one that is written
-write_is : (k j : RowKey) (h : Option ContentData) → is_some (write_at k (Some (j, h))) ≡ true → eq_by_cmp key_cmp k j ≡ true
+write_is : (k j : RowKey) (h : Effect) → is_some (write_at k (Some (j, h))) ≡ true → eq_by_cmp key_cmp k j ≡ true
 write_is k j h e = go (eq_by_cmp key_cmp k j) e
   where
     go : (b : Bool) → is_some (cond b (Some h) None) ≡ true → b ≡ true
@@ -66,9 +69,9 @@ ended_write : (op : Op) (a : AnswerData) (j k : RowKey) → ended_key op a ≡ S
 ended_write (Read i) a j k e h = absurd (none_key j e)
 ended_write (Scan t lo hi) a j k e h = absurd (none_key j e)
 ended_write (Insert r) a j k e h = absurd (none_key j e)
-ended_write (Update r) Updated j k e h = subst (λ (i : RowKey). eq_by_cmp key_cmp k i ≡ true) (same_key r.key j e) (write_is k r.key (Some (content_of r)) h)
+ended_write (Update r) Updated j k e h = subst (λ (i : RowKey). eq_by_cmp key_cmp k i ≡ true) (same_key r.key j e) (write_is k r.key (Put (content_of r)) h)
 ended_write (Update r) a j k e h = absurd (none_key j e)
-ended_write (Delete i) Deleted j k e h = subst (λ (l : RowKey). eq_by_cmp key_cmp k l ≡ true) (same_key i j e) (write_is k i None h)
+ended_write (Delete i) Deleted j k e h = subst (λ (l : RowKey). eq_by_cmp key_cmp k l ≡ true) (same_key i j e) (write_is k i Gone h)
 ended_write (Delete i) a j k e h = absurd (none_key j e)
 
 -- ---- an operation
@@ -106,27 +109,27 @@ more_claims opening xs s t op a r (Some j) e i history k n p st h = go (is_some 
     go false f = each_append (IsClaimed s.marks.opening (xs ++ Answers t op a ∷ []) r.id) r.claims ((record { key = j; origin = origin s r.id j }) ∷ []) old
         (record { before = xs; op = op; answer = a; after = []; then' = ap (λ (u : ℕ). xs ++ Answers u op a ∷ []) (sym i); answered = e; first = ap (λ ts. is_some (net_write j ts)) history ∙ f; origin = origin_in_trace opening xs s j r.id k n p st }, tt)
 
-later_first : (a b : Option (Option ContentData)) → is_some a ≡ true → is_some (later a b) ≡ true
+later_first : (a b : Option Effect) → is_some a ≡ true → is_some (later a b) ≡ true
 later_first None b e = absurd (false≢true e)
 later_first (Some h) b e = refl
 
-later_second : (a b : Option (Option ContentData)) → is_some b ≡ true → is_some (later a b) ≡ true
+later_second : (a b : Option Effect) → is_some b ≡ true → is_some (later a b) ≡ true
 later_second None b e = e
 later_second (Some h) b e = refl
 
 still_written : (k : RowKey) (ts us : History) → is_some (net_write k ts) ≡ true → is_some (net_write k (ts ++ us)) ≡ true
 still_written k ts us h = ap is_some (net_write-append k ts us) ∙ later_second (net_write k us) (net_write k ts) h
 
-own_write : (k : RowKey) (h : Option ContentData) → is_some (write_at k (Some (k, h))) ≡ true
+own_write : (k : RowKey) (h : Effect) → is_some (write_at k (Some (k, h))) ≡ true
 own_write k h = ap (λ (b : Bool). is_some (cond b (Some h) None)) (key_is k)
 
 pub ended_written : (op : Op) (a : AnswerData) (j : RowKey) → ended_key op a ≡ Some j → is_some (write_at j (write_of op a)) ≡ true
 ended_written (Read i) a j e = absurd (none_key j e)
 ended_written (Scan t lo hi) a j e = absurd (none_key j e)
 ended_written (Insert r) a j e = absurd (none_key j e)
-ended_written (Update r) Updated j e = subst (λ (i : RowKey). is_some (write_at i (Some (r.key, Some (content_of r)))) ≡ true) (same_key r.key j e) (own_write r.key (Some (content_of r)))
+ended_written (Update r) Updated j e = subst (λ (i : RowKey). is_some (write_at i (Some (r.key, Put (content_of r)))) ≡ true) (same_key r.key j e) (own_write r.key (Put (content_of r)))
 ended_written (Update r) a j e = absurd (none_key j e)
-ended_written (Delete i) Deleted j e = subst (λ (l : RowKey). is_some (write_at l (Some (i, None))) ≡ true) (same_key i j e) (own_write i None)
+ended_written (Delete i) Deleted j e = subst (λ (l : RowKey). is_some (write_at l (Some (i, Gone))) ≡ true) (same_key i j e) (own_write i Gone)
 ended_written (Delete i) a j e = absurd (none_key j e)
 
 now_written : (k : RowKey) (ts : History) (op : Op) (a : AnswerData) → ended_key op a ≡ Some k → is_some (net_write k (ts ++ (op, a) ∷ [])) ≡ true

@@ -7,6 +7,7 @@ use Rattle.mvo_types.specs.declared.op.Op.{Op}
 use Rattle.mvo_types.specs.declared.row.RowKey.{RowKey}
 use Rattle.mvo_types.specs.RowData.{ContentData}
 use Rattle.mvo_types.specs.AnswerData.{AnswerData}
+use Rattle.mvo_types.specs.Write.{Effect}
 use Rattle.mvo_model.specs.History.{write_of, write_at, later, net_write}
 use Rattle.mvo_model.proofs.Serials.{net_write-append}
 use Rattle.mvo_model.specs.Trace.{Step, history_by, history_of, committed}
@@ -45,11 +46,11 @@ one_origin mark steps k b m n p q = elim (cases_lt m n) [
 ]
 
 -- ---- one first writing answer
-later_first : (a b : Option (Option ContentData)) → is_some a ≡ true → is_some (later a b) ≡ true
+later_first : (a b : Option Effect) → is_some a ≡ true → is_some (later a b) ≡ true
 later_first None b e = absurd (false≢true e)
 later_first (Some h) b e = refl
 
-later_second : (a b : Option (Option ContentData)) → is_some b ≡ true → is_some (later a b) ≡ true
+later_second : (a b : Option Effect) → is_some b ≡ true → is_some (later a b) ≡ true
 later_second None b e = e
 later_second (Some h) b e = refl
 

@@ -1,7 +1,6 @@
 -- What a transaction depends on: who decides a key that counts for one of its entries is settled, or depended on.
 use Rattle.std.proofs.Common.{◌≡◌, ℕ, ◌<◌, ◌≤◌, Bool, true, false, cond, not, ◌||◌, List, [], ◌∷◌, ◌++◌, Option, None, Some, map, refl, sym, ap, ◌∙◌, subst}
 use Rattle.std.specs.Prelude.{nat_lt, is_some}
-use Rattle.std.specs.Option.{unwrap_or}
 use Rattle.std.specs.List.{AllByRecursion, filter}
 use Rattle.std.specs.Ordering.{eq_by_cmp}
 use Rattle.std.specs.FinMap as fin
@@ -10,7 +9,8 @@ use Rattle.mvo_types.specs.declared.row.RowKey.{RowKey}
 use Rattle.mvo_types.specs.declared.op.Op.{Op}
 use Rattle.mvo_types.specs.RowData.{ContentData}
 use Rattle.mvo_types.specs.Keys.{Map, key_cmp}
-use Rattle.mvo_model.specs.History.{History, Write, write_of, write_at, later, net_write, AreSerial, after_history}
+use Rattle.mvo_types.specs.Write.{Effect, Write, content_after_last}
+use Rattle.mvo_model.specs.History.{History, write_of, write_at, later, net_write, AreSerial, after_history}
 use Rattle.mvo_model.proofs.Serials.{get-after_history}
 use Rattle.mvo_theory.specs.Entries.{Entry, entry_of, is_noted}
 use Rattle.mvo_theory.specs.Entries.Entry.{Key}
@@ -66,7 +66,7 @@ written_decided q b ds base stamped (t ∷ ts) h d = go (is_some (net_write q ts
     go : (c : Bool) → is_some (net_write q ts) ≡ c → (is_some (net_write q ts) ≡ true → IsDecided q b ds stamped) → IsDecided q b ds stamped
     go true g r = r g
     go false g r = here_decided q b ds base stamped (entry_of t.0) (write_of t.0 t.1) (write_entry t.0 t.1)
-        (ap (λ (w : Option (Option ContentData)). is_some (later w (write_at q (write_of t.0 t.1)))) (sym (none_unless (net_write q ts) g)) ∙ h) d.0
+        (ap (λ (w : Option Effect). is_some (later w (write_at q (write_of t.0 t.1)))) (sym (none_unless (net_write q ts) g)) ∙ h) d.0
 
 pub decided_on_now : (s : State) (op : Op) (r : ActiveTx) → AllByRecursion (λ o. IsDecidedOn (entry_of o.0) r.id r.depends_on s.base s.stamped) r.history → IsDecidedOn (entry_of op) r.id (dependencies s op r) s.base s.stamped
 decided_on_now s op r d q c = go (is_some (net_write q r.history)) refl
@@ -122,7 +122,7 @@ entry_filter keep e b ds base stamped o d q = go (counts_for e q b base stamped)
     fewer true f g = absurd (true≢false (sym (counts_filter keep e q b base stamped f) ∙ g))
 
     go : (c : Bool) → counts_for e q b base stamped ≡ c → pass (shows e) q (fin.get (seen_by base stamped b) q) ≡ pass (shows e) q (fin.get (seen_by base (filter keep stamped) b) q)
-    go true f = ap (pass (shows e) q) (get-after_history q (history_below b stamped) base ∙ ap (λ w. unwrap_or w (fin.get base q)) (sym (seen_filter keep q b ds stamped o (d q f))) ∙ sym (get-after_history q (history_below b (filter keep stamped)) base))
+    go true f = ap (pass (shows e) q) (get-after_history q (history_below b stamped) base ∙ ap (λ w. content_after_last w (fin.get base q)) (sym (seen_filter keep q b ds stamped o (d q f))) ∙ sym (get-after_history q (history_below b (filter keep stamped)) base))
     go false f = uncounted_seen e q b base stamped f ∙ sym (uncounted_seen e q b base (filter keep stamped) (fewer (counts_for e q b base (filter keep stamped)) refl f))
 
 pub consistent_last : (base : Map) (stamped : List StampedTx) (y : StampedTx) (id : ℕ) (ts : History) (rs : List Row) (ds : List ℕ) → id ≤ y.end → IsConsistent base stamped id ts rs ds → IsConsistent base (stamped ++ y ∷ []) id ts rs ds

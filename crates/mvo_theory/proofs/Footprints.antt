@@ -1,7 +1,6 @@
 -- Who puts and ends no row that an entry shows leaves what it shows.
 use Rattle.std.proofs.Common.{◌≡◌, Bool, true, false, cond, ◌||◌, List, [], ◌∷◌, ◌++◌, Option, None, Some, refl, sym, ap, ◌∙◌, subst, ◌⊎◌, inl, inr, append_assoc}
 use Rattle.std.specs.Prelude.{is_some}
-use Rattle.std.specs.Option.{unwrap_or}
 use Rattle.std.specs.List.{AllByRecursion, list_any}
 use Rattle.std.specs.Ordering.{eq_by_cmp}
 use Rattle.std.specs.FinMap as fin
@@ -11,7 +10,9 @@ use Rattle.mvo_types.proofs.Maps.{exact_keys}
 use Rattle.mvo_types.specs.declared.row.RowKey.{RowKey}
 use Rattle.mvo_types.specs.RowData.{ContentData}
 use Rattle.mvo_types.specs.Keys.{Map, key_cmp}
-use Rattle.mvo_model.specs.History.{History, Write, write_of, write_at, after_write, after_history, later, net_write}
+use Rattle.mvo_types.specs.Write.Effect.{Put, Delete}
+use Rattle.mvo_types.specs.Write.{Effect, Write, content_after, content_after_last}
+use Rattle.mvo_model.specs.History.{History, write_of, write_at, after_write, after_history, later, net_write}
 use Rattle.mvo_model.proofs.Serials.{get-after_effect, get-after_history}
 use Rattle.mvo_theory.specs.Entries.{Entry}
 use Rattle.mvo_theory.specs.Entries.Entry.{Key, Range}
@@ -69,12 +70,12 @@ untouched_one : (p : Row → Bool) (q : RowKey) (w : Option Write) (m : Map) →
 untouched_one p q None m h = refl
 untouched_one p q (Some w) m h = ap (pass p q) (get-after_effect q w.0 w.1 m) ∙ go (eq_by_cmp key_cmp q w.0) refl
   where
-    go : (b : Bool) → eq_by_cmp key_cmp q w.0 ≡ b → pass p q (cond b w.1 (fin.get m q)) ≡ pass p q (fin.get m q)
+    go : (b : Bool) → eq_by_cmp key_cmp q w.0 ≡ b → pass p q (cond b (content_after w.1) (fin.get m q)) ≡ pass p q (fin.get m q)
     go false e = refl
     go true e =
         let is = tells_apart exact_keys q w.0 e in
-        passes_not p q w.0 w.1 (sym is) (each_back (λ s. s.0 ≡ q → p s ≡ false) (row_of w.0 (fin.get m w.0)) (row_of w.0 w.1) h)
-        ∙ sym (subst (λ (j : RowKey). pass p q (fin.get m j) ≡ None) (sym is) (passes_not p q w.0 (fin.get m w.0) (sym is) (each_front (λ s. s.0 ≡ q → p s ≡ false) (row_of w.0 (fin.get m w.0)) (row_of w.0 w.1) h)))
+        passes_not p q w.0 (content_after w.1) (sym is) (each_back (λ s. s.0 ≡ q → p s ≡ false) (row_of w.0 (fin.get m w.0)) (row_of w.0 (content_after w.1)) h)
+        ∙ sym (subst (λ (j : RowKey). pass p q (fin.get m j) ≡ None) (sym is) (passes_not p q w.0 (fin.get m w.0) (sym is) (each_front (λ s. s.0 ≡ q → p s ≡ false) (row_of w.0 (fin.get m w.0)) (row_of w.0 (content_after w.1)) h)))
 
 -- who put and ended no row of the key that passes leaves what passes of it
 pub untouched : (p : Row → Bool) (q : RowKey) (ts : History) (m : Map) → NoneOf p q (footprint_of ts m) → pass p q (fin.get (after_history ts m) q) ≡ pass p q (fin.get m q)
@@ -89,9 +90,9 @@ no_put_one : (p : Row → Bool) (q : RowKey) (w : Option Write) (m : Map) → No
 no_put_one p q None m h n = n
 no_put_one p q (Some w) m h n = ap (pass p q) (get-after_effect q w.0 w.1 m) ∙ go (eq_by_cmp key_cmp q w.0) refl
   where
-    go : (b : Bool) → eq_by_cmp key_cmp q w.0 ≡ b → pass p q (cond b w.1 (fin.get m q)) ≡ None
+    go : (b : Bool) → eq_by_cmp key_cmp q w.0 ≡ b → pass p q (cond b (content_after w.1) (fin.get m q)) ≡ None
     go false e = n
-    go true e = passes_not p q w.0 w.1 (key_same q w.0 e) h
+    go true e = passes_not p q w.0 (content_after w.1) (key_same q w.0 e) h
 
 pub no_put : (p : Row → Bool) (q : RowKey) (ts : History) (m : Map) → NoneOf p q (puts ts) → pass p q (fin.get m q) ≡ None → pass p q (fin.get (after_history ts m) q) ≡ None
 no_put p q [] m h n = n
@@ -100,7 +101,7 @@ no_put p q (t ∷ ts) m h n =
     (no_put_one p q (write_of t.0 t.1) m (each_front (λ s. s.0 ≡ q → p s ≡ false) (put_by (write_of t.0 t.1)) (puts ts) h) n)
 
 -- ---- who doesn't change the entry, and has this footprint on the rows, leaves the entry alone
-pub none_unless : (w : Option (Option ContentData)) → is_some w ≡ false → w ≡ None
+pub none_unless : (w : Option Effect) → is_some w ≡ false → w ≡ None
 none_unless None e = refl
 none_unless (Some h) e = absurd (true≢false e)
 
@@ -110,7 +111,7 @@ unchanged_agree (Key k) x m f h = λ q. go q (eq_by_cmp key_cmp q k) refl
     go : (q : RowKey) (b : Bool) → eq_by_cmp key_cmp q k ≡ b → pass (shows (Key k)) q (fin.get m q) ≡ pass (shows (Key k)) q (fin.get (after_history x.history m) q)
     go q true e =
         let is = key_same q k e in
-        ap (pass (shows (Key k)) q) (sym (get-after_history q x.history m ∙ ap (λ w. unwrap_or w (fin.get m q)) (subst (λ (j : RowKey). net_write j x.history ≡ None) is (none_unless (net_write k x.history) h))))
+        ap (pass (shows (Key k)) q) (sym (get-after_history q x.history m ∙ ap (λ w. content_after_last w (fin.get m q)) (subst (λ (j : RowKey). net_write j x.history ≡ None) is (none_unless (net_write k x.history) h))))
     go q false e = none (fin.get m q) ∙ sym (none (fin.get (after_history x.history m) q))
       where
         none : (o : Option ContentData) → pass (shows (Key k)) q o ≡ None
@@ -133,15 +134,15 @@ IsSource p ts m s = p s ≡ true → (is_some (net_write s.0 ts) ≡ true) × ((
 abbrev IsStep : (Row → Bool) → History → Map → Option Write → Row → Type 0
 IsStep p ts m w s = p s ≡ true → (is_some (later (net_write s.0 ts) (write_at s.0 w)) ≡ true) × ((list_any (is_row_of p s.0) (put_by w ++ puts ts) ≡ true) ⊎ (is_some (pass p s.0 (fin.get m s.0)) ≡ true))
 
-later_after_termination : (a b : Option (Option ContentData)) → is_some a ≡ true → is_some (later a b) ≡ true
-later_after_termination None b e = absurd (false≢true e)
-later_after_termination (Some h) b e = refl
+later_left : (a b : Option Effect) → is_some a ≡ true → is_some (later a b) ≡ true
+later_left None b e = absurd (false≢true e)
+later_left (Some h) b e = refl
 
-later_right : (a b : Option (Option ContentData)) → is_some b ≡ true → is_some (later a b) ≡ true
+later_right : (a b : Option Effect) → is_some b ≡ true → is_some (later a b) ≡ true
 later_right None b e = e
 later_right (Some h) b e = refl
 
-own_write : (k : RowKey) (h : Option ContentData) (ts : History) → is_some (later (net_write k ts) (cond (eq_by_cmp key_cmp k k) (Some h) None)) ≡ true
+own_write : (k : RowKey) (h : Effect) (ts : History) → is_some (later (net_write k ts) (cond (eq_by_cmp key_cmp k k) (Some h) None)) ≡ true
 own_write k h ts = later_right (net_write k ts) (cond (eq_by_cmp key_cmp k k) (Some h) None) (ap (λ (b : Bool). is_some (cond b (Some h) None)) (key_is k))
 
 put_here : (p : Row → Bool) (q k : RowKey) (h : Option ContentData) → k ≡ q → is_some (pass p q h) ≡ true → list_any (is_row_of p q) (row_of k h) ≡ true
@@ -157,26 +158,26 @@ footprint_source p [] m = tt
 footprint_source p (t ∷ ts) m = go (write_of t.0 t.1) (λ n. footprint_source p ts n)
   where
     rest : (w : Option Write) (s : Row) → IsSource p ts (after_write w m) s → IsStep p ts m w s
-    rest w s f e = let q = f e in (later_after_termination (net_write s.0 ts) (write_at s.0 w) q.0, elim q.1 [ inl a ↦ inl (any_right (is_row_of p s.0) (put_by w) (puts ts) a) | inr a ↦ from w a ])
+    rest w s f e = let q = f e in (later_left (net_write s.0 ts) (write_at s.0 w) q.0, elim q.1 [ inl a ↦ inl (any_right (is_row_of p s.0) (put_by w) (puts ts) a) | inr a ↦ from w a ])
       where
         from : (v : Option Write) → is_some (pass p s.0 (fin.get (after_write v m) s.0)) ≡ true → (list_any (is_row_of p s.0) (put_by v ++ puts ts) ≡ true) ⊎ (is_some (pass p s.0 (fin.get m s.0)) ≡ true)
         from None a = inr a
         from (Some v) a = here (eq_by_cmp key_cmp s.0 v.0) refl (sym (ap (λ o. is_some (pass p s.0 o)) (get-after_effect s.0 v.0 v.1 m)) ∙ a)
           where
-            here : (b : Bool) → eq_by_cmp key_cmp s.0 v.0 ≡ b → is_some (pass p s.0 (cond b v.1 (fin.get m s.0))) ≡ true → (list_any (is_row_of p s.0) (row_of v.0 v.1 ++ puts ts) ≡ true) ⊎ (is_some (pass p s.0 (fin.get m s.0)) ≡ true)
+            here : (b : Bool) → eq_by_cmp key_cmp s.0 v.0 ≡ b → is_some (pass p s.0 (cond b (content_after v.1) (fin.get m s.0))) ≡ true → (list_any (is_row_of p s.0) (row_of v.0 (content_after v.1) ++ puts ts) ≡ true) ⊎ (is_some (pass p s.0 (fin.get m s.0)) ≡ true)
             here false g i = inr i
-            here true g i = inl (any_left (is_row_of p s.0) (row_of v.0 v.1) (puts ts) (put_here p s.0 v.0 v.1 (key_same s.0 v.0 g) i))
+            here true g i = inl (any_left (is_row_of p s.0) (row_of v.0 (content_after v.1)) (puts ts) (put_here p s.0 v.0 (content_after v.1) (key_same s.0 v.0 g) i))
 
-    seen : (k : RowKey) (h : Option ContentData) (o : Option ContentData) → fin.get m k ≡ o → AllByRecursion (IsStep p ts m (Some (k, h))) (row_of k o)
+    seen : (k : RowKey) (h : Effect) (o : Option ContentData) → fin.get m k ≡ o → AllByRecursion (IsStep p ts m (Some (k, h))) (row_of k o)
     seen k h None e = tt
     seen k h (Some v) e = (λ f. (own_write k h ts, inr (ap (λ x. is_some (pass p k x)) e ∙ ap (λ (b : Bool). is_some (cond b (Some v) None)) f)), tt)
 
-    put : (k : RowKey) (h : Option ContentData) → AllByRecursion (IsStep p ts m (Some (k, h))) (row_of k h)
-    put k None = tt
-    put k (Some v) = (λ f. (own_write k (Some v) ts, inl (or_left (is_row_of p k (k, v)) (list_any (is_row_of p k) (puts ts)) (and_from (eq_by_cmp key_cmp k k) (p (k, v)) (key_is k) f))), tt)
+    put : (k : RowKey) (h : Effect) → AllByRecursion (IsStep p ts m (Some (k, h))) (row_of k (content_after h))
+    put k Delete = tt
+    put k (Put v) = (λ f. (own_write k (Put v) ts, inl (or_left (is_row_of p k (k, v)) (list_any (is_row_of p k) (puts ts)) (and_from (eq_by_cmp key_cmp k k) (p (k, v)) (key_is k) f))), tt)
 
     go : (w : Option Write) → ((n : Map) → AllByRecursion (IsSource p ts n) (footprint_of ts n)) → AllByRecursion (IsStep p ts m w) (changed_by w m ++ footprint_of ts (after_write w m))
     go None r = each_weaker (IsSource p ts m) (IsStep p ts m None) (rest None) (footprint_of ts m) (r m)
-    go (Some w) r = each_append (IsStep p ts m (Some w)) (row_of w.0 (fin.get m w.0) ++ row_of w.0 w.1) (footprint_of ts (after_write (Some w) m))
-        (each_append (IsStep p ts m (Some w)) (row_of w.0 (fin.get m w.0)) (row_of w.0 w.1) (seen w.0 w.1 (fin.get m w.0) refl) (put w.0 w.1))
+    go (Some w) r = each_append (IsStep p ts m (Some w)) (row_of w.0 (fin.get m w.0) ++ row_of w.0 (content_after w.1)) (footprint_of ts (after_write (Some w) m))
+        (each_append (IsStep p ts m (Some w)) (row_of w.0 (fin.get m w.0)) (row_of w.0 (content_after w.1)) (seen w.0 w.1 (fin.get m w.0) refl) (put w.0 w.1))
         (each_weaker (IsSource p ts (after_write (Some w) m)) (IsStep p ts m (Some w)) (rest (Some w)) (footprint_of ts (after_write (Some w) m)) (r (after_write (Some w) m)))

@@ -9,6 +9,7 @@ use Rattle.mvo_types.specs.declared.row.RowKey.{RowKey}
 use Rattle.mvo_types.specs.RowData.{ContentData}
 use Rattle.mvo_types.specs.Keys.{Map, key_cmp}
 use Rattle.mvo_types.specs.AnswerData.{AnswerData}
+use Rattle.mvo_types.specs.Write.{Effect}
 use Rattle.mvo_model.specs.History.{History, write_of, write_at, later, net_write}
 use Rattle.mvo_model.specs.Trace.{Step, history_by, history_of}
 use Rattle.mvo_model.specs.Trace.Step.{Answers}
@@ -28,11 +29,11 @@ use Rattle.mvo_theory.proofs.AfterTrace.{rising_all}
 use Rattle.mvo_theory.proofs.TrimReplies.{old_claim}
 
 -- ---- the first writing answer, among what it was told
-none_first : (a b : Option (Option ContentData)) → is_some (later a b) ≡ false → is_some a ≡ false
+none_first : (a b : Option Effect) → is_some (later a b) ≡ false → is_some a ≡ false
 none_first None b h = refl
 none_first (Some x) b h = absurd (true≢false h)
 
-none_second : (a b : Option (Option ContentData)) → is_some (later a b) ≡ false → is_some b ≡ false
+none_second : (a b : Option Effect) → is_some (later a b) ≡ false → is_some b ≡ false
 none_second None b h = h
 none_second (Some x) b h = absurd (true≢false h)
 

@@ -6,6 +6,7 @@ use Rattle.std.proofs.lemmas.Bool.{ltb-true, le-ltb, eq-eqb, false≢true, true�
 use Rattle.mvo_types.specs.declared.row.RowKey.{RowKey}
 use Rattle.mvo_types.specs.Keys.{Map}
 use Rattle.mvo_types.specs.RowData.{ContentData}
+use Rattle.mvo_types.specs.Write.{Effect}
 use Rattle.mvo_model.specs.History.{History, after_history, later, net_write}
 use Rattle.mvo_model.proofs.Serials.{net_write-append}
 use Rattle.mvo_theory.proofs.Each.{each_weaker, each_append, each_map}
@@ -190,15 +191,15 @@ decided_filter p k b ds (x ∷ xs) o d = go (p x) (written_filter p k b ds xs o.
     go false f r = r
 
 -- ---- the write at a key, of what is seen
-is_there : (w : Option (Option ContentData)) → is_some w ≡ true → (h : Option ContentData) × (w ≡ Some h)
+is_there : (w : Option Effect) → is_some w ≡ true → (h : Effect) × (w ≡ Some h)
 is_there None n = absurd (false≢true n)
 is_there (Some h) n = (h, refl)
 
-later_there : (a b : Option (Option ContentData)) → is_some a ≡ true → later a b ≡ a
+later_there : (a b : Option Effect) → is_some a ≡ true → later a b ≡ a
 later_there None b e = absurd (false≢true e)
 later_there (Some h) b e = refl
 
-later_some : (a b : Option (Option ContentData)) → is_some b ≡ true → is_some (later a b) ≡ true
+later_some : (a b : Option Effect) → is_some b ≡ true → is_some (later a b) ≡ true
 later_some None b e = e
 later_some (Some h) b e = refl
 
@@ -212,7 +213,7 @@ written_seen k b (x ∷ xs) (inr q) =
     ap is_some (net_write-append k (cond (nat_lt x.end b) x.history []) (history_below b xs))
     ∙ ap is_some (later_there (net_write k (history_below b xs)) (net_write k (cond (nat_lt x.end b) x.history [])) (written_seen k b xs q)) ∙ written_seen k b xs q
 
-later-none : (a : Option (Option ContentData)) → later a None ≡ a
+later-none : (a : Option Effect) → later a None ≡ a
 later-none None = refl
 later-none (Some h) = refl
 

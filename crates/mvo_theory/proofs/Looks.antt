@@ -13,8 +13,9 @@ use Rattle.mvo_types.specs.RowData.{ContentData, row_with}
 use Rattle.mvo_types.specs.Keys.{Map, key_cmp}
 use Rattle.mvo_types.specs.AnswerData.{AnswerData}
 use Rattle.mvo_types.specs.AnswerData.AnswerData.{Found as Found, Rows, Inserted, Exists, Updated, Deleted, Absent}
+use Rattle.mvo_types.specs.Write.{Effect, Write, content_after, content_after_last}
 use Rattle.mvo_model.specs.Serial.{answer_to}
-use Rattle.mvo_model.specs.History.{History, Write, write_of, write_at, after_write, after_history, AreSerial}
+use Rattle.mvo_model.specs.History.{History, write_of, write_at, after_write, after_history, AreSerial}
 use Rattle.mvo_model.proofs.Serials.{get-after_write, rows_after-told}
 use Rattle.mvo_theory.specs.Entries.{Entry, entry_of}
 use Rattle.mvo_theory.specs.Entries.Entry.{Key}
@@ -46,7 +47,7 @@ answer_agrees (Update r) m n e = ap (λ h. cond (is_some h) Updated Absent) (sam
 answer_agrees (Delete k) m n e = ap (λ h. cond (is_some h) Deleted Absent) (same_at k m n e)
 
 -- ---- after equal writes they agree
-pass_under : (p : Row → Bool) (q : RowKey) (w : Option (Option ContentData)) (u v : Option ContentData) → pass p q u ≡ pass p q v → pass p q (unwrap_or w u) ≡ pass p q (unwrap_or w v)
+pass_under : (p : Row → Bool) (q : RowKey) (w : Option Effect) (u v : Option ContentData) → pass p q u ≡ pass p q v → pass p q (content_after_last w u) ≡ pass p q (content_after_last w v)
 pass_under p q None u v e = e
 pass_under p q (Some h) u v e = refl
 
@@ -94,7 +95,7 @@ write_entry (Delete k) s v e = absurd (none_write v e)
 -- ---- so the footprint is the same
 changed_same : (e : Entry) (w : Option Write) (m n : Map) → ((v : Write) → w ≡ Some v → e ≡ Key v.0) → AgreeOn e m n → changed_by w m ≡ changed_by w n
 changed_same e None m n f h = refl
-changed_same e (Some v) m n f h = ap (λ o. row_of v.0 o ++ row_of v.0 v.1) (same_at v.0 m n (subst (λ (d : Entry). AgreeOn d m n) (f v refl) h))
+changed_same e (Some v) m n f h = ap (λ o. row_of v.0 o ++ row_of v.0 (content_after v.1)) (same_at v.0 m n (subst (λ (d : Entry). AgreeOn d m n) (f v refl) h))
 
 pub footprint_agrees : (ts : History) (m n : Map) → AllAgreeOn ts m n → footprint_of ts m ≡ footprint_of ts n
 footprint_agrees [] m n h = refl

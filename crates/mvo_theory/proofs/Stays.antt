@@ -6,7 +6,7 @@ use Rattle.mvo_model.specs.History.{History}
 use Rattle.mvo_theory.specs.Entries.{entries}
 use Rattle.mvo_theory.specs.State.{State, StampedTx, ActiveTx, after_check, after_trim}
 use Rattle.mvo_theory.specs.Causes.{active_of, preparing_of, awaited, is_failure}
-use Rattle.mvo_theory.specs.Steps.{after_precommit_of, after_next_precommit, after_validate_of, after_validate, after_commit_of, after_commit_now, after_settle_unless, after_settle, after_abort_of, after_abort, after_refusal}
+use Rattle.mvo_theory.specs.Steps.{after_precommit_of, after_precommit, after_validate_of, after_validate, after_commit_of, after_commit_now, after_settle_unless, after_settle, after_abort_of, after_abort, after_refusal}
 use Rattle.mvo_theory.specs.Marks.{settled_to, StaysBelow}
 use Rattle.mvo_theory.specs.Sound.{IsSound}
 use Rattle.mvo_theory.specs.Calls.{Call, why_not, answer_in, accepted, refused, called_by, called}
@@ -72,7 +72,7 @@ stays_after_trim s n k m c = (
 stays_accepted : (s : State) (c : Call) → IsSound s → StaysBelow s (accepted s c)
 stays_accepted s Begin k = all_stay s (accepted s Begin) refl (stays_after_begin s)
 stays_accepted s (Do t op) k = all_stay s (accepted s (Do t op)) refl (stays_after_operation s t op (answer_in s t op))
-stays_accepted s (Precommit t) k = all_stay s (after_next_precommit s t) (past_after_prepare s (active_of t s.active)) (stays_after_prepare s t)
+stays_accepted s (Precommit t) k = all_stay s (after_precommit s t) (past_after_prepare s (active_of t s.active)) (stays_after_prepare s t)
 stays_accepted s (Validate t) k = all_stay s (after_validate s t) (past_after_check s (preparing_of t s.stamped)) (stays_after_check s t)
 stays_accepted s (Settle t) k = stays_settled s t
 stays_accepted s (Rollback t) k = all_stay s (after_abort s t) (past_aborted s t (preparing_of t s.stamped)) (stays_aborted s t)

@@ -15,6 +15,7 @@ use Rattle.mvo_types.specs.declared.refusal.Refusal.TheVariants.{NoSuchTransacti
 use Rattle.mvo_types.specs.declared.row.RowKey.{RowKey}
 use Rattle.mvo_types.specs.RowData.{ContentData, RowData}
 use Rattle.mvo_types.specs.Keys.{Map, key_cmp}
+use Rattle.mvo_types.specs.Write.{Effect}
 use Rattle.mvo_model.specs.History.{after_history, net_write}
 use Rattle.mvo_model.specs.Trace.{Step}
 use Rattle.mvo_theory.specs.Entries.{Entry, entries}
@@ -42,7 +43,7 @@ none_writer k b x f l w = true≢false (sym (and_from (nat_lt x.end b) (is_some 
 origin_above : (s : State) (k : RowKey) (b : ℕ) (x : StampedTx) → IsIn x (timeline s) → IsRising (timeline s) → x.end < b → is_some (net_write k x.history) ≡ true → x.end ≤ origin s b k
 origin_above s k b x m r l w = go (last_writer k b (timeline s)) refl
   where
-    none_some : (v : Option (Option ContentData)) → is_some v ≡ true → v ≡ None → ⊥
+    none_some : (v : Option Effect) → is_some v ≡ true → v ≡ None → ⊥
     none_some None e f = false≢true e
     none_some (Some h) e f = true≢false (ap is_some f)
 

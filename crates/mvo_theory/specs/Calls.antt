@@ -10,7 +10,7 @@ use Rattle.mvo_model.specs.Trace.Step.{Begins, Answers, Prepares, Checks, Commit
 use Rattle.mvo_theory.specs.State.{State, StampedTx, after_begin, after_operation, after_termination, after_trim, snapshot}
 use Rattle.mvo_theory.specs.Marks.{why_not_trim}
 use Rattle.mvo_theory.specs.Causes.{why_not_begin, why_not_do, why_not_precommit, why_not_validate, why_not_settle, why_not_rollback, why_not_finish, end_of, awaited}
-use Rattle.mvo_theory.specs.Steps.{after_next_precommit, after_validate, after_settle, after_abort, after_refusal, steps_of_refusal}
+use Rattle.mvo_theory.specs.Steps.{after_precommit, after_validate, after_settle, after_abort, after_refusal, steps_of_refusal}
 use Rattle.mvo_theory.specs.Sound.{IsSound, IsNumbered, IsSingle, IsStarted, AreExclusive}
 use Rattle.mvo_theory.specs.AfterTrace.{IsAfterTrace}
 use Rattle.mvo_theory.specs.Traced.{AreTraced}
@@ -46,7 +46,7 @@ answer_in s t op = answer_to op (snapshot s t)
 abbrev pub accepted : State → Call → State
 accepted s Begin = after_begin s (s.clock + 1)
 accepted s (Do t op) = after_operation s t op (answer_in s t op)
-accepted s (Precommit t) = after_next_precommit s t
+accepted s (Precommit t) = after_precommit s t
 accepted s (Validate t) = after_validate s t
 accepted s (Settle t) = after_settle s t
 accepted s (Rollback t) = after_abort s t

@@ -6,8 +6,9 @@ use Rattle.std.specs.FinMap as map
 use Rattle.mvo_types.specs.declared.row.RowKey.{RowKey}
 use Rattle.mvo_types.specs.RowData.{ContentData, row_with}
 use Rattle.mvo_types.specs.Keys.{Map, key_cmp}
+use Rattle.mvo_types.specs.Write.{Write, content_after}
 use Rattle.mvo_model.specs.Serial.{is_in_range}
-use Rattle.mvo_model.specs.History.{History, Write, write_of, after_write}
+use Rattle.mvo_model.specs.History.{History, write_of, after_write}
 use Rattle.mvo_theory.specs.Entries.{Entry, entry_of}
 use Rattle.mvo_theory.specs.Entries.Entry.{Key, Range}
 
@@ -40,7 +41,7 @@ row_of k (Some h) = (k, h) ∷ []
 -- the row that a write on these rows ends, and the one that it puts
 abbrev pub changed_by : Option Write → Map → List Row
 changed_by None m = []
-changed_by (Some w) m = row_of w.0 (map.get m w.0) ++ row_of w.0 w.1
+changed_by (Some w) m = row_of w.0 (map.get m w.0) ++ row_of w.0 (content_after w.1)
 
 -- the footprint of operations on these rows: the rows that their writing answers end and put, in order, each on the rows that those before it leave
 abbrev pub footprint_of : History → Map → List Row
@@ -49,7 +50,7 @@ footprint_of (t ∷ ts) m = changed_by (write_of t.0 t.1) m ++ footprint_of ts (
 
 abbrev pub put_by : Option Write → List Row
 put_by None = []
-put_by (Some w) = row_of w.0 w.1
+put_by (Some w) = row_of w.0 (content_after w.1)
 
 -- the rows that the writing answers put, also those that a later one replaces
 abbrev pub puts : History → List Row

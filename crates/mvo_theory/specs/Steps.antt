@@ -12,8 +12,8 @@ abbrev pub after_precommit_of : State → Option ActiveTx → State
 after_precommit_of s None = s
 after_precommit_of s (Some r) = after_prepare s r (s.clock + 1)
 
-abbrev pub after_next_precommit : State → ℕ → State
-after_next_precommit s t = after_precommit_of s (active_of t s.active)
+abbrev pub after_precommit : State → ℕ → State
+after_precommit s t = after_precommit_of s (active_of t s.active)
 
 -- whether no entry is left after the next check
 abbrev pub is_last_check : StampedTx → Bool
