@@ -10,8 +10,9 @@ use Rattle.mvo_model.specs.History.{History}
 use Rattle.mvo_model.specs.Trace.{Step, history_by, history_of, commit_of, commits, by_end, committed as committed_in}
 use Rattle.mvo_model.specs.Trace.Step.{Begins, Answers, Prepares, Checks, Commits, Aborts, Terminates}
 use Rattle.mvo_model.proofs.Traces.{history_of-push, commits-push}
-use Rattle.mvo_theory.specs.State.{State, StampedTx, ActiveTx, after_settled, opened, after_begin, after_operation, with_answer, after_prepare, to_stamped, after_check, with_check, after_commit, with_settled, after_abort_of_active, after_abort_of_preparing, with_flag, active_with_flag, not_at, after_termination}
-use Rattle.mvo_theory.specs.Causes.{active_of, preparing_of, is_ended}
+use Rattle.mvo_theory.specs.State.{State, StampedTx, ActiveTx, after_settled, opened, active_of, preparing_of}
+use Rattle.mvo_theory.specs.Changes.{after_begin, after_operation, with_answer, after_prepare, to_stamped, after_check, with_check, after_commit, with_settled, after_abort_of_active, after_abort_of_preparing, with_flag, active_with_flag, not_at, after_termination}
+use Rattle.mvo_theory.proofs.Cases.{is_ended_in}
 use Rattle.mvo_theory.specs.Steps.{after_precommit_of, after_precommit, after_validate_of, after_validate, after_commit_of, after_commit_now, after_abort_of, after_abort}
 use Rattle.mvo_theory.specs.Sound.{IsSound, IsNumbered, IsSingle, IsActive, IsRising, IsLegal, IsPast, IsStarted}
 use Rattle.mvo_theory.specs.AfterTrace.{IsAfterTrace, pairs}
@@ -258,5 +259,5 @@ stands_after_commit opening xs s t x f k n st h =
 pub stands_aborted : (opening : Map) (xs : List Step) (s : State) (t : ℕ) → IsUnended s t → IsSound s → IsSingle s → IsAfterTrace opening xs s → IsAfterTrace opening (xs ++ Aborts t ∷ []) (after_abort s t)
 stands_aborted opening xs s t a k n h = after_trace_by opening xs (Aborts t) s (after_abort s t) (leads_aborted s t a k n) (says_aborted opening xs s t k (says opening xs s h)) h
 
-pub stands_after_termination : (opening : Map) (xs : List Step) (s : State) (t : ℕ) → is_ended s t ≡ true → IsSingle s → IsAfterTrace opening xs s → IsAfterTrace opening (xs ++ Terminates t ∷ []) (after_termination s t)
+pub stands_after_termination : (opening : Map) (xs : List Step) (s : State) (t : ℕ) → is_ended_in s t ≡ true → IsSingle s → IsAfterTrace opening xs s → IsAfterTrace opening (xs ++ Terminates t ∷ []) (after_termination s t)
 stands_after_termination opening xs s t o n h = after_trace_by opening xs (Terminates t) s (after_termination s t) (leads_after_termination s t o n) (says_after_termination opening xs s t (says opening xs s h)) h

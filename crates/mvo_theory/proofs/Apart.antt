@@ -12,15 +12,16 @@ use Rattle.mvo_types.specs.Keys.{Map}
 use Rattle.mvo_types.specs.AnswerData.{AnswerData}
 use Rattle.mvo_model.specs.History.{History, net_write}
 use Rattle.mvo_theory.specs.Entries.{Entry, entry_of, is_same, has_entry, with_entry, entries_from, entries}
-use Rattle.mvo_theory.specs.Entries.Entry.{Key, Range}
 use Rattle.mvo_theory.specs.Ranges.{Row, shows, pass, footprint_of, puts, is_row_of}
-use Rattle.mvo_theory.specs.State.{StampedTx, seen_by, has, is_put_below, counts_for}
+use Rattle.mvo_theory.specs.State.{StampedTx, seen_by}
+use Rattle.mvo_theory.specs.Dependencies.{has_end, is_put_below, counts_for}
 use Rattle.mvo_theory.specs.Sound.{IsDecidedOn, changes, IsUnchanged, LeavesAlone, IsApart, IsClear, IsConsistent, IsPreparing, IsPlaced}
 use Rattle.mvo_theory.proofs.Each.{each_weaker, each_both, each_front, each_back}
 use Rattle.mvo_theory.proofs.Looks.{key_is}
 use Rattle.mvo_theory.proofs.Footprints.{none_unless, or_left, or_right, any_none, footprint_source}
 use Rattle.mvo_theory.proofs.Counts.{seen_counts, counts_later}
 use Rattle.mvo_theory.proofs.Between.{free_key}
+use Rattle.mvo_theory.specs.Entries.Entry.{Key, Range}
 
 -- ---- what holds of each entry holds at each operation
 same_entry : (e d : Entry) → is_same e d ≡ true → e ≡ d
@@ -76,7 +77,7 @@ any_in test [] = tt
 any_in test (x ∷ xs) = (or_left (test x) (list_any test xs), each_weaker (λ y. test y ≡ true → list_any test xs ≡ true) (λ y. test y ≡ true → (test x || list_any test xs) ≡ true) (λ y f e. or_right (test x) (list_any test xs) (f e)) xs (any_in test xs))
 
 -- ---- an earlier one that isn't settled, and ends below the begin
-range_alone : (t lo hi b : ℕ) (ds : List ℕ) (base : Map) (stamped : List StampedTx) (x : StampedTx) → IsIn x stamped → IsDecidedOn (Range t lo hi) b ds base stamped → IsClear stamped → AllByRecursion (λ y. y.settled ≡ false → has ds y.end ≡ false) stamped →
+range_alone : (t lo hi b : ℕ) (ds : List ℕ) (base : Map) (stamped : List StampedTx) (x : StampedTx) → IsIn x stamped → IsDecidedOn (Range t lo hi) b ds base stamped → IsClear stamped → AllByRecursion (λ y. y.settled ≡ false → has_end ds y.end ≡ false) stamped →
     x.settled ≡ false → x.id < x.end → x.end < b → footprint_of x.history (seen_by base stamped x.id) ≡ x.footprint → list_any (shows (Range t lo hi)) x.footprint ≡ false
 range_alone t lo hi b ds base stamped x m d c n s begun lt f =
     ap (list_any p) (sym f)
@@ -105,7 +106,7 @@ range_alone t lo hi b ds base stamped x m d c n s begun lt f =
 -- ---- all that is known at a settlement
 -- none that it depends on is Preparing
 abbrev pub IsFreeToSettle : List StampedTx → List ℕ → Type 0
-IsFreeToSettle stamped ds = AllByRecursion (λ x. x.settled ≡ false → has ds x.end ≡ false) stamped
+IsFreeToSettle stamped ds = AllByRecursion (λ x. x.settled ≡ false → has_end ds x.end ≡ false) stamped
 
 abbrev IsEarlier : StampedTx → ℕ → Entry → Type 0
 IsEarlier x e d = x.settled ≡ false → x.end < e → LeavesAlone x d

@@ -6,8 +6,8 @@ use Rattle.std.proofs.lemmas.Bool.{eqb-true, lt-leb, true≢false}
 use Rattle.mvo_types.specs.declared.op.Op.{Op}
 use Rattle.mvo_types.specs.AnswerData.{AnswerData}
 use Rattle.mvo_model.specs.History.{History}
-use Rattle.mvo_theory.specs.State.{State, StampedTx, ActiveTx, after_begin, after_operation, to_stamped, after_check, with_check, with_settled, with_flag, not_at, after_termination}
-use Rattle.mvo_theory.specs.Causes.{active_of, preparing_of}
+use Rattle.mvo_theory.specs.State.{State, StampedTx, ActiveTx, active_of, preparing_of}
+use Rattle.mvo_theory.specs.Changes.{after_begin, after_operation, to_stamped, after_check, with_check, with_settled, with_flag, not_at, after_termination}
 use Rattle.mvo_theory.specs.Steps.{after_precommit_of, after_precommit, after_validate_of, after_validate, after_commit_of, after_commit_now, after_abort_of, after_abort}
 use Rattle.mvo_theory.specs.Marks.{settled_to, IsClosedAt}
 use Rattle.mvo_theory.proofs.Each.{each_append, each_map, each_filter}

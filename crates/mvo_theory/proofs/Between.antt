@@ -12,14 +12,15 @@ use Rattle.mvo_types.specs.Write.{Effect, Write, content_after_last}
 use Rattle.mvo_model.specs.History.{History, write_of, write_at, after_history, later, net_write}
 use Rattle.mvo_model.proofs.Serials.{net_write-append, get-after_history, after_history-append, later-none}
 use Rattle.mvo_theory.specs.Entries.{Entry, entry_of}
-use Rattle.mvo_theory.specs.Entries.Entry.{Key}
 use Rattle.mvo_theory.specs.Ranges.{shows, pass, AgreeOn, footprint_of}
-use Rattle.mvo_theory.specs.State.{StampedTx, history_below, seen_by, has, counts_for}
+use Rattle.mvo_theory.specs.State.{StampedTx, history_below, seen_by}
+use Rattle.mvo_theory.specs.Dependencies.{has_end, counts_for}
 use Rattle.mvo_theory.specs.Sound.{IsWritten, IsDecided, IsDecidedOn, IsUnchanged, LeavesAlone, IsApart, IsClear, IsRising, IsLegal}
 use Rattle.mvo_theory.proofs.Each.{each_weaker}
 use Rattle.mvo_theory.proofs.Looks.{write_entry}
 use Rattle.mvo_theory.proofs.Footprints.{key_same, none_unless, unchanged_agree}
 use Rattle.mvo_theory.proofs.Counts.{history_by_some, uncounted_some, uncounted_seen}
+use Rattle.mvo_theory.specs.Entries.Entry.{Key}
 
 pub agree_trans : (e : Entry) (l m n : Map) → AgreeOn e l m → AgreeOn e m n → AgreeOn e l n
 agree_trans e l m n f g = λ q. f q ∙ g q
@@ -56,7 +57,7 @@ settled_writer k b x (y ∷ ys) c f (inl p) = go y.settled refl
     go true s = apart_writer k x y.history (c.0 s) both.1
     go false s = absurd (false≢true (sym (ap is_some (f.0 s (ltb-true y.end b both.0))) ∙ both.1))
 
-pub free_key : (k : RowKey) (b : ℕ) (ds : List ℕ) (stamped : List StampedTx) → IsDecided k b ds stamped → IsClear stamped → AllByRecursion (λ x. x.settled ≡ false → has ds x.end ≡ false) stamped →
+pub free_key : (k : RowKey) (b : ℕ) (ds : List ℕ) (stamped : List StampedTx) → IsDecided k b ds stamped → IsClear stamped → AllByRecursion (λ x. x.settled ≡ false → has_end ds x.end ≡ false) stamped →
     AllByRecursion (λ x. x.settled ≡ false → x.end < b → net_write k x.history ≡ None) stamped
 free_key k b ds [] d c n = tt
 free_key k b ds (x ∷ xs) d c n = here (free_key k b ds xs d.1 c.1 n.1)
@@ -94,7 +95,7 @@ same_seen k b (x ∷ xs) f =
     gone c true q d = absurd (true≢false (sym c ∙ d))
 
 -- what the entry shows at the begin, the settled ones below the begin leave
-at_begin : (e : Entry) (b : ℕ) (ds : List ℕ) (base : Map) (stamped : List StampedTx) → IsDecidedOn e b ds base stamped → IsClear stamped → AllByRecursion (λ x. x.settled ≡ false → has ds x.end ≡ false) stamped → AgreeOn e (seen_by base stamped b) (after_history (settled_below b stamped) base)
+at_begin : (e : Entry) (b : ℕ) (ds : List ℕ) (base : Map) (stamped : List StampedTx) → IsDecidedOn e b ds base stamped → IsClear stamped → AllByRecursion (λ x. x.settled ≡ false → has_end ds x.end ≡ false) stamped → AgreeOn e (seen_by base stamped b) (after_history (settled_below b stamped) base)
 at_begin e b ds base stamped d c n q = go (counts_for e q b base stamped) refl
   where
     go : (w : Bool) → counts_for e q b base stamped ≡ w → pass (shows e) q (fin.get (seen_by base stamped b) q) ≡ pass (shows e) q (fin.get (after_history (settled_below b stamped) base) q)
@@ -138,7 +139,7 @@ quiet e b c m (x ∷ xs) lt r o u h = go x.settled (λ s. (h.0 s).1) (quiet e b 
     go true p i = both (nat_lt x.end b) (nat_lt x.end c) refl refl (p refl) i
 
 -- what the entry shows at the begin, the settled ones below the end leave
-pub at_end : (e : Entry) (b c : ℕ) (ds : List ℕ) (base : Map) (stamped : List StampedTx) → b < c → IsDecidedOn e b ds base stamped → IsUnchanged stamped b c e → IsClear stamped → IsRising stamped → IsLegal base stamped → AllByRecursion (λ x. x.end ≢ b) stamped → AllByRecursion (λ x. x.settled ≡ false → has ds x.end ≡ false) stamped →
+pub at_end : (e : Entry) (b c : ℕ) (ds : List ℕ) (base : Map) (stamped : List StampedTx) → b < c → IsDecidedOn e b ds base stamped → IsUnchanged stamped b c e → IsClear stamped → IsRising stamped → IsLegal base stamped → AllByRecursion (λ x. x.end ≢ b) stamped → AllByRecursion (λ x. x.settled ≡ false → has_end ds x.end ≡ false) stamped →
     AgreeOn e (seen_by base stamped b) (after_history (settled_below c stamped) base)
 at_end e b c ds base stamped lt d u cl r l o n =
     agree_trans e (seen_by base stamped b) (after_history (settled_below b stamped) base) (after_history (settled_below c stamped) base) (at_begin e b ds base stamped d cl n) (quiet e b c base stamped lt r o u l)

@@ -5,24 +5,27 @@ use Rattle.std.specs.List.{AllByRecursion}
 use Rattle.std.proofs.lemmas.Bool.{eqb-true, eq-eqb, leb-true, true≢false}
 use Rattle.mvo_types.specs.declared.op.Op.{Op}
 use Rattle.mvo_types.specs.declared.refusal.Refusal.{Refusal}
-use Rattle.mvo_types.specs.declared.refusal.Refusal.TheVariants.{ValidationFailed}
+use Rattle.mvo_types.specs.declared.refusal.Refusal.TheVariants.{ValidationFailed, OutOfMemory}
 use Rattle.mvo_types.specs.Keys.{Map}
 use Rattle.mvo_model.specs.Serial.{answer_to}
 use Rattle.mvo_model.specs.History.{after_history, net_write}
 use Rattle.mvo_model.specs.Trace.{Step, IsSerial}
 use Rattle.mvo_model.specs.Trace.Step.{Begins, Answers, Prepares, Checks, Commits, Aborts, Terminates}
 use Rattle.mvo_theory.specs.Entries.{entries}
-use Rattle.mvo_theory.specs.State.{State, StampedTx, ActiveTx, seen_by, ended_key, opened, after_begin, after_operation, after_check, after_abort_of_active, after_termination, history_of_active, after_prepare, after_trim, snapshot}
-use Rattle.mvo_theory.specs.Marks.{why_not_trim}
-use Rattle.mvo_theory.specs.Causes.{active_of, preparing_of, or_flagged, claimed_by, change_of, differs, entry_differs, not_op, why_not_do, why_not_precommit, not_checked_at, why_not_validate, why_not_settle, waiting_for, awaited_by, awaited, end_at, end_of, is_failure, why_not_finish}
+use Rattle.mvo_theory.specs.State.{State, StampedTx, ActiveTx, seen_by, opened, history_of_active, snapshot, active_of, preparing_of}
+use Rattle.mvo_theory.specs.Claims.{ended_key, new_claim}
+use Rattle.mvo_theory.specs.Changes.{with_words, after_finish, after_close, after_begin, after_operation, after_check, after_abort_of_active, after_termination, after_prepare, after_trim}
+use Rattle.mvo_theory.specs.Causes.{why_not_trim, claimed_by, change_of, differs, entry_differs, why_not_do, why_not_precommit, why_not_validate, why_not_settle, waiting_for, awaited_by, awaited, end_at, end_of, is_failure, why_not_finish}
+use Rattle.mvo_theory.proofs.Cases.{validate_none, or_flagged, not_op, not_checked_at}
 use Rattle.mvo_theory.specs.Steps.{after_precommit_of, after_precommit, after_validate_of, after_validate, after_commit_of, after_commit_now, after_settle_unless, after_settle, after_abort_of, after_abort, after_refusal, steps_of_refusal}
 use Rattle.mvo_theory.specs.Sound.{IsRising, IsActive, IsSound, AreDistinct, IsNumbered, IsSingle, IsStarted, AreExclusive}
 use Rattle.mvo_theory.specs.AfterTrace.{IsAfterTrace}
 use Rattle.mvo_theory.specs.Traced.{IsTraced, AreTraced}
 use Rattle.mvo_theory.specs.Claimed.{HasClaims, AreClaimed}
 use Rattle.mvo_theory.specs.Snapshots.{is_aborted, HasEnds, footprint_in, HasFootprints}
-use Rattle.mvo_theory.specs.Calls.{Call, why_not, answer_in, accepted, steps_unless, steps_of, refused, refused_steps, called_by, called, happened_by, happened, after_calls, trace_of, IsKept}
-use Rattle.mvo_theory.specs.Calls.Call.{Begin, Do, Precommit, Validate, Settle, Rollback, Finish, Trim}
+use Rattle.mvo_theory.specs.Calls.{Call, Result, Run, why_not, takes_memory, IsRefusal, MayCome, answer_in, after_accepted, steps_unless, steps_of_accepted, after_refused, steps_of_refused, after_call, steps_of, MayRun, after_run, trace_of, IsKept}
+use Rattle.mvo_theory.specs.Words.{is_done, words_left}
+use Rattle.mvo_theory.proofs.Worded.{kept_worded, kept_taken_over, kept_closed}
 use Rattle.mvo_theory.proofs.Each.{each_weaker, each_both, each_append}
 use Rattle.mvo_theory.proofs.Sound.{sound_after_begin, IsAnswer, sound_after_operation, sound_after_prepare, IsCheck, sound_after_check}
 use Rattle.mvo_theory.proofs.Ends.{sound_after_abort_of_active, sound_after_abort_of_preparing}
@@ -45,6 +48,8 @@ use Rattle.mvo_theory.proofs.Prints.{prints_opened, prints_silent, prints_after_
 use Rattle.mvo_theory.proofs.EndSteps.{ends_opened, ends_after_begin, ends_after_operation, ends_after_check, ends_same_after_check, ends_after_commit, ends_after_termination, ends_after_prepare, ends_after_abort_of_active, ends_after_abort_of_preparing, ends_after_trim}
 use Rattle.mvo_theory.proofs.ClaimSteps.{claimed_opened, claimed_same, claimed_after_begin, claimed_after_operation, claimed_after_prepare, claimed_after_check, claimed_after_commit, claimed_after_abort_of_active, claimed_after_abort_of_preparing, claimed_after_termination, claimed_after_trim}
 use Rattle.mvo_theory.proofs.Claims.{first_claim, exclusive_after_begin, IsFirst, exclusive_after_operation, exclusive_after_prepare, exclusive_after_check, exclusive_after_commit, exclusive_after_abort_of_active, exclusive_after_abort_of_preparing, exclusive_after_termination}
+use Rattle.mvo_theory.specs.Calls.Result.{Accepted, Refused}
+use Rattle.mvo_theory.specs.Calls.Call.{Begin, Do, Precommit, Validate, Settle, Rollback, Finish, Trim, Close}
 
 -- ---- what a running transaction sees
 pub sees : (s : State) (t : ℕ) → IsNumbered s → AllByRecursion (λ (r : ActiveTx). r.id ≡ t → snapshot s t ≡ after_history r.history (seen_by s.base s.stamped r.id)) s.active
@@ -169,7 +174,7 @@ kept_checked opening xs s t w h =
     let p = split_at t s.stamped x found.1 in
     let now = sym (ap (after_validate_of s) found.1) in
     let v = nat_le (length (entries x.history)) (x.checked + 1) in
-    let clear = not_flagged x.aborted_dependency (cond x.valid None (entry_differs s.stamped x (slice_get (entries x.history) x.checked))) (sym (ap (not_checked_at s t) found.1) ∙ w) in
+    let clear = not_flagged x.aborted_dependency (cond x.valid None (entry_differs s.stamped x (slice_get (entries x.history) x.checked))) (sym (ap (not_checked_at s t) found.1) ∙ validate_none s t w) in
     record {
       sound = subst IsSound now (sound_at x v p.0 p.1 p.2 x.valid clear);
       numbered = subst IsNumbered now (numbered_at x v x.valid);
@@ -239,7 +244,7 @@ kept_committed opening xs s t x f w n h =
 same_trace : (opening : Map) (xs : List Step) (s : State) → IsKept opening xs s → IsKept opening (xs ++ []) s
 same_trace opening xs s h = subst (λ ys. IsKept opening ys s) (sym (append-nil xs)) h
 
-kept_settled : (opening : Map) (xs : List Step) (s : State) (t : ℕ) → why_not_settle s t ≡ None → IsKept opening xs s → IsKept opening (xs ++ steps_of s (Settle t)) (after_settle s t)
+kept_settled : (opening : Map) (xs : List Step) (s : State) (t : ℕ) → why_not_settle s t ≡ None → IsKept opening xs s → IsKept opening (xs ++ steps_of_accepted s (Settle t)) (after_settle s t)
 kept_settled opening xs s t w h = go (awaited s t) refl
   where
     go : (v : Option StampedTx) → awaited s t ≡ v → IsKept opening (xs ++ steps_unless t (end_of s t) v) (after_settle_unless s t v)
@@ -320,7 +325,7 @@ kept_trimmed opening xs s m w h = let t = may_trim s m w h.sound in record {
 }
 
 -- ---- each call, refused or not
-kept_refused : (opening : Map) (xs : List Step) (s : State) (c : Call) (r : Refusal) → why_not s c ≡ Some r → IsKept opening xs s → IsKept opening (xs ++ refused_steps c r) (refused s c r)
+kept_refused : (opening : Map) (xs : List Step) (s : State) (c : Call) (r : Refusal) → why_not s c ≡ Some r → IsKept opening xs s → IsKept opening (xs ++ steps_of_refused c r) (after_refused s c r)
 kept_refused opening xs s Begin r w h = same_trace opening xs s h
 kept_refused opening xs s (Do t op) r w h = kept_failed opening xs s t r (unended_done s t op r w) h
 kept_refused opening xs s (Precommit t) r w h = kept_failed opening xs s t r (unended_after_prepare s t r w) h
@@ -329,23 +334,47 @@ kept_refused opening xs s (Settle t) r w h = kept_failed opening xs s t r (unend
 kept_refused opening xs s (Rollback t) r w h = same_trace opening xs s h
 kept_refused opening xs s (Finish t) r w h = same_trace opening xs s h
 kept_refused opening xs s (Trim m) r w h = same_trace opening xs s h
+kept_refused opening xs s (Close fits g full) r w h = same_trace opening xs s h
 
-kept_accepted : (opening : Map) (xs : List Step) (s : State) (c : Call) → why_not s c ≡ None → IsKept opening xs s → IsKept opening (xs ++ steps_of s c) (accepted s c)
+-- out of memory changes nothing
+kept_spent : (opening : Map) (xs : List Step) (s : State) (c : Call) → IsKept opening xs s → IsKept opening (xs ++ steps_of_refused c OutOfMemory) (after_refused s c OutOfMemory)
+kept_spent opening xs s Begin h = same_trace opening xs s h
+kept_spent opening xs s (Do t op) h = same_trace opening xs s h
+kept_spent opening xs s (Precommit t) h = same_trace opening xs s h
+kept_spent opening xs s (Validate t) h = same_trace opening xs s h
+kept_spent opening xs s (Settle t) h = same_trace opening xs s h
+kept_spent opening xs s (Rollback t) h = same_trace opening xs s h
+kept_spent opening xs s (Finish t) h = same_trace opening xs s h
+kept_spent opening xs s (Trim m) h = same_trace opening xs s h
+kept_spent opening xs s (Close fits g full) h = same_trace opening xs s h
+
+kept_finished : (opening : Map) (xs : List Step) (s : State) (t : ℕ) → why_not_finish s t ≡ None → IsKept opening xs s → IsKept opening (xs ++ steps_of_accepted s (Finish t)) (after_finish s t)
+kept_finished opening xs s t w h = go (is_done s t)
+  where
+    go : (b : Bool) → IsKept opening (xs ++ cond b (Terminates t ∷ []) []) (cond b (after_termination s t) (with_words (words_left t) s))
+    go true = kept_left opening xs s t w h
+    go false = same_trace opening xs (with_words (words_left t) s) (kept_worded opening xs s (words_left t) h)
+
+kept_accepted : (opening : Map) (xs : List Step) (s : State) (c : Call) → why_not s c ≡ None → IsKept opening xs s → IsKept opening (xs ++ steps_of_accepted s c) (after_accepted s c)
 kept_accepted opening xs s Begin w h = kept_begun opening xs s h
-kept_accepted opening xs s (Do t op) w h = kept_done opening xs s t op w h
+kept_accepted opening xs s (Do t op) w h = kept_taken_over opening (xs ++ Answers t op (answer_in s t op) ∷ []) (after_operation s t op (answer_in s t op)) (new_claim s t op (answer_in s t op)) (kept_done opening xs s t op w h)
 kept_accepted opening xs s (Precommit t) w h = kept_prepared opening xs s t w h
 kept_accepted opening xs s (Validate t) w h = kept_checked opening xs s t w h
 kept_accepted opening xs s (Settle t) w h = kept_settled opening xs s t w h
 kept_accepted opening xs s (Rollback t) w h = kept_aborted opening xs s t (unended_rolled_back s t w) h
-kept_accepted opening xs s (Finish t) w h = kept_left opening xs s t w h
+kept_accepted opening xs s (Finish t) w h = kept_finished opening xs s t w h
 kept_accepted opening xs s (Trim m) w h = same_trace opening xs (after_trim s m) (kept_trimmed opening xs s m w h)
+kept_accepted opening xs s (Close fits g full) w h = same_trace opening xs (after_close s g.mark) (kept_closed opening xs s g.mark h)
 
-pub kept_called : (opening : Map) (xs : List Step) (s : State) (c : Call) → IsKept opening xs s → IsKept opening (xs ++ happened s c) (called s c)
-kept_called opening xs s c h = go (why_not s c) refl
+-- each call keeps what a core keeps, whatever it may come to
+pub kept_after_call : (opening : Map) (xs : List Step) (s : State) (c : Call) (r : Result) → MayCome s c r → IsKept opening xs s → IsKept opening (xs ++ steps_of s c r) (after_call s c r)
+kept_after_call opening xs s c Accepted m h = kept_accepted opening xs s c m.0 h
+kept_after_call opening xs s c (Refused r) m h = go (why_not s c) refl (takes_memory c) m
   where
-    go : (w : Option Refusal) → why_not s c ≡ w → IsKept opening (xs ++ happened_by s c w) (called_by s c w)
-    go (Some r) e = kept_refused opening xs s c r e h
-    go None e = kept_accepted opening xs s c e h
+    go : (w : Option Refusal) → why_not s c ≡ w → (b : Bool) → IsRefusal b w r → IsKept opening (xs ++ steps_of_refused c r) (after_refused s c r)
+    go (Some why) e b q = kept_refused opening xs s c r (e ∙ ap (λ (v : Refusal). Some v) (sym q)) h
+    go None e true q = subst (λ (v : Refusal). IsKept opening (xs ++ steps_of_refused c v) (after_refused s c v)) (sym q) (kept_spent opening xs s c h)
+    go None e false q = absurd q
 
 pub kept_opened : (rows : Map) (mark : ℕ) → IsKept rows [] (opened rows mark)
 kept_opened rows mark = record {
@@ -361,14 +390,14 @@ kept_opened rows mark = record {
   prints = prints_opened rows mark;
 }
 
-pub kept_after : (opening : Map) (xs : List Step) (s : State) (cs : List Call) → IsKept opening xs s → IsKept opening (xs ++ trace_of s cs) (after_calls s cs)
-kept_after opening xs s [] h = same_trace opening xs s h
-kept_after opening xs s (c ∷ cs) h =
-    subst (λ ys. IsKept opening ys (after_calls (called s c) cs)) (append_assoc xs (happened s c) (trace_of (called s c) cs))
-    (kept_after opening (xs ++ happened s c) (called s c) cs (kept_called opening xs s c h))
+pub kept_after_run : (opening : Map) (xs : List Step) (s : State) (cs : Run) → MayRun s cs → IsKept opening xs s → IsKept opening (xs ++ trace_of s cs) (after_run s cs)
+kept_after_run opening xs s [] m h = same_trace opening xs s h
+kept_after_run opening xs s (c ∷ cs) m h =
+    subst (λ ys. IsKept opening ys (after_run (after_call s c.0 c.1) cs)) (append_assoc xs (steps_of s c.0 c.1) (trace_of (after_call s c.0 c.1) cs))
+    (kept_after_run opening (xs ++ steps_of s c.0 c.1) (after_call s c.0 c.1) cs m.1 (kept_after_call opening xs s c.0 c.1 m.0 h))
 
 -- the committed transactions' replies are those of one map that runs them one after another by end timestamp
-pub calls_serializable : (rows : Map) (mark : ℕ) (cs : List Call) → IsSerial rows (trace_of (opened rows mark) cs)
-calls_serializable rows mark cs =
-    let k = kept_after rows [] (opened rows mark) cs (kept_opened rows mark) in
-    serial_after_trace rows (trace_of (opened rows mark) cs) (after_calls (opened rows mark) cs) k.sound k.after_trace
+pub runs_are_serial : (rows : Map) (mark : ℕ) (cs : Run) → MayRun (opened rows mark) cs → IsSerial rows (trace_of (opened rows mark) cs)
+runs_are_serial rows mark cs m =
+    let k = kept_after_run rows [] (opened rows mark) cs m (kept_opened rows mark) in
+    serial_after_trace rows (trace_of (opened rows mark) cs) (after_run (opened rows mark) cs) k.sound k.after_trace

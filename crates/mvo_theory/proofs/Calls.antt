@@ -3,13 +3,15 @@ use Rattle.std.proofs.Common.{◌≡◌, ℕ, Bool, true, false, cond, not, List
 use Rattle.std.specs.Prelude.{◌==◌, ◌&&◌}
 use Rattle.std.specs.List.{AllByRecursion}
 use Rattle.std.proofs.lemmas.Bool.{and_parts, not-true, eqb-true}
-use Rattle.mvo_theory.specs.State.{State, StampedTx, after_commit}
+use Rattle.mvo_theory.specs.State.{State, StampedTx, preparing_of}
+use Rattle.mvo_theory.specs.Changes.{after_commit}
 use Rattle.mvo_theory.specs.Sound.{IsSound}
-use Rattle.mvo_types.specs.declared.refusal.Refusal.{Refusal}
-use Rattle.mvo_types.specs.declared.refusal.Refusal.TheVariants.{NotValidated, DependencyAborted}
-use Rattle.mvo_theory.specs.Causes.{if_stands, or_flagged, preparing_of, not_settled_at, why_not_settle, waiting_for}
+use Rattle.mvo_theory.proofs.Cases.{settle_none, if_stands, or_flagged, not_settled_at}
+use Rattle.mvo_theory.specs.Causes.{why_not_settle, waiting_for}
 use Rattle.mvo_theory.proofs.Causes.{waiting_none}
 use Rattle.mvo_theory.proofs.Ends.{settled_in}
+use Rattle.mvo_types.specs.declared.refusal.Refusal.{Refusal}
+use Rattle.mvo_types.specs.declared.refusal.Refusal.TheVariants.{NotValidated, DependencyAborted}
 
 none_some : (z : StampedTx) → ◌≡◌ {A = Option StampedTx} None (Some z) → ⊥
 none_some z q = cc
@@ -41,7 +43,7 @@ no_flag None false h = absurd (some_none NotValidated h)
 pub sound_settled : (s : State) (t : ℕ) (x : StampedTx) → preparing_of t s.stamped ≡ Some x → why_not_settle s t ≡ None → waiting_for x.depends_on s.stamped ≡ None → IsSound s → IsSound (after_commit s t x.end)
 sound_settled s t x f w n h =
     let p = split_at t s.stamped x f in
-    let q = no_flag x.aborted_dependency x.valid (sym (ap (not_settled_at s t) f) ∙ w) in
+    let q = no_flag x.aborted_dependency x.valid (sym (ap (not_settled_at s t) f) ∙ settle_none s t w) in
     let there : IsSound (record s { stamped = p.0 ++ x ∷ p.1 }) = subst (λ (l : List StampedTx). IsSound (record s { stamped = l })) p.2 h in
     subst (λ (l : List StampedTx). IsSound (after_commit (record s { stamped = l }) t x.end)) (sym p.2)
     (subst (λ (i : ℕ). IsSound (after_commit (record s { stamped = p.0 ++ x ∷ p.1 }) i x.end)) p.3

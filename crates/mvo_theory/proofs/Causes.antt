@@ -4,7 +4,8 @@ use Rattle.std.specs.Prelude.{nat_lt, ◌&&◌}
 use Rattle.std.specs.List.{AllByRecursion}
 use Rattle.std.proofs.lemmas.Bool.{true≢false, and_parts, and_from, lt-ltb, not-true}
 use Rattle.mvo_theory.proofs.Each.{each_weaker}
-use Rattle.mvo_theory.specs.State.{StampedTx, has}
+use Rattle.mvo_theory.specs.State.{StampedTx}
+use Rattle.mvo_theory.specs.Dependencies.{has_end}
 use Rattle.mvo_theory.specs.Sound.{changes, IsUnchanged, IsRising}
 use Rattle.mvo_theory.specs.Entries.{Entry}
 use Rattle.mvo_theory.specs.Causes.{waiting_for, is_changer, or_first, last_end, change_of}
@@ -23,37 +24,37 @@ not_false true e = absurd (true≢false e)
 not_false false e = refl
 
 -- where none is waited for, none that it depends_on on is unsettled
-pub waiting_none : (ds : List ℕ) (stamped : List StampedTx) → waiting_for ds stamped ≡ None → AllByRecursion (λ x. x.settled ≡ false → has ds x.end ≡ false) stamped
+pub waiting_none : (ds : List ℕ) (stamped : List StampedTx) → waiting_for ds stamped ≡ None → AllByRecursion (λ x. x.settled ≡ false → has_end ds x.end ≡ false) stamped
 waiting_none ds [] h = tt
-waiting_none ds (x ∷ xs) h = go (not x.settled && has ds x.end) refl h (λ q. waiting_none ds xs q)
+waiting_none ds (x ∷ xs) h = go (not x.settled && has_end ds x.end) refl h (λ q. waiting_none ds xs q)
   where
-    in_ds : (b : Bool) → has ds x.end ≡ b → (not x.settled && has ds x.end) ≡ false → x.settled ≡ false → has ds x.end ≡ false
+    in_ds : (b : Bool) → has_end ds x.end ≡ b → (not x.settled && has_end ds x.end) ≡ false → x.settled ≡ false → has_end ds x.end ≡ false
     in_ds false e f o = e
-    in_ds true e f o = absurd (true≢false (sym (and_from (not x.settled) (has ds x.end) (not_false x.settled o) e) ∙ f))
+    in_ds true e f o = absurd (true≢false (sym (and_from (not x.settled) (has_end ds x.end) (not_false x.settled o) e) ∙ f))
 
-    go : (b : Bool) → (not x.settled && has ds x.end) ≡ b → cond b (Some x) (waiting_for ds xs) ≡ None → (waiting_for ds xs ≡ None → AllByRecursion (λ y. y.settled ≡ false → has ds y.end ≡ false) xs) → (x.settled ≡ false → has ds x.end ≡ false) × AllByRecursion (λ y. y.settled ≡ false → has ds y.end ≡ false) xs
+    go : (b : Bool) → (not x.settled && has_end ds x.end) ≡ b → cond b (Some x) (waiting_for ds xs) ≡ None → (waiting_for ds xs ≡ None → AllByRecursion (λ y. y.settled ≡ false → has_end ds y.end ≡ false) xs) → (x.settled ≡ false → has_end ds x.end ≡ false) × AllByRecursion (λ y. y.settled ≡ false → has_end ds y.end ≡ false) xs
     go true f g r = absurd (some_none x g)
-    go false f g r = (λ o. in_ds (has ds x.end) refl f o, r g)
+    go false f g r = (λ o. in_ds (has_end ds x.end) refl f o, r g)
 
 -- who is waited for is unsettled, is rested on, and has the least end of all such
-pub waiting_is : (ds : List ℕ) (stamped : List StampedTx) (y : StampedTx) → waiting_for ds stamped ≡ Some y → (y.settled ≡ false) × (has ds y.end ≡ true)
+pub waiting_is : (ds : List ℕ) (stamped : List StampedTx) (y : StampedTx) → waiting_for ds stamped ≡ Some y → (y.settled ≡ false) × (has_end ds y.end ≡ true)
 waiting_is ds [] y h = absurd (none_some y h)
-waiting_is ds (x ∷ xs) y h = go (not x.settled && has ds x.end) refl h (λ q. waiting_is ds xs y q)
+waiting_is ds (x ∷ xs) y h = go (not x.settled && has_end ds x.end) refl h (λ q. waiting_is ds xs y q)
   where
-    go : (b : Bool) → (not x.settled && has ds x.end) ≡ b → cond b (Some x) (waiting_for ds xs) ≡ Some y → (waiting_for ds xs ≡ Some y → (y.settled ≡ false) × (has ds y.end ≡ true)) → (y.settled ≡ false) × (has ds y.end ≡ true)
-    go true f g r = let p = and_parts (not x.settled) (has ds x.end) f in subst (λ (z : StampedTx). (z.settled ≡ false) × (has ds z.end ≡ true)) (some_same x y g) (not-true x.settled p.0, p.1)
+    go : (b : Bool) → (not x.settled && has_end ds x.end) ≡ b → cond b (Some x) (waiting_for ds xs) ≡ Some y → (waiting_for ds xs ≡ Some y → (y.settled ≡ false) × (has_end ds y.end ≡ true)) → (y.settled ≡ false) × (has_end ds y.end ≡ true)
+    go true f g r = let p = and_parts (not x.settled) (has_end ds x.end) f in subst (λ (z : StampedTx). (z.settled ≡ false) × (has_end ds z.end ≡ true)) (some_same x y g) (not-true x.settled p.0, p.1)
     go false f g r = r g
 
-all_above : (n : ℕ) (ds : List ℕ) (x : StampedTx) (xs : List StampedTx) → n ≤ x.end → AllByRecursion (λ z. x.end < z.end) xs → AllByRecursion (λ z. z.settled ≡ false → has ds z.end ≡ true → n ≤ z.end) xs
-all_above n ds x xs le h = each_weaker (λ z. x.end < z.end) (λ z. z.settled ≡ false → has ds z.end ≡ true → n ≤ z.end) (λ z lt _ _. omega arith) xs h
+all_above : (n : ℕ) (ds : List ℕ) (x : StampedTx) (xs : List StampedTx) → n ≤ x.end → AllByRecursion (λ z. x.end < z.end) xs → AllByRecursion (λ z. z.settled ≡ false → has_end ds z.end ≡ true → n ≤ z.end) xs
+all_above n ds x xs le h = each_weaker (λ z. x.end < z.end) (λ z. z.settled ≡ false → has_end ds z.end ≡ true → n ≤ z.end) (λ z lt _ _. omega arith) xs h
 
-pub waiting_least : (ds : List ℕ) (stamped : List StampedTx) (y : StampedTx) → IsRising stamped → waiting_for ds stamped ≡ Some y → AllByRecursion (λ z. z.settled ≡ false → has ds z.end ≡ true → y.end ≤ z.end) stamped
+pub waiting_least : (ds : List ℕ) (stamped : List StampedTx) (y : StampedTx) → IsRising stamped → waiting_for ds stamped ≡ Some y → AllByRecursion (λ z. z.settled ≡ false → has_end ds z.end ≡ true → y.end ≤ z.end) stamped
 waiting_least ds [] y r h = tt
-waiting_least ds (x ∷ xs) y r h = go (not x.settled && has ds x.end) refl h (λ q. waiting_least ds xs y r.1 q)
+waiting_least ds (x ∷ xs) y r h = go (not x.settled && has_end ds x.end) refl h (λ q. waiting_least ds xs y r.1 q)
   where
-    go : (b : Bool) → (not x.settled && has ds x.end) ≡ b → cond b (Some x) (waiting_for ds xs) ≡ Some y → (waiting_for ds xs ≡ Some y → AllByRecursion (λ z. z.settled ≡ false → has ds z.end ≡ true → y.end ≤ z.end) xs) → (x.settled ≡ false → has ds x.end ≡ true → y.end ≤ x.end) × AllByRecursion (λ z. z.settled ≡ false → has ds z.end ≡ true → y.end ≤ z.end) xs
-    go true f g q = subst (λ (v : StampedTx). (x.settled ≡ false → has ds x.end ≡ true → v.end ≤ x.end) × AllByRecursion (λ z. z.settled ≡ false → has ds z.end ≡ true → v.end ≤ z.end) xs) (some_same x y g) (λ _ _. omega arith, all_above x.end ds x xs (omega arith) r.0)
-    go false f g q = (λ o w. absurd (true≢false (sym (and_from (not x.settled) (has ds x.end) (not_false x.settled o) w) ∙ f)), q g)
+    go : (b : Bool) → (not x.settled && has_end ds x.end) ≡ b → cond b (Some x) (waiting_for ds xs) ≡ Some y → (waiting_for ds xs ≡ Some y → AllByRecursion (λ z. z.settled ≡ false → has_end ds z.end ≡ true → y.end ≤ z.end) xs) → (x.settled ≡ false → has_end ds x.end ≡ true → y.end ≤ x.end) × AllByRecursion (λ z. z.settled ≡ false → has_end ds z.end ≡ true → y.end ≤ z.end) xs
+    go true f g q = subst (λ (v : StampedTx). (x.settled ≡ false → has_end ds x.end ≡ true → v.end ≤ x.end) × AllByRecursion (λ z. z.settled ≡ false → has_end ds z.end ≡ true → v.end ≤ z.end) xs) (some_same x y g) (λ _ _. omega arith, all_above x.end ds x xs (omega arith) r.0)
+    go false f g q = (λ o w. absurd (true≢false (sym (and_from (not x.settled) (has_end ds x.end) (not_false x.settled o) w) ∙ f)), q g)
 
 -- ---- the greatest change
 num_none : (z : ℕ) → ◌≡◌ {A = Option ℕ} (Some z) None → ⊥

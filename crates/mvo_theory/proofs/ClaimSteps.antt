@@ -18,7 +18,9 @@ use Rattle.mvo_model.specs.History.{History, write_of, write_at, later, net_writ
 use Rattle.mvo_model.proofs.Serials.{net_write-append}
 use Rattle.mvo_model.specs.Trace.{Step, history_of}
 use Rattle.mvo_model.specs.Trace.Step.{Answers}
-use Rattle.mvo_theory.specs.State.{State, StampedTx, ActiveTx, Claim, origin, ended_key, claims_with, opened, new_active, after_begin, after_operation, with_answer, after_prepare, to_stamped, after_check, with_check, after_commit, with_settled, with_flag, active_with_flag, not_at, after_abort_of_active, after_abort_of_preparing, after_termination, is_to, after_trim}
+use Rattle.mvo_theory.specs.State.{State, StampedTx, ActiveTx, Claim, opened}
+use Rattle.mvo_theory.specs.Claims.{origin, ended_key, claims_with}
+use Rattle.mvo_theory.specs.Changes.{new_active, after_begin, after_operation, with_answer, after_prepare, to_stamped, after_check, with_check, after_commit, with_settled, with_flag, active_with_flag, not_at, after_abort_of_active, after_abort_of_preparing, after_termination, is_to, after_trim}
 use Rattle.mvo_theory.specs.Sound.{IsSound, IsSingle, IsStarted}
 use Rattle.mvo_theory.specs.AfterTrace.{IsAfterTrace}
 use Rattle.mvo_theory.specs.Claimed.{IsClaimed, is_ended_first, HasClaims, AreClaimed}

@@ -9,9 +9,9 @@ use Rattle.mvo_model.specs.History.{History, net_write}
 use Rattle.mvo_model.specs.Trace.{Step, history_of, committed as committed_in, phase_of}
 use Rattle.mvo_model.specs.Trace.Step.{Answers}
 use Rattle.mvo_model.specs.Trace.Phase.{Preparing}
-use Rattle.mvo_theory.specs.State.{State, StampedTx, Claim, timeline, is_writer, last_writer, end_or, origin}
-use Rattle.mvo_theory.specs.Causes.{active_of, preparing_of}
-use Rattle.mvo_theory.specs.Phases.{ended_of}
+use Rattle.mvo_theory.specs.State.{State, StampedTx, Claim, timeline, active_of, preparing_of, ended_of}
+use Rattle.mvo_theory.specs.Dependencies.{is_writer, last_writer}
+use Rattle.mvo_theory.specs.Claims.{end_or, origin}
 use Rattle.mvo_theory.specs.Sound.{IsSound, IsSingle, IsPast, IsStarted}
 use Rattle.mvo_theory.specs.AfterTrace.{pairs, IsAfterTrace}
 use Rattle.mvo_theory.specs.Claimed.{IsWrittenAt, IsOrigin, IsClaimed, HasClaims}

@@ -19,9 +19,12 @@ use Rattle.mvo_types.specs.AnswerData.AnswerData.{Inserted, Exists, Updated, Del
 use Rattle.mvo_model.specs.Serial.{answer_to}
 use Rattle.mvo_model.specs.History.{after_history, net_write}
 use Rattle.mvo_theory.specs.Entries.Entry.{Key}
-use Rattle.mvo_theory.specs.State.{State, StampedTx, ActiveTx, Claim, seen_by, origin, ended_key, claims_with, has_claim, new_active, after_begin, after_operation, with_answer, after_prepare, to_stamped, without, after_check, with_check, after_commit, with_settled, with_flag, active_with_flag, not_at, after_abort_of_active, after_abort_of_preparing, after_termination}
-use Rattle.mvo_theory.specs.Causes.{if_stands, active_of, active_claim, stamped_claim, or_cause, claimed_by, conflict, conflicts, is_read_too_many, is_write_too_many, not_written, not_op}
-use Rattle.mvo_theory.specs.Sound.{how_many, is_active_as, AreExclusive}
+use Rattle.mvo_theory.specs.State.{State, StampedTx, ActiveTx, Claim, seen_by, active_of, is_active_as}
+use Rattle.mvo_theory.specs.Claims.{origin, ended_key, claims_with, has_claim}
+use Rattle.mvo_theory.specs.Changes.{new_active, after_begin, after_operation, with_answer, after_prepare, to_stamped, without, after_check, with_check, after_commit, with_settled, with_flag, active_with_flag, not_at, after_abort_of_active, after_abort_of_preparing, after_termination}
+use Rattle.mvo_theory.proofs.Cases.{if_stands, not_written, not_op, conflict_by}
+use Rattle.mvo_theory.specs.Causes.{active_claim, stamped_claim, or_cause, claimed_by, conflicts, is_entry_too_many, is_write_too_many}
+use Rattle.mvo_theory.specs.Sound.{how_many, AreExclusive}
 use Rattle.mvo_theory.proofs.Each.{each_weaker}
 use Rattle.mvo_theory.proofs.Footprints.{none_any, key_same}
 use Rattle.mvo_theory.proofs.Finds.{at_most, push_no, count_none, count_push, count_map, count_filter}
@@ -65,7 +68,7 @@ next_none true r w h = absurd (none_refusal r h)
 next_none false r w h = h
 
 written_none : (k : RowKey) (r : ActiveTx) (w : Option Refusal) → not_written k r w ≡ None → w ≡ None
-written_none k r w h = next_none (is_write_too_many r.history k) TooManyWrites w (next_none (is_read_too_many r.history (Key k)) TooManyReads (if_stands (is_write_too_many r.history k) TooManyWrites w) h)
+written_none k r w h = next_none (is_write_too_many r.history k) TooManyWrites w (next_none (is_entry_too_many r.history (Key k)) TooManyReads (if_stands (is_write_too_many r.history k) TooManyWrites w) h)
 
 conflict_none : (w : Option Cause) → conflicts w ≡ None → w ≡ None
 conflict_none None h = refl
@@ -77,7 +80,7 @@ none_key k e = cc
 same_key : (j k : RowKey) → ◌≡◌ {A = Option RowKey} (Some j) (Some k) → j ≡ k
 same_key j k e = cc
 
-unclaimed : (s : State) (r : ActiveTx) (k : RowKey) → conflict s r k ≡ None → fin.contains_key (after_history r.history (seen_by s.base s.stamped r.id)) k ≡ true → is_some (net_write k r.history) ≡ false → claimed_by s r.id k ≡ None
+unclaimed : (s : State) (r : ActiveTx) (k : RowKey) → conflict_by s r k ≡ None → fin.contains_key (after_history r.history (seen_by s.base s.stamped r.id)) k ≡ true → is_some (net_write k r.history) ≡ false → claimed_by s r.id k ≡ None
 unclaimed s r k h c n = sym (ap (λ (b : Bool). cond (b && not (is_some (net_write k r.history))) (claimed_by s r.id k) None) c ∙ ap (λ (b : Bool). cond (not b) (claimed_by s r.id k) None) n) ∙ h
 
 -- who ends a version first, where nothing stands in the way, ends one that nobody claims
@@ -91,17 +94,17 @@ first_claim s (Insert row) r k h e n = go (fin.contains_key (after_history r.his
     go false g = absurd (none_key k g)
 first_claim s (Update row) r k h e n = go (fin.contains_key (after_history r.history (seen_by s.base s.stamped r.id)) row.key) refl e
   where
-    free : conflict s r row.key ≡ None
-    free = conflict_none (conflict s r row.key) (written_none row.key r (conflicts (conflict s r row.key)) (next_none (nat_lt MAX_DATA_LEN (length row.bytes)) DataTooLong (not_written row.key r (conflicts (conflict s r row.key)))
-        (next_none (nat_lt MAX_TABLE row.key.table) BadTable (if_stands (nat_lt MAX_DATA_LEN (length row.bytes)) DataTooLong (not_written row.key r (conflicts (conflict s r row.key)))) h)))
+    free : conflict_by s r row.key ≡ None
+    free = conflict_none (conflict_by s r row.key) (written_none row.key r (conflicts (conflict_by s r row.key)) (next_none (nat_lt MAX_DATA_LEN (length row.bytes)) DataTooLong (not_written row.key r (conflicts (conflict_by s r row.key)))
+        (next_none (nat_lt MAX_TABLE row.key.table) BadTable (if_stands (nat_lt MAX_DATA_LEN (length row.bytes)) DataTooLong (not_written row.key r (conflicts (conflict_by s r row.key)))) h)))
 
     go : (b : Bool) → fin.contains_key (after_history r.history (seen_by s.base s.stamped r.id)) row.key ≡ b → ended_key (Update row) (cond b Updated Absent) ≡ Some k → claimed_by s r.id k ≡ None
     go true f g = subst (λ (j : RowKey). claimed_by s r.id j ≡ None) (same_key row.key k g) (unclaimed s r row.key free f (subst (λ (j : RowKey). is_some (net_write j r.history) ≡ false) (sym (same_key row.key k g)) n))
     go false f g = absurd (none_key k g)
 first_claim s (Delete j) r k h e n = go (fin.contains_key (after_history r.history (seen_by s.base s.stamped r.id)) j) refl e
   where
-    free : conflict s r j ≡ None
-    free = conflict_none (conflict s r j) (written_none j r (conflicts (conflict s r j)) (next_none (nat_lt MAX_TABLE j.table) BadTable (not_written j r (conflicts (conflict s r j))) h))
+    free : conflict_by s r j ≡ None
+    free = conflict_none (conflict_by s r j) (written_none j r (conflicts (conflict_by s r j)) (next_none (nat_lt MAX_TABLE j.table) BadTable (not_written j r (conflicts (conflict_by s r j))) h))
 
     go : (b : Bool) → fin.contains_key (after_history r.history (seen_by s.base s.stamped r.id)) j ≡ b → ended_key (Delete j) (cond b Deleted Absent) ≡ Some k → claimed_by s r.id k ≡ None
     go true f g = subst (λ (i : RowKey). claimed_by s r.id i ≡ None) (same_key j k g) (unclaimed s r j free f (subst (λ (i : RowKey). is_some (net_write i r.history) ≡ false) (sym (same_key j k g)) n))

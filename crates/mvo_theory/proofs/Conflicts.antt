@@ -10,9 +10,10 @@ use Rattle.mvo_types.specs.declared.row.RowKey.{RowKey}
 use Rattle.mvo_types.specs.Keys.{Map, key_cmp}
 use Rattle.mvo_model.specs.Trace.{Step, phase_of, committed}
 use Rattle.mvo_model.specs.Trace.Phase.{Active as Runs, Preparing}
-use Rattle.mvo_theory.specs.State.{State, StampedTx, ActiveTx, Claim, has_claim, origin}
-use Rattle.mvo_theory.specs.Causes.{active_of, preparing_of, claimed_by}
-use Rattle.mvo_theory.specs.Phases.{ended_of, phase_by, phase_in}
+use Rattle.mvo_theory.specs.State.{State, StampedTx, ActiveTx, Claim, active_of, preparing_of, ended_of}
+use Rattle.mvo_theory.specs.Claims.{has_claim, origin}
+use Rattle.mvo_theory.specs.Causes.{claimed_by}
+use Rattle.mvo_theory.specs.Phases.{phase_by, phase_in}
 use Rattle.mvo_theory.specs.AfterTrace.{pairs}
 use Rattle.mvo_theory.specs.Claimed.{IsOrigin, IsClaimed, HasClaims}
 use Rattle.mvo_theory.specs.Calls.{IsKept}

@@ -12,7 +12,7 @@ use Rattle.mvo_model.specs.History.{write_of, write_at, later, net_write}
 use Rattle.mvo_model.proofs.Serials.{net_write-append}
 use Rattle.mvo_model.specs.Trace.{Step, history_by, history_of, committed}
 use Rattle.mvo_model.specs.Trace.Step.{Answers}
-use Rattle.mvo_theory.specs.State.{ended_key}
+use Rattle.mvo_theory.specs.Claims.{ended_key}
 use Rattle.mvo_theory.specs.Claimed.{IsWrittenAt, IsOrigin, IsClaimed}
 use Rattle.mvo_theory.proofs.ClaimSteps.{ended_written}
 

@@ -13,18 +13,19 @@ use Rattle.mvo_types.specs.Write.{Effect, Write, content_after_last}
 use Rattle.mvo_model.specs.History.{History, write_of, write_at, later, net_write, AreSerial, after_history}
 use Rattle.mvo_model.proofs.Serials.{get-after_history}
 use Rattle.mvo_theory.specs.Entries.{Entry, entry_of, is_noted}
-use Rattle.mvo_theory.specs.Entries.Entry.{Key}
 use Rattle.mvo_theory.specs.Ranges.{Row, shows, pass, AgreeOn, AllAgreeOn, footprint_of}
-use Rattle.mvo_theory.specs.State.{State, StampedTx, ActiveTx, history_below, seen_by, is_writer, but, last_writer, has, with_end, depend_on, depend_on_all, counts_for, keys_for, unwritten, dependencies}
+use Rattle.mvo_theory.specs.State.{State, StampedTx, ActiveTx, history_below, seen_by}
+use Rattle.mvo_theory.specs.Dependencies.{is_writer, or_later, last_writer, has_end, with_end, depend_on, depend_on_all, counts_for, keys_for, unwritten, dependencies}
 use Rattle.mvo_theory.specs.Sound.{IsDecided, IsDecidedOn, IsConsistent}
 use Rattle.mvo_theory.proofs.Each.{each_weaker}
 use Rattle.mvo_theory.proofs.Looks.{write_entry, serial_agrees, footprint_agrees}
 use Rattle.mvo_theory.proofs.Footprints.{or_left, or_right, key_same, none_unless}
 use Rattle.mvo_theory.proofs.Lines.{decided_now, has_rest, decided_more, history_below-last, decided_last, IsLike, history_below-map, decided_map, IsOut, decided_filter, seen_filter}
 use Rattle.mvo_theory.proofs.Counts.{counted_noted, uncounted_seen, counts_filter, counts_map, counts_last}
+use Rattle.mvo_theory.specs.Entries.Entry.{Key}
 
 -- ---- the operation that looks now
-pub depends_more : (ds : List ℕ) (ks : List RowKey) (b : ℕ) (stamped : List StampedTx) (d : ℕ) → has ds d ≡ true → has (depend_on_all ds ks b stamped) d ≡ true
+pub depends_more : (ds : List ℕ) (ks : List RowKey) (b : ℕ) (stamped : List StampedTx) (d : ℕ) → has_end ds d ≡ true → has_end (depend_on_all ds ks b stamped) d ≡ true
 depends_more ds [] b stamped d h = h
 depends_more ds (k ∷ ks) b stamped d h = depends_more (depend_on ds (last_writer k b stamped)) ks b stamped d (has_rest ds (last_writer k b stamped) d h)
 
@@ -78,7 +79,7 @@ decided_on_now s op r d q c = go (is_some (net_write q r.history)) refl
     go true g = decided_more q r.id r.depends_on (depend_on_all r.depends_on ks r.id s.stamped) s.stamped (depends_more r.depends_on ks r.id s.stamped) (written_decided q r.id r.depends_on s.base s.stamped r.history g d)
     go false g = decided_all q r.id r.depends_on ks s.stamped (unwritten_noted r.history q (keys_for (entry_of op) r.id s.base s.stamped) g (counted_noted (entry_of op) q r.id s.base s.stamped c))
 
-pub decided_on_more : (e : Entry) (b : ℕ) (ds es : List ℕ) (base : Map) (stamped : List StampedTx) → ((d : ℕ) → has ds d ≡ true → has es d ≡ true) → IsDecidedOn e b ds base stamped → IsDecidedOn e b es base stamped
+pub decided_on_more : (e : Entry) (b : ℕ) (ds es : List ℕ) (base : Map) (stamped : List StampedTx) → ((d : ℕ) → has_end ds d ≡ true → has_end es d ≡ true) → IsDecidedOn e b ds base stamped → IsDecidedOn e b es base stamped
 decided_on_more e b ds es base stamped f h q c = decided_more q b ds es stamped f (h q c)
 
 -- ---- all that it depends on began earlier
@@ -92,7 +93,7 @@ pub below_last : (k : RowKey) (b : ℕ) (stamped : List StampedTx) (y : StampedT
 below_last k b [] y e = absurd (no_stamped y e)
 below_last k b (x ∷ xs) y e = go (is_writer k b x) refl (last_writer k b xs) refl (λ z g. below_last k b xs z g) e
   where
-    go : (c : Bool) → is_writer k b x ≡ c → (w : Option StampedTx) → last_writer k b xs ≡ w → ((z : StampedTx) → last_writer k b xs ≡ Some z → z.end < b) → but (cond c (Some x) None) w ≡ Some y → y.end < b
+    go : (c : Bool) → is_writer k b x ≡ c → (w : Option StampedTx) → last_writer k b xs ≡ w → ((z : StampedTx) → last_writer k b xs ≡ Some z → z.end < b) → or_later (cond c (Some x) None) w ≡ Some y → y.end < b
     go c f (Some z) g r q = subst (λ (v : StampedTx). v.end < b) (same_stamped z y q) (r z g)
     go true f None g r q = subst (λ (v : StampedTx). v.end < b) (same_stamped x y q) (ltb-true x.end b (and_parts (nat_lt x.end b) (is_some (net_write k x.history)) f).0)
     go false f None g r q = absurd (no_stamped y q)
@@ -107,7 +108,7 @@ below_one b ds (Some y) f h = go y.settled
   where
     go : (s : Bool) → AllByRecursion (λ d. d < b) (cond s ds (with_end ds y.end))
     go true = h
-    go false = below_with b y.end ds (has ds y.end) (f y refl) h
+    go false = below_with b y.end ds (has_end ds y.end) (f y refl) h
 
 pub below_all : (b : ℕ) (ds : List ℕ) (ks : List RowKey) (stamped : List StampedTx) → AllByRecursion (λ d. d < b) ds → AllByRecursion (λ d. d < b) (depend_on_all ds ks b stamped)
 below_all b ds [] stamped h = h

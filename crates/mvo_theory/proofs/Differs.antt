@@ -8,7 +8,6 @@ use Rattle.mvo_model.specs.History.{net_write}
 use Rattle.mvo_model.specs.Trace.{Step, history_of, committed, phase_of}
 use Rattle.mvo_model.specs.Trace.Phase.{Preparing}
 use Rattle.mvo_theory.specs.Entries.{Entry}
-use Rattle.mvo_theory.specs.Entries.Entry.{Key, Range}
 use Rattle.mvo_theory.specs.Ranges.{shows}
 use Rattle.mvo_theory.specs.State.{State, StampedTx}
 use Rattle.mvo_theory.specs.Causes.{is_changer, change_of}
@@ -21,6 +20,7 @@ use Rattle.mvo_theory.proofs.Apart.{IsIn}
 use Rattle.mvo_theory.proofs.Causes.{HasEnd, change_greatest}
 use Rattle.mvo_theory.proofs.Claimed.{in_pairs}
 use Rattle.mvo_theory.proofs.LastWriter.{preparing_phase}
+use Rattle.mvo_theory.specs.Entries.Entry.{Key, Range}
 
 -- u has a writing answer on the key, or one that put or ended a row in the range
 abbrev pub HasChanged : Map → List Step → Entry → ℕ → Type 0

@@ -10,7 +10,8 @@ use Rattle.mvo_types.specs.Keys.{Map}
 use Rattle.mvo_types.specs.AnswerData.{AnswerData}
 use Rattle.mvo_model.specs.Trace.{Step}
 use Rattle.mvo_model.specs.Trace.Step.{Begins, Answers, Prepares, Checks, Commits, Aborts, Terminates}
-use Rattle.mvo_theory.specs.State.{State, StampedTx, ActiveTx, timeline, opened, new_active, after_begin, after_operation, with_answer, after_prepare, to_stamped, after_check, with_check, after_commit, with_settled, with_flag, active_with_flag, not_at, after_abort_of_active, after_abort_of_preparing, after_termination, is_to, after_trim}
+use Rattle.mvo_theory.specs.State.{State, StampedTx, ActiveTx, timeline, opened}
+use Rattle.mvo_theory.specs.Changes.{new_active, after_begin, after_operation, with_answer, after_prepare, to_stamped, after_check, with_check, after_commit, with_settled, with_flag, active_with_flag, not_at, after_abort_of_active, after_abort_of_preparing, after_termination, is_to, after_trim}
 use Rattle.mvo_theory.specs.Sound.{IsActive, IsPlaced, IsSound, IsPast, IsStarted, IsNumbered}
 use Rattle.mvo_theory.specs.Traced.{is_abort_of}
 use Rattle.mvo_theory.specs.Snapshots.{prepare_of, prepares, is_aborted, ended_in, ends, HasEnds}

@@ -5,12 +5,11 @@ use Rattle.std.specs.List.{AllByRecursion, filter}
 use Rattle.std.proofs.lemmas.Bool.{eqb-true, false≢true, true≢false, not-false}
 use Rattle.mvo_types.specs.Keys.{Map}
 use Rattle.mvo_model.specs.History.{History, after_history}
-use Rattle.mvo_theory.specs.State.{EndedTx}
-use Rattle.mvo_theory.specs.State.{Marks}
+use Rattle.mvo_theory.specs.State.{EndedTx, Marks, State, StampedTx, ActiveTx, seen_by}
 use Rattle.mvo_theory.specs.Entries.{Entry, entry_of, entries}
-use Rattle.mvo_theory.specs.Entries.Entry.{Key, Range}
 use Rattle.mvo_theory.specs.Ranges.{Row}
-use Rattle.mvo_theory.specs.State.{State, StampedTx, ActiveTx, seen_by, has, after_commit, with_settled, aborted_dependency_after, with_flag, active_with_flag, not_at, after_abort_of_active, after_abort_of_preparing}
+use Rattle.mvo_theory.specs.Dependencies.{has_end}
+use Rattle.mvo_theory.specs.Changes.{after_commit, with_settled, aborted_dependency_after, with_flag, active_with_flag, not_at, after_abort_of_active, after_abort_of_preparing}
 use Rattle.mvo_theory.specs.Sound.{changes, IsUnchanged, LeavesAlone, IsApart, IsClear, IsRising, IsLegal, IsConsistent, IsActive, IsPreparing, IsPlaced, IsSound}
 use Rattle.mvo_theory.proofs.Each.{each_weaker, each_append, each_back, each_map, each_filter}
 use Rattle.mvo_theory.proofs.Looks.{serial_agrees, footprint_agrees}
@@ -20,6 +19,7 @@ use Rattle.mvo_theory.proofs.Between.{settled_below}
 use Rattle.mvo_theory.proofs.Apart.{IsFreeToSettle, apart_all}
 use Rattle.mvo_theory.proofs.Settle.{rising_before, rising_after, legal_settled, clear_settled, agree_at_end}
 use Rattle.mvo_theory.proofs.Sound.{preparing_map, others_map, active_map}
+use Rattle.mvo_theory.specs.Entries.Entry.{Key, Range}
 
 -- ---- settle
 or_true : (a b : Bool) → a ≡ true → (a || b) ≡ true
@@ -86,16 +86,16 @@ some_none : (n : ℕ) → ◌≡◌ {A = Option ℕ} (Some n) None → ⊥
 some_none n g = cc
 
 -- what isn't doomed by this abort wasn't before, and doesn't depend on the aborted one
-spared : (t e : ℕ) (ds : List ℕ) (aborted_dependency : Option ℕ) → aborted_dependency_after t e ds aborted_dependency ≡ None → (aborted_dependency ≡ None) × (has ds e ≡ false)
+spared : (t e : ℕ) (ds : List ℕ) (aborted_dependency : Option ℕ) → aborted_dependency_after t e ds aborted_dependency ≡ None → (aborted_dependency ≡ None) × (has_end ds e ≡ false)
 spared t e ds (Some u) h = absurd (some_none u h)
-spared t e ds None h = (refl, go (has ds e) h)
+spared t e ds None h = (refl, go (has_end ds e) h)
   where
     go : (b : Bool) → cond b (Some t) None ≡ None → b ≡ false
     go true g = absurd (some_none t g)
     go false g = refl
 
-out_here : (e : ℕ) (ds : List ℕ) → has ds e ≡ false → (x : StampedTx) → (x.end ≡ e → x.settled ≡ false) → IsOut (not_at e) ds x
-out_here e ds n x f = λ q. let is = eqb-true x.end e (not-false (x.end == e) q) in (f is, ap (has ds) is ∙ n)
+out_here : (e : ℕ) (ds : List ℕ) → has_end ds e ≡ false → (x : StampedTx) → (x.end ≡ e → x.settled ≡ false) → IsOut (not_at e) ds x
+out_here e ds n x f = λ q. let is = eqb-true x.end e (not-false (x.end == e) q) in (f is, ap (has_end ds) is ∙ n)
 
 pub like_flag : (t e : ℕ) → IsLike (with_flag t e)
 like_flag t e = λ x. (refl, refl, λ q. q, refl)

@@ -11,14 +11,15 @@ use Rattle.mvo_types.specs.declared.op.Op.{Op}
 use Rattle.mvo_types.specs.Keys.{Map, key_cmp}
 use Rattle.mvo_model.specs.History.{History, net_write}
 use Rattle.mvo_theory.specs.Entries.{Entry, entry_of, is_noted}
-use Rattle.mvo_theory.specs.Entries.Entry.{Key, Range}
 use Rattle.mvo_theory.specs.Ranges.{Row, shows, pass, puts, is_row_of}
-use Rattle.mvo_theory.specs.State.{State, StampedTx, ActiveTx, history_below, last_writer, has, with_end, depend_on, depend_on_all, is_put_below, counts_for, keys_for, unwritten, dependencies}
+use Rattle.mvo_theory.specs.State.{State, StampedTx, ActiveTx, history_below}
+use Rattle.mvo_theory.specs.Dependencies.{last_writer, has_end, with_end, depend_on, depend_on_all, is_put_below, counts_for, keys_for, unwritten, dependencies}
 use Rattle.mvo_theory.proofs.Looks.{key_is}
 use Rattle.mvo_theory.proofs.Footprints.{or_left, or_right, key_same}
 use Rattle.mvo_theory.proofs.Scans.{find_filter}
 use Rattle.mvo_theory.proofs.Counts.{counted_noted, puts-append}
 use Rattle.mvo_theory.proofs.Depends.{depends_more, unwritten_noted}
+use Rattle.mvo_theory.specs.Entries.Entry.{Key, Range}
 
 or_cases : (a b : Bool) → (a || b) ≡ true → (a ≡ true) ⊎ (b ≡ true)
 or_cases true b h = inl refl
@@ -99,22 +100,22 @@ record IsAmong (ks : List RowKey) (b : ℕ) (stamped : List StampedTx) (d : ℕ)
   pub open' : writer.settled ≡ false
   pub ends : writer.end ≡ d
 
-with_end_only : (ds : List ℕ) (d x : ℕ) → has (with_end ds d) x ≡ true → (has ds x ≡ true) ⊎ (d ≡ x)
-with_end_only ds d x h = go (has ds d) h
+with_end_only : (ds : List ℕ) (d x : ℕ) → has_end (with_end ds d) x ≡ true → (has_end ds x ≡ true) ⊎ (d ≡ x)
+with_end_only ds d x h = go (has_end ds d) h
   where
-    go : (b : Bool) → has (cond b ds (d ∷ ds)) x ≡ true → (has ds x ≡ true) ⊎ (d ≡ x)
+    go : (b : Bool) → has_end (cond b ds (d ∷ ds)) x ≡ true → (has_end ds x ≡ true) ⊎ (d ≡ x)
     go true g = inl g
-    go false g = elim (or_cases (d == x) (has ds x) g) [ inl a ↦ inr (eqb-true d x a) | inr b ↦ inl b ]
+    go false g = elim (or_cases (d == x) (has_end ds x) g) [ inl a ↦ inr (eqb-true d x a) | inr b ↦ inl b ]
 
-depend_only : (ds : List ℕ) (w : Option StampedTx) (d : ℕ) → has (depend_on ds w) d ≡ true → (has ds d ≡ true) ⊎ ((x : StampedTx) × (w ≡ Some x) × (x.settled ≡ false) × (x.end ≡ d))
+depend_only : (ds : List ℕ) (w : Option StampedTx) (d : ℕ) → has_end (depend_on ds w) d ≡ true → (has_end ds d ≡ true) ⊎ ((x : StampedTx) × (w ≡ Some x) × (x.settled ≡ false) × (x.end ≡ d))
 depend_only ds None d h = inl h
 depend_only ds (Some x) d h = go x.settled refl h
   where
-    go : (b : Bool) → x.settled ≡ b → has (cond b ds (with_end ds x.end)) d ≡ true → (has ds d ≡ true) ⊎ ((y : StampedTx) × (Some x ≡ Some y) × (y.settled ≡ false) × (y.end ≡ d))
+    go : (b : Bool) → x.settled ≡ b → has_end (cond b ds (with_end ds x.end)) d ≡ true → (has_end ds d ≡ true) ⊎ ((y : StampedTx) × (Some x ≡ Some y) × (y.settled ≡ false) × (y.end ≡ d))
     go true e g = inl g
     go false e g = elim (with_end_only ds x.end d g) [ inl a ↦ inl a | inr b ↦ inr (x, refl, e, b) ]
 
-all_only : (ds : List ℕ) (ks : List RowKey) (b : ℕ) (stamped : List StampedTx) (d : ℕ) → has (depend_on_all ds ks b stamped) d ≡ true → (has ds d ≡ true) ⊎ IsAmong ks b stamped d
+all_only : (ds : List ℕ) (ks : List RowKey) (b : ℕ) (stamped : List StampedTx) (d : ℕ) → has_end (depend_on_all ds ks b stamped) d ≡ true → (has_end ds d ≡ true) ⊎ IsAmong ks b stamped d
 all_only ds [] b stamped d h = inl h
 all_only ds (k ∷ ks) b stamped d h = elim (all_only (depend_on ds (last_writer k b stamped)) ks b stamped d h) [
   | inl a ↦ elim (depend_only ds (last_writer k b stamped) d a) [
@@ -136,7 +137,7 @@ noted_unwritten ts q (k ∷ ks) h = go (is_some (net_write k ts)) refl h (noted_
     ]
 
 -- nothing else is depended on
-pub depends_only : (s : State) (op : Op) (r : ActiveTx) (d : ℕ) → has (dependencies s op r) d ≡ true → (has r.depends_on d ≡ true) ⊎ IsDeciding s op r d
+pub depends_only : (s : State) (op : Op) (r : ActiveTx) (d : ℕ) → has_end (dependencies s op r) d ≡ true → (has_end r.depends_on d ≡ true) ⊎ IsDeciding s op r d
 depends_only s op r d h = elim (all_only r.depends_on (unwritten r.history (keys_for (entry_of op) r.id s.base s.stamped)) r.id s.stamped d h) [
   | inl a ↦ inl a
   | inr y ↦ inr (let q = noted_unwritten r.history y.key (keys_for (entry_of op) r.id s.base s.stamped) y.among in record {
@@ -151,24 +152,24 @@ depends_only s op r d h = elim (all_only r.depends_on (unwritten r.history (keys
 ]
 
 -- and each such one is
-has_last : (ds : List ℕ) (x : StampedTx) → x.settled ≡ false → has (depend_on ds (Some x)) x.end ≡ true
-has_last ds x o = subst (λ (b : Bool). has (cond b ds (with_end ds x.end)) x.end ≡ true) (sym o) (go (has ds x.end) refl)
+has_last : (ds : List ℕ) (x : StampedTx) → x.settled ≡ false → has_end (depend_on ds (Some x)) x.end ≡ true
+has_last ds x o = subst (λ (b : Bool). has_end (cond b ds (with_end ds x.end)) x.end ≡ true) (sym o) (go (has_end ds x.end) refl)
   where
-    go : (b : Bool) → has ds x.end ≡ b → has (cond b ds (x.end ∷ ds)) x.end ≡ true
+    go : (b : Bool) → has_end ds x.end ≡ b → has_end (cond b ds (x.end ∷ ds)) x.end ≡ true
     go true e = e
-    go false e = or_left (x.end == x.end) (has ds x.end) (eq-eqb x.end x.end refl)
+    go false e = or_left (x.end == x.end) (has_end ds x.end) (eq-eqb x.end x.end refl)
 
-has_among : (ds : List ℕ) (ks : List RowKey) (b : ℕ) (stamped : List StampedTx) (q : RowKey) (x : StampedTx) → is_noted ks q ≡ true → last_writer q b stamped ≡ Some x → x.settled ≡ false → has (depend_on_all ds ks b stamped) x.end ≡ true
+has_among : (ds : List ℕ) (ks : List RowKey) (b : ℕ) (stamped : List StampedTx) (q : RowKey) (x : StampedTx) → is_noted ks q ≡ true → last_writer q b stamped ≡ Some x → x.settled ≡ false → has_end (depend_on_all ds ks b stamped) x.end ≡ true
 has_among ds [] b stamped q x h l o = absurd (false≢true h)
 has_among ds (k ∷ ks) b stamped q x h l o = go (eq_by_cmp key_cmp q k) refl h (λ g. has_among (depend_on ds (last_writer k b stamped)) ks b stamped q x g l o)
   where
-    go : (c : Bool) → eq_by_cmp key_cmp q k ≡ c → (c || is_noted ks q) ≡ true → (is_noted ks q ≡ true → has (depend_on_all (depend_on ds (last_writer k b stamped)) ks b stamped) x.end ≡ true) → has (depend_on_all (depend_on ds (last_writer k b stamped)) ks b stamped) x.end ≡ true
+    go : (c : Bool) → eq_by_cmp key_cmp q k ≡ c → (c || is_noted ks q) ≡ true → (is_noted ks q ≡ true → has_end (depend_on_all (depend_on ds (last_writer k b stamped)) ks b stamped) x.end ≡ true) → has_end (depend_on_all (depend_on ds (last_writer k b stamped)) ks b stamped) x.end ≡ true
     go true e g r = depends_more (depend_on ds (last_writer k b stamped)) ks b stamped x.end
-        (subst (λ (w : Option StampedTx). has (depend_on ds w) x.end ≡ true) (sym l ∙ ap (λ (j : RowKey). last_writer j b stamped) (sym (key_same q k e))) (has_last ds x o))
+        (subst (λ (w : Option StampedTx). has_end (depend_on ds w) x.end ≡ true) (sym l ∙ ap (λ (j : RowKey). last_writer j b stamped) (sym (key_same q k e))) (has_last ds x o))
     go false e g r = r g
 
-pub depends_all : (s : State) (op : Op) (r : ActiveTx) (d : ℕ) → IsDeciding s op r d → has (dependencies s op r) d ≡ true
+pub depends_all : (s : State) (op : Op) (r : ActiveTx) (d : ℕ) → IsDeciding s op r d → has_end (dependencies s op r) d ≡ true
 depends_all s op r d h =
-    subst (λ (n : ℕ). has (dependencies s op r) n ≡ true) h.ends
+    subst (λ (n : ℕ). has_end (dependencies s op r) n ≡ true) h.ends
     (has_among r.depends_on (unwritten r.history (keys_for (entry_of op) r.id s.base s.stamped)) r.id s.stamped h.key h.writer
     (unwritten_noted r.history h.key (keys_for (entry_of op) r.id s.base s.stamped) h.unwritten (counted_noted (entry_of op) h.key r.id s.base s.stamped h.counts)) h.last h.open')

@@ -10,10 +10,11 @@ use Rattle.mvo_types.specs.Keys.{Map}
 use Rattle.mvo_types.proofs.Maps.{keys_total}
 use Rattle.mvo_types.specs.AnswerData.AnswerData.{Found, Rows, Inserted, Updated, Deleted}
 use Rattle.mvo_theory.specs.Entries.{entries}
-use Rattle.mvo_theory.specs.Entries.Entry.{Key, Range}
-use Rattle.mvo_theory.specs.State.{State, opened, after_begin, after_operation}
-use Rattle.mvo_theory.specs.Causes.{why_not_update, why_not_delete, why_not_read, why_not_validate, why_not_settle, awaited, preparing_of, active_of}
+use Rattle.mvo_theory.specs.State.{State, opened, preparing_of, active_of}
+use Rattle.mvo_theory.specs.Changes.{after_begin, after_operation}
+use Rattle.mvo_theory.specs.Causes.{why_not_update, why_not_delete, why_not_read, why_not_validate, why_not_settle, awaited}
 use Rattle.mvo_theory.specs.Steps.{after_precommit, after_validate, after_commit_now, after_abort}
+use Rattle.mvo_theory.specs.Entries.Entry.{Key, Range}
 
 -- keys and rows of table 0
 abbrev key : ℕ → RowKey

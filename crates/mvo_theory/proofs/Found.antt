@@ -13,7 +13,8 @@ use Rattle.mvo_types.specs.Write.{Effect}
 use Rattle.mvo_model.specs.History.{History, write_of, write_at, later, net_write}
 use Rattle.mvo_model.specs.Trace.{Step, history_by, history_of}
 use Rattle.mvo_model.specs.Trace.Step.{Answers}
-use Rattle.mvo_theory.specs.State.{State, StampedTx, ActiveTx, Claim, ended_key, has_claim, origin}
+use Rattle.mvo_theory.specs.State.{State, StampedTx, ActiveTx, Claim}
+use Rattle.mvo_theory.specs.Claims.{ended_key, has_claim, origin}
 use Rattle.mvo_theory.specs.Causes.{active_claim, stamped_claim, claimed_by}
 use Rattle.mvo_theory.specs.Sound.{IsPast}
 use Rattle.mvo_theory.specs.Claimed.{IsOrigin, IsClaimed, is_ended_first, HasClaims}

@@ -7,19 +7,17 @@ use Rattle.mvo_types.specs.declared.row.RowKey.{RowKey}
 use Rattle.mvo_model.specs.History.{net_write}
 use Rattle.mvo_model.specs.Trace.{Phase}
 use Rattle.mvo_model.specs.Trace.Phase.{Absent, Active, Preparing, Committed as Commits_at, Aborted as Aborts_at}
-use Rattle.mvo_theory.specs.State.{Outcome}
-use Rattle.mvo_theory.specs.State.Outcome.{Committed, Aborted}
-use Rattle.mvo_theory.specs.State.{EndedTx}
-use Rattle.mvo_theory.specs.State.{State, StampedTx, ActiveTx, is_writer, but, last_writer}
-use Rattle.mvo_theory.specs.Causes.{active_of, preparing_of}
-use Rattle.mvo_theory.specs.Phases.{ended_of, ended_as, phase_by, phase_in}
-use Rattle.mvo_theory.specs.Sound.{IsRising, IsSingle, how_many, is_active_as, is_preparing_as}
+use Rattle.mvo_theory.specs.State.{Outcome, EndedTx, State, StampedTx, ActiveTx, active_of, preparing_of, ended_of, is_active_as, is_preparing_as}
+use Rattle.mvo_theory.specs.Dependencies.{is_writer, or_later, last_writer}
+use Rattle.mvo_theory.specs.Phases.{ended_as, phase_by, phase_in}
+use Rattle.mvo_theory.specs.Sound.{IsRising, IsSingle, how_many}
 use Rattle.mvo_theory.proofs.Each.{each_weaker}
 use Rattle.mvo_theory.proofs.Footprints.{none_unless}
 use Rattle.mvo_theory.proofs.Apart.{IsIn}
 use Rattle.mvo_theory.proofs.Calls.{split_at}
 use Rattle.mvo_theory.proofs.Finds.{find_none}
 use Rattle.mvo_theory.proofs.Single.{active_found, preparing_found}
+use Rattle.mvo_theory.specs.State.Outcome.{Committed, Aborted}
 
 no_stamped : (z : StampedTx) → ◌≡◌ {A = Option StampedTx} None (Some z) → ⊥
 no_stamped z q = cc
@@ -33,7 +31,7 @@ pub last_is : (k : RowKey) (b : ℕ) (xs : List StampedTx) (x : StampedTx) → l
 last_is k b [] x e = absurd (no_stamped x e)
 last_is k b (y ∷ ys) x e = go (is_writer k b y) (last_writer k b ys) (λ z g. last_is k b ys z g) e
   where
-    go : (c : Bool) (w : Option StampedTx) → ((z : StampedTx) → w ≡ Some z → IsIn z ys) → but (cond c (Some y) None) w ≡ Some x → IsIn x (y ∷ ys)
+    go : (c : Bool) (w : Option StampedTx) → ((z : StampedTx) → w ≡ Some z → IsIn z ys) → or_later (cond c (Some y) None) w ≡ Some x → IsIn x (y ∷ ys)
     go c (Some z) r q = λ P h. subst P (same_stamped z x q) (r z refl P h.1)
     go true None r q = λ P h. subst P (same_stamped y x q) h.0
     go false None r q = absurd (no_stamped x q)
@@ -42,7 +40,7 @@ pub last_writes : (k : RowKey) (b : ℕ) (xs : List StampedTx) (x : StampedTx) �
 last_writes k b [] x e = absurd (no_stamped x e)
 last_writes k b (y ∷ ys) x e = go (is_writer k b y) refl (last_writer k b ys) (λ z g. last_writes k b ys z g) e
   where
-    go : (c : Bool) → is_writer k b y ≡ c → (w : Option StampedTx) → ((z : StampedTx) → w ≡ Some z → is_writer k b z ≡ true) → but (cond c (Some y) None) w ≡ Some x → is_writer k b x ≡ true
+    go : (c : Bool) → is_writer k b y ≡ c → (w : Option StampedTx) → ((z : StampedTx) → w ≡ Some z → is_writer k b z ≡ true) → or_later (cond c (Some y) None) w ≡ Some x → is_writer k b x ≡ true
     go c f (Some z) r q = subst (λ (v : StampedTx). is_writer k b v ≡ true) (same_stamped z x q) (r z refl)
     go true f None r q = subst (λ (v : StampedTx). is_writer k b v ≡ true) (same_stamped y x q) f
     go false f None r q = absurd (no_stamped x q)
@@ -51,7 +49,7 @@ pub none_writes : (k : RowKey) (b : ℕ) (xs : List StampedTx) → last_writer k
 none_writes k b [] e = tt
 none_writes k b (y ∷ ys) e = go (is_writer k b y) refl (last_writer k b ys) (λ g. none_writes k b ys g) refl e
   where
-    go : (c : Bool) → is_writer k b y ≡ c → (w : Option StampedTx) → (last_writer k b ys ≡ None → AllByRecursion (λ z. is_writer k b z ≡ false) ys) → last_writer k b ys ≡ w → but (cond c (Some y) None) w ≡ None → (is_writer k b y ≡ false) × AllByRecursion (λ z. is_writer k b z ≡ false) ys
+    go : (c : Bool) → is_writer k b y ≡ c → (w : Option StampedTx) → (last_writer k b ys ≡ None → AllByRecursion (λ z. is_writer k b z ≡ false) ys) → last_writer k b ys ≡ w → or_later (cond c (Some y) None) w ≡ None → (is_writer k b y ≡ false) × AllByRecursion (λ z. is_writer k b z ≡ false) ys
     go c f (Some z) r g q = absurd (no_stamped z (sym q))
     go true f None r g q = absurd (no_stamped y (sym q))
     go false f None r g q = (f, r g)
@@ -68,7 +66,7 @@ pub after_last : (k : RowKey) (b : ℕ) (xs : List StampedTx) (x : StampedTx) �
 after_last k b [] x r e = tt
 after_last k b (y ∷ ys) x r e = go (is_writer k b y) (last_writer k b ys) refl (λ z g. after_last k b ys z r.1 g) e
   where
-    go : (c : Bool) (w : Option StampedTx) → last_writer k b ys ≡ w → ((z : StampedTx) → last_writer k b ys ≡ Some z → AllByRecursion (λ v. z.end < v.end → v.end < b → net_write k v.history ≡ None) ys) → but (cond c (Some y) None) w ≡ Some x →
+    go : (c : Bool) (w : Option StampedTx) → last_writer k b ys ≡ w → ((z : StampedTx) → last_writer k b ys ≡ Some z → AllByRecursion (λ v. z.end < v.end → v.end < b → net_write k v.history ≡ None) ys) → or_later (cond c (Some y) None) w ≡ Some x →
         (x.end < y.end → y.end < b → net_write k y.history ≡ None) × AllByRecursion (λ v. x.end < v.end → v.end < b → net_write k v.history ≡ None) ys
     go c (Some z) g f q = subst (λ (u : StampedTx). (u.end < y.end → y.end < b → net_write k y.history ≡ None) × AllByRecursion (λ v. u.end < v.end → v.end < b → net_write k v.history ≡ None) ys) (same_stamped z x q)
         ((λ l m. absurd (let above = last_is k b ys z g (λ v. y.end < v.end) r.0 in omega arith)), f z g)

@@ -11,6 +11,7 @@ pub mod Settle
 pub mod Sound
 pub mod Ends
 pub mod Causes
+pub mod Cases
 pub mod Calls
 pub mod Tales
 pub mod Numbered
@@ -24,6 +25,7 @@ pub mod AfterTrace
 pub mod Started
 pub mod Trim
 pub mod Trimmed
+pub mod Worded
 pub mod Called
 pub mod Exact
 pub mod Stays

@@ -11,16 +11,17 @@ use Rattle.mvo_model.specs.History.{History, after_history, later, net_write}
 use Rattle.mvo_model.proofs.Serials.{net_write-append}
 use Rattle.mvo_theory.proofs.Each.{each_weaker, each_append, each_map}
 use Rattle.mvo_theory.specs.Entries.{Entry}
-use Rattle.mvo_theory.specs.Entries.Entry.{Key, Range}
 use Rattle.mvo_theory.specs.Ranges.{Row, shows}
-use Rattle.mvo_theory.specs.State.{StampedTx, history_below, is_writer, but, last_writer, has, with_end, depend_on}
+use Rattle.mvo_theory.specs.State.{StampedTx, history_below}
+use Rattle.mvo_theory.specs.Dependencies.{is_writer, or_later, last_writer, has_end, with_end, depend_on}
 use Rattle.mvo_theory.specs.Sound.{IsWritten, IsDecided, IsUnchanged, IsClear, IsRising, IsLegal, changes}
 use Rattle.mvo_theory.proofs.Footprints.{none_unless}
+use Rattle.mvo_theory.specs.Entries.Entry.{Key, Range}
 
 -- ---- who decides a key, after a look
 abbrev IsHeld : Option StampedTx → List ℕ → Type 0
 IsHeld None ds = ⊤
-IsHeld (Some y) ds = y.settled ≡ false → has ds y.end ≡ true
+IsHeld (Some y) ds = y.settled ≡ false → has_end ds y.end ≡ true
 
 no_stamped : (z : StampedTx) → ◌≡◌ {A = Option StampedTx} None (Some z) → ⊥
 no_stamped z q = cc
@@ -29,7 +30,7 @@ pub written_last : (k : RowKey) (b : ℕ) (stamped : List StampedTx) (y : Stampe
 written_last k b [] y e = absurd (no_stamped y e)
 written_last k b (x ∷ xs) y e = go (is_writer k b x) refl (last_writer k b xs) refl (λ z g. written_last k b xs z g) e
   where
-    go : (c : Bool) → is_writer k b x ≡ c → (w : Option StampedTx) → last_writer k b xs ≡ w → ((z : StampedTx) → last_writer k b xs ≡ Some z → IsWritten k b xs) → but (cond c (Some x) None) w ≡ Some y → (is_writer k b x ≡ true) ⊎ IsWritten k b xs
+    go : (c : Bool) → is_writer k b x ≡ c → (w : Option StampedTx) → last_writer k b xs ≡ w → ((z : StampedTx) → last_writer k b xs ≡ Some z → IsWritten k b xs) → or_later (cond c (Some x) None) w ≡ Some y → (is_writer k b x ≡ true) ⊎ IsWritten k b xs
     go true f w g r h = inl f
     go false f None g r h = absurd (no_stamped y h)
     go false f (Some z) g r h = inr (r z g)
@@ -38,21 +39,21 @@ decided_held : (k : RowKey) (b : ℕ) (ds : List ℕ) (stamped : List StampedTx)
 decided_held k b ds [] h = tt
 decided_held k b ds (x ∷ xs) h = go (last_writer k b xs) refl (is_writer k b x) refl (λ e. decided_held k b ds xs e) h
   where
-    go : (w : Option StampedTx) → last_writer k b xs ≡ w → (c : Bool) → is_writer k b x ≡ c → (IsHeld (last_writer k b xs) ds → IsDecided k b ds xs) → IsHeld (but (cond c (Some x) None) w) ds → (x.settled ≡ false → is_writer k b x ≡ true → (has ds x.end ≡ true) ⊎ IsWritten k b xs) × IsDecided k b ds xs
+    go : (w : Option StampedTx) → last_writer k b xs ≡ w → (c : Bool) → is_writer k b x ≡ c → (IsHeld (last_writer k b xs) ds → IsDecided k b ds xs) → IsHeld (or_later (cond c (Some x) None) w) ds → (x.settled ≡ false → is_writer k b x ≡ true → (has_end ds x.end ≡ true) ⊎ IsWritten k b xs) × IsDecided k b ds xs
     go (Some z) g c f r h' = (λ _ _. inr (written_last k b xs z g), r (subst (λ v. IsHeld v ds) (sym g) h'))
     go None g true f r h' = (λ o _. inl (h' o), r (subst (λ v. IsHeld v ds) (sym g) tt))
     go None g false f r h' = (λ _ w. absurd (false≢true (sym f ∙ w)), r (subst (λ v. IsHeld v ds) (sym g) tt))
 
-has_with_end : (ds : List ℕ) (d : ℕ) → has (with_end ds d) d ≡ true
-has_with_end ds d = go (has ds d) refl
+has_with_end : (ds : List ℕ) (d : ℕ) → has_end (with_end ds d) d ≡ true
+has_with_end ds d = go (has_end ds d) refl
   where
-    go : (b : Bool) → has ds d ≡ b → has (cond b ds (d ∷ ds)) d ≡ true
+    go : (b : Bool) → has_end ds d ≡ b → has_end (cond b ds (d ∷ ds)) d ≡ true
     go true e = e
-    go false e = ap (λ c. c || has ds d) (eq-eqb d d refl)
+    go false e = ap (λ c. c || has_end ds d) (eq-eqb d d refl)
 
 held_now : (ds : List ℕ) (w : Option StampedTx) → IsHeld w (depend_on ds w)
 held_now ds None = tt
-held_now ds (Some y) = λ o. subst (λ (c : Bool). has (cond c ds (with_end ds y.end)) y.end ≡ true) (sym o) (has_with_end ds y.end)
+held_now ds (Some y) = λ o. subst (λ (c : Bool). has_end (cond c ds (with_end ds y.end)) y.end ≡ true) (sym o) (has_with_end ds y.end)
 
 -- the key that is looked at now is decided
 pub decided_now : (k : RowKey) (b : ℕ) (ds : List ℕ) (stamped : List StampedTx) → IsDecided k b (depend_on ds (last_writer k b stamped)) stamped
@@ -62,23 +63,23 @@ or_right : (a b : Bool) → b ≡ true → (a || b) ≡ true
 or_right true b e = refl
 or_right false b e = e
 
-pub has_more : (ds : List ℕ) (d x : ℕ) → has ds x ≡ true → has (with_end ds d) x ≡ true
-has_more ds d x e = go (has ds d)
+pub has_more : (ds : List ℕ) (d x : ℕ) → has_end ds x ≡ true → has_end (with_end ds d) x ≡ true
+has_more ds d x e = go (has_end ds d)
   where
-    go : (b : Bool) → has (cond b ds (d ∷ ds)) x ≡ true
+    go : (b : Bool) → has_end (cond b ds (d ∷ ds)) x ≡ true
     go true = e
-    go false = or_right (d == x) (has ds x) e
+    go false = or_right (d == x) (has_end ds x) e
 
-pub has_rest : (ds : List ℕ) (w : Option StampedTx) (x : ℕ) → has ds x ≡ true → has (depend_on ds w) x ≡ true
+pub has_rest : (ds : List ℕ) (w : Option StampedTx) (x : ℕ) → has_end ds x ≡ true → has_end (depend_on ds w) x ≡ true
 has_rest ds None x e = e
 has_rest ds (Some y) x e = go y.settled
   where
-    go : (b : Bool) → has (cond b ds (with_end ds y.end)) x ≡ true
+    go : (b : Bool) → has_end (cond b ds (with_end ds y.end)) x ≡ true
     go true = e
     go false = has_more ds y.end x e
 
 -- more to rest on
-pub decided_more : (k : RowKey) (b : ℕ) (ds es : List ℕ) (stamped : List StampedTx) → ((d : ℕ) → has ds d ≡ true → has es d ≡ true) → IsDecided k b ds stamped → IsDecided k b es stamped
+pub decided_more : (k : RowKey) (b : ℕ) (ds es : List ℕ) (stamped : List StampedTx) → ((d : ℕ) → has_end ds d ≡ true → has_end es d ≡ true) → IsDecided k b ds stamped → IsDecided k b es stamped
 decided_more k b ds es [] f h = tt
 decided_more k b ds es (x ∷ xs) f h = (λ o w. elim (h.0 o w) [ inl q ↦ inl (f x.end q) | inr q ↦ inr q ], decided_more k b ds es xs f h.1)
 
@@ -149,7 +150,7 @@ still_open false c f e = refl
 pub decided_map : (f : StampedTx → StampedTx) → IsLike f → (k : RowKey) (b : ℕ) (ds : List ℕ) (xs : List StampedTx) → IsDecided k b ds xs → IsDecided k b ds (map f xs)
 decided_map f l k b ds [] h = tt
 decided_map f l k b ds (x ∷ xs) h = (
-  λ o w. elim (h.0 (still_open x.settled (f x).settled (l x).2 o) (sym (writer-like f l k b x) ∙ w)) [ inl q ↦ inl (ap (has ds) (l x).0 ∙ q) | inr q ↦ inr (written_map f l k b xs q) ],
+  λ o w. elim (h.0 (still_open x.settled (f x).settled (l x).2 o) (sym (writer-like f l k b x) ∙ w)) [ inl q ↦ inl (ap (has_end ds) (l x).0 ∙ q) | inr q ↦ inr (written_map f l k b xs q) ],
   decided_map f l k b ds xs h.1,
 )
 
@@ -170,7 +171,7 @@ unchanged_map f l b c e xs h = each_map f (λ u. b < u.end → u.end < c → cha
 
 -- ---- some are taken out of the end order, on which this one doesn't rest
 abbrev pub IsOut : (StampedTx → Bool) → List ℕ → StampedTx → Type 0
-IsOut p ds x = p x ≡ false → (x.settled ≡ false) × (has ds x.end ≡ false)
+IsOut p ds x = p x ≡ false → (x.settled ≡ false) × (has_end ds x.end ≡ false)
 
 written_filter : (p : StampedTx → Bool) (k : RowKey) (b : ℕ) (ds : List ℕ) (xs : List StampedTx) → AllByRecursion (IsOut p ds) xs → IsDecided k b ds xs → IsWritten k b xs → IsWritten k b (filter p xs)
 written_filter p k b ds [] o d h = h

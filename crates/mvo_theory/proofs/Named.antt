@@ -9,8 +9,10 @@ use Rattle.mvo_types.specs.declared.row.RowKey.{RowKey}
 use Rattle.mvo_types.specs.Keys.{Map}
 use Rattle.mvo_model.specs.Trace.{Step, phase_of}
 use Rattle.mvo_model.specs.Trace.Phase.{Preparing}
-use Rattle.mvo_theory.specs.State.{State, StampedTx, ActiveTx, has, has_claim, origin}
-use Rattle.mvo_theory.specs.Causes.{active_of, preparing_of, active_claim, stamped_claim, or_cause, claimed_by, waiting_for}
+use Rattle.mvo_theory.specs.State.{State, StampedTx, ActiveTx, active_of, preparing_of}
+use Rattle.mvo_theory.specs.Dependencies.{has_end}
+use Rattle.mvo_theory.specs.Claims.{has_claim, origin}
+use Rattle.mvo_theory.specs.Causes.{active_claim, stamped_claim, or_cause, claimed_by, waiting_for}
 use Rattle.mvo_theory.specs.Sound.{how_many, AreExclusive}
 use Rattle.mvo_theory.specs.Traced.{DependsOn, IsDependency, HasAbortedDependency, IsTraced}
 use Rattle.mvo_theory.specs.Calls.{IsKept}
@@ -32,7 +34,7 @@ same_stamped v z q = cc
 -- ---- Waiting names one that it depends on and that is Preparing
 waiting_in : (ds : List ℕ) (xs : List StampedTx) (y : StampedTx) → waiting_for ds xs ≡ Some y → IsIn y xs
 waiting_in ds [] y e = absurd (no_stamped y e)
-waiting_in ds (x ∷ xs) y e = go (not x.settled && has ds x.end) e (λ g. waiting_in ds xs y g)
+waiting_in ds (x ∷ xs) y e = go (not x.settled && has_end ds x.end) e (λ g. waiting_in ds xs y g)
   where
     go : (b : Bool) → cond b (Some x) (waiting_for ds xs) ≡ Some y → (waiting_for ds xs ≡ Some y → IsIn y xs) → IsIn y (x ∷ xs)
     go true g r = λ P h. subst P (same_stamped x y g) h.0

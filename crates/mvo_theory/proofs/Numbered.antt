@@ -5,7 +5,8 @@ use Rattle.std.specs.List.{AllByRecursion, filter}
 use Rattle.std.proofs.lemmas.Bool.{eq-eqb, false≢true, not-true}
 use Rattle.mvo_types.specs.declared.op.Op.{Op}
 use Rattle.mvo_types.specs.AnswerData.{AnswerData}
-use Rattle.mvo_theory.specs.State.{State, StampedTx, ActiveTx, after_begin, after_operation, with_answer, after_prepare, to_stamped, after_check, with_check, after_commit, with_settled, with_flag, active_with_flag, not_at, after_abort_of_active, after_abort_of_preparing}
+use Rattle.mvo_theory.specs.State.{State, StampedTx, ActiveTx}
+use Rattle.mvo_theory.specs.Changes.{after_begin, after_operation, with_answer, after_prepare, to_stamped, after_check, with_check, after_commit, with_settled, with_flag, active_with_flag, not_at, after_abort_of_active, after_abort_of_preparing}
 use Rattle.mvo_theory.specs.Sound.{IsSound, IsActive, IsPlaced, AreDistinct, IsNumbered, IsPast, IsStarted}
 use Rattle.mvo_theory.proofs.Each.{each_weaker, each_append, each_map, each_filter}
 

@@ -10,12 +10,13 @@ use Rattle.mvo_model.specs.Trace.{Step, owner_of, phase_after, phase_of, Phase}
 use Rattle.mvo_model.specs.Trace.Phase.{Active, Preparing}
 use Rattle.mvo_model.specs.Trace.Step.{Begins, Answers, Prepares, Checks, Commits, Aborts, Terminates}
 use Rattle.mvo_model.proofs.Traces.{phase_of-push_own, phase_of-push_other}
-use Rattle.mvo_theory.specs.State.{EndedTx}
-use Rattle.mvo_theory.specs.State.{State, StampedTx, ActiveTx, new_active, after_begin, after_operation, with_answer, after_prepare, to_stamped, without, after_check, with_check, after_commit, committed_tx, with_settled, with_flag, active_with_flag, not_at, after_abort_of_active, aborted_tx, after_abort_of_preparing, after_termination, without_ended}
-use Rattle.mvo_theory.specs.Causes.{active_of, preparing_of, is_ended}
+use Rattle.mvo_theory.specs.State.{EndedTx, State, StampedTx, ActiveTx, active_of, preparing_of, is_active_as, is_preparing_as, is_ended_as, ended_of}
+use Rattle.mvo_theory.specs.Words.{words_now}
+use Rattle.mvo_theory.specs.Changes.{new_active, after_begin, after_operation, with_answer, after_prepare, to_stamped, without, after_check, with_check, after_commit, committed_tx, with_settled, with_flag, active_with_flag, not_at, after_abort_of_active, aborted_tx, after_abort_of_preparing, after_termination, without_ended}
+use Rattle.mvo_theory.proofs.Cases.{is_ended_in}
+use Rattle.mvo_theory.specs.Phases.{phase_by, phase_in}
 use Rattle.mvo_theory.specs.Steps.{after_validate_of, after_validate, after_abort_of, after_abort}
-use Rattle.mvo_theory.specs.Sound.{IsSound, IsRising, IsSingle, how_many, is_active_as, is_preparing_as, is_ended_as}
-use Rattle.mvo_theory.specs.Phases.{phase_by, phase_in, ended_of}
+use Rattle.mvo_theory.specs.Sound.{IsSound, IsRising, IsSingle, how_many}
 use Rattle.mvo_theory.proofs.Each.{each_weaker, each_append, each_always}
 use Rattle.mvo_theory.proofs.Finds.{find_none, find_push_own, find_holds, at_most, find_push_other, find_map, find_filter, count_map, count_filter_out}
 use Rattle.mvo_theory.proofs.Single.{active_found, preparing_found, active_alone, preparing_alone, fresh_alone, fewer_settled, fewer_after_abort_of_preparing}
@@ -159,12 +160,12 @@ leads_after_commit s t x f k h =
     let fewer = fewer_settled t s.stamped x (sym (preparing_found t s.stamped) ∙ f) in
     let once = h.once t in
     record {
-      own = is_else (after_commit s t x.end) t None (Some (committed_tx t x.end)) (let l : how_many (is_active_as t) s.active ≤ 0 = omega arith in l)
+      own = is_else (after_commit s t x.end) t None (Some (committed_tx t x.end (words_now s t))) (let l : how_many (is_active_as t) s.active ≤ 0 = omega arith in l)
           (find_none (is_preparing_as t) (map (with_settled x.end) s.stamped) (omega arith))
-          (find_push_own (is_ended_as t) s.ended (committed_tx t x.end) (omega arith) (eq-eqb t t refl));
+          (find_push_own (is_ended_as t) s.ended (committed_tx t x.end (words_now s t)) (omega arith) (eq-eqb t t refl));
       others = λ u n. stays_like s (after_commit s t x.end) u (λ r. r) (with_settled x.end) (λ y. refl) (same_find (find (is_active_as u) s.active))
           (find_map (is_preparing_as u) (with_settled x.end) s.stamped (each_weaker (λ y. y.end ≡ x.end → y.id ≡ t) (λ y. is_preparing_as u (with_settled x.end y) ≡ is_preparing_as u y) (λ y q. other_settled x.end t u y n q) s.stamped (alone_in s t x f k)))
-          (find_push_other (is_ended_as u) s.ended (committed_tx t x.end) (ne_eqb t u n));
+          (find_push_other (is_ended_as u) s.ended (committed_tx t x.end (words_now s t)) (ne_eqb t u n));
     }
 
 -- ---- an abort
@@ -172,8 +173,8 @@ pub leads_after_abort_of_active : (s : State) (t : ℕ) (r : ActiveTx) → activ
 leads_after_abort_of_active s t r f is h =
     let alone = active_alone s t r f h in
     record {
-      own = is_else (after_abort_of_active s t) t None (Some (aborted_tx t)) (none_active s t t r f refl is h) (find_none (is_preparing_as t) s.stamped (omega arith)) (find_push_own (is_ended_as t) s.ended (aborted_tx t) (omega arith) (eq-eqb t t refl));
-      others = λ u n. stays s (after_abort_of_active s t) u (gone_active t u t s.active refl n) refl (find_push_other (is_ended_as u) s.ended (aborted_tx t) (ne_eqb t u n));
+      own = is_else (after_abort_of_active s t) t None (Some (aborted_tx t (words_now s t))) (none_active s t t r f refl is h) (find_none (is_preparing_as t) s.stamped (omega arith)) (find_push_own (is_ended_as t) s.ended (aborted_tx t (words_now s t)) (omega arith) (eq-eqb t t refl));
+      others = λ u n. stays s (after_abort_of_active s t) u (gone_active t u t s.active refl n) refl (find_push_other (is_ended_as u) s.ended (aborted_tx t (words_now s t)) (ne_eqb t u n));
     }
 
 -- the doomed_by of another changes no phase
@@ -184,14 +185,14 @@ leads_after_abort_of_preparing s t x f k h =
     let once = h.once t in
     let active = count_map (is_active_as t) (active_with_flag t x.end) s.active (λ r q. q) in
     record {
-      own = is_else (after_abort_of_preparing s t x.end) t None (Some (aborted_tx t)) (let l : how_many (is_active_as t) (map (active_with_flag t x.end) s.active) ≤ 0 = omega arith in l)
+      own = is_else (after_abort_of_preparing s t x.end) t None (Some (aborted_tx t (words_now s t))) (let l : how_many (is_active_as t) (map (active_with_flag t x.end) s.active) ≤ 0 = omega arith in l)
           (find_none (is_preparing_as t) (map (with_flag t x.end) (filter (not_at x.end) s.stamped)) (omega arith))
-          (find_push_own (is_ended_as t) s.ended (aborted_tx t) (omega arith) (eq-eqb t t refl));
+          (find_push_own (is_ended_as t) s.ended (aborted_tx t (words_now s t)) (omega arith) (eq-eqb t t refl));
       others = λ u n. stays_like s (after_abort_of_preparing s t x.end) u (active_with_flag t x.end) (with_flag t x.end) (λ y. refl)
           (find_map (is_active_as u) (active_with_flag t x.end) s.active (each_always (λ r. is_active_as u r ≡ is_active_as u r) (λ r. refl) s.active))
           (find_map (is_preparing_as u) (with_flag t x.end) (filter (not_at x.end) s.stamped) (each_always (λ y. is_preparing_as u y ≡ is_preparing_as u y) (λ y. refl) (filter (not_at x.end) s.stamped))
           ∙ ap (option_map (with_flag t x.end)) (find_filter (is_preparing_as u) (not_at x.end) s.stamped (each_weaker (λ y. y.end ≡ x.end → y.id ≡ t) (λ y. not_at x.end y ≡ false → is_preparing_as u y ≡ false) (λ y q g. and_left (y.id == u) (not y.settled) (ne_eqb y.id u (λ e. n (sym (q (eqb-true y.end x.end (not-false (y.end == x.end) g))) ∙ e)))) s.stamped (alone_in s t x f k))))
-          (find_push_other (is_ended_as u) s.ended (aborted_tx t) (ne_eqb t u n));
+          (find_push_other (is_ended_as u) s.ended (aborted_tx t (words_now s t)) (ne_eqb t u n));
     }
 
 -- Active, unless it is Preparing
@@ -233,7 +234,7 @@ others_after_termination t u (w ∷ ws) n = go (w.id == t) refl (others_after_te
     go true f r = sym (ap (λ (c : Bool). cond c (Some w) (find (is_ended_as u) ws)) (ne_eqb w.id u (λ g. n (sym (eqb-true w.id t f) ∙ g))))
     go false f r = ap (λ (v : Option EndedTx). cond (w.id == u) (Some w) v) r
 
-pub leads_after_termination : (s : State) (t : ℕ) → is_ended s t ≡ true → IsSingle s → Leads (Terminates t) s (after_termination s t)
+pub leads_after_termination : (s : State) (t : ℕ) → is_ended_in s t ≡ true → IsSingle s → Leads (Terminates t) s (after_termination s t)
 leads_after_termination s t o h =
     let one = any_counts t s.ended o in
     let fewer = fewer_after_termination t s.ended o in

@@ -11,7 +11,8 @@ use Rattle.mvo_model.specs.Trace.{Step}
 use Rattle.mvo_model.specs.Trace.Step.{Begins, Answers, Prepares, Checks, Commits, Aborts, Terminates}
 use Rattle.mvo_theory.specs.Entries.Entry.{Range}
 use Rattle.mvo_theory.specs.Ranges.{Row, shows, changed_by}
-use Rattle.mvo_theory.specs.State.{State, StampedTx, ActiveTx, seen_by, opened, new_active, after_begin, after_operation, with_answer, after_prepare, to_stamped, after_check, with_check, after_commit, with_settled, with_flag, active_with_flag, not_at, after_abort_of_active, after_abort_of_preparing, after_termination, is_to, after_trim}
+use Rattle.mvo_theory.specs.State.{State, StampedTx, ActiveTx, seen_by, opened}
+use Rattle.mvo_theory.specs.Changes.{new_active, after_begin, after_operation, with_answer, after_prepare, to_stamped, after_check, with_check, after_commit, with_settled, with_flag, active_with_flag, not_at, after_abort_of_active, after_abort_of_preparing, after_termination, is_to, after_trim}
 use Rattle.mvo_theory.specs.Sound.{changes}
 use Rattle.mvo_theory.specs.Snapshots.{snapshot_of, changed_in, footprint_since, footprint_in, HasFootprints}
 use Rattle.mvo_theory.proofs.Each.{each_weaker, each_both, each_append, each_map}

@@ -6,10 +6,10 @@ use Rattle.std.proofs.lemmas.Bool.{eq-eqb, eqb-true, ne_eqb, and_parts, and_left
 use Rattle.mvo_types.specs.declared.op.Op.{Op}
 use Rattle.mvo_types.specs.Keys.{Map}
 use Rattle.mvo_types.specs.AnswerData.{AnswerData}
-use Rattle.mvo_theory.specs.State.{EndedTx}
-use Rattle.mvo_theory.specs.State.{State, StampedTx, ActiveTx, opened, new_active, after_begin, after_operation, with_answer, after_prepare, to_stamped, without, after_check, with_check, after_commit, committed_tx, with_settled, with_flag, active_with_flag, not_at, after_abort_of_active, aborted_tx, after_abort_of_preparing, after_termination, without_ended}
-use Rattle.mvo_theory.specs.Causes.{active_of, preparing_of}
-use Rattle.mvo_theory.specs.Sound.{IsSound, IsActive, IsPlaced, IsSingle, how_many, is_active_as, is_preparing_as, is_ended_as}
+use Rattle.mvo_theory.specs.State.{EndedTx, State, StampedTx, ActiveTx, opened, active_of, preparing_of, is_active_as, is_preparing_as, is_ended_as}
+use Rattle.mvo_theory.specs.Words.{words_now}
+use Rattle.mvo_theory.specs.Changes.{new_active, after_begin, after_operation, with_answer, after_prepare, to_stamped, without, after_check, with_check, after_commit, committed_tx, with_settled, with_flag, active_with_flag, not_at, after_abort_of_active, aborted_tx, after_abort_of_preparing, after_termination, without_ended}
+use Rattle.mvo_theory.specs.Sound.{IsSound, IsActive, IsPlaced, IsSingle, how_many}
 use Rattle.mvo_theory.proofs.Each.{each_weaker, each_append}
 use Rattle.mvo_theory.proofs.Finds.{find_holds, count_none, count_some, push_no, push_yes, count_map, count_map_out, count_filter, count_filter_out}
 
@@ -135,39 +135,39 @@ drawn_preparing s t x f k =
 pub single_after_commit : (s : State) (t : ℕ) (x : StampedTx) → preparing_of t s.stamped ≡ Some x → IsSound s → IsSingle s → IsSingle (after_commit s t x.end)
 single_after_commit s t x f k h = record {
   once = λ u. go u (t == u) refl;
-  drawn = each_append (λ u. u.id ≤ s.clock) s.ended (committed_tx t x.end ∷ []) h.drawn (drawn_preparing s t x f k, tt);
+  drawn = each_append (λ u. u.id ≤ s.clock) s.ended (committed_tx t x.end (words_now s t) ∷ []) h.drawn (drawn_preparing s t x f k, tt);
 }
   where
-    go : (u : ℕ) (b : Bool) → (t == u) ≡ b → how_many (is_active_as u) s.active + (how_many (is_preparing_as u) (map (with_settled x.end) s.stamped) + how_many (is_ended_as u) (s.ended ++ committed_tx t x.end ∷ [])) ≤ 1
+    go : (u : ℕ) (b : Bool) → (t == u) ≡ b → how_many (is_active_as u) s.active + (how_many (is_preparing_as u) (map (with_settled x.end) s.stamped) + how_many (is_ended_as u) (s.ended ++ committed_tx t x.end (words_now s t) ∷ [])) ≤ 1
     go u true e =
         let l = fewer_settled u s.stamped x (still_preparing s t u x f e) in
-        let m = push_yes (is_ended_as u) s.ended (committed_tx t x.end) in
+        let m = push_yes (is_ended_as u) s.ended (committed_tx t x.end (words_now s t)) in
         let o = h.once u in
         omega arith
     go u false e =
         let l = count_map (is_preparing_as u) (with_settled x.end) s.stamped (λ y q. still_open (y.id == u) y.settled (y.end == x.end) q) in
-        let m = push_no (is_ended_as u) s.ended (committed_tx t x.end) e in
+        let m = push_no (is_ended_as u) s.ended (committed_tx t x.end (words_now s t)) e in
         let o = h.once u in
         omega arith
 
 pub single_after_abort_of_active : (s : State) (t : ℕ) (r : ActiveTx) → active_of t s.active ≡ Some r → IsSound s → IsSingle s → IsSingle (after_abort_of_active s t)
 single_after_abort_of_active s t r f k h = record {
   once = λ u. go u (t == u) refl;
-  drawn = each_append (λ u. u.id ≤ s.clock) s.ended (aborted_tx t ∷ []) h.drawn (let is = eqb-true r.id t found.1 in let d = found.0.drawn in omega arith, tt);
+  drawn = each_append (λ u. u.id ≤ s.clock) s.ended (aborted_tx t (words_now s t) ∷ []) h.drawn (let is = eqb-true r.id t found.1 in let d = found.0.drawn in omega arith, tt);
 }
   where
     found : IsActive s.base s.stamped s.clock r × (is_active_as t r ≡ true)
     found = active_is s t r f k
 
-    go : (u : ℕ) (b : Bool) → (t == u) ≡ b → how_many (is_active_as u) (without t s.active) + (how_many (is_preparing_as u) s.stamped + how_many (is_ended_as u) (s.ended ++ aborted_tx t ∷ [])) ≤ 1
+    go : (u : ℕ) (b : Bool) → (t == u) ≡ b → how_many (is_active_as u) (without t s.active) + (how_many (is_preparing_as u) s.stamped + how_many (is_ended_as u) (s.ended ++ aborted_tx t (words_now s t) ∷ [])) ≤ 1
     go u true e =
         let l = count_filter_out (is_active_as u) (λ q. not (q.id == t)) s.active r (still_active s t u r f e) (ap not found.1) in
-        let m = push_yes (is_ended_as u) s.ended (aborted_tx t) in
+        let m = push_yes (is_ended_as u) s.ended (aborted_tx t (words_now s t)) in
         let o = h.once u in
         omega arith
     go u false e =
         let l = count_filter (is_active_as u) (λ q. not (q.id == t)) s.active in
-        let m = push_no (is_ended_as u) s.ended (aborted_tx t) e in
+        let m = push_no (is_ended_as u) s.ended (aborted_tx t (words_now s t)) e in
         let o = h.once u in
         omega arith
 
@@ -180,21 +180,21 @@ fewer_after_abort_of_preparing t u xs x f =
 pub single_after_abort_of_preparing : (s : State) (t : ℕ) (x : StampedTx) → preparing_of t s.stamped ≡ Some x → IsSound s → IsSingle s → IsSingle (after_abort_of_preparing s t x.end)
 single_after_abort_of_preparing s t x f k h = record {
   once = λ u. go u (t == u) refl;
-  drawn = each_append (λ u. u.id ≤ s.clock) s.ended (aborted_tx t ∷ []) h.drawn (drawn_preparing s t x f k, tt);
+  drawn = each_append (λ u. u.id ≤ s.clock) s.ended (aborted_tx t (words_now s t) ∷ []) h.drawn (drawn_preparing s t x f k, tt);
 }
   where
-    go : (u : ℕ) (b : Bool) → (t == u) ≡ b → how_many (is_active_as u) (map (active_with_flag t x.end) s.active) + (how_many (is_preparing_as u) (map (with_flag t x.end) (filter (not_at x.end) s.stamped)) + how_many (is_ended_as u) (s.ended ++ aborted_tx t ∷ [])) ≤ 1
+    go : (u : ℕ) (b : Bool) → (t == u) ≡ b → how_many (is_active_as u) (map (active_with_flag t x.end) s.active) + (how_many (is_preparing_as u) (map (with_flag t x.end) (filter (not_at x.end) s.stamped)) + how_many (is_ended_as u) (s.ended ++ aborted_tx t (words_now s t) ∷ [])) ≤ 1
     go u true e =
         let a = count_map (is_active_as u) (active_with_flag t x.end) s.active (λ r q. q) in
         let l = fewer_after_abort_of_preparing t u s.stamped x (still_preparing s t u x f e) in
-        let m = push_yes (is_ended_as u) s.ended (aborted_tx t) in
+        let m = push_yes (is_ended_as u) s.ended (aborted_tx t (words_now s t)) in
         let o = h.once u in
         omega arith
     go u false e =
         let a = count_map (is_active_as u) (active_with_flag t x.end) s.active (λ r q. q) in
         let l = count_map (is_preparing_as u) (with_flag t x.end) (filter (not_at x.end) s.stamped) (λ y q. q) in
         let n = count_filter (is_preparing_as u) (not_at x.end) s.stamped in
-        let m = push_no (is_ended_as u) s.ended (aborted_tx t) e in
+        let m = push_no (is_ended_as u) s.ended (aborted_tx t (words_now s t)) e in
         let o = h.once u in
         omega arith
 

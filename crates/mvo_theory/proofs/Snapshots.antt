@@ -10,8 +10,6 @@ use Rattle.mvo_model.specs.Trace.{Step, history_of}
 use Rattle.mvo_theory.specs.State.{State, StampedTx, ActiveTx, timeline, history_below, seen_by, history_of_active, snapshot}
 use Rattle.mvo_theory.specs.Sound.{AreDistinct, IsPast}
 use Rattle.mvo_theory.specs.Snapshots.{ended_in, rows_below, snapshot_of, ends}
-use Rattle.mvo_types.specs.declared.op.Op.{Op}
-use Rattle.mvo_model.specs.Serial.{answer_to}
 use Rattle.mvo_theory.specs.Causes.{why_not_do}
 use Rattle.mvo_theory.specs.Calls.{answer_in, IsKept}
 use Rattle.mvo_theory.proofs.Who.{active_holds, active_done}
@@ -19,6 +17,8 @@ use Rattle.mvo_theory.proofs.Each.{each_weaker, each_both, each_append}
 use Rattle.mvo_theory.proofs.Trim.{seen_front}
 use Rattle.mvo_theory.proofs.Lines.{history_below-append}
 use Rattle.mvo_theory.proofs.Apart.{each_in}
+use Rattle.mvo_types.specs.declared.op.Op.{Op}
+use Rattle.mvo_model.specs.Serial.{answer_to}
 
 -- ---- what a running transaction was told
 pub history_is : (t : ℕ) (rs : List ActiveTx) → AreDistinct rs → AllByRecursion (λ (r : ActiveTx). r.id ≡ t → history_of_active t rs ≡ r.history) rs

@@ -11,14 +11,17 @@ use Rattle.mvo_model.specs.Serial.{answer_to}
 use Rattle.mvo_model.specs.History.{after_history, write_of}
 use Rattle.mvo_model.proofs.Serials.{AreSerial-push}
 use Rattle.mvo_theory.specs.Entries.{Entry, entry_of, entries}
-use Rattle.mvo_theory.specs.Entries.Entry.{Key, Range}
 use Rattle.mvo_theory.specs.Ranges.{changed_by}
-use Rattle.mvo_theory.specs.State.{State, StampedTx, ActiveTx, seen_by, keys_for, unwritten, dependencies, claims_with, ended_key, after_begin, after_operation, with_answer, after_prepare, to_stamped, after_check, with_check}
+use Rattle.mvo_theory.specs.State.{State, StampedTx, ActiveTx, seen_by}
+use Rattle.mvo_theory.specs.Dependencies.{keys_for, unwritten, dependencies}
+use Rattle.mvo_theory.specs.Claims.{claims_with, ended_key}
+use Rattle.mvo_theory.specs.Changes.{after_begin, after_operation, with_answer, after_prepare, to_stamped, after_check, with_check}
 use Rattle.mvo_theory.specs.Sound.{changes, IsDecidedOn, IsUnchanged, LeavesAlone, IsApart, IsClear, IsLegal, IsActive, IsPreparing, IsPlaced, IsSound}
 use Rattle.mvo_theory.proofs.Each.{each_weaker, each_both, each_append, each_map, each_filter}
 use Rattle.mvo_theory.proofs.Footprints.{footprint_push}
 use Rattle.mvo_theory.proofs.Lines.{legal_last, clear_last, rising_last, IsLike, rising_map, unchanged_map}
 use Rattle.mvo_theory.proofs.Depends.{depends_more, decided_on_now, decided_on_more, below_all, consistent_last, consistent_map}
+use Rattle.mvo_theory.specs.Entries.Entry.{Key, Range}
 
 -- ---- begin
 le_later : (a clock t : ℕ) → clock < t → a ≤ clock → a ≤ t

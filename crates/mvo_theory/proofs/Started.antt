@@ -5,7 +5,8 @@ use Rattle.std.specs.List.{filter}
 use Rattle.mvo_types.specs.declared.op.Op.{Op}
 use Rattle.mvo_types.specs.Keys.{Map}
 use Rattle.mvo_types.specs.AnswerData.{AnswerData}
-use Rattle.mvo_theory.specs.State.{State, StampedTx, ActiveTx, opened, new_active, after_begin, after_operation, with_answer, after_prepare, to_stamped, after_check, with_check, after_commit, with_settled, with_flag, active_with_flag, not_at, after_abort_of_active, after_abort_of_preparing, after_termination}
+use Rattle.mvo_theory.specs.State.{State, StampedTx, ActiveTx, opened}
+use Rattle.mvo_theory.specs.Changes.{new_active, after_begin, after_operation, with_answer, after_prepare, to_stamped, after_check, with_check, after_commit, with_settled, with_flag, active_with_flag, not_at, after_abort_of_active, after_abort_of_preparing, after_termination}
 use Rattle.mvo_theory.specs.Sound.{IsStarted}
 use Rattle.mvo_theory.proofs.Each.{each_append, each_map}
 use Rattle.mvo_theory.proofs.Lines.{each_part}

@@ -4,16 +4,25 @@ use Rattle.std.specs.Prelude.{nat_le, ◌&&◌}
 use Rattle.mvo_types.specs.declared.refusal.Refusal.{Refusal}
 use Rattle.mvo_model.specs.History.{History}
 use Rattle.mvo_theory.specs.Entries.{entries}
-use Rattle.mvo_theory.specs.State.{State, StampedTx, ActiveTx, after_check, after_trim}
-use Rattle.mvo_theory.specs.Causes.{active_of, preparing_of, awaited, is_failure}
+use Rattle.mvo_theory.specs.State.{Claim, State, StampedTx, ActiveTx, active_of, preparing_of}
+use Rattle.mvo_theory.specs.Changes.{with_words, taken_over, after_operation, after_answer, after_termination, after_finish, after_close, after_check, after_trim}
+use Rattle.mvo_theory.specs.Causes.{awaited, is_failure}
 use Rattle.mvo_theory.specs.Steps.{after_precommit_of, after_precommit, after_validate_of, after_validate, after_commit_of, after_commit_now, after_settle_unless, after_settle, after_abort_of, after_abort, after_refusal}
 use Rattle.mvo_theory.specs.Marks.{settled_to, StaysBelow}
 use Rattle.mvo_theory.specs.Sound.{IsSound}
-use Rattle.mvo_theory.specs.Calls.{Call, why_not, answer_in, accepted, refused, called_by, called}
-use Rattle.mvo_theory.specs.Calls.Call.{Begin, Do, Precommit, Validate, Settle, Rollback, Finish, Trim}
+use Rattle.mvo_theory.specs.Calls.{Call, Result, Run, answer_in, after_accepted, after_refused, after_call, steps_of, MayRun, after_run, IsKept}
+use Rattle.mvo_theory.specs.Words.{is_done, words_left}
+use Rattle.mvo_theory.specs.Claims.{new_claim}
+use Rattle.mvo_theory.proofs.Called.{kept_after_call}
 use Rattle.mvo_theory.proofs.Lines.{each_part}
 use Rattle.mvo_theory.proofs.Below.{EndsStay, stays_same, stays_after_operation, stays_after_begin, stays_after_termination, stays_after_prepare, stays_after_check, stays_after_commit, stays_aborted}
 use Rattle.mvo_theory.proofs.Trim.{is_after, timeline_trimmed}
+use Rattle.mvo_theory.specs.Calls.Result.{Accepted, Refused}
+use Rattle.mvo_types.specs.Keys.{Map}
+use Rattle.mvo_types.specs.AnswerData.{AnswerData}
+use Rattle.mvo_types.specs.declared.op.Op.{Op}
+use Rattle.mvo_model.specs.Trace.{Step}
+use Rattle.mvo_theory.specs.Calls.Call.{Begin, Do, Precommit, Validate, Settle, Rollback, Finish, Trim, Close}
 
 settled_to-append : (m : ℕ) (xs ys : List StampedTx) → settled_to m (xs ++ ys) ≡ settled_to m xs ++ settled_to m ys
 settled_to-append m [] ys = refl
@@ -69,17 +78,32 @@ stays_after_trim s n k m c = (
   ap (settled_to m) (timeline_trimmed s n k.rising),
 )
 
-stays_accepted : (s : State) (c : Call) → IsSound s → StaysBelow s (accepted s c)
-stays_accepted s Begin k = all_stay s (accepted s Begin) refl (stays_after_begin s)
-stays_accepted s (Do t op) k = all_stay s (accepted s (Do t op)) refl (stays_after_operation s t op (answer_in s t op))
+stays_finished : (s : State) (t : ℕ) → StaysBelow s (after_finish s t)
+stays_finished s t = go (is_done s t)
+  where
+    go : (b : Bool) → StaysBelow s (cond b (after_termination s t) (with_words (words_left t) s))
+    go true = all_stay s (after_termination s t) refl (stays_after_termination s t)
+    go false = all_stay s (with_words (words_left t) s) refl (λ m h. (record { drawn = h.drawn; above = h.above }, refl))
+
+stays_answered : (s : State) (t : ℕ) (op : Op) (a : AnswerData) → StaysBelow s (after_answer s t op a)
+stays_answered s t op a = go (new_claim s t op a)
+  where
+    go : (c : Option Claim) → StaysBelow s (taken_over c (after_operation s t op a))
+    go None = all_stay s (after_operation s t op a) refl (stays_after_operation s t op a)
+    go (Some c) = all_stay s (taken_over (Some c) (after_operation s t op a)) refl (λ m h. (record { drawn = h.drawn; above = h.above }, refl))
+
+stays_accepted : (s : State) (c : Call) → IsSound s → StaysBelow s (after_accepted s c)
+stays_accepted s Begin k = all_stay s (after_accepted s Begin) refl (stays_after_begin s)
+stays_accepted s (Do t op) k = stays_answered s t op (answer_in s t op)
 stays_accepted s (Precommit t) k = all_stay s (after_precommit s t) (past_after_prepare s (active_of t s.active)) (stays_after_prepare s t)
 stays_accepted s (Validate t) k = all_stay s (after_validate s t) (past_after_check s (preparing_of t s.stamped)) (stays_after_check s t)
 stays_accepted s (Settle t) k = stays_settled s t
 stays_accepted s (Rollback t) k = all_stay s (after_abort s t) (past_aborted s t (preparing_of t s.stamped)) (stays_aborted s t)
-stays_accepted s (Finish t) k = all_stay s (accepted s (Finish t)) refl (stays_after_termination s t)
+stays_accepted s (Finish t) k = stays_finished s t
 stays_accepted s (Trim m) k = stays_after_trim s m k
+stays_accepted s (Close fits g full) k = all_stay s (after_close s g.mark) refl (λ m h. (record { drawn = h.drawn; above = h.above }, refl))
 
-stays_not : (s : State) (c : Call) (r : Refusal) → StaysBelow s (refused s c r)
+stays_not : (s : State) (c : Call) (r : Refusal) → StaysBelow s (after_refused s c r)
 stays_not s Begin r = all_stay s s refl (stays_same s)
 stays_not s (Do t op) r = stays_refused s t r
 stays_not s (Precommit t) r = stays_refused s t r
@@ -88,10 +112,16 @@ stays_not s (Settle t) r = stays_refused s t r
 stays_not s (Rollback t) r = all_stay s s refl (stays_same s)
 stays_not s (Finish t) r = all_stay s s refl (stays_same s)
 stays_not s (Trim m) r = all_stay s s refl (stays_same s)
+stays_not s (Close fits g full) r = all_stay s s refl (stays_same s)
 
-pub stays_called : (s : State) (c : Call) → IsSound s → StaysBelow s (called s c)
-stays_called s c k = go (why_not s c)
-  where
-    go : (w : Option Refusal) → StaysBelow s (called_by s c w)
-    go (Some r) = stays_not s c r
-    go None = stays_accepted s c k
+-- what is committed up to a closed mark stays, whatever the call comes to
+pub stays_after_call : (s : State) (c : Call) (r : Result) → IsSound s → StaysBelow s (after_call s c r)
+stays_after_call s c Accepted k = stays_accepted s c k
+stays_after_call s c (Refused r) k = stays_not s c r
+
+pub stays_after_run : (opening : Map) (xs : List Step) (s : State) (cs : Run) → MayRun s cs → IsKept opening xs s → StaysBelow s (after_run s cs)
+stays_after_run opening xs s [] m h n c = (c, refl)
+stays_after_run opening xs s (c ∷ cs) m h n q =
+    let one = stays_after_call s c.0 c.1 h.sound n q in
+    let rest = stays_after_run opening (xs ++ steps_of s c.0 c.1) (after_call s c.0 c.1) cs m.1 (kept_after_call opening xs s c.0 c.1 m.0 h) n one.0 in
+    (rest.0, rest.1 ∙ one.1)

@@ -9,11 +9,12 @@ use Rattle.mvo_model.proofs.Serials.{rows_after_all-after_history}
 use Rattle.mvo_model.specs.Trace.{Step, history_of, placed, by_end, commits, commit_of, committed, IsSerial}
 use Rattle.mvo_model.specs.Trace.Step.{Commits}
 use Rattle.mvo_theory.proofs.Each.{each_weaker, each_append}
-use Rattle.std.proofs.Common.{append_assoc}
-use Rattle.mvo_theory.specs.State.{State, StampedTx, tale, after_settled, with_settled}
+use Rattle.mvo_theory.specs.State.{State, StampedTx, tale, after_settled}
+use Rattle.mvo_theory.specs.Changes.{with_settled}
 use Rattle.mvo_theory.specs.Sound.{IsRising, IsLegal, IsSound}
 use Rattle.mvo_theory.specs.AfterTrace.{IsAfterTrace, pairs}
 use Rattle.mvo_theory.proofs.Settle.{rising_before, rising_after, map-both, or-false, or-true}
+use Rattle.std.proofs.Common.{append_assoc}
 
 placed_swap : (c d : ℕ × ℕ) (xs : List (ℕ × ℕ)) → c.0 ≢ d.0 → placed c (placed d xs) ≡ placed d (placed c xs)
 placed_swap c d [] n = go (cases_lt c.0 d.0)

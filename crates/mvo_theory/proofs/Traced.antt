@@ -8,8 +8,9 @@ use Rattle.mvo_types.specs.Keys.{Map}
 use Rattle.mvo_types.specs.AnswerData.{AnswerData}
 use Rattle.mvo_model.specs.Trace.{Step}
 use Rattle.mvo_model.specs.Trace.Step.{Answers, Aborts}
-use Rattle.mvo_theory.specs.State.{State, StampedTx, ActiveTx, has, dependencies, opened, new_active, after_begin, after_operation, with_answer, after_prepare, to_stamped, after_check, with_check, after_commit, with_settled, aborted_dependency_after, with_flag, active_with_flag, not_at, after_abort_of_active, after_abort_of_preparing, after_termination, is_to, after_trim}
-use Rattle.mvo_theory.specs.Causes.{active_of}
+use Rattle.mvo_theory.specs.State.{State, StampedTx, ActiveTx, opened, active_of}
+use Rattle.mvo_theory.specs.Dependencies.{has_end, dependencies}
+use Rattle.mvo_theory.specs.Changes.{new_active, after_begin, after_operation, with_answer, after_prepare, to_stamped, after_check, with_check, after_commit, with_settled, aborted_dependency_after, with_flag, active_with_flag, not_at, after_abort_of_active, after_abort_of_preparing, after_termination, is_to, after_trim}
 use Rattle.mvo_theory.specs.Sound.{IsRising, IsActive, IsPreparing, IsSound, IsStarted, IsSingle}
 use Rattle.mvo_theory.specs.AfterTrace.{IsAfterTrace}
 use Rattle.mvo_theory.specs.Traced.{DependsOn, is_abort_of, HasAbortedDependency, IsDependency, IsTraced, AreTraced}
@@ -159,19 +160,19 @@ traced_after_trim opening xs ys s m k h =
 some_same : (u v : ℕ) → ◌≡◌ {A = Option ℕ} (Some u) (Some v) → u ≡ v
 some_same u v e = cc
 
-pub has_it : (P : ℕ → Type 0) (ds : List ℕ) (e : ℕ) → AllByRecursion P ds → has ds e ≡ true → P e
+pub has_it : (P : ℕ → Type 0) (ds : List ℕ) (e : ℕ) → AllByRecursion P ds → has_end ds e ≡ true → P e
 has_it P [] e h f = absurd (false≢true f)
 has_it P (d ∷ ds) e h f = go (d == e) refl f (λ g. has_it P ds e h.1 g)
   where
-    go : (b : Bool) → (d == e) ≡ b → (b || has ds e) ≡ true → (has ds e ≡ true → P e) → P e
+    go : (b : Bool) → (d == e) ≡ b → (b || has_end ds e) ≡ true → (has_end ds e ≡ true → P e) → P e
     go true i g r = subst P (eqb-true d e i) h.0
     go false i g r = r g
 
 traced_flag : (opening : Map) (xs : List Step) (l l' : List StampedTx) (t e id : ℕ) (ds : List ℕ) (aborted_dependency : Option ℕ) (x : StampedTx) → IsIn x l → x.end ≡ e → x.id ≡ t → IsTraced opening xs l id ds aborted_dependency → IsTraced opening (xs ++ Aborts t ∷ []) l' id ds aborted_dependency → IsTraced opening (xs ++ Aborts t ∷ []) l' id ds (aborted_dependency_after t e ds aborted_dependency)
 traced_flag opening xs l l' t e id ds (Some u) x m ie it h k = record { depends = k.depends; flagged = k.flagged }
-traced_flag opening xs l l' t e id ds None x m ie it h k = record { depends = k.depends; flagged = λ u g. go (has ds e) refl u g }
+traced_flag opening xs l l' t e id ds None x m ie it h k = record { depends = k.depends; flagged = λ u g. go (has_end ds e) refl u g }
   where
-    by_it : has ds e ≡ true → HasAbortedDependency opening (xs ++ Aborts t ∷ []) id t
+    by_it : has_end ds e ≡ true → HasAbortedDependency opening (xs ++ Aborts t ∷ []) id t
     by_it f =
         let d = has_it (IsDependency opening xs l id) ds e h.depends f in
         let same : t ≡ d.id = sym it ∙ m (IsOne e d.id) d.one ie in
@@ -181,7 +182,7 @@ traced_flag opening xs l l' t e id ds None x m ie it h k = record { depends = k.
           aborted = any_right (is_abort_of t) xs (Aborts t ∷ []) (or_left (t == t) false (eq-eqb t t refl));
         }
 
-    go : (b : Bool) → has ds e ≡ b → (u : ℕ) → cond b (Some t) None ≡ Some u → HasAbortedDependency opening (xs ++ Aborts t ∷ []) id u
+    go : (b : Bool) → has_end ds e ≡ b → (u : ℕ) → cond b (Some t) None ≡ Some u → HasAbortedDependency opening (xs ++ Aborts t ∷ []) id u
     go true f u g = subst (HasAbortedDependency opening (xs ++ Aborts t ∷ []) id) (some_same t u g) (by_it f)
     go false f u g = absurd (none_some u g)
 
@@ -202,9 +203,9 @@ traced_after_abort_of_preparing opening xs s t x m it k h =
     }
 
 -- ---- an operation adds those that decide what it looks at
-each_has : (P : ℕ → Type 0) (ds : List ℕ) → ((d : ℕ) → has ds d ≡ true → P d) → AllByRecursion P ds
+each_has : (P : ℕ → Type 0) (ds : List ℕ) → ((d : ℕ) → has_end ds d ≡ true → P d) → AllByRecursion P ds
 each_has P [] f = tt
-each_has P (d ∷ ds) f = (f d (or_left (d == d) (has ds d) (eq-eqb d d refl)), each_has P ds (λ e h. f e (or_right (d == e) (has ds e) h)))
+each_has P (d ∷ ds) f = (f d (or_left (d == d) (has_end ds d) (eq-eqb d d refl)), each_has P ds (λ e h. f e (or_right (d == e) (has_end ds e) h)))
 
 pub ends_differ : (xs : List StampedTx) → IsRising xs → AllByRecursion (λ x. AllByRecursion (λ y. y.end ≡ x.end → y.id ≡ x.id) xs) xs
 ends_differ [] r = tt
@@ -213,7 +214,7 @@ ends_differ (x ∷ xs) r = (
   each_both (λ y. x.end < y.end) (λ z. AllByRecursion (λ y. y.end ≡ z.end → y.id ≡ z.id) xs) (λ z. (x.end ≡ z.end → x.id ≡ z.id) × AllByRecursion (λ y. y.end ≡ z.end → y.id ≡ z.id) xs) (λ z l q. ((λ e. absurd (omega arith)), q)) xs r.0 (ends_differ xs r.1),
 )
 
-one_more : (opening : Map) (xs : List Step) (s : State) (t : ℕ) (op : Op) (a : AnswerData) (r : ActiveTx) (d : ℕ) → active_of t s.active ≡ Some r → IsSound s → IsSingle s → IsStarted s → IsAfterTrace opening xs s → IsTraced opening xs s.stamped t r.depends_on r.aborted_dependency → has (dependencies s op r) d ≡ true → IsDependency opening (xs ++ Answers t op a ∷ []) s.stamped t d
+one_more : (opening : Map) (xs : List Step) (s : State) (t : ℕ) (op : Op) (a : AnswerData) (r : ActiveTx) (d : ℕ) → active_of t s.active ≡ Some r → IsSound s → IsSingle s → IsStarted s → IsAfterTrace opening xs s → IsTraced opening xs s.stamped t r.depends_on r.aborted_dependency → has_end (dependencies s op r) d ≡ true → IsDependency opening (xs ++ Answers t op a ∷ []) s.stamped t d
 one_more opening xs s t op a r d f k n p st h g = elim (depends_only s op r d g) [
   | inl old ↦ dependency_later opening xs (Answers t op a ∷ []) s.stamped s.stamped t d (λ x q. q) (has_it (IsDependency opening xs s.stamped t) r.depends_on d h.depends old)
   | inr new ↦ (

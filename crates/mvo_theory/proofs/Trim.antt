@@ -9,14 +9,17 @@ use Rattle.mvo_types.specs.Keys.{Map}
 use Rattle.mvo_model.specs.History.{History, after_history, AreSerial}
 use Rattle.mvo_model.proofs.Serials.{after_history-append}
 use Rattle.mvo_theory.specs.Entries.{Entry, entry_of, entries}
-use Rattle.mvo_theory.specs.Entries.Entry.{Key, Range}
 use Rattle.mvo_theory.specs.Ranges.{Row, shows, pass, puts, is_row_of, footprint_of}
-use Rattle.mvo_theory.specs.State.{State, StampedTx, ActiveTx, after_settled, timeline, history_below, seen_by, origin, is_put_below, counts_for, is_to, after_trim, history_of_active, snapshot}
+use Rattle.mvo_theory.specs.State.{State, StampedTx, ActiveTx, after_settled, timeline, history_below, seen_by, history_of_active, snapshot}
+use Rattle.mvo_theory.specs.Claims.{origin}
+use Rattle.mvo_theory.specs.Dependencies.{is_put_below, counts_for}
+use Rattle.mvo_theory.specs.Changes.{is_to, after_trim}
 use Rattle.mvo_theory.specs.Sound.{IsDecided, IsDecidedOn, changes, IsUnchanged, IsRising, IsLegal, IsConsistent, IsActive, IsPreparing, IsPlaced, IsSound, IsPast, IsStarted}
 use Rattle.mvo_theory.proofs.Each.{each_weaker, each_both, each_append, each_filter}
 use Rattle.mvo_theory.proofs.Footprints.{or_right, any_left, any_right}
 use Rattle.mvo_theory.proofs.Lines.{history_below-append, rising_filter, clear_filter, each_part, rising_both}
 use Rattle.mvo_theory.proofs.Counts.{seen_counts}
+use Rattle.mvo_theory.specs.Entries.Entry.{Key, Range}
 
 -- ---- the end order in two
 abbrev pub is_after : ℕ → StampedTx → Bool

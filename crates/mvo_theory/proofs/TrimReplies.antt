@@ -1,6 +1,6 @@
 -- A trim changes no refusal, no answer and nobody that is waited for.
 use Rattle.std.proofs.Common.{◌≡◌, ◌≢◌, ℕ, ◌+◌, ◌<◌, ◌≤◌, Bool, true, false, cond, not, List, [], ◌∷◌, ◌++◌, Option, None, Some, length, refl, sym, ap, ◌∙◌, subst, inl, inr, arith}
-use Rattle.std.specs.Prelude.{⊤, nat_lt, nat_le, ◌==◌, ◌&&◌, is_some, slice_get}
+use Rattle.std.specs.Prelude.{⊤, nat_lt, nat_le, ◌==◌, ◌&&◌, is_some, slice_get, not}
 use Rattle.std.specs.List.{AllByRecursion, filter}
 use Rattle.std.specs.Ordering.{eq_by_cmp}
 use Rattle.std.specs.FinMap as fin
@@ -11,7 +11,7 @@ use Rattle.mvo_types.specs.declared.op.Op.{Op}
 use Rattle.mvo_types.specs.declared.op.Op.TheVariants.{Read, Scan, Insert, Update, Delete}
 use Rattle.mvo_types.specs.declared.limits.TheConstants.{MAX_STAMP, MAX_TABLE, MAX_DATA_LEN, MAX_UNFINISHED}
 use Rattle.mvo_types.specs.declared.refusal.Refusal.{Refusal}
-use Rattle.mvo_types.specs.declared.refusal.Refusal.TheVariants.{NoSuchTransaction, NotActive, NotEnded, TableFull, DataTooLong, BadTable, ClockSpent}
+use Rattle.mvo_types.specs.declared.refusal.Refusal.TheVariants.{NotValidated, NothingToDo, RingFull, NoSuchTransaction, NotActive, NotEnded, TableFull, DataTooLong, BadTable, ClockSpent}
 use Rattle.mvo_types.specs.declared.row.RowKey.{RowKey}
 use Rattle.mvo_types.specs.RowData.{ContentData, RowData}
 use Rattle.mvo_types.specs.Keys.{Map, key_cmp}
@@ -19,12 +19,16 @@ use Rattle.mvo_types.specs.Write.{Effect}
 use Rattle.mvo_model.specs.History.{after_history, net_write}
 use Rattle.mvo_model.specs.Trace.{Step}
 use Rattle.mvo_theory.specs.Entries.{Entry, entries}
-use Rattle.mvo_theory.specs.State.{State, StampedTx, ActiveTx, Claim, timeline, seen_by, is_writer, last_writer, end_or, origin, has, has_claim, is_to, after_trim}
-use Rattle.mvo_theory.specs.Causes.{if_stands, or_flagged, is_ended, not_there, not_written, conflicts, not_prepared, why_not_precommit, why_not_begin, differs, active_of, preparing_of, unsettled, active_claim, stamped_claim, or_cause, claimed_by, conflict, not_op, not_done_at, not_active, why_not_do, is_changer, or_first, last_end, change_of, entry_differs, not_checked_at, why_not_validate, not_settled_at, why_not_settle, waiting_for, awaited_by, awaited}
+use Rattle.mvo_theory.specs.State.{State, StampedTx, ActiveTx, Claim, timeline, seen_by, active_of, preparing_of, ended_of}
+use Rattle.mvo_theory.specs.Dependencies.{is_writer, last_writer, has_end}
+use Rattle.mvo_theory.specs.Claims.{end_or, origin, has_claim}
+use Rattle.mvo_theory.specs.Changes.{is_to, after_trim}
+use Rattle.mvo_theory.specs.Marks.{least_open, below_open, low_water}
+use Rattle.mvo_theory.proofs.Cases.{do_cases, precommit_cases, begin_cases, conflict_by, preparing_head, rollback_by, finish_by, if_stands, or_flagged, not_there, not_written, not_prepared, not_op, not_done_at, not_active, not_checked_at, not_settled_at, is_ended_in}
+use Rattle.mvo_theory.specs.Causes.{when, or_next, was_valid, next_differs, conflicts, why_not_precommit, why_not_begin, differs, unsettled, active_claim, stamped_claim, or_cause, claimed_by, conflict, why_not_do, is_changer, or_first, last_end, change_of, entry_differs, why_not_validate, why_not_settle, waiting_for, awaited_by, awaited}
 use Rattle.mvo_theory.specs.Sound.{changes, IsRising, IsActive, IsPlaced}
 use Rattle.mvo_theory.specs.Claimed.{IsClaimed, HasClaims}
 use Rattle.mvo_theory.specs.Calls.{Call, why_not, IsKept}
-use Rattle.mvo_theory.specs.Calls.Call.{Begin, Do, Precommit, Validate, Settle, Rollback, Finish, Trim}
 use Rattle.mvo_theory.proofs.Calls.{split_at}
 use Rattle.mvo_theory.proofs.Each.{each_always, each_both, each_filter}
 use Rattle.mvo_theory.proofs.Footprints.{any_none, key_same}
@@ -34,6 +38,7 @@ use Rattle.mvo_theory.proofs.AfterTrace.{rising_all}
 use Rattle.mvo_theory.proofs.Trim.{is_after, parted, seen_trimmed, IsTrim, front_settled, front_below, origins_trimmed}
 use Rattle.mvo_theory.proofs.Trimmed.{preparing_after_trim}
 use Rattle.mvo_theory.proofs.Who.{active_holds}
+use Rattle.mvo_theory.specs.Calls.Call.{Begin, Do, Precommit, Validate, Settle, Rollback, Finish, Trim, Close}
 
 -- ---- the claim of one that ends below the begin is on a version that is no longer the last
 none_writer : (k : RowKey) (b : ℕ) (x : StampedTx) → is_writer k b x ≡ false → x.end < b → is_some (net_write k x.history) ≡ true → ⊥
@@ -97,7 +102,7 @@ claimed_by_trimmed opening steps s m k b le o h =
     ∙ ap (or_cause (active_claim b k (origin s b k) s.active)) (sym (stamped_append k (origin s b k) (filter (is_to m) s.stamped) (filter (is_after m) s.stamped) (front_claims opening steps s m k b le o h))
     ∙ ap (stamped_claim k (origin s b k)) (parted m s.stamped h.sound.rising))
 
-conflict_trimmed : (opening : Map) (steps : List Step) (s : State) (m : ℕ) (r : ActiveTx) (k : RowKey) → IsTrim m s → m ≤ r.id → AllByRecursion (λ x. x.end ≢ r.id) s.stamped → IsKept opening steps s → conflict (after_trim s m) r k ≡ conflict s r k
+conflict_trimmed : (opening : Map) (steps : List Step) (s : State) (m : ℕ) (r : ActiveTx) (k : RowKey) → IsTrim m s → m ≤ r.id → AllByRecursion (λ x. x.end ≢ r.id) s.stamped → IsKept opening steps s → conflict_by (after_trim s m) r k ≡ conflict_by s r k
 conflict_trimmed opening steps s m r k t le o h =
     let front = filter (is_to m) s.stamped in
     let back = filter (is_after m) s.stamped in
@@ -127,11 +132,11 @@ at_trimmed s m t why why' None h f = ap (λ (r : Refusal). Some r) (active_after
 at_trimmed s m t why why' (Some r) h f = ap (or_flagged r.aborted_dependency) (f r refl)
 
 pub done_trimmed : (opening : Map) (steps : List Step) (s : State) (m t : ℕ) (op : Op) → IsTrim m s → IsKept opening steps s → why_not_do (after_trim s m) t op ≡ why_not_do s t op
-done_trimmed opening steps s m t op h k = at_trimmed s m t (not_op s op) (not_op (after_trim s m) op) (active_of t s.active) h (λ r f.
-    op_trimmed opening steps s m op r h (active_holds (λ q. m ≤ q.id) t s.active r f h.active).0 (active_holds (IsActive s.base s.stamped s.clock) t s.active r f k.sound.active).0.others k)
+done_trimmed opening steps s m t op h k = do_cases (after_trim s m) t op ∙ at_trimmed s m t (not_op s op) (not_op (after_trim s m) op) (active_of t s.active) h (λ r f.
+    op_trimmed opening steps s m op r h (active_holds (λ q. m ≤ q.id) t s.active r f h.active).0 (active_holds (IsActive s.base s.stamped s.clock) t s.active r f k.sound.active).0.others k) ∙ sym (do_cases s t op)
 
 pub prepared_trimmed : (s : State) (m t : ℕ) → IsTrim m s → why_not_precommit (after_trim s m) t ≡ why_not_precommit s t
-prepared_trimmed s m t h = at_trimmed s m t (not_prepared s) (not_prepared (after_trim s m)) (active_of t s.active) h (λ r f. refl)
+prepared_trimmed s m t h = precommit_cases (after_trim s m) t ∙ at_trimmed s m t (not_prepared s) (not_prepared (after_trim s m)) (active_of t s.active) h (λ r f. refl) ∙ sym (precommit_cases s t)
 
 -- ---- validate
 end_append : (p : StampedTx → Bool) (xs ys : List StampedTx) → AllByRecursion (λ x. p x ≡ false) xs → last_end p (xs ++ ys) ≡ last_end p ys
@@ -149,30 +154,28 @@ change_trimmed s m b e entry le r =
     ∙ ap (last_end (is_changer b e entry)) (parted m s.stamped r)
 
 pub checked_trimmed : (opening : Map) (steps : List Step) (s : State) (m t : ℕ) → IsTrim m s → IsKept opening steps s → why_not_validate (after_trim s m) t ≡ why_not_validate s t
-checked_trimmed opening steps s m t h k = ap (not_checked_at (after_trim s m) t) (preparing_after_trim s m t h) ∙ go (preparing_of t s.stamped) refl
+checked_trimmed opening steps s m t h k =
+    ap (λ w. preparing_head (active_of t s.active) w (ended_of t s.ended) (or_next (next_differs (filter (is_after m) s.stamped) w) None)) (preparing_after_trim s m t h)
+    ∙ ap (λ n. preparing_head (active_of t s.active) (preparing_of t s.stamped) (ended_of t s.ended) (or_next n None)) (go (preparing_of t s.stamped) refl)
   where
     differs_same : (x : StampedTx) → m ≤ x.id → (w : Option Entry) → entry_differs (filter (is_after m) s.stamped) x w ≡ entry_differs s.stamped x w
     differs_same x le None = refl
     differs_same x le (Some e) = ap differs (change_trimmed s m x.id x.end e le k.sound.rising)
 
-    go : (w : Option StampedTx) → preparing_of t s.stamped ≡ w → not_checked_at (after_trim s m) t w ≡ not_checked_at s t w
+    go : (w : Option StampedTx) → preparing_of t s.stamped ≡ w → next_differs (filter (is_after m) s.stamped) w ≡ next_differs s.stamped w
     go None e = refl
     go (Some x) e =
         let there = found_in t s.stamped x e in
         let le = there.0 (λ y. y.settled ≡ false → m ≤ y.id) h.preparing (split_at t s.stamped x e).4 in
-        ap (λ (w : Option Refusal). or_flagged x.aborted_dependency (cond x.valid None w)) (differs_same x le (slice_get (entries x.history) x.checked))
+        ap (λ (w : Option Refusal). cond x.valid None w) (differs_same x le (slice_get (entries x.history) x.checked))
 
 -- ---- settle
 settled_after_trim : (s : State) (m t : ℕ) → IsTrim m s → why_not_settle (after_trim s m) t ≡ why_not_settle s t
-settled_after_trim s m t h = ap (not_settled_at (after_trim s m) t) (preparing_after_trim s m t h) ∙ go (preparing_of t s.stamped)
-  where
-    go : (w : Option StampedTx) → not_settled_at (after_trim s m) t w ≡ not_settled_at s t w
-    go None = refl
-    go (Some x) = refl
+settled_after_trim s m t h = ap (λ w. preparing_head (active_of t s.active) w (ended_of t s.ended) (or_next (when (not (was_valid w)) NotValidated) None)) (preparing_after_trim s m t h)
 
 waiting_append : (ds : List ℕ) (xs ys : List StampedTx) → AllByRecursion (λ x. x.settled ≡ true) xs → waiting_for ds (xs ++ ys) ≡ waiting_for ds ys
 waiting_append ds [] ys h = refl
-waiting_append ds (x ∷ xs) ys h = ap (λ (b : Bool). cond (not b && has ds x.end) (Some x) (waiting_for ds (xs ++ ys))) h.0 ∙ waiting_append ds xs ys h.1
+waiting_append ds (x ∷ xs) ys h = ap (λ (b : Bool). cond (not b && has_end ds x.end) (Some x) (waiting_for ds (xs ++ ys))) h.0 ∙ waiting_append ds xs ys h.1
 
 pub awaited_trimmed : (s : State) (m t : ℕ) → IsTrim m s → IsRising s.stamped → awaited (after_trim s m) t ≡ awaited s t
 awaited_trimmed s m t h r = ap (awaited_by (filter (is_after m) s.stamped)) (preparing_after_trim s m t h) ∙ go (preparing_of t s.stamped)
@@ -187,8 +190,16 @@ unsettled_append [] ys h = refl
 unsettled_append (x ∷ xs) ys h = ap (λ (b : Bool). cond b (unsettled (xs ++ ys)) (unsettled (xs ++ ys) + 1)) h.0 ∙ unsettled_append xs ys h.1
 
 pub begun_trimmed : (s : State) (m : ℕ) → IsTrim m s → IsRising s.stamped → why_not_begin (after_trim s m) ≡ why_not_begin s
-begun_trimmed s m h r = ap (λ (n : ℕ). if_stands (nat_le MAX_UNFINISHED (length s.active + (n + length s.ended))) TableFull (if_stands (nat_le MAX_STAMP s.clock) ClockSpent None))
-    (sym (unsettled_append (filter (is_to m) s.stamped) (filter (is_after m) s.stamped) (front_settled m s.stamped h.settled)) ∙ ap unsettled (parted m s.stamped r))
+begun_trimmed s m h r = begin_cases (after_trim s m) ∙ ap (λ (n : ℕ). if_stands (nat_le MAX_UNFINISHED (length s.active + (n + length s.ended))) TableFull (if_stands (nat_le MAX_STAMP s.clock) ClockSpent None))
+    (sym (unsettled_append (filter (is_to m) s.stamped) (filter (is_after m) s.stamped) (front_settled m s.stamped h.settled)) ∙ ap unsettled (parted m s.stamped r)) ∙ sym (begin_cases s)
+
+-- ---- closing a group
+open_append : (xs ys : List StampedTx) → AllByRecursion (λ x. x.settled ≡ true) xs → least_open (xs ++ ys) ≡ least_open ys
+open_append [] ys h = refl
+open_append (x ∷ xs) ys h = ap (λ (b : Bool). cond b (least_open (xs ++ ys)) (Some x.end)) h.0 ∙ open_append xs ys h.1
+
+pub low_trimmed : (s : State) (m : ℕ) → IsTrim m s → IsRising s.stamped → low_water (after_trim s m) ≡ low_water s
+low_trimmed s m h r = ap (below_open s.clock) (sym (open_append (filter (is_to m) s.stamped) (filter (is_after m) s.stamped) (front_settled m s.stamped h.settled)) ∙ ap least_open (parted m s.stamped r))
 
 -- ---- so each call that isn't a trim is refused alike
 abbrev pub IsOther : Call → Type 0
@@ -201,6 +212,7 @@ refused_trimmed opening steps s m (Do t op) o h k = done_trimmed opening steps s
 refused_trimmed opening steps s m (Precommit t) o h k = prepared_trimmed s m t h
 refused_trimmed opening steps s m (Validate t) o h k = checked_trimmed opening steps s m t h k
 refused_trimmed opening steps s m (Settle t) o h k = settled_after_trim s m t h
-refused_trimmed opening steps s m (Rollback t) o h k = ap (λ (w : Option StampedTx). cond (is_some (active_of t s.active)) None (cond (is_some w) None (Some (not_there s t)))) (preparing_after_trim s m t h)
-refused_trimmed opening steps s m (Finish t) o h k = ap (λ (w : Option StampedTx). cond (is_ended s t) None (cond (is_some (active_of t s.active)) (Some NotEnded) (cond (is_some w) (Some NotEnded) (Some NoSuchTransaction)))) (preparing_after_trim s m t h)
+refused_trimmed opening steps s m (Rollback t) o h k = ap (λ w. rollback_by (active_of t s.active) w (ended_of t s.ended)) (preparing_after_trim s m t h)
+refused_trimmed opening steps s m (Finish t) o h k = ap (λ w. finish_by (active_of t s.active) w (ended_of t s.ended)) (preparing_after_trim s m t h)
+refused_trimmed opening steps s m (Close fits g full) o h k = ap (λ (n : ℕ). or_next (when (n == s.marks.closed) NothingToDo) (or_next (when full RingFull) None)) (low_trimmed s m h k.sound.rising)
 refused_trimmed opening steps s m (Trim n) o h k = absurd o

@@ -1,18 +1,18 @@
 -- Where a trim isn't refused it keeps all that a core keeps.
 use Rattle.std.proofs.Common.{◌≡◌, ◌≢◌, ℕ, ◌-◌, ◌<◌, ◌≤◌, Bool, true, false, cond, not, List, [], ◌∷◌, ◌++◌, Option, None, Some, map, refl, sym, ap, ◌∙◌, subst, arith}
-use Rattle.std.specs.Prelude.{nat_lt, nat_le, ◌==◌, ◌&&◌}
+use Rattle.std.specs.Prelude.{nat_lt, nat_le, ◌==◌, ◌&&◌, not}
 use Rattle.std.specs.List.{AllByRecursion, filter}
 use Rattle.std.proofs.lemmas.Bool.{ltb-true, leb-true, leb-false, true≢false, and_parts, and_right, not-false}
 use Rattle.mvo_types.specs.declared.refusal.Refusal.{Refusal}
 use Rattle.mvo_types.specs.declared.refusal.Refusal.TheVariants.{NothingToDo}
 use Rattle.mvo_types.specs.Keys.{Map}
 use Rattle.mvo_model.specs.Trace.{Step, history_of}
-use Rattle.mvo_theory.specs.State.{EndedTx}
-use Rattle.mvo_theory.specs.State.{State, StampedTx, ActiveTx, after_settled, is_to, after_trim}
-use Rattle.mvo_theory.specs.Causes.{active_of, preparing_of}
-use Rattle.mvo_theory.specs.Marks.{least_open, below_open, low_water, open_begins, least, oldest_begin, why_not_trim}
-use Rattle.mvo_theory.specs.Phases.{ended_of, phase_by}
-use Rattle.mvo_theory.specs.Sound.{IsRising, IsLegal, IsPlaced, IsSound, IsNumbered, IsSingle, is_preparing_as, AreExclusive}
+use Rattle.mvo_theory.specs.State.{EndedTx, State, StampedTx, ActiveTx, after_settled, active_of, preparing_of, ended_of, is_preparing_as}
+use Rattle.mvo_theory.specs.Changes.{is_to, after_trim}
+use Rattle.mvo_theory.specs.Marks.{least_open, below_open, low_water, open_begins, least, oldest_begin}
+use Rattle.mvo_theory.specs.Causes.{why_not_trim, when, first_cause}
+use Rattle.mvo_theory.specs.Phases.{phase_by}
+use Rattle.mvo_theory.specs.Sound.{IsRising, IsLegal, IsPlaced, IsSound, IsNumbered, IsSingle, AreExclusive}
 use Rattle.mvo_theory.specs.AfterTrace.{pairs, IsAfterTrace}
 use Rattle.mvo_theory.proofs.Each.{each_weaker, each_both, each_append, each_front, each_back}
 use Rattle.mvo_theory.proofs.Lines.{each_part}
@@ -55,7 +55,7 @@ low_below clock (x ∷ xs) r b = go x.settled refl (low_below clock xs r.1 b.1)
 none_refusal : (w : Refusal) → ◌≡◌ {A = Option Refusal} (Some w) None → ⊥
 none_refusal w q = cc
 
-passes : (b : Bool) → cond b None (Some NothingToDo) ≡ None → b ≡ true
+passes : (b : Bool) → first_cause (when (not b) NothingToDo ∷ []) ≡ None → b ≡ true
 passes true h = refl
 passes false h = absurd (none_refusal NothingToDo h)
 

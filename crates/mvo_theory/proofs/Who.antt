@@ -6,8 +6,9 @@ use Rattle.std.proofs.lemmas.Bool.{eqb-true, false≢true}
 use Rattle.mvo_types.specs.declared.op.Op.{Op}
 use Rattle.mvo_types.specs.declared.refusal.Refusal.{Refusal}
 use Rattle.mvo_types.specs.declared.refusal.Refusal.TheVariants.{NoSuchTransaction, Ended, NotActive, NotPreparing, NotEnded, DependencyAborted}
-use Rattle.mvo_theory.specs.State.{State, StampedTx, ActiveTx}
-use Rattle.mvo_theory.specs.Causes.{or_flagged, active_of, preparing_of, is_ended, not_there, not_active, not_preparing, not_done_at, not_op, why_not_do, not_prepared, why_not_precommit, not_settled_at, why_not_settle, not_checked_at, why_not_validate, is_failure, why_not_rollback, why_not_finish}
+use Rattle.mvo_theory.specs.State.{EndedTx, ended_of, State, StampedTx, ActiveTx, active_of, preparing_of}
+use Rattle.mvo_theory.proofs.Cases.{not_there_by, do_cases, precommit_cases, validate_none, settle_none, validate_not, settle_not, rollback_none, finish_none, ended_in, or_flagged, not_there, not_active, not_preparing, not_done_at, not_op, not_prepared, not_settled_at, not_checked_at, is_ended_in}
+use Rattle.mvo_theory.specs.Causes.{why_not_do, why_not_precommit, why_not_settle, why_not_validate, is_failure, why_not_rollback, why_not_finish}
 use Rattle.mvo_theory.proofs.Each.{each_always}
 use Rattle.mvo_theory.proofs.Phases.{IsUnended}
 
@@ -49,60 +50,50 @@ done_at s t why (Some r) n = go r.aborted_dependency refl n
     go (Some x) e h = absurd (none_refusal (DependencyAborted (record { 0 = x })) h)
 
 pub active_done : (s : State) (t : ℕ) (op : Op) → why_not_do s t op ≡ None → (r : ActiveTx) × (active_of t s.active ≡ Some r) × (r.aborted_dependency ≡ None) × (not_op s op r ≡ None)
-active_done s t op n = done_at s t (not_op s op) (active_of t s.active) n
+active_done s t op n = done_at s t (not_op s op) (active_of t s.active) (sym (do_cases s t op) ∙ n)
 
 pub active_after_prepare : (s : State) (t : ℕ) → why_not_precommit s t ≡ None → (r : ActiveTx) × (active_of t s.active ≡ Some r) × (r.aborted_dependency ≡ None) × (not_prepared s r ≡ None)
-active_after_prepare s t n = done_at s t (not_prepared s) (active_of t s.active) n
+active_after_prepare s t n = done_at s t (not_prepared s) (active_of t s.active) (sym (precommit_cases s t) ∙ n)
 
 pub preparing_after_check : (s : State) (t : ℕ) → why_not_validate s t ≡ None → (x : StampedTx) × (preparing_of t s.stamped ≡ Some x)
-preparing_after_check s t n = there (preparing_of t s.stamped) (not_checked_at s t) (not_preparing s t) refl n
+preparing_after_check s t n = there (preparing_of t s.stamped) (not_checked_at s t) (not_preparing s t) refl (validate_none s t n)
 
 pub preparing_settled : (s : State) (t : ℕ) → why_not_settle s t ≡ None → (x : StampedTx) × (preparing_of t s.stamped ≡ Some x)
-preparing_settled s t n = there (preparing_of t s.stamped) (not_settled_at s t) (not_preparing s t) refl n
+preparing_settled s t n = there (preparing_of t s.stamped) (not_settled_at s t) (not_preparing s t) refl (settle_none s t n)
 
 -- ---- one that a refusal aborts is Active or Preparing
 pub unended_rolled_back : (s : State) (t : ℕ) → why_not_rollback s t ≡ None → IsUnended s t
-unended_rolled_back s t n e = there_active (active_of t s.active) (sym (ap (λ (w : Option StampedTx). cond (is_some (active_of t s.active)) None (cond (is_some w) None (Some (not_there s t)))) e) ∙ n)
-  where
-    there_active : (w : Option ActiveTx) → cond (is_some w) None (Some (not_there s t)) ≡ None → (r : ActiveTx) × (w ≡ Some r)
-    there_active None q = absurd (none_refusal (not_there s t) q)
-    there_active (Some r) q = (r, refl)
+unended_rolled_back s t n e = rollback_none s t n e
 
-fails_there : (a b c : Bool) → is_failure (cond a NotActive (cond b Ended NoSuchTransaction)) ≡ true → ⊥
-fails_there true b c q = false≢true q
-fails_there false true c q = false≢true q
-fails_there false false c q = false≢true q
+fails_there : (a : Bool) (u : Option EndedTx) → is_failure (cond a NotActive (not_there_by u)) ≡ true → ⊥
+fails_there true u q = false≢true q
+fails_there false None q = false≢true q
+fails_there false (Some u) q = false≢true q
 
 unended_at : (s : State) (t : ℕ) (why : ActiveTx → Option Refusal) (r : Refusal) → not_done_at s t why (active_of t s.active) ≡ Some r → is_failure r ≡ true → IsUnended s t
 unended_at s t why r n f e = go (active_of t s.active) refl
   where
     go : (w : Option ActiveTx) → active_of t s.active ≡ w → (q : ActiveTx) × (active_of t s.active ≡ Some q)
     go (Some q) g = (q, g)
-    go None g = absurd (fails_there (is_some (preparing_of t s.stamped)) (is_ended s t) true
+    go None g = absurd (fails_there (is_some (preparing_of t s.stamped)) (ended_of t s.ended)
         (ap is_failure (some_refusal (not_active s t) r (sym (ap (not_done_at s t why) g) ∙ n)) ∙ f))
 
 pub unended_done : (s : State) (t : ℕ) (op : Op) (r : Refusal) → why_not_do s t op ≡ Some r → is_failure r ≡ true → IsUnended s t
-unended_done s t op r n f = unended_at s t (not_op s op) r n f
+unended_done s t op r n f = unended_at s t (not_op s op) r (sym (do_cases s t op) ∙ n) f
 
 pub unended_after_prepare : (s : State) (t : ℕ) (r : Refusal) → why_not_precommit s t ≡ Some r → is_failure r ≡ true → IsUnended s t
-unended_after_prepare s t r n f = unended_at s t (not_prepared s) r n f
+unended_after_prepare s t r n f = unended_at s t (not_prepared s) r (sym (precommit_cases s t) ∙ n) f
 
-fails_preparing : (a b : Bool) → is_failure (cond a NotPreparing (cond b Ended NoSuchTransaction)) ≡ true → ⊥
-fails_preparing true b q = false≢true q
-fails_preparing false true q = false≢true q
-fails_preparing false false q = false≢true q
+fails_preparing : (a : Bool) (u : Option EndedTx) → is_failure (cond a NotPreparing (not_there_by u)) ≡ true → ⊥
+fails_preparing true u q = false≢true q
+fails_preparing false None q = false≢true q
+fails_preparing false (Some u) q = false≢true q
 
 pub unended_after_check : (s : State) (t : ℕ) (r : Refusal) → why_not_validate s t ≡ Some r → is_failure r ≡ true → IsUnended s t
-unended_after_check s t r c f e = absurd (fails_preparing (is_some (active_of t s.active)) (is_ended s t) (ap is_failure (some_refusal (not_preparing s t) r (sym (ap (not_checked_at s t) e) ∙ c)) ∙ f))
+unended_after_check s t r c f e = absurd (fails_preparing (is_some (active_of t s.active)) (ended_of t s.ended) (ap is_failure (some_refusal (not_preparing s t) r (sym (validate_not s t e) ∙ c)) ∙ f))
 
 pub unended_settled : (s : State) (t : ℕ) (r : Refusal) → why_not_settle s t ≡ Some r → is_failure r ≡ true → IsUnended s t
-unended_settled s t r c f e = absurd (fails_preparing (is_some (active_of t s.active)) (is_ended s t) (ap is_failure (some_refusal (not_preparing s t) r (sym (ap (not_settled_at s t) e) ∙ c)) ∙ f))
+unended_settled s t r c f e = absurd (fails_preparing (is_some (active_of t s.active)) (ended_of t s.ended) (ap is_failure (some_refusal (not_preparing s t) r (sym (settle_not s t e) ∙ c)) ∙ f))
 
-pub ended_finished : (s : State) (t : ℕ) → why_not_finish s t ≡ None → is_ended s t ≡ true
-ended_finished s t n = go (is_ended s t) (is_some (active_of t s.active)) (is_some (preparing_of t s.stamped)) n
-  where
-    go : (a b c : Bool) → cond a None (cond b (Some NotEnded) (cond c (Some NotEnded) (Some NoSuchTransaction))) ≡ None → a ≡ true
-    go true b c q = refl
-    go false true c q = absurd (none_refusal NotEnded q)
-    go false false true q = absurd (none_refusal NotEnded q)
-    go false false false q = absurd (none_refusal NoSuchTransaction q)
+pub ended_finished : (s : State) (t : ℕ) → why_not_finish s t ≡ None → is_ended_in s t ≡ true
+ended_finished s t n = let u = finish_none s t n in ended_in t s.ended u.0 u.1

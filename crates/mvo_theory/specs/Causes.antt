@@ -1,6 +1,5 @@
--- Which refusal comes first, and what it names.
-use Rattle.std.specs.Prelude.{ℕ, ◌≡◌, ◌+◌, ◌==◌, nat_lt, nat_le, Bool, true, false, not, ◌&&◌, cond, if◌then◌else◌, is_some, List, [], ◌∷◌, length, Option, None, Some, slice_get}
-use Rattle.std.specs.List.{list_any}
+-- The causes of each call: tests with their refusals, in the order of the table of refusals.
+use Rattle.std.specs.Prelude.{ℕ, ◌+◌, ◌==◌, nat_lt, nat_le, Bool, true, false, not, ◌||◌, ◌&&◌, cond, if◌then◌else◌, is_some, List, [], ◌∷◌, ◌++◌, length, Option, None, Some, slice_get}
 use Rattle.std.specs.FinMap as fin
 use Rattle.mvo_types.specs.declared.limits.TheConstants.{MAX_STAMP, MAX_TABLE, MAX_DATA_LEN, MAX_UNFINISHED, MAX_WRITES, MAX_ENTRIES}
 use Rattle.mvo_types.specs.declared.row.RowKey.{RowKey}
@@ -9,48 +8,63 @@ use Rattle.mvo_types.specs.declared.op.Op.TheVariants.{Read, Scan, Insert, Updat
 use Rattle.mvo_types.specs.declared.cause.Cause.{Cause}
 use Rattle.mvo_types.specs.declared.cause.Cause.TheVariants.{Active, Stamped}
 use Rattle.mvo_types.specs.declared.refusal.Refusal.{Refusal}
-use Rattle.mvo_types.specs.declared.refusal.Refusal.TheVariants.{NoSuchTransaction, Ended, NotActive, NotPreparing, NotValidated, NotEnded, WriteConflict, ValidationFailed, DependencyAborted, TableFull, TooManyWrites, TooManyReads, DataTooLong, BadTable, ClockSpent, OutOfMemory}
+use Rattle.mvo_types.specs.declared.refusal.Refusal.TheVariants.{NoSuchTransaction, Ended, NotActive, NotPreparing, NotValidated, NotEnded, WriteConflict, ValidationFailed, DependencyAborted, TableFull, TooManyWrites, TooManyReads, DataTooLong, BadTable, ClockSpent, RingFull, NothingToDo}
 use Rattle.mvo_types.specs.RowData.{RowData}
-use Rattle.mvo_model.specs.History.{History, after_history, net_write}
+use Rattle.mvo_model.specs.History.{History, net_write}
 use Rattle.mvo_theory.specs.Entries.{Entry, entries, has_entry, is_noted, written_keys}
-use Rattle.mvo_theory.specs.Entries.Entry.{Key, Range}
-use Rattle.mvo_theory.specs.State.{State, StampedTx, ActiveTx, has, has_claim, origin, seen_by}
+use Rattle.mvo_theory.specs.State.{State, StampedTx, ActiveTx, active_of, preparing_of, history_of_active, snapshot}
+use Rattle.mvo_theory.specs.Dependencies.{has_end}
+use Rattle.mvo_theory.specs.Claims.{has_claim, origin}
+use Rattle.mvo_theory.specs.Phases.{phase_in, is_absent, is_active, is_preparing, is_ended}
+use Rattle.mvo_theory.specs.Marks.{oldest_begin, low_water}
 use Rattle.mvo_theory.specs.Sound.{changes}
+use Rattle.mvo_theory.specs.Entries.Entry.{Key, Range}
 
--- the refusal that comes first, and want of memory where none has a cause
-abbrev pub IsRefusal : Option Refusal → Refusal → Type 0
-IsRefusal (Some why) r = r ≡ why
-IsRefusal None r = r ≡ OutOfMemory
+-- ---- lists of causes
+-- the refusal, if the test stands
+abbrev pub when : Bool → Refusal → Option Refusal
+when test r = if test then Some r else None
 
--- the first refusal, if its cause stands
-abbrev pub if_stands : Bool → Refusal → Option Refusal → Option Refusal
-if_stands b r next = if b then Some r else next
+abbrev pub or_next : Option Refusal → Option Refusal → Option Refusal
+or_next None next = next
+or_next (Some r) next = Some r
 
-abbrev pub active_of : ℕ → List ActiveTx → Option ActiveTx
-active_of t [] = None
-active_of t (r ∷ rs) = if r.id == t then Some r else active_of t rs
+-- the first of the list that stands
+abbrev pub first_cause : List (Option Refusal) → Option Refusal
+first_cause [] = None
+first_cause (c ∷ cs) = or_next c (first_cause cs)
 
--- the Preparing transaction t
-abbrev pub preparing_of : ℕ → List StampedTx → Option StampedTx
-preparing_of t [] = None
-preparing_of t (x ∷ xs) = if (x.id == t) && not x.settled then Some x else preparing_of t xs
+-- ---- who may not be called so
+-- the first aborted one that the transaction depends on
+abbrev pub flag_of_active : Option ActiveTx → Option ℕ
+flag_of_active None = None
+flag_of_active (Some r) = r.aborted_dependency
 
--- one that depends on an aborted one
-abbrev pub or_flagged : Option ℕ → Option Refusal → Option Refusal
-or_flagged (Some x) why = Some (DependencyAborted (record { 0 = x }))
-or_flagged None why = why
+abbrev pub flag_of_preparing : Option StampedTx → Option ℕ
+flag_of_preparing None = None
+flag_of_preparing (Some x) = x.aborted_dependency
 
-abbrev pub is_ended : State → ℕ → Bool
-is_ended s t = list_any (λ u. u.id == t) s.ended
+abbrev pub flagged : Option ℕ → Option Refusal
+flagged None = None
+flagged (Some x) = Some (DependencyAborted (record { 0 = x }))
 
-abbrev pub not_there : State → ℕ → Refusal
-not_there s t = if is_ended s t then Ended else NoSuchTransaction
+-- the causes of a call of an Active transaction, that every such call has first
+abbrev pub unless_active : State → ℕ → List (Option Refusal)
+unless_active s t =
+    when (is_absent (phase_in s t)) NoSuchTransaction
+    ∷ when (is_ended (phase_in s t)) Ended
+    ∷ when (is_preparing (phase_in s t)) NotActive
+    ∷ flagged (flag_of_active (active_of t s.active))
+    ∷ []
 
-abbrev pub not_preparing : State → ℕ → Refusal
-not_preparing s t = if is_some (active_of t s.active) then NotPreparing else not_there s t
-
-abbrev pub not_active : State → ℕ → Refusal
-not_active s t = if is_some (preparing_of t s.stamped) then NotActive else not_there s t
+-- those of a call of a Preparing one
+abbrev pub unless_preparing : State → ℕ → List (Option Refusal)
+unless_preparing s t =
+    when (is_absent (phase_in s t)) NoSuchTransaction
+    ∷ when (is_ended (phase_in s t)) Ended
+    ∷ when (is_active (phase_in s t)) NotPreparing
+    ∷ flagged (flag_of_preparing (preparing_of t s.stamped))
+    ∷ []
 
 -- ---- begin
 abbrev pub unsettled : List StampedTx → ℕ
@@ -62,18 +76,27 @@ abbrev pub unfinished : State → ℕ
 unfinished s = length s.active + (unsettled s.stamped + length s.ended)
 
 abbrev pub why_not_begin : State → Option Refusal
-why_not_begin s = if_stands (nat_le MAX_UNFINISHED (unfinished s)) TableFull (if_stands (nat_le MAX_STAMP s.clock) ClockSpent None)
+why_not_begin s = first_cause (
+    when (nat_le MAX_UNFINISHED (unfinished s)) TableFull
+    ∷ when (nat_le MAX_STAMP s.clock) ClockSpent
+    ∷ [])
 
 -- ---- first writer wins
 -- the first other Active transaction that claims this version of the key
 abbrev pub active_claim : ℕ → RowKey → ℕ → List ActiveTx → Option Cause
 active_claim t k n [] = None
-active_claim t k n (r ∷ rs) = if not (r.id == t) && has_claim r.claims k n then Some (Active (record { 0 = r.id })) else active_claim t k n rs
+active_claim t k n (r ∷ rs) =
+    if not (r.id == t) && has_claim r.claims k n
+    then Some (Active (record { 0 = r.id }))
+    else active_claim t k n rs
 
 -- the first Preparing or Committed one that does
 abbrev pub stamped_claim : RowKey → ℕ → List StampedTx → Option Cause
 stamped_claim k n [] = None
-stamped_claim k n (x ∷ xs) = if has_claim x.claims k n then Some (Stamped (record { 0 = x.end })) else stamped_claim k n xs
+stamped_claim k n (x ∷ xs) =
+    if has_claim x.claims k n
+    then Some (Stamped (record { 0 = x.end }))
+    else stamped_claim k n xs
 
 abbrev pub or_cause : Option Cause → Option Cause → Option Cause
 or_cause None other = other
@@ -81,82 +104,82 @@ or_cause (Some c) other = Some c
 
 -- who has ended the version of the key that the transaction t would end
 abbrev pub claimed_by : State → ℕ → RowKey → Option Cause
-claimed_by s t k = or_cause (active_claim t k (origin s t k) s.active) (stamped_claim k (origin s t k) s.stamped)
+claimed_by s t k =
+    or_cause (active_claim t k (origin s t k) s.active) (stamped_claim k (origin s t k) s.stamped)
 
--- where the key stands in its snapshot, and it has no writing answer on it
-abbrev pub conflict : State → ActiveTx → RowKey → Option Cause
-conflict s r k = if fin.contains_key (after_history r.history (seen_by s.base s.stamped r.id)) k && not (is_some (net_write k r.history)) then claimed_by s r.id k else None
+-- the same, where the key stands in its snapshot and it has no writing answer on it
+abbrev pub conflict : State → ℕ → RowKey → Option Cause
+conflict s t k =
+    if fin.contains_key (snapshot s t) k && not (is_some (net_write k (history_of_active t s.active)))
+    then claimed_by s t k
+    else None
 
 abbrev pub conflicts : Option Cause → Option Refusal
 conflicts None = None
 conflicts (Some c) = Some (WriteConflict c)
 
--- ---- an operation
+-- ---- the limits of an operation
 -- one entry more than a transaction may keep
-abbrev pub is_read_too_many : History → Entry → Bool
-is_read_too_many history e = not (has_entry (entries history) e) && nat_le MAX_ENTRIES (length (entries history))
+abbrev pub is_entry_too_many : History → Entry → Bool
+is_entry_too_many ts e =
+    not (has_entry (entries ts) e) && nat_le MAX_ENTRIES (length (entries ts))
 
 -- one key more than a transaction may write
 abbrev pub is_write_too_many : History → RowKey → Bool
-is_write_too_many history k = not (is_noted (written_keys history) k) && nat_le MAX_WRITES (length (written_keys history))
+is_write_too_many ts k =
+    not (is_noted (written_keys ts) k) && nat_le MAX_WRITES (length (written_keys ts))
 
--- an operation of an Active transaction: these refusals, unless it is doomed
-abbrev pub not_done_at : State → ℕ → (ActiveTx → Option Refusal) → Option ActiveTx → Option Refusal
-not_done_at s t why None = Some (not_active s t)
-not_done_at s t why (Some r) = or_flagged r.aborted_dependency (why r)
-
-abbrev pub not_read : RowKey → ActiveTx → Option Refusal
-not_read k r = if_stands (nat_lt MAX_TABLE k.table) BadTable (if_stands (is_read_too_many r.history (Key k)) TooManyReads None)
-
+-- ---- operations
 abbrev pub why_not_read : State → ℕ → RowKey → Option Refusal
-why_not_read s t k = not_done_at s t (not_read k) (active_of t s.active)
-
-abbrev pub not_scanned : ℕ → ℕ → ℕ → ActiveTx → Option Refusal
-not_scanned table lo hi r = if_stands (nat_lt MAX_TABLE table) BadTable (if_stands (is_read_too_many r.history (Range table lo hi)) TooManyReads None)
+why_not_read s t k = first_cause (unless_active s t
+    ++ when (nat_lt MAX_TABLE k.table) BadTable
+    ∷ when (is_entry_too_many (history_of_active t s.active) (Key k)) TooManyReads
+    ∷ [])
 
 abbrev pub why_not_scan : State → ℕ → ℕ → ℕ → ℕ → Option Refusal
-why_not_scan s t table lo hi = not_done_at s t (not_scanned table lo hi) (active_of t s.active)
-
-abbrev pub not_written : RowKey → ActiveTx → Option Refusal → Option Refusal
-not_written k r next = if_stands (is_read_too_many r.history (Key k)) TooManyReads (if_stands (is_write_too_many r.history k) TooManyWrites next)
-
-abbrev pub not_inserted : RowData → ActiveTx → Option Refusal
-not_inserted row r = if_stands (nat_lt MAX_TABLE row.key.table) BadTable (if_stands (nat_lt MAX_DATA_LEN (length row.bytes)) DataTooLong (not_written row.key r None))
+why_not_scan s t table lo hi = first_cause (unless_active s t
+    ++ when (nat_lt MAX_TABLE table) BadTable
+    ∷ when (is_entry_too_many (history_of_active t s.active) (Range table lo hi)) TooManyReads
+    ∷ [])
 
 abbrev pub why_not_insert : State → ℕ → RowData → Option Refusal
-why_not_insert s t row = not_done_at s t (not_inserted row) (active_of t s.active)
-
-abbrev pub not_updated : State → RowData → ActiveTx → Option Refusal
-not_updated s row r = if_stands (nat_lt MAX_TABLE row.key.table) BadTable (if_stands (nat_lt MAX_DATA_LEN (length row.bytes)) DataTooLong (not_written row.key r (conflicts (conflict s r row.key))))
+why_not_insert s t row = first_cause (unless_active s t
+    ++ when (nat_lt MAX_TABLE row.key.table) BadTable
+    ∷ when (nat_lt MAX_DATA_LEN (length row.bytes)) DataTooLong
+    ∷ when (is_entry_too_many (history_of_active t s.active) (Key row.key)) TooManyReads
+    ∷ when (is_write_too_many (history_of_active t s.active) row.key) TooManyWrites
+    ∷ [])
 
 abbrev pub why_not_update : State → ℕ → RowData → Option Refusal
-why_not_update s t row = not_done_at s t (not_updated s row) (active_of t s.active)
-
-abbrev pub not_deleted : State → RowKey → ActiveTx → Option Refusal
-not_deleted s k r = if_stands (nat_lt MAX_TABLE k.table) BadTable (not_written k r (conflicts (conflict s r k)))
+why_not_update s t row = first_cause (unless_active s t
+    ++ when (nat_lt MAX_TABLE row.key.table) BadTable
+    ∷ when (nat_lt MAX_DATA_LEN (length row.bytes)) DataTooLong
+    ∷ when (is_entry_too_many (history_of_active t s.active) (Key row.key)) TooManyReads
+    ∷ when (is_write_too_many (history_of_active t s.active) row.key) TooManyWrites
+    ∷ conflicts (conflict s t row.key)
+    ∷ [])
 
 abbrev pub why_not_delete : State → ℕ → RowKey → Option Refusal
-why_not_delete s t k = not_done_at s t (not_deleted s k) (active_of t s.active)
-
--- the same of any operation
-abbrev pub not_op : State → Op → ActiveTx → Option Refusal
-not_op s (Read k) = not_read k
-not_op s (Scan table lo hi) = not_scanned table lo hi
-not_op s (Insert row) = not_inserted row
-not_op s (Update row) = not_updated s row
-not_op s (Delete k) = not_deleted s k
+why_not_delete s t k = first_cause (unless_active s t
+    ++ when (nat_lt MAX_TABLE k.table) BadTable
+    ∷ when (is_entry_too_many (history_of_active t s.active) (Key k)) TooManyReads
+    ∷ when (is_write_too_many (history_of_active t s.active) k) TooManyWrites
+    ∷ conflicts (conflict s t k)
+    ∷ [])
 
 abbrev pub why_not_do : State → ℕ → Op → Option Refusal
-why_not_do s t op = not_done_at s t (not_op s op) (active_of t s.active)
+why_not_do s t (Read k) = why_not_read s t k
+why_not_do s t (Scan table lo hi) = why_not_scan s t table lo hi
+why_not_do s t (Insert row) = why_not_insert s t row
+why_not_do s t (Update row) = why_not_update s t row
+why_not_do s t (Delete k) = why_not_delete s t k
 
 -- ---- precommit
-abbrev pub not_prepared : State → ActiveTx → Option Refusal
-not_prepared s r = if_stands (nat_le MAX_STAMP s.clock) ClockSpent None
-
 abbrev pub why_not_precommit : State → ℕ → Option Refusal
-why_not_precommit s t = not_done_at s t (not_prepared s) (active_of t s.active)
+why_not_precommit s t =
+    first_cause (unless_active s t ++ when (nat_le MAX_STAMP s.clock) ClockSpent ∷ [])
 
--- ---- validate: the next entry differs
+-- ---- validation
 -- changes the entry, and ends between the begin and the end
 abbrev pub is_changer : ℕ → ℕ → Entry → StampedTx → Bool
 is_changer b e entry u = (nat_lt b u.end && nat_lt u.end e) && changes entry u
@@ -170,7 +193,7 @@ abbrev pub last_end : (StampedTx → Bool) → List StampedTx → Option ℕ
 last_end p [] = None
 last_end p (x ∷ xs) = or_first (cond (p x) (Some x.end) None) (last_end p xs)
 
--- the greatest stamp of a change of the entry between the begin and the end
+-- the greatest end of one that changes the entry between the begin and the end
 abbrev pub change_of : List StampedTx → ℕ → ℕ → Entry → Option ℕ
 change_of stamped b e entry = last_end (is_changer b e entry) stamped
 
@@ -182,14 +205,26 @@ abbrev pub entry_differs : List StampedTx → StampedTx → Option Entry → Opt
 entry_differs stamped x None = None
 entry_differs stamped x (Some e) = differs (change_of stamped x.id x.end e)
 
-abbrev pub not_checked_at : State → ℕ → Option StampedTx → Option Refusal
-not_checked_at s t None = Some (not_preparing s t)
-not_checked_at s t (Some x) = or_flagged x.aborted_dependency (if x.valid then None else entry_differs s.stamped x (slice_get (entries x.history) x.checked))
+-- the next entry of a Preparing transaction differs. After Valid none is left
+abbrev pub next_differs : List StampedTx → Option StampedTx → Option Refusal
+next_differs stamped None = None
+next_differs stamped (Some x) =
+    if x.valid then None else entry_differs stamped x (slice_get (entries x.history) x.checked)
 
 abbrev pub why_not_validate : State → ℕ → Option Refusal
-why_not_validate s t = not_checked_at s t (preparing_of t s.stamped)
+why_not_validate s t =
+    first_cause (unless_preparing s t ++ next_differs s.stamped (preparing_of t s.stamped) ∷ [])
 
 -- ---- settle
+abbrev pub was_valid : Option StampedTx → Bool
+was_valid None = false
+was_valid (Some x) = x.valid
+
+abbrev pub why_not_settle : State → ℕ → Option Refusal
+why_not_settle s t = first_cause (unless_preparing s t
+    ++ when (not (was_valid (preparing_of t s.stamped))) NotValidated
+    ∷ [])
+
 abbrev pub end_at : Option StampedTx → ℕ
 end_at None = 0
 end_at (Some x) = x.end
@@ -198,17 +233,11 @@ end_at (Some x) = x.end
 abbrev pub end_of : State → ℕ → ℕ
 end_of s t = end_at (preparing_of t s.stamped)
 
-abbrev pub not_settled_at : State → ℕ → Option StampedTx → Option Refusal
-not_settled_at s t None = Some (not_preparing s t)
-not_settled_at s t (Some x) = or_flagged x.aborted_dependency (if_stands (not x.valid) NotValidated None)
-
-abbrev pub why_not_settle : State → ℕ → Option Refusal
-why_not_settle s t = not_settled_at s t (preparing_of t s.stamped)
-
 -- the Preparing one with the least end, of those that it depends on
 abbrev pub waiting_for : List ℕ → List StampedTx → Option StampedTx
 waiting_for ds [] = None
-waiting_for ds (x ∷ xs) = if not x.settled && has ds x.end then Some x else waiting_for ds xs
+waiting_for ds (x ∷ xs) =
+    if not x.settled && has_end ds x.end then Some x else waiting_for ds xs
 
 abbrev pub awaited_by : List StampedTx → Option StampedTx → Option StampedTx
 awaited_by stamped None = None
@@ -218,12 +247,33 @@ awaited_by stamped (Some x) = waiting_for x.depends_on stamped
 abbrev pub awaited : State → ℕ → Option StampedTx
 awaited s t = awaited_by s.stamped (preparing_of t s.stamped)
 
--- ---- a rollback, and finishing
+-- ---- rollback and finishing
 abbrev pub why_not_rollback : State → ℕ → Option Refusal
-why_not_rollback s t = if is_some (active_of t s.active) then None else (if is_some (preparing_of t s.stamped) then None else Some (not_there s t))
+why_not_rollback s t = first_cause (
+    when (is_absent (phase_in s t)) NoSuchTransaction
+    ∷ when (is_ended (phase_in s t)) Ended
+    ∷ [])
 
 abbrev pub why_not_finish : State → ℕ → Option Refusal
-why_not_finish s t = if is_ended s t then None else (if is_some (active_of t s.active) then Some NotEnded else (if is_some (preparing_of t s.stamped) then Some NotEnded else Some NoSuchTransaction))
+why_not_finish s t = first_cause (
+    when (is_absent (phase_in s t)) NoSuchTransaction
+    ∷ when (is_active (phase_in s t) || is_preparing (phase_in s t)) NotEnded
+    ∷ [])
+
+-- ---- trimming the tale, and closing a group
+-- up to m: above the start, and at most the oldest begin and the low-water
+abbrev pub is_trim : State → ℕ → Bool
+is_trim s m = nat_lt s.start m && (nat_le m (oldest_begin s) && nat_le m (low_water s))
+
+abbrev pub why_not_trim : State → ℕ → Option Refusal
+why_not_trim s m = first_cause (when (not (is_trim s m)) NothingToDo ∷ [])
+
+-- by whether the ring of closed groups is full
+abbrev pub why_not_close : State → Bool → Option Refusal
+why_not_close s full = first_cause (
+    when (low_water s == s.marks.closed) NothingToDo
+    ∷ when full RingFull
+    ∷ [])
 
 -- ---- what a refusal leaves
 -- the refusals after which the transaction is Aborted

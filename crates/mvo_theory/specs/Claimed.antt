@@ -10,7 +10,8 @@ use Rattle.mvo_model.specs.History.{History, write_of, write_at, net_write}
 use Rattle.mvo_model.specs.Trace.{Step, history_of, committed, phase_of}
 use Rattle.mvo_model.specs.Trace.Step.{Answers}
 use Rattle.mvo_model.specs.Trace.Phase.{Preparing}
-use Rattle.mvo_theory.specs.State.{State, Claim, ended_key}
+use Rattle.mvo_theory.specs.State.{State, Claim}
+use Rattle.mvo_theory.specs.Claims.{ended_key}
 
 -- a transaction that is Preparing or Committed with the end n, above the opening mark and below the begin, has a writing answer on the key
 pub record IsWrittenAt (mark : ℕ) (steps : List Step) (k : RowKey) (b n : ℕ) : Type 0 where

@@ -1,15 +1,18 @@
--- What is committed up to a mark.
-use Rattle.std.specs.Prelude.{ℕ, ◌≡◌, ◌<◌, ◌≤◌, ◌-◌, nat_le, nat_lt, false, ◌&&◌, if◌then◌else◌, List, [], ◌∷◌, ◌++◌, map, Option, None, Some}
+-- What is committed up to a mark, the low-water and the oldest begin.
+use Rattle.std.specs.Prelude.{ℕ, ◌≡◌, ◌<◌, ◌≤◌, ◌-◌, nat_le, false, ◌&&◌, if◌then◌else◌, List, [], ◌∷◌, ◌++◌, map, Option, None, Some}
 use Rattle.std.specs.List.{AllByRecursion}
-use Rattle.mvo_types.specs.declared.refusal.Refusal.{Refusal}
-use Rattle.mvo_types.specs.declared.refusal.Refusal.TheVariants.{NothingToDo}
 use Rattle.mvo_model.specs.History.{History}
 use Rattle.mvo_theory.specs.State.{State, StampedTx, timeline}
 
--- the settled ones with an end at most m: their ends, and what they were told
-abbrev pub settled_to : ℕ → List StampedTx → List (ℕ × History)
+-- a commit: its end timestamp, and its history
+abbrev pub Commit : Type 0
+Commit = ℕ × History
+
+-- the commits with an end at most m, by end timestamp
+abbrev pub settled_to : ℕ → List StampedTx → List Commit
 settled_to m [] = []
-settled_to m (x ∷ xs) = if x.settled && nat_le x.end m then (x.end, x.history) ∷ settled_to m xs else settled_to m xs
+settled_to m (x ∷ xs) =
+    if x.settled && nat_le x.end m then (x.end, x.history) ∷ settled_to m xs else settled_to m xs
 
 -- no transaction that isn't settled ends at or below m, nor will one
 pub record IsClosedAt (m : ℕ) (s : State) : Type 0 where
@@ -18,7 +21,8 @@ pub record IsClosedAt (m : ℕ) (s : State) : Type 0 where
 
 -- what is committed up to such a mark stays
 abbrev pub StaysBelow : State → State → Type 0
-StaysBelow s s' = (m : ℕ) → IsClosedAt m s → IsClosedAt m s' × (settled_to m (timeline s') ≡ settled_to m (timeline s))
+StaysBelow s s' = (m : ℕ) → IsClosedAt m s
+    → IsClosedAt m s' × (settled_to m (timeline s') ≡ settled_to m (timeline s))
 
 -- the least end of those that are Preparing
 abbrev pub least_open : List StampedTx → Option ℕ
@@ -28,6 +32,10 @@ least_open (x ∷ xs) = if x.settled then least_open xs else Some x.end
 abbrev pub below_open : ℕ → Option ℕ → ℕ
 below_open clock None = clock
 below_open clock (Some e) = e - 1
+
+-- the low-water: the last draw, or just below the least end of those that are Preparing
+abbrev pub low_water : State → ℕ
+low_water s = below_open s.clock (least_open s.stamped)
 
 -- the begins of those that are Preparing
 abbrev pub open_begins : List StampedTx → List ℕ
@@ -39,14 +47,7 @@ abbrev pub least : ℕ → List ℕ → ℕ
 least n [] = n
 least n (x ∷ xs) = least (if nat_le n x then n else x) xs
 
--- the oldest begin: the least begin of the unfinished transactions, or the last draw if there is none
+-- the oldest begin: the least begin of the unfinished ones, or the last draw if there is none
 abbrev pub oldest_begin : State → ℕ
-oldest_begin s = least s.clock (map (λ r. r.id) s.active ++ (open_begins s.stamped ++ map (λ u. u.id) s.ended))
-
--- the low-water: the last draw, or just below the least end of those that are Preparing
-abbrev pub low_water : State → ℕ
-low_water s = below_open s.clock (least_open s.stamped)
-
--- trim: up to m, which has to be above the start, and at most the oldest begin and the low-water
-abbrev pub why_not_trim : State → ℕ → Option Refusal
-why_not_trim s m = if nat_lt s.start m && (nat_le m (oldest_begin s) && nat_le m (low_water s)) then None else Some NothingToDo
+oldest_begin s =
+    least s.clock (map (λ r. r.id) s.active ++ (open_begins s.stamped ++ map (λ u. u.id) s.ended))

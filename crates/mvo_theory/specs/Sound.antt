@@ -4,11 +4,12 @@ use Rattle.std.specs.List.{AllByRecursion, list_any}
 use Rattle.mvo_types.specs.declared.row.RowKey.{RowKey}
 use Rattle.mvo_types.specs.Keys.{Map}
 use Rattle.mvo_model.specs.History.{History, AreSerial, net_write, after_history}
-use Rattle.mvo_theory.specs.State.{EndedTx}
+use Rattle.mvo_theory.specs.State.{EndedTx, State, StampedTx, ActiveTx, seen_by, is_active_as, is_preparing_as, is_ended_as}
 use Rattle.mvo_theory.specs.Entries.{Entry, entry_of, entries}
-use Rattle.mvo_theory.specs.Entries.Entry.{Key, Range}
 use Rattle.mvo_theory.specs.Ranges.{Row, shows, footprint_of}
-use Rattle.mvo_theory.specs.State.{State, StampedTx, ActiveTx, seen_by, is_writer, has, has_claim, counts_for}
+use Rattle.mvo_theory.specs.Dependencies.{is_writer, has_end, counts_for}
+use Rattle.mvo_theory.specs.Claims.{has_claim}
+use Rattle.mvo_theory.specs.Entries.Entry.{Key, Range}
 
 -- one of these writes the key below the begin
 abbrev pub IsWritten : RowKey → ℕ → List StampedTx → Type 0
@@ -18,7 +19,7 @@ IsWritten k b (x ∷ xs) = (is_writer k b x ≡ true) ⊎ IsWritten k b xs
 -- the key's last writer below the begin is settled, or is depended on
 abbrev pub IsDecided : RowKey → ℕ → List ℕ → List StampedTx → Type 0
 IsDecided k b ds [] = ⊤
-IsDecided k b ds (x ∷ xs) = (x.settled ≡ false → is_writer k b x ≡ true → (has ds x.end ≡ true) ⊎ IsWritten k b xs) × IsDecided k b ds xs
+IsDecided k b ds (x ∷ xs) = (x.settled ≡ false → is_writer k b x ≡ true → (has_end ds x.end ≡ true) ⊎ IsWritten k b xs) × IsDecided k b ds xs
 
 -- that of each key that counts for the entry
 abbrev pub IsDecidedOn : Entry → ℕ → List ℕ → Map → List StampedTx → Type 0
@@ -111,16 +112,6 @@ pub record IsStarted (s : State) : Type 0 where
   pub opened : s.marks.opening ≤ s.start
   pub after : AllByRecursion (λ x. s.marks.opening < x.end) s.past
   pub begun : AllByRecursion (λ r. s.start ≤ r.id) s.active
-
--- whether this one is the transaction t: Active, Preparing, or Committed or Aborted
-abbrev pub is_active_as : ℕ → ActiveTx → Bool
-is_active_as t r = r.id == t
-
-abbrev pub is_preparing_as : ℕ → StampedTx → Bool
-is_preparing_as t x = (x.id == t) && not x.settled
-
-abbrev pub is_ended_as : ℕ → EndedTx → Bool
-is_ended_as t u = u.id == t
 
 -- how many pass the test
 abbrev pub how_many : {X : Type 0} → (X → Bool) → List X → ℕ

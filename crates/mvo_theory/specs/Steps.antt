@@ -1,11 +1,12 @@
--- The steps as the calls make them.
+-- What each call leaves where it is answered, and what its refusal leaves.
 use Rattle.std.specs.Prelude.{ℕ, ◌+◌, nat_le, Bool, false, ◌||◌, if◌then◌else◌, length, List, [], ◌∷◌, Option, None, Some}
 use Rattle.mvo_types.specs.declared.refusal.Refusal.{Refusal}
 use Rattle.mvo_model.specs.Trace.{Step}
 use Rattle.mvo_model.specs.Trace.Step.{Aborts}
 use Rattle.mvo_theory.specs.Entries.{entries}
-use Rattle.mvo_theory.specs.State.{State, StampedTx, ActiveTx, after_prepare, after_check, after_commit, after_abort_of_active, after_abort_of_preparing}
-use Rattle.mvo_theory.specs.Causes.{active_of, preparing_of, awaited, is_failure}
+use Rattle.mvo_theory.specs.State.{State, StampedTx, ActiveTx, active_of, preparing_of}
+use Rattle.mvo_theory.specs.Changes.{after_prepare, after_check, after_commit, after_abort_of_active, after_abort_of_preparing}
+use Rattle.mvo_theory.specs.Causes.{awaited, is_failure}
 
 -- an Active transaction becomes Preparing, with the next timestamp as its end
 abbrev pub after_precommit_of : State → Option ActiveTx → State

@@ -11,9 +11,9 @@ use Rattle.mvo_model.specs.Trace.{Step, history_of, committed, phase_of}
 use Rattle.mvo_model.specs.Trace.Step.{Begins, Answers, Prepares, Checks, Commits, Aborts, Terminates}
 use Rattle.mvo_model.specs.Trace.Phase.{Preparing}
 use Rattle.mvo_theory.specs.Entries.{Entry, entry_of}
-use Rattle.mvo_theory.specs.Entries.Entry.{Key, Range}
 use Rattle.mvo_theory.specs.Ranges.{Row, shows, pass, put_by, is_row_of}
 use Rattle.mvo_theory.specs.State.{State, StampedTx}
+use Rattle.mvo_theory.specs.Entries.Entry.{Key, Range}
 
 -- x is Preparing with the end e, below the begin b, and is the last writer of the key: none that is Preparing or Committed with an end between has a writing answer on it
 pub record IsLastWriter (steps : List Step) (k : RowKey) (b x e : ℕ) : Type 0 where
