@@ -29,6 +29,7 @@ pub mod Worded
 pub mod Called
 pub mod Exact
 pub mod Stays
+pub mod Groups
 pub mod Examples
 pub mod LastWriter
 pub mod Deciding

@@ -44,7 +44,7 @@ each_open P (x ∷ xs) h = go x.settled refl h (each_open P xs)
     go false e g r = (λ _. g.0, r g.1)
 
 -- the low-water is below each end that isn't settled
-low_below : (clock : ℕ) (xs : List StampedTx) → IsRising xs → AllByRecursion (λ x. x.id < x.end) xs → AllByRecursion (λ x. x.settled ≡ false → below_open clock (least_open xs) < x.end) xs
+pub low_below : (clock : ℕ) (xs : List StampedTx) → IsRising xs → AllByRecursion (λ x. x.id < x.end) xs → AllByRecursion (λ x. x.settled ≡ false → below_open clock (least_open xs) < x.end) xs
 low_below clock [] r b = tt
 low_below clock (x ∷ xs) r b = go x.settled refl (low_below clock xs r.1 b.1)
   where

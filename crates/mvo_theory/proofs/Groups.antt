@@ -1,0 +1,186 @@
+-- The next group has the commits above its prev and at most its mark, and it stays so.
+use Rattle.std.proofs.Common.{◌≡◌, ℕ, ◌≤◌, ◌<◌, ◌+◌, Bool, true, false, cond, List, [], ◌∷◌, ◌++◌, Option, None, Some, length, refl, sym, ap, ◌∙◌, subst, arith, append-nil}
+use Rattle.std.specs.Prelude.{⊤, nat_lt, nat_le, ◌==◌, ◌&&◌, drop, filter}
+use Rattle.std.specs.List.{AllByRecursion}
+use Rattle.std.proofs.lemmas.Bool.{and_parts, leb-true, leb-false, le-leb, lt-leb, ltb-true, true≢false, false≢true}
+use Rattle.std.proofs.lemmas.List.Elements.{filter-append}
+use Rattle.mvo_types.specs.Keys.{Map}
+use Rattle.mvo_model.specs.History.{History}
+use Rattle.mvo_model.specs.Trace.{Step}
+use Rattle.mvo_theory.specs.State.{State, StampedTx, timeline}
+use Rattle.mvo_theory.specs.Marks.{Commit, IsClosedAt, settled_to, least_open, below_open, low_water}
+use Rattle.mvo_theory.specs.Groups.{Group, Limits, is_writing, is_due, due, IsFull, IsLongest, last_of, mark_by, IsNextGroup, IsGroupOf}
+use Rattle.mvo_theory.specs.Sound.{IsRising, IsPlaced}
+use Rattle.mvo_theory.specs.Calls.{IsKept}
+use Rattle.mvo_theory.proofs.Each.{each_weaker, each_append, each_front, each_filter, each_always}
+use Rattle.mvo_theory.proofs.AfterTrace.{rising_all}
+use Rattle.mvo_theory.proofs.Trimmed.{low_below}
+
+-- ---- the low-water
+low_drawn : (clock : ℕ) (xs : List StampedTx) → AllByRecursion (λ x. x.end ≤ clock) xs → below_open clock (least_open xs) ≤ clock
+low_drawn clock [] h = omega arith
+low_drawn clock (x ∷ xs) h = go x.settled (low_drawn clock xs h.1)
+  where
+    go : (b : Bool) → below_open clock (least_open xs) ≤ clock → below_open clock (cond b (least_open xs) (Some x.end)) ≤ clock
+    go true l = l
+    go false l = let e = h.0 in omega arith
+
+-- no transaction that isn't settled ends at or below the low-water
+pub closed_at_low : (opening : Map) (xs : List Step) (s : State) → IsKept opening xs s → IsClosedAt (low_water s) s
+closed_at_low opening xs s h = record {
+  drawn = low_drawn s.clock s.stamped (each_weaker (IsPlaced s.stamped s.clock) (λ x. x.end ≤ s.clock) (λ x p. p.drawn) s.stamped h.sound.placed);
+  above = low_below s.clock s.stamped h.sound.rising (each_weaker (IsPlaced s.stamped s.clock) (λ x. x.id < x.end) (λ x p. p.begun) s.stamped h.sound.placed);
+}
+
+low_above : (m clock : ℕ) (xs : List StampedTx) → m ≤ clock → AllByRecursion (λ x. x.settled ≡ false → m < x.end) xs → m ≤ below_open clock (least_open xs)
+low_above m clock [] l h = l
+low_above m clock (x ∷ xs) l h = go x.settled refl (low_above m clock xs l h.1)
+  where
+    go : (b : Bool) → x.settled ≡ b → m ≤ below_open clock (least_open xs) → m ≤ below_open clock (cond b (least_open xs) (Some x.end))
+    go true e q = q
+    go false e q = let f = h.0 e in omega arith
+
+-- a mark at which all is settled is at most the low-water
+pub closed_below_low : (m : ℕ) (s : State) → IsClosedAt m s → m ≤ low_water s
+closed_below_low m s c = low_above m s.clock s.stamped c.drawn c.above
+
+pub closed_less : (m n : ℕ) (s : State) → m ≤ n → IsClosedAt n s → IsClosedAt m s
+closed_less m n s l c = record {
+  drawn = let d = c.drawn in omega arith;
+  above = each_weaker (λ x. x.settled ≡ false → n < x.end) (λ x. x.settled ≡ false → m < x.end) (λ x f e. let g = f e in omega arith) s.stamped c.above;
+}
+
+-- ---- commits by rising ends
+abbrev AreRising : List Commit → Type 0
+AreRising [] = ⊤
+AreRising (c ∷ cs) = AllByRecursion (λ d. c.0 < d.0) cs × AreRising cs
+
+each_settled_to : (P : ℕ → Type 0) (m : ℕ) (xs : List StampedTx) → AllByRecursion (λ x. P x.end) xs → AllByRecursion (λ (c : Commit). P c.0) (settled_to m xs)
+each_settled_to P m [] h = tt
+each_settled_to P m (x ∷ xs) h = go (x.settled && nat_le x.end m) (each_settled_to P m xs h.1)
+  where
+    go : (b : Bool) → AllByRecursion (λ (c : Commit). P c.0) (settled_to m xs) → AllByRecursion (λ (c : Commit). P c.0) (cond b ((x.end, x.history) ∷ settled_to m xs) (settled_to m xs))
+    go true q = (h.0, q)
+    go false q = q
+
+rising_settled_to : (m : ℕ) (xs : List StampedTx) → IsRising xs → AreRising (settled_to m xs)
+rising_settled_to m [] r = tt
+rising_settled_to m (x ∷ xs) r = go (x.settled && nat_le x.end m) (rising_settled_to m xs r.1)
+  where
+    go : (b : Bool) → AreRising (settled_to m xs) → AreRising (cond b ((x.end, x.history) ∷ settled_to m xs) (settled_to m xs))
+    go true q = (each_settled_to (λ n. x.end < n) m xs r.0, q)
+    go false q = q
+
+low_settled_to : (m : ℕ) (xs : List StampedTx) → AllByRecursion (λ (c : Commit). c.0 ≤ m) (settled_to m xs)
+low_settled_to m [] = tt
+low_settled_to m (x ∷ xs) = go (x.settled && nat_le x.end m) refl (low_settled_to m xs)
+  where
+    go : (b : Bool) → (x.settled && nat_le x.end m) ≡ b → AllByRecursion (λ (c : Commit). c.0 ≤ m) (settled_to m xs) → AllByRecursion (λ (c : Commit). c.0 ≤ m) (cond b ((x.end, x.history) ∷ settled_to m xs) (settled_to m xs))
+    go true e q = (leb-true x.end m (and_parts x.settled (nat_le x.end m) e).1, q)
+    go false e q = q
+
+rising_filter : (p : Commit → Bool) (cs : List Commit) → AreRising cs → AreRising (filter p cs)
+rising_filter p [] r = tt
+rising_filter p (c ∷ cs) r = go (p c) (rising_filter p cs r.1)
+  where
+    go : (b : Bool) → AreRising (filter p cs) → AreRising (cond b (c ∷ filter p cs) (filter p cs))
+    go true q = (each_filter p (λ d. c.0 < d.0) (λ d. c.0 < d.0) (λ d e l. l) cs r.0, q)
+    go false q = q
+
+-- those up to a lower mark
+abbrev is_up_to : ℕ → Commit → Bool
+is_up_to m c = nat_le c.0 m
+
+settled_less : (m n : ℕ) (xs : List StampedTx) → m ≤ n → settled_to m xs ≡ filter (is_up_to m) (settled_to n xs)
+settled_less m n [] l = refl
+settled_less m n (x ∷ xs) l = go x.settled (nat_le x.end m) refl (nat_le x.end n) refl (settled_less m n xs l)
+  where
+    c : Commit
+    c = (x.end, x.history)
+
+    go : (s a : Bool) → nat_le x.end m ≡ a → (b : Bool) → nat_le x.end n ≡ b → settled_to m xs ≡ filter (is_up_to m) (settled_to n xs)
+        → cond (s && a) (c ∷ settled_to m xs) (settled_to m xs) ≡ filter (is_up_to m) (cond (s && b) (c ∷ settled_to n xs) (settled_to n xs))
+    go false a e b f q = q
+    go true true e true f q = ap (λ (cs : List Commit). c ∷ cs) q ∙ sym (ap (λ (v : Bool). cond v (c ∷ filter (is_up_to m) (settled_to n xs)) (filter (is_up_to m) (settled_to n xs))) e)
+    go true true e false f q = absurd (let u = leb-true x.end m e in let v = leb-false x.end n f in omega arith)
+    go true false e true f q = q ∙ sym (ap (λ (v : Bool). cond v (c ∷ filter (is_up_to m) (settled_to n xs)) (filter (is_up_to m) (settled_to n xs))) e)
+    go true false e false f q = q
+
+filter_swap : (p q : Commit → Bool) (cs : List Commit) → filter p (filter q cs) ≡ filter q (filter p cs)
+filter_swap p q [] = refl
+filter_swap p q (c ∷ cs) = go (p c) refl (q c) refl (filter_swap p q cs)
+  where
+    go : (a : Bool) → p c ≡ a → (b : Bool) → q c ≡ b → filter p (filter q cs) ≡ filter q (filter p cs) → filter p (cond b (c ∷ filter q cs) (filter q cs)) ≡ filter q (cond a (c ∷ filter p cs) (filter p cs))
+    go true e true f r = ap (λ (v : Bool). cond v (c ∷ filter p (filter q cs)) (filter p (filter q cs))) e ∙ ap (λ (xs : List Commit). c ∷ xs) r ∙ sym (ap (λ (v : Bool). cond v (c ∷ filter q (filter p cs)) (filter q (filter p cs))) f)
+    go true e false f r = r ∙ sym (ap (λ (v : Bool). cond v (c ∷ filter q (filter p cs)) (filter q (filter p cs))) f)
+    go false e true f r = ap (λ (v : Bool). cond v (c ∷ filter p (filter q cs)) (filter p (filter q cs))) e ∙ r
+    go false e false f r = r
+
+filter_all : (p : Commit → Bool) (cs : List Commit) → AllByRecursion (λ c. p c ≡ true) cs → filter p cs ≡ cs
+filter_all p [] h = refl
+filter_all p (c ∷ cs) h = ap (λ (b : Bool). cond b (c ∷ filter p cs) (filter p cs)) h.0 ∙ ap (λ (xs : List Commit). c ∷ xs) (filter_all p cs h.1)
+
+filter_none : (p : Commit → Bool) (cs : List Commit) → AllByRecursion (λ c. p c ≡ false) cs → filter p cs ≡ []
+filter_none p [] h = refl
+filter_none p (c ∷ cs) h = ap (λ (b : Bool). cond b (c ∷ filter p cs) (filter p cs)) h.0 ∙ filter_none p cs h.1
+
+-- ---- the last one that is taken tells the taken ones from the rest
+pub record IsParted (e : ℕ) (taken rest : List Commit) : Type 0 where
+  pub from : e ≤ last_of e taken
+  pub below : AllByRecursion (λ (c : Commit). c.0 ≤ last_of e taken) taken
+  pub above : AllByRecursion (λ (c : Commit). last_of e taken < c.0) rest
+
+parted_at : (e : ℕ) (taken rest : List Commit) → AllByRecursion (λ (c : Commit). e < c.0) (taken ++ rest) → AreRising (taken ++ rest) → IsParted e taken rest
+parted_at e [] rest h r = record { from = omega arith; below = tt; above = h }
+parted_at e (c ∷ cs) rest h r =
+    let q = parted_at c.0 cs rest r.0 r.1 in
+    let f = q.from in
+    let l = h.0 in
+    record { from = omega arith; below = (f, q.below); above = q.above }
+
+taken_are : (e : ℕ) (taken rest : List Commit) → AllByRecursion (λ (c : Commit). e < c.0) (taken ++ rest) → AreRising (taken ++ rest) → filter (is_up_to (last_of e taken)) (taken ++ rest) ≡ taken
+taken_are e taken rest h r =
+    let q = parted_at e taken rest h r in
+    let m = last_of e taken in
+    filter-append (is_up_to m) taken rest
+    ∙ ap (λ (xs : List Commit). xs ++ filter (is_up_to m) rest) (filter_all (is_up_to m) taken (each_weaker (λ (c : Commit). c.0 ≤ m) (λ c. is_up_to m c ≡ true) (λ c l. le-leb c.0 m l) taken q.below))
+    ∙ ap (λ (xs : List Commit). taken ++ xs) (filter_none (is_up_to m) rest (each_weaker (λ (c : Commit). m < c.0) (λ c. is_up_to m c ≡ false) (λ c l. lt-leb c.0 m l) rest q.above))
+    ∙ append-nil taken
+
+-- ---- the next group is closed for good
+due_above : (s : State) → AllByRecursion (λ (c : Commit). s.marks.closed < c.0) (due s)
+due_above s = each_filter (is_due s.marks.closed) (λ c. ⊤) (λ (c : Commit). s.marks.closed < c.0) (λ c e t. ltb-true s.marks.closed c.0 (and_parts (nat_lt s.marks.closed c.0) (is_writing c) e).0) (settled_to (low_water s) (timeline s)) (each_always (λ c. ⊤) (λ c. tt) (settled_to (low_water s) (timeline s)))
+
+due_below : (s : State) → AllByRecursion (λ (c : Commit). c.0 ≤ low_water s) (due s)
+due_below s = each_filter (is_due s.marks.closed) (λ (c : Commit). c.0 ≤ low_water s) (λ (c : Commit). c.0 ≤ low_water s) (λ c e l. l) (settled_to (low_water s) (timeline s)) (low_settled_to (low_water s) (timeline s))
+
+last_below : (n e : ℕ) (taken : List Commit) → e ≤ n → AllByRecursion (λ (c : Commit). c.0 ≤ n) taken → last_of e taken ≤ n
+last_below n e [] l h = l
+last_below n e (c ∷ cs) l h = last_below n c.0 cs h.0 h.1
+
+pub next_group_closes : (opening : Map) (xs : List Step) (s : State) (fits : Limits) (g : Group) → IsKept opening xs s → IsClosedAt s.marks.closed s → IsNextGroup fits s g → IsGroupOf s g
+next_group_closes opening xs s fits g k c n = go (drop (length g.commits) (due s)) n.longest.beginning n.mark
+  where
+    low : ℕ
+    low = low_water s
+
+    at_low : IsClosedAt low s
+    at_low = closed_at_low opening xs s k
+
+    go : (rest : List Commit) → g.commits ++ rest ≡ due s → g.mark ≡ mark_by low s.marks.closed g.commits rest → IsGroupOf s g
+    go [] e m = record {
+      closed = subst (λ (i : ℕ). IsClosedAt i s) (sym m) at_low;
+      commits = sym (append-nil g.commits) ∙ e ∙ ap (λ (i : ℕ). filter (is_due i) (settled_to low (timeline s))) (sym n.prev) ∙ ap (λ (i : ℕ). filter (is_due g.prev) (settled_to i (timeline s))) (sym m);
+    }
+    go (d ∷ ds) e m =
+        let last = last_of s.marks.closed g.commits in
+        let above = subst (AllByRecursion (λ (c : Commit). s.marks.closed < c.0)) (sym e) (due_above s) in
+        let rising = subst AreRising (sym e) (rising_filter (is_due s.marks.closed) (settled_to low (timeline s)) (rising_settled_to low (timeline s) (rising_all s k.sound k.started))) in
+        let under = last_below low s.marks.closed g.commits (closed_below_low s.marks.closed s c) (each_front (λ (c : Commit). c.0 ≤ low) g.commits (d ∷ ds) (subst (AllByRecursion (λ (c : Commit). c.0 ≤ low)) (sym e) (due_below s))) in
+        record {
+          closed = subst (λ (i : ℕ). IsClosedAt i s) (sym m) (closed_less last low s under at_low);
+          commits = sym (taken_are s.marks.closed g.commits (d ∷ ds) above rising) ∙ ap (filter (is_up_to last)) e
+              ∙ filter_swap (is_up_to last) (is_due s.marks.closed) (settled_to low (timeline s))
+              ∙ ap (filter (is_due s.marks.closed)) (sym (settled_less last low (timeline s) under))
+              ∙ ap (λ (i : ℕ). filter (is_due i) (settled_to last (timeline s))) (sym n.prev) ∙ ap (λ (i : ℕ). filter (is_due g.prev) (settled_to i (timeline s))) (sym m);
+        }
