@@ -30,6 +30,7 @@ pub mod Called
 pub mod Exact
 pub mod Stays
 pub mod Groups
+pub mod Chain
 pub mod Examples
 pub mod LastWriter
 pub mod Deciding
