@@ -31,6 +31,7 @@ pub mod Exact
 pub mod Stays
 pub mod Groups
 pub mod Chain
+pub mod Words
 pub mod Examples
 pub mod LastWriter
 pub mod Deciding

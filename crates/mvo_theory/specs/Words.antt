@@ -1,5 +1,6 @@
 -- The words that name an ended transaction: finishing replaces one a call.
-use Rattle.std.specs.Prelude.{ℕ, ◌+◌, ◌==◌, nat_le, Bool, false, not, ◌&&◌, if◌then◌else◌, is_some, List, [], ◌∷◌, ◌++◌, filter, drop, length, Option, None, Some}
+use Rattle.std.specs.Prelude.{ℕ, ◌+◌, ◌≤◌, ◌==◌, nat_le, Bool, false, not, ◌&&◌, if◌then◌else◌, is_some, List, [], ◌∷◌, ◌++◌, filter, drop, length, Option, None, Some}
+use Rattle.std.specs.List.{AllByRecursion}
 use Rattle.std.specs.Ordering.{eq_by_cmp}
 use Rattle.mvo_types.specs.declared.row.RowKey.{RowKey}
 use Rattle.mvo_types.specs.declared.op.Op.{Op}
@@ -8,6 +9,7 @@ use Rattle.mvo_types.specs.Keys.{key_cmp}
 use Rattle.mvo_types.specs.AnswerData.{AnswerData}
 use Rattle.mvo_types.specs.AnswerData.AnswerData.{Inserted, Updated, Deleted}
 use Rattle.mvo_model.specs.History.{History, net_write}
+use Rattle.mvo_model.specs.Trace.{Step, history_of}
 use Rattle.mvo_theory.specs.State.{State, ActiveTx, StampedTx, EndedTx, Claim, Word, Outcome, active_of, preparing_of, ended_of}
 use Rattle.mvo_theory.specs.State.Word.{Own, Ended}
 use Rattle.mvo_theory.specs.State.Outcome.{Committed, Aborted}
@@ -80,3 +82,8 @@ is_done s t = is_last_word (ended_of t s.ended)
 -- the words of one after a call of finishing of t
 abbrev pub words_left : ℕ → EndedTx → List Word
 words_left t u = if u.id == t then drop 1 u.words else u.words
+
+-- no ended one has more words left than its operations wrote
+abbrev pub HasWords : List Step → State → Type 0
+HasWords steps s =
+    AllByRecursion (λ u. length u.words ≤ word_count (history_of u.id steps)) s.ended
