@@ -1,9 +1,10 @@
 -- The next group has the commits above its prev and at most its mark, and it stays so.
-use Rattle.std.proofs.Common.{◌≡◌, ℕ, ◌≤◌, ◌<◌, ◌+◌, Bool, true, false, cond, List, [], ◌∷◌, ◌++◌, Option, None, Some, length, refl, sym, ap, ◌∙◌, subst, arith, append-nil}
+use Rattle.std.proofs.Common.{◌≡◌, ℕ, ◌≤◌, ◌<◌, ◌+◌, Bool, true, false, cond, List, [], ◌∷◌, ◌++◌, Option, None, Some, length, refl, sym, ap, ◌∙◌, subst, arith, append-nil, append_assoc}
 use Rattle.std.specs.Prelude.{⊤, nat_lt, nat_le, ◌==◌, ◌&&◌, drop, filter}
 use Rattle.std.specs.List.{AllByRecursion}
 use Rattle.std.proofs.lemmas.Bool.{and_parts, leb-true, leb-false, le-leb, lt-leb, ltb-true, true≢false, false≢true}
 use Rattle.std.proofs.lemmas.List.Elements.{filter-append}
+use Rattle.std.proofs.Math.Seq.{drop-append_seam}
 use Rattle.mvo_types.specs.Keys.{Map}
 use Rattle.mvo_model.specs.History.{History}
 use Rattle.mvo_model.specs.Trace.{Step}
@@ -184,3 +185,43 @@ next_group_closes opening xs s fits g k c n = go (drop (length g.commits) (due s
               ∙ ap (filter (is_due s.marks.closed)) (sym (settled_less last low (timeline s) under))
               ∙ ap (λ (i : ℕ). filter (is_due i) (settled_to last (timeline s))) (sym n.prev) ∙ ap (λ (i : ℕ). filter (is_due g.prev) (settled_to i (timeline s))) (sym m);
         }
+
+-- ---- there is a next group, and no longer beginning fits
+longest_is : (fits : Limits) (taken rest : List Commit) → fits taken ≡ true → (xs : List Commit) × IsLongest fits (taken ++ rest) xs
+longest_is fits taken [] h = (taken, record { beginning = ap (λ (l : List Commit). taken ++ l) (drop-append_seam taken []); within = h; full = subst (IsFull fits taken) (sym (drop-append_seam taken [])) tt })
+longest_is fits taken (c ∷ cs) h = go (fits (taken ++ c ∷ [])) refl (λ e. longest_is fits (taken ++ c ∷ []) cs e)
+  where
+    go : (b : Bool) → fits (taken ++ c ∷ []) ≡ b → (fits (taken ++ c ∷ []) ≡ true → (xs : List Commit) × IsLongest fits ((taken ++ c ∷ []) ++ cs) xs) → (xs : List Commit) × IsLongest fits (taken ++ c ∷ cs) xs
+    go true e r = let q = r e in (q.0, subst (λ (l : List Commit). IsLongest fits l q.0) (append_assoc taken (c ∷ []) cs) q.1)
+    go false e r = (taken, record { beginning = ap (λ (l : List Commit). taken ++ l) (drop-append_seam taken (c ∷ cs)); within = h; full = subst (IsFull fits taken) (sym (drop-append_seam taken (c ∷ cs))) e })
+
+pub next_group_exists : (fits : Limits) (s : State) → fits [] ≡ true → (g : Group) × IsNextGroup fits s g
+next_group_exists fits s h =
+    let q = longest_is fits [] (due s) h in
+    (record { prev = s.marks.closed; mark = mark_by (low_water s) s.marks.closed q.0 (drop (length q.0) (due s)); commits = q.0 }, record { prev = refl; longest = q.1; mark = refl })
+
+-- limits that a beginning keeps where the whole does
+abbrev pub AreLimits : Limits → Type 0
+AreLimits fits = (xs ys : List Commit) → fits (xs ++ ys) ≡ true → fits xs ≡ true
+
+same_first : (c d : Commit) (cs ds : List Commit) → ◌≡◌ {A = List Commit} (c ∷ cs) (d ∷ ds) → (c ≡ d) × (cs ≡ ds)
+same_first c d cs ds e = (cc, cc)
+
+no_first : (c : Commit) (cs : List Commit) → ◌≡◌ {A = List Commit} [] (c ∷ cs) → ⊥
+no_first c cs e = cc
+
+not_longer : (fits : Limits) (front taken rest ys zs : List Commit) → AreLimits fits → IsFull fits (front ++ taken) rest → taken ++ rest ≡ ys ++ zs → fits (front ++ ys) ≡ true → length ys ≤ length taken
+not_longer fits front taken rest [] zs l f e h = omega arith
+not_longer fits front [] [] (y ∷ ys) zs l f e h = absurd (no_first y (ys ++ zs) e)
+not_longer fits front [] (c ∷ cs) (y ∷ ys) zs l f e h =
+    let is = (same_first c y cs (ys ++ zs) e).0 in
+    let fitting : fits (front ++ y ∷ []) ≡ true = l (front ++ y ∷ []) ys (ap fits (append_assoc front (y ∷ []) ys) ∙ h) in
+    absurd (true≢false (sym fitting ∙ subst (λ (d : Commit). fits (front ++ d ∷ []) ≡ false) is (ap (λ (xs : List Commit). fits (xs ++ c ∷ [])) (sym (append-nil front)) ∙ f)))
+not_longer fits front (c ∷ cs) rest (y ∷ ys) zs l f e h =
+    let q = same_first c y (cs ++ rest) (ys ++ zs) e in
+    let n = not_longer fits (front ++ c ∷ []) cs rest ys zs l (subst (λ (xs : List Commit). IsFull fits xs rest) (sym (append_assoc front (c ∷ []) cs)) f) q.1
+    (ap fits (append_assoc front (c ∷ []) ys) ∙ subst (λ (d : Commit). fits (front ++ d ∷ ys) ≡ true) (sym q.0) h) in
+    omega arith
+
+pub longest_is_longest : (fits : Limits) (commits taken ys zs : List Commit) → AreLimits fits → IsLongest fits commits taken → commits ≡ ys ++ zs → fits ys ≡ true → length ys ≤ length taken
+longest_is_longest fits commits taken ys zs l h e f = not_longer fits [] taken (drop (length taken) commits) ys zs l h.full (h.beginning ∙ e) f

@@ -32,6 +32,7 @@ pub mod Stays
 pub mod Groups
 pub mod Chain
 pub mod Words
+pub mod Places
 pub mod Examples
 pub mod LastWriter
 pub mod Deciding
