@@ -12,7 +12,6 @@ use Rattle.mvo_types.specs.RowData.{ContentData, content_of}
 use Rattle.mvo_types.specs.AnswerData.{AnswerData}
 use Rattle.mvo_types.specs.AnswerData.AnswerData.{Updated, Deleted}
 use Rattle.mvo_types.specs.Write.Effect.{Put, Delete as Gone}
-
 use Rattle.mvo_types.specs.Write.{Effect}
 use Rattle.mvo_model.specs.History.{History, write_of, write_at, later, net_write}
 use Rattle.mvo_model.proofs.Serials.{net_write-append}

@@ -12,14 +12,14 @@ abbrev pub pairs : List StampedTx → List (ℕ × ℕ)
 pairs [] = []
 pairs (x ∷ xs) = cond x.settled ((x.end, x.id) ∷ pairs xs) (pairs xs)
 
--- the state stands for the steps
+-- the state is one after this trace
 pub record IsAfterTrace (opening : Map) (steps : List Step) (s : State) : Type 0 where
   -- the base is what those before the start leave of the opening rows
   pub base : s.base ≡ after_settled s.past opening
   pub legal : IsLegal opening s.past
   -- the settled ones are the committed transactions, in commit order
   pub tale : committed steps ≡ pairs s.past ++ pairs s.stamped
-  -- each was told what the steps say
+  -- the history of each is that of its steps
   pub past : AllByRecursion (λ x. history_of x.id steps ≡ x.history) s.past
   pub stamped : AllByRecursion (λ x. history_of x.id steps ≡ x.history) s.stamped
   pub active : AllByRecursion (λ r. history_of r.id steps ≡ r.history) s.active

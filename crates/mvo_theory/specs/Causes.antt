@@ -110,7 +110,8 @@ claimed_by s t k =
 -- the same, where the key stands in its snapshot and it has no writing answer on it
 abbrev pub conflict : State → ℕ → RowKey → Option Cause
 conflict s t k =
-    if fin.contains_key (snapshot s t) k && not (is_some (net_write k (history_of_active t s.active)))
+    if fin.contains_key (snapshot s t) k
+    && not (is_some (net_write k (history_of_active t s.active)))
     then claimed_by s t k
     else None
 

@@ -1,6 +1,7 @@
 -- The steps on the state.
 use Rattle.std.specs.Prelude.{ℕ, ◌+◌, ◌==◌, nat_le, Bool, false, not, ◌||◌, if◌then◌else◌, List, [], ◌∷◌, ◌++◌, map, filter, Option, None, Some}
 use Rattle.mvo_types.specs.declared.op.Op.{Op}
+use Rattle.mvo_types.specs.Keys.{Map}
 use Rattle.mvo_types.specs.AnswerData.{AnswerData}
 use Rattle.mvo_model.specs.History.{after_history, write_of}
 use Rattle.mvo_theory.specs.Ranges.{changed_by}
@@ -25,6 +26,10 @@ abbrev pub after_begin : State → ℕ → State
 after_begin s t = record s { clock = t; active = s.active ++ new_active t ∷ [] }
 
 -- ---- an operation
+-- the rows that the transaction r sees, its own writes included
+abbrev pub seen_now : State → ActiveTx → Map
+seen_now s r = after_history r.history (seen_by s.base s.stamped r.id)
+
 -- the transaction r after the answer, if it is t
 abbrev pub with_answer : State → ℕ → Op → AnswerData → ActiveTx → ActiveTx
 with_answer s t op a r = record {
@@ -32,7 +37,7 @@ with_answer s t op a r = record {
   history = if r.id == t then r.history ++ (op, a) ∷ [] else r.history;
   footprint =
       if r.id == t
-      then r.footprint ++ changed_by (write_of op a) (after_history r.history (seen_by s.base s.stamped r.id))
+      then r.footprint ++ changed_by (write_of op a) (seen_now s r)
       else r.footprint;
   claims = if r.id == t then claims_with s r (ended_key op a) else r.claims;
   depends_on = if r.id == t then dependencies s op r else r.depends_on;

@@ -27,7 +27,8 @@ abbrev pub is_same : Entry → Entry → Bool
 is_same (Key k) (Key j) = eq_by_cmp key_cmp k j
 is_same (Key k) (Range table lo hi) = false
 is_same (Range table lo hi) (Key k) = false
-is_same (Range table lo hi) (Range table' lo' hi') = (table == table') && ((lo == lo') && (hi == hi'))
+is_same (Range table lo hi) (Range table' lo' hi') =
+    (table == table') && ((lo == lo') && (hi == hi'))
 
 -- whether the entry is among these
 abbrev pub has_entry : List Entry → Entry → Bool

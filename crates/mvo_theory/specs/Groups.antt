@@ -50,7 +50,8 @@ mark_by low prev taken (c ∷ cs) = last_of prev taken
 pub record IsNextGroup (fits : Limits) (s : State) (g : Group) : Type 0 where
   pub prev : g.prev ≡ s.marks.closed
   pub longest : IsLongest fits (due s) g.commits
-  pub mark : g.mark ≡ mark_by (low_water s) s.marks.closed g.commits (drop (length g.commits) (due s))
+  pub mark : g.mark
+      ≡ mark_by (low_water s) s.marks.closed g.commits (drop (length g.commits) (due s))
 
 -- the group is closed for good: it has the commits with a net write above its prev and at most its
 -- mark, and no other will end there

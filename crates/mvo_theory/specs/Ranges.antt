@@ -43,10 +43,12 @@ abbrev pub changed_by : Option Write → Map → List Row
 changed_by None m = []
 changed_by (Some w) m = row_of w.0 (map.get m w.0) ++ row_of w.0 (content_after w.1)
 
--- the footprint of operations on these rows: the rows that their writing answers end and put, in order, each on the rows that those before it leave
+-- the footprint of operations on these rows: the rows that their writing answers end and put, in
+-- order, each on the rows that those before it leave
 abbrev pub footprint_of : History → Map → List Row
 footprint_of [] m = []
-footprint_of (t ∷ ts) m = changed_by (write_of t.0 t.1) m ++ footprint_of ts (after_write (write_of t.0 t.1) m)
+footprint_of (t ∷ ts) m =
+    changed_by (write_of t.0 t.1) m ++ footprint_of ts (after_write (write_of t.0 t.1) m)
 
 abbrev pub put_by : Option Write → List Row
 put_by None = []

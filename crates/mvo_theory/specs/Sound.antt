@@ -19,25 +19,32 @@ IsWritten k b (x ∷ xs) = (is_writer k b x ≡ true) ⊎ IsWritten k b xs
 -- the key's last writer below the begin is settled, or is depended on
 abbrev pub IsDecided : RowKey → ℕ → List ℕ → List StampedTx → Type 0
 IsDecided k b ds [] = ⊤
-IsDecided k b ds (x ∷ xs) = (x.settled ≡ false → is_writer k b x ≡ true → (has_end ds x.end ≡ true) ⊎ IsWritten k b xs) × IsDecided k b ds xs
+IsDecided k b ds (x ∷ xs) =
+    (x.settled ≡ false → is_writer k b x ≡ true → (has_end ds x.end ≡ true) ⊎ IsWritten k b xs)
+    × IsDecided k b ds xs
 
 -- that of each key that counts for the entry
 abbrev pub IsDecidedOn : Entry → ℕ → List ℕ → Map → List StampedTx → Type 0
-IsDecidedOn e b ds base stamped = (q : RowKey) → counts_for e q b base stamped ≡ true → IsDecided q b ds stamped
+IsDecidedOn e b ds base stamped =
+    (q : RowKey) → counts_for e q b base stamped ≡ true → IsDecided q b ds stamped
 
--- whether the transaction changes the entry: it has a writing answer on the key, or one that put or ended a row in the range
+-- whether the transaction changes the entry: it has a writing answer on the key, or one that put or
+-- ended a row in the range
 abbrev pub changes : Entry → StampedTx → Bool
 changes (Key k) u = is_some (net_write k u.history)
 changes (Range table lo hi) u = list_any (shows (Range table lo hi)) u.footprint
 
 -- no other has changed the entry between the begin and the end
 abbrev pub IsUnchanged : List StampedTx → ℕ → ℕ → Entry → Type 0
-IsUnchanged stamped begin end' e = AllByRecursion (λ u. begin < u.end → u.end < end' → changes e u ≡ false) stamped
+IsUnchanged stamped begin end' e =
+    AllByRecursion (λ u. begin < u.end → u.end < end' → changes e u ≡ false) stamped
 
--- the transaction leaves the entry alone. A doomed one may have ended a row that was never committed
+-- the transaction leaves the entry alone. One that is flagged may have ended a row that was never
+-- committed
 abbrev pub LeavesAlone : StampedTx → Entry → Type 0
 LeavesAlone x (Key k) = net_write k x.history ≡ None
-LeavesAlone x (Range table lo hi) = x.aborted_dependency ≡ None → changes (Range table lo hi) x ≡ false
+LeavesAlone x (Range table lo hi) =
+    x.aborted_dependency ≡ None → changes (Range table lo hi) x ≡ false
 
 -- it leaves alone where these operations look
 abbrev pub IsApart : StampedTx → History → Type 0
@@ -46,31 +53,41 @@ IsApart x ts = AllByRecursion (λ o. LeavesAlone x (entry_of o.0)) ts
 -- no settled one has looked where an earlier one that isn't settled wrote
 abbrev pub IsClear : List StampedTx → Type 0
 IsClear [] = ⊤
-IsClear (x ∷ xs) = (x.settled ≡ false → AllByRecursion (λ u. u.settled ≡ true → IsApart x u.history) xs) × IsClear xs
+IsClear (x ∷ xs) =
+    (x.settled ≡ false → AllByRecursion (λ u. u.settled ≡ true → IsApart x u.history) xs)
+    × IsClear xs
 
 abbrev pub IsRising : List StampedTx → Type 0
 IsRising [] = ⊤
 IsRising (x ∷ xs) = AllByRecursion (λ y. x.end < y.end) xs × IsRising xs
 
--- the settled ones, one after another from these rows: each was told what the serial steps answer, and put and ended the rows of its footprint
+-- the settled ones, one after another from these rows: the answers of each are those of the serial
+-- steps, and it put and ended the rows of its footprint
 abbrev pub IsLegal : Map → List StampedTx → Type 0
 IsLegal m [] = ⊤
-IsLegal m (x ∷ xs) = (x.settled ≡ true → AreSerial x.history m × (footprint_of x.history m ≡ x.footprint)) × IsLegal (after_history (cond x.settled x.history []) m) xs
+IsLegal m (x ∷ xs) =
+    (x.settled ≡ true → AreSerial x.history m × (footprint_of x.history m ≡ x.footprint))
+    × IsLegal (after_history (cond x.settled x.history []) m) xs
 
--- an unfinished transaction that isn't doomed: its answers are those on what it sees, and who decides each is settled or depended on
-pub record IsConsistent (base : Map) (stamped : List StampedTx) (id : ℕ) (history : History) (footprint : List Row) (depends_on : List ℕ) : Type 0 where
+-- an unfinished transaction that isn't flagged: its answers are those on what it sees, and who
+-- decides each is settled or depended on
+pub record IsConsistent (base : Map) (stamped : List StampedTx) (id : ℕ) (history : History)
+    (footprint : List Row) (depends_on : List ℕ) : Type 0 where
   pub serial : AreSerial history (seen_by base stamped id)
   pub decided : AllByRecursion (λ o. IsDecidedOn (entry_of o.0) id depends_on base stamped) history
   pub prints : footprint_of history (seen_by base stamped id) ≡ footprint
 
-pub record IsActive (base : Map) (stamped : List StampedTx) (clock : ℕ) (r : ActiveTx) : Type 0 where
-  pub consistent : r.aborted_dependency ≡ None → IsConsistent base stamped r.id r.history r.footprint r.depends_on
+pub record IsActive (base : Map) (stamped : List StampedTx) (clock : ℕ)
+    (r : ActiveTx) : Type 0 where
+  pub consistent : r.aborted_dependency ≡ None
+      → IsConsistent base stamped r.id r.history r.footprint r.depends_on
   pub below : AllByRecursion (λ d. d < r.id) r.depends_on
   pub others : AllByRecursion (λ x. x.end ≢ r.id) stamped
   pub drawn : r.id ≤ clock
 
 pub record IsPreparing (base : Map) (stamped : List StampedTx) (x : StampedTx) : Type 0 where
-  pub consistent : x.aborted_dependency ≡ None → IsConsistent base stamped x.id x.history x.footprint x.depends_on
+  pub consistent : x.aborted_dependency ≡ None
+      → IsConsistent base stamped x.id x.history x.footprint x.depends_on
   pub below : AllByRecursion (λ d. d < x.id) x.depends_on
   pub checked : AllByRecursion (IsUnchanged stamped x.id x.end) (take x.checked (entries x.history))
   pub valid : x.valid ≡ true → AllByRecursion (IsUnchanged stamped x.id x.end) (entries x.history)
@@ -103,7 +120,7 @@ pub record IsPast (start : ℕ) (x : StampedTx) : Type 0 where
   pub begun : x.id < x.end
   pub until : x.end ≤ start
 
--- up to the start all are settled, and those with an end above it are in the end order
+-- up to the start all are settled, and those that are stamped end above it
 pub record IsStarted (s : State) : Type 0 where
   pub past : AllByRecursion (IsPast s.start) s.past
   pub rising : IsRising s.past
@@ -120,9 +137,13 @@ how_many p (x ∷ xs) = cond (p x) 1 0 + how_many p xs
 
 -- an unfinished transaction stands at one place
 pub record IsSingle (s : State) : Type 0 where
-  pub once : (t : ℕ) → how_many (is_active_as t) s.active + (how_many (is_preparing_as t) s.stamped + how_many (is_ended_as t) s.ended) ≤ 1
+  pub once : (t : ℕ)
+      → how_many (is_active_as t) s.active
+      + (how_many (is_preparing_as t) s.stamped + how_many (is_ended_as t) s.ended) ≤ 1
   pub drawn : AllByRecursion (λ u. u.id ≤ s.clock) s.ended
 
 -- no two transactions claim one version
 abbrev pub AreExclusive : State → Type 0
-AreExclusive s = (k : RowKey) (n : ℕ) → how_many (λ (r : ActiveTx). has_claim r.claims k n) s.active + how_many (λ (x : StampedTx). has_claim x.claims k n) s.stamped ≤ 1
+AreExclusive s = (k : RowKey) (n : ℕ)
+    → how_many (λ (r : ActiveTx). has_claim r.claims k n) s.active
+    + how_many (λ (x : StampedTx). has_claim x.claims k n) s.stamped ≤ 1

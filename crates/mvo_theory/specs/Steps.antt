@@ -30,7 +30,8 @@ is_valid_now s t = is_valid_at (preparing_of t s.stamped)
 
 abbrev pub after_validate_of : State → Option StampedTx → State
 after_validate_of s None = s
-after_validate_of s (Some x) = if x.valid then s else after_check s x.end (nat_le (length (entries x.history)) (x.checked + 1))
+after_validate_of s (Some x) =
+    if x.valid then s else after_check s x.end (nat_le (length (entries x.history)) (x.checked + 1))
 
 -- the next entry is checked, unless all were
 abbrev pub after_validate : State → ℕ → State
