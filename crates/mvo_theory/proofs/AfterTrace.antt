@@ -1,4 +1,4 @@
--- Each step leaves a state that stands for one step more.
+-- Each step leaves a state after one step more.
 use Rattle.std.proofs.Common.{◌≡◌, ◌≢◌, ℕ, ◌+◌, ◌<◌, ◌≤◌, Bool, true, false, cond, not, List, [], ◌∷◌, ◌++◌, Option, None, Some, map, refl, sym, ap, ◌∙◌, subst, arith, inl, inr, ◌⊎◌, append-nil, append_assoc}
 use Rattle.std.specs.Prelude.{◌==◌}
 use Rattle.std.specs.List.{AllByRecursion, filter}
@@ -18,14 +18,14 @@ use Rattle.mvo_theory.specs.Sound.{IsSound, IsNumbered, IsSingle, IsActive, IsRi
 use Rattle.mvo_theory.specs.AfterTrace.{IsAfterTrace, pairs}
 use Rattle.mvo_theory.proofs.Each.{each_weaker, each_both, each_append, each_back, each_map, each_filter}
 use Rattle.mvo_theory.proofs.Who.{active_holds, id_of}
-use Rattle.mvo_theory.proofs.Lines.{rising_both}
-use Rattle.mvo_theory.proofs.Calls.{split_at}
+use Rattle.mvo_theory.proofs.Stamped.{rising_both}
+use Rattle.mvo_theory.proofs.Commits.{split_at}
 use Rattle.mvo_theory.proofs.Settle.{rising_before, rising_after, map-both}
 use Rattle.mvo_theory.proofs.Tales.{pairs-append, pairs_others, committed_between}
 use Rattle.mvo_theory.proofs.Phases.{Leads, phases_push, leads_after_begin, leads_after_operation, leads_after_prepare, leads_after_check, leads_after_commit, IsUnended, leads_aborted, leads_after_termination}
 
--- a state that stands for the steps, but for where each transaction stands
-record SaysTold (opening : Map) (steps : List Step) (s : State) : Type 0 where
+-- a state after the steps, but for where each transaction stands
+record SaysHistory (opening : Map) (steps : List Step) (s : State) : Type 0 where
   pub base : s.base ≡ after_settled s.past opening
   pub legal : IsLegal opening s.past
   pub tale : committed_in steps ≡ pairs s.past ++ pairs s.stamped
@@ -41,7 +41,7 @@ still_history xs x t ts n e = history_of-push t xs x ∙ ap (λ us. history_of t
 still_committed : (xs : List Step) (x : Step) (cs : List (ℕ × ℕ)) → commit_of x ≡ [] → committed_in xs ≡ cs → committed_in (xs ++ x ∷ []) ≡ cs
 still_committed xs x cs n e = ap by_end (commits-push xs x ∙ ap (λ us. commits xs ++ us) n ∙ append-nil (commits xs)) ∙ e
 
-says_silent : (opening : Map) (xs : List Step) (x : Step) (s : State) → ((t : ℕ) → history_by x t ≡ []) → commit_of x ≡ [] → SaysTold opening xs s → SaysTold opening (xs ++ x ∷ []) s
+says_silent : (opening : Map) (xs : List Step) (x : Step) (s : State) → ((t : ℕ) → history_by x t ≡ []) → commit_of x ≡ [] → SaysHistory opening xs s → SaysHistory opening (xs ++ x ∷ []) s
 says_silent opening xs x s n m h = record {
   base = h.base;
   legal = h.legal;
@@ -53,7 +53,7 @@ says_silent opening xs x s n m h = record {
 }
 
 -- ---- begin
-says_after_begin : (opening : Map) (xs : List Step) (s : State) (t : ℕ) → s.clock < t → SaysTold opening xs s → SaysTold opening (xs ++ Begins t ∷ []) (after_begin s t)
+says_after_begin : (opening : Map) (xs : List Step) (s : State) (t : ℕ) → s.clock < t → SaysHistory opening xs s → SaysHistory opening (xs ++ Begins t ∷ []) (after_begin s t)
 says_after_begin opening xs s t lt h = says_silent opening xs (Begins t) (after_begin s t) (λ u. refl) refl (record {
   base = h.base;
   legal = h.legal;
@@ -75,7 +75,7 @@ history_same xs t op a r e = go (cases_eq r.id t)
     go (inl q) = history_of-push r.id xs (Answers t op a) ∙ ap (λ (b : Bool). history_of r.id xs ++ cond b ((op, a) ∷ []) []) (eq-eqb t r.id (sym q)) ∙ ap (λ ts. ts ++ (op, a) ∷ []) e ∙ sym (ap (λ (b : Bool). cond b (r.history ++ (op, a) ∷ []) r.history) (eq-eqb r.id t q))
     go (inr n) = history_other xs t op a r.id r.history n e ∙ sym (ap (λ (b : Bool). cond b (r.history ++ (op, a) ∷ []) r.history) (ne_eqb r.id t n))
 
-says_after_operation : (opening : Map) (xs : List Step) (s : State) (t : ℕ) (op : Op) (a : AnswerData) (mine : ActiveTx) → active_of t s.active ≡ Some mine → IsSound s → IsNumbered s → SaysTold opening xs s → SaysTold opening (xs ++ Answers t op a ∷ []) (after_operation s t op a)
+says_after_operation : (opening : Map) (xs : List Step) (s : State) (t : ℕ) (op : Op) (a : AnswerData) (mine : ActiveTx) → active_of t s.active ≡ Some mine → IsSound s → IsNumbered s → SaysHistory opening xs s → SaysHistory opening (xs ++ Answers t op a ∷ []) (after_operation s t op a)
 says_after_operation opening xs s t op a mine f k n h =
     let own = active_holds (λ r. AllByRecursion (λ x. x.id ≢ r.id) s.stamped) t s.active mine f n.apart in
     let apart : AllByRecursion (λ x. x.id ≢ t) s.stamped = subst (λ (m : ℕ). AllByRecursion (λ x. x.id ≢ m) s.stamped) own.1 own.0 in
@@ -95,10 +95,10 @@ says_after_operation opening xs s t op a mine f k n h =
     }
 
 -- ---- precommit
-says_after_prepare : (opening : Map) (xs : List Step) (s : State) (t : ℕ) (mine : ActiveTx) → active_of t s.active ≡ Some mine → SaysTold opening xs s → SaysTold opening (xs ++ Prepares t (s.clock + 1) ∷ []) (after_precommit s t)
+says_after_prepare : (opening : Map) (xs : List Step) (s : State) (t : ℕ) (mine : ActiveTx) → active_of t s.active ≡ Some mine → SaysHistory opening xs s → SaysHistory opening (xs ++ Prepares t (s.clock + 1) ∷ []) (after_precommit s t)
 says_after_prepare opening xs s t mine f h =
     let e = s.clock + 1 in
-    subst (SaysTold opening (xs ++ Prepares t e ∷ [])) (sym (ap (after_precommit_of s) f))
+    subst (SaysHistory opening (xs ++ Prepares t e ∷ [])) (sym (ap (after_precommit_of s) f))
     (says_silent opening xs (Prepares t e) (after_prepare s mine e) (λ u. refl) refl (record {
       base = h.base;
       legal = h.legal;
@@ -118,7 +118,7 @@ pairs-checked : (e : ℕ) (v : Bool) (xs : List StampedTx) → pairs (map (with_
 pairs-checked e v [] = refl
 pairs-checked e v (x ∷ xs) = ap (λ (ps : List (ℕ × ℕ)). cond x.settled ((x.end, x.id) ∷ ps) ps) (pairs-checked e v xs)
 
-says_check : (opening : Map) (xs : List Step) (s : State) (e : ℕ) (v : Bool) → SaysTold opening xs s → SaysTold opening xs (after_check s e v)
+says_check : (opening : Map) (xs : List Step) (s : State) (e : ℕ) (v : Bool) → SaysHistory opening xs s → SaysHistory opening xs (after_check s e v)
 says_check opening xs s e v h = record {
   base = h.base;
   legal = h.legal;
@@ -129,14 +129,14 @@ says_check opening xs s e v h = record {
   fresh = h.fresh;
 }
 
-says_after_check : (opening : Map) (xs : List Step) (s : State) (t : ℕ) → SaysTold opening xs s → SaysTold opening (xs ++ Checks t ∷ []) (after_validate s t)
+says_after_check : (opening : Map) (xs : List Step) (s : State) (t : ℕ) → SaysHistory opening xs s → SaysHistory opening (xs ++ Checks t ∷ []) (after_validate s t)
 says_after_check opening xs s t h = says_silent opening xs (Checks t) (after_validate s t) (λ u. refl) refl (go (preparing_of t s.stamped))
   where
-    now_valid : (x : StampedTx) (v b : Bool) → SaysTold opening xs (cond b s (after_check s x.end v))
+    now_valid : (x : StampedTx) (v b : Bool) → SaysHistory opening xs (cond b s (after_check s x.end v))
     now_valid x v true = h
     now_valid x v false = says_check opening xs s x.end v h
 
-    go : (w : Option StampedTx) → SaysTold opening xs (after_validate_of s w)
+    go : (w : Option StampedTx) → SaysHistory opening xs (after_validate_of s w)
     go None = h
     go (Some x) = now_valid x _ x.valid
 
@@ -155,7 +155,7 @@ tale_commit xs past before after x r o n h =
     ∙ pairs-append (map (with_settled x.end) past) (map (with_settled x.end) (before ++ x ∷ after))
     ∙ ap (λ ps. ps ++ pairs (map (with_settled x.end) (before ++ x ∷ after))) (pairs_others x.end past n)
 
-says_commit : (opening : Map) (xs : List Step) (s : State) (before after : List StampedTx) (x : StampedTx) → s.stamped ≡ before ++ x ∷ after → x.settled ≡ false → IsSound s → IsStarted s → SaysTold opening xs s → SaysTold opening (xs ++ Commits x.id x.end ∷ []) (after_commit s x.id x.end)
+says_commit : (opening : Map) (xs : List Step) (s : State) (before after : List StampedTx) (x : StampedTx) → s.stamped ≡ before ++ x ∷ after → x.settled ≡ false → IsSound s → IsStarted s → SaysHistory opening xs s → SaysHistory opening (xs ++ Commits x.id x.end ∷ []) (after_commit s x.id x.end)
 says_commit opening xs s before after x e o k p h =
     let all : IsRising (s.past ++ (before ++ x ∷ after)) = subst (λ (l : List StampedTx). IsRising (s.past ++ l)) e (rising_all s k p) in
     let here = (each_back (λ y. s.start < y.end) before (x ∷ after) (subst (AllByRecursion (λ y. s.start < y.end)) e p.later)).0 in
@@ -169,14 +169,14 @@ says_commit opening xs s before after x e o k p h =
       fresh = λ t lt. still_history xs (Commits x.id x.end) t [] refl (h.fresh t lt);
     }
 
-says_after_commit : (opening : Map) (xs : List Step) (s : State) (t : ℕ) (x : StampedTx) → preparing_of t s.stamped ≡ Some x → IsSound s → IsStarted s → SaysTold opening xs s → SaysTold opening (xs ++ Commits t x.end ∷ []) (after_commit_now s t)
+says_after_commit : (opening : Map) (xs : List Step) (s : State) (t : ℕ) (x : StampedTx) → preparing_of t s.stamped ≡ Some x → IsSound s → IsStarted s → SaysHistory opening xs s → SaysHistory opening (xs ++ Commits t x.end ∷ []) (after_commit_now s t)
 says_after_commit opening xs s t x f k st h =
     let p = split_at t s.stamped x f in
-    subst (SaysTold opening (xs ++ Commits t x.end ∷ [])) (sym (ap (after_commit_of s t) f))
-    (subst (λ (n : ℕ). SaysTold opening (xs ++ Commits n x.end ∷ []) (after_commit s n x.end)) p.3 (says_commit opening xs s p.0 p.1 x p.2 p.4 k st h))
+    subst (SaysHistory opening (xs ++ Commits t x.end ∷ [])) (sym (ap (after_commit_of s t) f))
+    (subst (λ (n : ℕ). SaysHistory opening (xs ++ Commits n x.end ∷ []) (after_commit s n x.end)) p.3 (says_commit opening xs s p.0 p.1 x p.2 p.4 k st h))
 
 -- ---- an abort, and leaving
-says_after_abort_of_active : (opening : Map) (xs : List Step) (s : State) (t : ℕ) → SaysTold opening xs s → SaysTold opening xs (after_abort_of_active s t)
+says_after_abort_of_active : (opening : Map) (xs : List Step) (s : State) (t : ℕ) → SaysHistory opening xs s → SaysHistory opening xs (after_abort_of_active s t)
 says_after_abort_of_active opening xs s t h = record {
   base = h.base;
   legal = h.legal;
@@ -195,7 +195,7 @@ pairs-after_abort_of_preparing t e (x ∷ xs) h = go (x.end == e) refl (pairs-af
     go true f q = q ∙ sym (ap (λ (c : Bool). cond c ((x.end, x.id) ∷ pairs xs) (pairs xs)) (h.0 (eqb-true x.end e f)))
     go false f q = ap (λ (ps : List (ℕ × ℕ)). cond x.settled ((x.end, x.id) ∷ ps) ps) q
 
-says_after_abort_of_preparing : (opening : Map) (xs : List Step) (s : State) (t e : ℕ) → AllByRecursion (λ x. x.end ≡ e → x.settled ≡ false) s.stamped → SaysTold opening xs s → SaysTold opening xs (after_abort_of_preparing s t e)
+says_after_abort_of_preparing : (opening : Map) (xs : List Step) (s : State) (t e : ℕ) → AllByRecursion (λ x. x.end ≡ e → x.settled ≡ false) s.stamped → SaysHistory opening xs s → SaysHistory opening xs (after_abort_of_preparing s t e)
 says_after_abort_of_preparing opening xs s t e o h = record {
   base = h.base;
   legal = h.legal;
@@ -212,52 +212,52 @@ alone_open before after x o r = each_append (λ y. y.end ≡ x.end → y.settled
     (each_weaker (λ y. y.end < x.end) (λ y. y.end ≡ x.end → y.settled ≡ false) (λ y lt e. absurd (omega arith)) before (rising_before before after x r))
     (λ _. o, each_weaker (λ y. x.end < y.end) (λ y. y.end ≡ x.end → y.settled ≡ false) (λ y lt e. absurd (omega arith)) after (rising_after before after x r))
 
-says_aborted : (opening : Map) (xs : List Step) (s : State) (t : ℕ) → IsSound s → SaysTold opening xs s → SaysTold opening (xs ++ Aborts t ∷ []) (after_abort s t)
+says_aborted : (opening : Map) (xs : List Step) (s : State) (t : ℕ) → IsSound s → SaysHistory opening xs s → SaysHistory opening (xs ++ Aborts t ∷ []) (after_abort s t)
 says_aborted opening xs s t k h = says_silent opening xs (Aborts t) (after_abort s t) (λ u. refl) refl (go (preparing_of t s.stamped) refl)
   where
-    go : (w : Option StampedTx) → preparing_of t s.stamped ≡ w → SaysTold opening xs (after_abort_of s t w)
+    go : (w : Option StampedTx) → preparing_of t s.stamped ≡ w → SaysHistory opening xs (after_abort_of s t w)
     go None e = says_after_abort_of_active opening xs s t h
     go (Some x) e =
         let p = split_at t s.stamped x e in
         says_after_abort_of_preparing opening xs s t x.end (subst (AllByRecursion (λ y. y.end ≡ x.end → y.settled ≡ false)) (sym p.2) (alone_open p.0 p.1 x p.4 (subst IsRising p.2 k.rising))) h
 
-says_after_termination : (opening : Map) (xs : List Step) (s : State) (t : ℕ) → SaysTold opening xs s → SaysTold opening (xs ++ Terminates t ∷ []) (after_termination s t)
+says_after_termination : (opening : Map) (xs : List Step) (s : State) (t : ℕ) → SaysHistory opening xs s → SaysHistory opening (xs ++ Terminates t ∷ []) (after_termination s t)
 says_after_termination opening xs s t h = says_silent opening xs (Terminates t) (after_termination s t) (λ u. refl) refl (record { base = h.base; legal = h.legal; tale = h.tale; past = h.past; stamped = h.stamped; active = h.active; fresh = h.fresh })
 
 -- ---- with the phases
-says : (opening : Map) (xs : List Step) (s : State) → IsAfterTrace opening xs s → SaysTold opening xs s
+says : (opening : Map) (xs : List Step) (s : State) → IsAfterTrace opening xs s → SaysHistory opening xs s
 says opening xs s h = record { base = h.base; legal = h.legal; tale = h.tale; past = h.past; stamped = h.stamped; active = h.active; fresh = h.fresh }
 
-after_trace_by : (opening : Map) (xs : List Step) (x : Step) (s s' : State) → Leads x s s' → SaysTold opening (xs ++ x ∷ []) s' → IsAfterTrace opening xs s → IsAfterTrace opening (xs ++ x ∷ []) s'
+after_trace_by : (opening : Map) (xs : List Step) (x : Step) (s s' : State) → Leads x s s' → SaysHistory opening (xs ++ x ∷ []) s' → IsAfterTrace opening xs s → IsAfterTrace opening (xs ++ x ∷ []) s'
 after_trace_by opening xs x s s' l n h = record { base = n.base; legal = n.legal; tale = n.tale; past = n.past; stamped = n.stamped; active = n.active; fresh = n.fresh; phases = phases_push xs x s s' l h.phases }
 
-pub stands_opened : (opening : Map) (mark : ℕ) → IsAfterTrace opening [] (opened opening mark)
-stands_opened opening mark = record { base = refl; legal = tt; tale = refl; past = tt; stamped = tt; active = tt; fresh = λ t lt. refl; phases = λ t. refl }
+pub trace_opened : (opening : Map) (mark : ℕ) → IsAfterTrace opening [] (opened opening mark)
+trace_opened opening mark = record { base = refl; legal = tt; tale = refl; past = tt; stamped = tt; active = tt; fresh = λ t lt. refl; phases = λ t. refl }
 
-pub stands_after_begin : (opening : Map) (xs : List Step) (s : State) (t : ℕ) → s.clock < t → IsSound s → IsSingle s → IsAfterTrace opening xs s → IsAfterTrace opening (xs ++ Begins t ∷ []) (after_begin s t)
-stands_after_begin opening xs s t lt k n h = after_trace_by opening xs (Begins t) s (after_begin s t) (leads_after_begin s t lt k n) (says_after_begin opening xs s t lt (says opening xs s h)) h
+pub trace_after_begin : (opening : Map) (xs : List Step) (s : State) (t : ℕ) → s.clock < t → IsSound s → IsSingle s → IsAfterTrace opening xs s → IsAfterTrace opening (xs ++ Begins t ∷ []) (after_begin s t)
+trace_after_begin opening xs s t lt k n h = after_trace_by opening xs (Begins t) s (after_begin s t) (leads_after_begin s t lt k n) (says_after_begin opening xs s t lt (says opening xs s h)) h
 
-pub stands_after_operation : (opening : Map) (xs : List Step) (s : State) (t : ℕ) (op : Op) (a : AnswerData) (mine : ActiveTx) → active_of t s.active ≡ Some mine → IsSound s → IsNumbered s → IsAfterTrace opening xs s → IsAfterTrace opening (xs ++ Answers t op a ∷ []) (after_operation s t op a)
-stands_after_operation opening xs s t op a mine f k n h = after_trace_by opening xs (Answers t op a) s (after_operation s t op a) (leads_after_operation s t op a) (says_after_operation opening xs s t op a mine f k n (says opening xs s h)) h
+pub trace_after_operation : (opening : Map) (xs : List Step) (s : State) (t : ℕ) (op : Op) (a : AnswerData) (mine : ActiveTx) → active_of t s.active ≡ Some mine → IsSound s → IsNumbered s → IsAfterTrace opening xs s → IsAfterTrace opening (xs ++ Answers t op a ∷ []) (after_operation s t op a)
+trace_after_operation opening xs s t op a mine f k n h = after_trace_by opening xs (Answers t op a) s (after_operation s t op a) (leads_after_operation s t op a) (says_after_operation opening xs s t op a mine f k n (says opening xs s h)) h
 
-pub stands_after_prepare : (opening : Map) (xs : List Step) (s : State) (t : ℕ) (mine : ActiveTx) → active_of t s.active ≡ Some mine → IsSingle s → IsAfterTrace opening xs s → IsAfterTrace opening (xs ++ Prepares t (s.clock + 1) ∷ []) (after_precommit s t)
-stands_after_prepare opening xs s t mine f n h =
+pub trace_after_prepare : (opening : Map) (xs : List Step) (s : State) (t : ℕ) (mine : ActiveTx) → active_of t s.active ≡ Some mine → IsSingle s → IsAfterTrace opening xs s → IsAfterTrace opening (xs ++ Prepares t (s.clock + 1) ∷ []) (after_precommit s t)
+trace_after_prepare opening xs s t mine f n h =
     let e = s.clock + 1 in
     after_trace_by opening xs (Prepares t e) s (after_precommit s t)
     (subst (Leads (Prepares t e) s) (sym (ap (after_precommit_of s) f)) (leads_after_prepare s t mine e f (id_of t s.active mine f) n))
     (says_after_prepare opening xs s t mine f (says opening xs s h)) h
 
-pub stands_after_check : (opening : Map) (xs : List Step) (s : State) (t : ℕ) → IsAfterTrace opening xs s → IsAfterTrace opening (xs ++ Checks t ∷ []) (after_validate s t)
-stands_after_check opening xs s t h = after_trace_by opening xs (Checks t) s (after_validate s t) (leads_after_check s t) (says_after_check opening xs s t (says opening xs s h)) h
+pub trace_after_check : (opening : Map) (xs : List Step) (s : State) (t : ℕ) → IsAfterTrace opening xs s → IsAfterTrace opening (xs ++ Checks t ∷ []) (after_validate s t)
+trace_after_check opening xs s t h = after_trace_by opening xs (Checks t) s (after_validate s t) (leads_after_check s t) (says_after_check opening xs s t (says opening xs s h)) h
 
-pub stands_after_commit : (opening : Map) (xs : List Step) (s : State) (t : ℕ) (x : StampedTx) → preparing_of t s.stamped ≡ Some x → IsSound s → IsSingle s → IsStarted s → IsAfterTrace opening xs s → IsAfterTrace opening (xs ++ Commits t x.end ∷ []) (after_commit_now s t)
-stands_after_commit opening xs s t x f k n st h =
+pub trace_after_commit : (opening : Map) (xs : List Step) (s : State) (t : ℕ) (x : StampedTx) → preparing_of t s.stamped ≡ Some x → IsSound s → IsSingle s → IsStarted s → IsAfterTrace opening xs s → IsAfterTrace opening (xs ++ Commits t x.end ∷ []) (after_commit_now s t)
+trace_after_commit opening xs s t x f k n st h =
     after_trace_by opening xs (Commits t x.end) s (after_commit_now s t)
     (subst (Leads (Commits t x.end) s) (sym (ap (after_commit_of s t) f)) (leads_after_commit s t x f k n))
     (says_after_commit opening xs s t x f k st (says opening xs s h)) h
 
-pub stands_aborted : (opening : Map) (xs : List Step) (s : State) (t : ℕ) → IsUnended s t → IsSound s → IsSingle s → IsAfterTrace opening xs s → IsAfterTrace opening (xs ++ Aborts t ∷ []) (after_abort s t)
-stands_aborted opening xs s t a k n h = after_trace_by opening xs (Aborts t) s (after_abort s t) (leads_aborted s t a k n) (says_aborted opening xs s t k (says opening xs s h)) h
+pub trace_aborted : (opening : Map) (xs : List Step) (s : State) (t : ℕ) → IsUnended s t → IsSound s → IsSingle s → IsAfterTrace opening xs s → IsAfterTrace opening (xs ++ Aborts t ∷ []) (after_abort s t)
+trace_aborted opening xs s t a k n h = after_trace_by opening xs (Aborts t) s (after_abort s t) (leads_aborted s t a k n) (says_aborted opening xs s t k (says opening xs s h)) h
 
-pub stands_after_termination : (opening : Map) (xs : List Step) (s : State) (t : ℕ) → is_ended_in s t ≡ true → IsSingle s → IsAfterTrace opening xs s → IsAfterTrace opening (xs ++ Terminates t ∷ []) (after_termination s t)
-stands_after_termination opening xs s t o n h = after_trace_by opening xs (Terminates t) s (after_termination s t) (leads_after_termination s t o n) (says_after_termination opening xs s t (says opening xs s h)) h
+pub trace_after_termination : (opening : Map) (xs : List Step) (s : State) (t : ℕ) → is_ended_in s t ≡ true → IsSingle s → IsAfterTrace opening xs s → IsAfterTrace opening (xs ++ Terminates t ∷ []) (after_termination s t)
+trace_after_termination opening xs s t o n h = after_trace_by opening xs (Terminates t) s (after_termination s t) (leads_after_termination s t o n) (says_after_termination opening xs s t (says opening xs s h)) h

@@ -12,7 +12,7 @@ use Rattle.mvo_theory.specs.Steps.{after_precommit_of, after_precommit, after_va
 use Rattle.mvo_theory.specs.Marks.{settled_to, IsClosedAt}
 use Rattle.mvo_theory.proofs.Each.{each_append, each_map, each_filter}
 
--- the same of the end order alone
+-- the same of the stamped ones alone
 abbrev pub EndsStay : State → State → Type 0
 EndsStay s s' = (m : ℕ) → IsClosedAt m s → IsClosedAt m s' × (settled_to m s'.stamped ≡ settled_to m s.stamped)
 

@@ -73,7 +73,7 @@ free_key k b ds (x ∷ xs) d c n = here (free_key k b ds xs d.1 c.1 n.1)
         ]
 
 -- ---- at the begin
--- what the settled ones that end below e were told
+-- the histories of the settled ones that end below e
 abbrev pub settled_below : ℕ → List StampedTx → History
 settled_below e xs = history_by_some (λ x. x.settled && nat_lt x.end e) xs
 

@@ -18,7 +18,7 @@ use Rattle.mvo_theory.specs.Steps.{after_precommit_of, after_precommit, after_va
 use Rattle.mvo_theory.specs.Calls.{Call, Result, Run, answer_in, after_accepted, after_refused, after_call, steps_of, MayCome, MayRun, after_run, group_of, groups_of, IsKept}
 use Rattle.mvo_theory.specs.Calls.Call.{Begin, Do, Precommit, Validate, Settle, Rollback, Finish, Trim, Close}
 use Rattle.mvo_theory.specs.Calls.Result.{Accepted, Refused}
-use Rattle.mvo_theory.proofs.Called.{kept_opened, kept_after_call}
+use Rattle.mvo_theory.proofs.Runs.{kept_opened, kept_after_call}
 use Rattle.mvo_theory.proofs.Stays.{stays_after_call}
 use Rattle.mvo_theory.proofs.Groups.{next_group_closes}
 

@@ -26,7 +26,7 @@ use Rattle.mvo_theory.specs.Claimed.{IsClaimed, is_ended_first, HasClaims, AreCl
 use Rattle.mvo_theory.proofs.Each.{each_weaker, each_both, each_append, each_map, each_filter}
 use Rattle.mvo_theory.proofs.Footprints.{or_left, any_left, any_right, key_same}
 use Rattle.mvo_theory.proofs.Looks.{key_is}
-use Rattle.mvo_theory.proofs.Lines.{each_part}
+use Rattle.mvo_theory.proofs.Stamped.{each_part}
 use Rattle.mvo_theory.proofs.Claimed.{claimed_later, has_later, origin_in_trace}
 
 none_key : (k : RowKey) → ◌≡◌ {A = Option RowKey} None (Some k) → ⊥

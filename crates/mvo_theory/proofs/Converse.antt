@@ -54,7 +54,7 @@ later_second : (a b : Option Effect) → is_some b ≡ true → is_some (later a
 later_second None b e = e
 later_second (Some h) b e = refl
 
--- the answer counts among what u was told
+-- the answer counts in the history of u
 history_here : (k : RowKey) (u : ℕ) (op : Op) (a : AnswerData) (rest : List Step) → ended_key op a ≡ Some k → is_some (net_write k (history_of u (Answers u op a ∷ rest))) ≡ true
 history_here k u op a rest e =
     ap (λ (b : Bool). is_some (net_write k (cond b ((op, a) ∷ []) [] ++ history_of u rest))) (eq-eqb u u refl)

@@ -1,4 +1,4 @@
--- The keys that count for an entry, as the end order changes.
+-- The keys that count for an entry, as the stamped ones change.
 use Rattle.std.proofs.Common.{◌≡◌, ℕ, ◌≤◌, Bool, true, false, cond, ◌||◌, List, [], ◌∷◌, ◌++◌, Option, None, Some, map, refl, sym, ap, ◌∙◌, subst, arith, append_assoc}
 use Rattle.std.specs.Prelude.{nat_lt, ◌&&◌, is_some}
 use Rattle.std.specs.List.{filter, list_any}
@@ -16,7 +16,7 @@ use Rattle.mvo_theory.specs.Dependencies.{is_put_below, counts_for, keys_for}
 use Rattle.mvo_theory.proofs.Each.{each_append}
 use Rattle.mvo_theory.proofs.Looks.{key_is, pass_other}
 use Rattle.mvo_theory.proofs.Footprints.{or_parts, or_left, or_right, any_left, any_right, key_same, NoneOf, no_put}
-use Rattle.mvo_theory.proofs.Lines.{IsLike}
+use Rattle.mvo_theory.proofs.Stamped.{IsLike}
 use Rattle.mvo_theory.specs.Entries.Entry.{Key, Range}
 
 -- ---- a key that counts is among those that are asked for
@@ -83,7 +83,7 @@ none_put p q (s ∷ ss) h =
     let parts = or_parts (is_row_of p q s) (list_any (is_row_of p q) ss) h in
     (λ e. and_false (eq_by_cmp key_cmp q s.0) (p s) parts.0 (subst (λ (k : RowKey). eq_by_cmp key_cmp q k ≡ true) (sym e) (key_is q)), none_put p q ss parts.1)
 
--- what some of those below the begin were told
+-- the histories of some of those below the begin
 abbrev pub history_by_some : (StampedTx → Bool) → List StampedTx → History
 history_by_some some [] = []
 history_by_some some (x ∷ xs) = cond (some x) x.history [] ++ history_by_some some xs

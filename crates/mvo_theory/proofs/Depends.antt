@@ -20,7 +20,7 @@ use Rattle.mvo_theory.specs.Sound.{IsDecided, IsDecidedOn, IsConsistent}
 use Rattle.mvo_theory.proofs.Each.{each_weaker}
 use Rattle.mvo_theory.proofs.Looks.{write_entry, serial_agrees, footprint_agrees}
 use Rattle.mvo_theory.proofs.Footprints.{or_left, or_right, key_same, none_unless}
-use Rattle.mvo_theory.proofs.Lines.{decided_now, has_rest, decided_more, history_below-last, decided_last, IsLike, history_below-map, decided_map, IsOut, decided_filter, seen_filter}
+use Rattle.mvo_theory.proofs.Stamped.{decided_now, has_rest, decided_more, history_below-last, decided_last, IsLike, history_below-map, decided_map, IsOut, decided_filter, seen_filter}
 use Rattle.mvo_theory.proofs.Counts.{counted_noted, uncounted_seen, counts_filter, counts_map, counts_last}
 use Rattle.mvo_theory.specs.Entries.Entry.{Key}
 
@@ -114,7 +114,7 @@ pub below_all : (b : ℕ) (ds : List ℕ) (ks : List RowKey) (stamped : List Sta
 below_all b ds [] stamped h = h
 below_all b ds (k ∷ ks) stamped h = below_all b (depend_on ds (last_writer k b stamped)) ks stamped (below_one b ds (last_writer k b stamped) (below_last k b stamped) h)
 
--- ---- as the end order changes
+-- ---- as the stamped ones change
 entry_filter : (keep : StampedTx → Bool) (e : Entry) (b : ℕ) (ds : List ℕ) (base : Map) (stamped : List StampedTx) → AllByRecursion (IsOut keep ds) stamped → IsDecidedOn e b ds base stamped → AgreeOn e (seen_by base stamped b) (seen_by base (filter keep stamped) b)
 entry_filter keep e b ds base stamped o d q = go (counts_for e q b base stamped) refl
   where

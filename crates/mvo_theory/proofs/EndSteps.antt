@@ -16,7 +16,7 @@ use Rattle.mvo_theory.specs.Sound.{IsActive, IsPlaced, IsSound, IsPast, IsStarte
 use Rattle.mvo_theory.specs.Traced.{is_abort_of}
 use Rattle.mvo_theory.specs.Snapshots.{prepare_of, prepares, is_aborted, ended_in, ends, HasEnds}
 use Rattle.mvo_theory.proofs.Each.{each_weaker, each_both, each_append, each_map, each_filter}
-use Rattle.mvo_theory.proofs.Lines.{each_part}
+use Rattle.mvo_theory.proofs.Stamped.{each_part}
 use Rattle.mvo_theory.proofs.Apart.{IsIn}
 use Rattle.mvo_theory.proofs.Trim.{timeline_trimmed}
 use Rattle.mvo_theory.proofs.Traced.{ends_differ}
@@ -66,7 +66,7 @@ ends_each : (P : ℕ × ℕ → Type 0) (xs : List StampedTx) → AllByRecursion
 ends_each P [] h = tt
 ends_each P (x ∷ xs) h = (h.0, ends_each P xs h.1)
 
--- what is said of ends and ids, of other slots with the same
+-- what is said of ends and ids, of other stamped ones with the same
 ends_move : (P : ℕ × ℕ → Type 0) (xs ys : List StampedTx) → ends ys ≡ ends xs → AllByRecursion (λ x. P (x.end, x.id)) xs → AllByRecursion (λ x. P (x.end, x.id)) ys
 ends_move P xs ys e h = ends_each P ys (subst (AllByRecursion P) (sym e) (each_ends P xs h))
 

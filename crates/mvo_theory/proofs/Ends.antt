@@ -1,4 +1,4 @@
--- Each step keeps what a core keeps: a settlement anywhere in the end order, and an abort.
+-- Each step keeps what a core keeps: a settlement anywhere among the stamped ones, and an abort.
 use Rattle.std.proofs.Common.{take, ◌≡◌, ◌≢◌, ◌||◌, ℕ, ◌<◌, Bool, true, false, cond, not, List, [], ◌∷◌, ◌++◌, Option, None, Some, map, refl, sym, ap, ◌∙◌, arith}
 use Rattle.std.specs.Prelude.{◌==◌}
 use Rattle.std.specs.List.{AllByRecursion, filter}
@@ -13,7 +13,7 @@ use Rattle.mvo_theory.specs.Changes.{after_commit, with_settled, aborted_depende
 use Rattle.mvo_theory.specs.Sound.{changes, IsUnchanged, LeavesAlone, IsApart, IsClear, IsRising, IsLegal, IsConsistent, IsActive, IsPreparing, IsPlaced, IsSound}
 use Rattle.mvo_theory.proofs.Each.{each_weaker, each_append, each_back, each_map, each_filter}
 use Rattle.mvo_theory.proofs.Looks.{serial_agrees, footprint_agrees}
-use Rattle.mvo_theory.proofs.Lines.{legal_filter, clear_filter, rising_filter, IsLike, rising_map, unchanged_map, IsOut, each_part}
+use Rattle.mvo_theory.proofs.Stamped.{legal_filter, clear_filter, rising_filter, IsLike, rising_map, unchanged_map, IsOut, each_part}
 use Rattle.mvo_theory.proofs.Depends.{consistent_map, consistent_filter}
 use Rattle.mvo_theory.proofs.Between.{settled_below}
 use Rattle.mvo_theory.proofs.Apart.{IsFreeToSettle, apart_all}
@@ -85,7 +85,7 @@ sound_after_abort_of_active s t h = record {
 some_none : (n : ℕ) → ◌≡◌ {A = Option ℕ} (Some n) None → ⊥
 some_none n g = cc
 
--- what isn't doomed by this abort wasn't before, and doesn't depend on the aborted one
+-- what isn't flagged by this abort wasn't before, and doesn't depend on the aborted one
 spared : (t e : ℕ) (ds : List ℕ) (aborted_dependency : Option ℕ) → aborted_dependency_after t e ds aborted_dependency ≡ None → (aborted_dependency ≡ None) × (has_end ds e ≡ false)
 spared t e ds (Some u) h = absurd (some_none u h)
 spared t e ds None h = (refl, go (has_end ds e) h)

@@ -29,7 +29,7 @@ use Rattle.mvo_theory.proofs.Converse.{one_origin, one_claim}
 use Rattle.mvo_theory.proofs.AfterTrace.{rising_all}
 use Rattle.mvo_theory.proofs.TrimReplies.{old_claim}
 
--- ---- the first writing answer, among what it was told
+-- ---- the first writing answer, among its answers
 none_first : (a b : Option Effect) → is_some (later a b) ≡ false → is_some a ≡ false
 none_first None b h = refl
 none_first (Some x) b h = absurd (true≢false h)

@@ -14,7 +14,7 @@ use Rattle.mvo_theory.specs.Sound.{IsRising, IsSingle, how_many}
 use Rattle.mvo_theory.proofs.Each.{each_weaker}
 use Rattle.mvo_theory.proofs.Footprints.{none_unless}
 use Rattle.mvo_theory.proofs.Apart.{IsIn}
-use Rattle.mvo_theory.proofs.Calls.{split_at}
+use Rattle.mvo_theory.proofs.Commits.{split_at}
 use Rattle.mvo_theory.proofs.Finds.{find_none}
 use Rattle.mvo_theory.proofs.Single.{active_found, preparing_found}
 use Rattle.mvo_theory.specs.State.Outcome.{Committed, Aborted}
@@ -25,7 +25,7 @@ no_stamped z q = cc
 same_stamped : (v z : StampedTx) → ◌≡◌ {A = Option StampedTx} (Some v) (Some z) → v ≡ z
 same_stamped v z q = cc
 
--- ---- in the end order
+-- ---- among the stamped ones
 -- it is in the list, and writes the key
 pub last_is : (k : RowKey) (b : ℕ) (xs : List StampedTx) (x : StampedTx) → last_writer k b xs ≡ Some x → IsIn x xs
 last_is k b [] x e = absurd (no_stamped x e)
@@ -108,7 +108,7 @@ preparing_phase s x m o h = ap (λ (w : Option ActiveTx). phase_by w (preparing_
     none : active_of x.id s.active ≡ None
     none = active_found x.id s.active ∙ find_none (is_active_as x.id) s.active (let q = h.once x.id in let c = m (λ z. is_preparing_as x.id z ≡ true → 1 ≤ how_many (is_preparing_as x.id) s.stamped) (counted (is_preparing_as x.id) s.stamped) mine in omega arith)
 
--- who is Preparing in the trace is in the end order
+-- who is Preparing in the trace is among the stamped ones
 active_no : (n : ℕ) → ◌≡◌ {A = Phase} Active (Preparing n) → ⊥
 active_no n e = cc
 

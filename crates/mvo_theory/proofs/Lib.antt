@@ -2,7 +2,7 @@ pub mod Each
 pub mod Scans
 pub mod Looks
 pub mod Footprints
-pub mod Lines
+pub mod Stamped
 pub mod Counts
 pub mod Depends
 pub mod Between
@@ -12,7 +12,7 @@ pub mod Sound
 pub mod Ends
 pub mod Causes
 pub mod Cases
-pub mod Calls
+pub mod Commits
 pub mod Tales
 pub mod Numbered
 pub mod Finds
@@ -25,8 +25,8 @@ pub mod AfterTrace
 pub mod Started
 pub mod Trim
 pub mod Trimmed
-pub mod Worded
-pub mod Called
+pub mod Finishing
+pub mod Runs
 pub mod Exact
 pub mod Stays
 pub mod Groups
@@ -34,6 +34,7 @@ pub mod Chain
 pub mod Words
 pub mod Places
 pub mod Examples
+pub mod Worked
 pub mod LastWriter
 pub mod Deciding
 pub mod Traced

@@ -19,7 +19,7 @@ use Rattle.mvo_theory.specs.Calls.{IsKept}
 use Rattle.mvo_theory.proofs.Each.{each_weaker}
 use Rattle.mvo_theory.proofs.Apart.{IsIn}
 use Rattle.mvo_theory.proofs.Causes.{waiting_is}
-use Rattle.mvo_theory.proofs.Calls.{split_at}
+use Rattle.mvo_theory.proofs.Commits.{split_at}
 use Rattle.mvo_theory.proofs.LastWriter.{found_in, preparing_phase, counted}
 use Rattle.mvo_theory.proofs.Claims.{claims_it, claimed_it}
 use Rattle.mvo_theory.proofs.Traced.{has_it}

@@ -20,7 +20,7 @@ use Rattle.mvo_theory.specs.Sound.{IsSound, IsRising, IsSingle, how_many}
 use Rattle.mvo_theory.proofs.Each.{each_weaker, each_append, each_always}
 use Rattle.mvo_theory.proofs.Finds.{find_none, find_push_own, find_holds, at_most, find_push_other, find_map, find_filter, count_map, count_filter_out}
 use Rattle.mvo_theory.proofs.Single.{active_found, preparing_found, active_alone, preparing_alone, fresh_alone, fewer_settled, fewer_after_abort_of_preparing}
-use Rattle.mvo_theory.proofs.Calls.{split_at}
+use Rattle.mvo_theory.proofs.Commits.{split_at}
 use Rattle.mvo_theory.proofs.Settle.{rising_before, rising_after}
 
 -- ---- where each stands after one step more
@@ -177,7 +177,7 @@ leads_after_abort_of_active s t r f is h =
       others = λ u n. stays s (after_abort_of_active s t) u (gone_active t u t s.active refl n) refl (find_push_other (is_ended_as u) s.ended (aborted_tx t (words_now s t)) (ne_eqb t u n));
     }
 
--- the doomed_by of another changes no phase
+-- a flag changes no phase
 pub leads_after_abort_of_preparing : (s : State) (t : ℕ) (x : StampedTx) → preparing_of t s.stamped ≡ Some x → IsSound s → IsSingle s → Leads (Aborts t) s (after_abort_of_preparing s t x.end)
 leads_after_abort_of_preparing s t x f k h =
     let alone = preparing_alone s t x f h in

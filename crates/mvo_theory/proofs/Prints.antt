@@ -16,7 +16,7 @@ use Rattle.mvo_theory.specs.Changes.{new_active, after_begin, after_operation, w
 use Rattle.mvo_theory.specs.Sound.{changes}
 use Rattle.mvo_theory.specs.Snapshots.{snapshot_of, changed_in, footprint_since, footprint_in, HasFootprints}
 use Rattle.mvo_theory.proofs.Each.{each_weaker, each_both, each_append, each_map}
-use Rattle.mvo_theory.proofs.Lines.{each_part}
+use Rattle.mvo_theory.proofs.Stamped.{each_part}
 
 since-push : (opening : Map) (before xs : List Step) (x : Step) (u : ℕ) → footprint_since opening before (xs ++ x ∷ []) u ≡ footprint_since opening before xs u ++ changed_in opening (before ++ xs) x u
 since-push opening before [] x u = append-nil (changed_in opening before x u) ∙ ap (λ b. changed_in opening b x u) (sym (append-nil before))

@@ -15,12 +15,12 @@ use Rattle.mvo_theory.specs.Calls.{answer_in, IsKept}
 use Rattle.mvo_theory.proofs.Who.{active_holds, active_done}
 use Rattle.mvo_theory.proofs.Each.{each_weaker, each_both, each_append}
 use Rattle.mvo_theory.proofs.Trim.{seen_front}
-use Rattle.mvo_theory.proofs.Lines.{history_below-append}
+use Rattle.mvo_theory.proofs.Stamped.{history_below-append}
 use Rattle.mvo_theory.proofs.Apart.{each_in}
 use Rattle.mvo_types.specs.declared.op.Op.{Op}
 use Rattle.mvo_model.specs.Serial.{answer_to}
 
--- ---- what a running transaction was told
+-- ---- the history of an Active transaction
 pub history_is : (t : ℕ) (rs : List ActiveTx) → AreDistinct rs → AllByRecursion (λ (r : ActiveTx). r.id ≡ t → history_of_active t rs ≡ r.history) rs
 history_is t [] d = tt
 history_is t (r ∷ rs) d = (
@@ -37,7 +37,7 @@ rows_of_ends b (x ∷ xs) steps m h = rows_of_ends b xs steps (cond (nat_lt x.en
     go true = ap (λ ts. after_history (history_below b xs) (after_history ts m)) h.0 ∙ sym (after_history-append x.history (history_below b xs) m)
     go false = refl
 
--- a running transaction sees what the trace says
+-- an Active transaction sees what the trace says
 pub snapshots_traced : (opening : Map) (steps : List Step) (s : State) → IsKept opening steps s → AllByRecursion (λ (r : ActiveTx). snapshot s r.id ≡ snapshot_of opening steps r.id) s.active
 snapshots_traced opening steps s h =
     each_both (λ r. history_of r.id steps ≡ r.history) (λ (r : ActiveTx). (s.start ≤ r.id) × (AllByRecursion (λ x. x.end ≢ r.id) s.past × (history_of_active r.id s.active ≡ r.history))) (λ (r : ActiveTx). snapshot s r.id ≡ snapshot_of opening steps r.id) one s.active h.after_trace.active
@@ -69,7 +69,7 @@ seen_traced opening steps s h = each_in (λ (r : ActiveTx). after_history r.hist
     ap (λ ts. after_history ts (seen_by s.base s.stamped r.id)) (sym (m (λ (q : ActiveTx). q.id ≡ r.id → history_of_active r.id s.active ≡ q.history) (history_is r.id s.active h.numbered.distinct) refl))
     ∙ m (λ (q : ActiveTx). snapshot s q.id ≡ snapshot_of opening steps q.id) (snapshots_traced opening steps s h))
 
--- an operation is told what the serial step answers on the snapshot that the trace says
+-- an operation is answered as the serial step on the snapshot that the trace says
 pub answers_traced : (opening : Map) (steps : List Step) (s : State) (t : ℕ) (op : Op) → why_not_do s t op ≡ None → IsKept opening steps s → answer_in s t op ≡ answer_to op (snapshot_of opening steps t)
 answers_traced opening steps s t op w h =
     let found = active_done s t op w in

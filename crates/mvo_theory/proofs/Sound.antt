@@ -19,7 +19,7 @@ use Rattle.mvo_theory.specs.Changes.{after_begin, after_operation, with_answer, 
 use Rattle.mvo_theory.specs.Sound.{changes, IsDecidedOn, IsUnchanged, LeavesAlone, IsApart, IsClear, IsLegal, IsActive, IsPreparing, IsPlaced, IsSound}
 use Rattle.mvo_theory.proofs.Each.{each_weaker, each_both, each_append, each_map, each_filter}
 use Rattle.mvo_theory.proofs.Footprints.{footprint_push}
-use Rattle.mvo_theory.proofs.Lines.{legal_last, clear_last, rising_last, IsLike, rising_map, unchanged_map}
+use Rattle.mvo_theory.proofs.Stamped.{legal_last, clear_last, rising_last, IsLike, rising_map, unchanged_map}
 use Rattle.mvo_theory.proofs.Depends.{depends_more, decided_on_now, decided_on_more, below_all, consistent_last, consistent_map}
 use Rattle.mvo_theory.specs.Entries.Entry.{Key, Range}
 
@@ -55,7 +55,7 @@ sound_after_begin s t lt h = record {
 }
 
 -- ---- an operation
--- what the answer of an operation of the transaction t has to be, unless it is doomed
+-- what the answer of an operation of the transaction t has to be, unless it is flagged
 abbrev pub IsAnswer : State → ℕ → Op → AnswerData → ActiveTx → Type 0
 IsAnswer s t op a r = r.id ≡ t → r.aborted_dependency ≡ None → a ≡ answer_to op (after_history r.history (seen_by s.base s.stamped r.id))
 

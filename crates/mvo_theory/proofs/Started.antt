@@ -9,7 +9,7 @@ use Rattle.mvo_theory.specs.State.{State, StampedTx, ActiveTx, opened}
 use Rattle.mvo_theory.specs.Changes.{new_active, after_begin, after_operation, with_answer, after_prepare, to_stamped, after_check, with_check, after_commit, with_settled, with_flag, active_with_flag, not_at, after_abort_of_active, after_abort_of_preparing, after_termination}
 use Rattle.mvo_theory.specs.Sound.{IsStarted}
 use Rattle.mvo_theory.proofs.Each.{each_append, each_map}
-use Rattle.mvo_theory.proofs.Lines.{each_part}
+use Rattle.mvo_theory.proofs.Stamped.{each_part}
 
 pub started_opened : (rows : Map) (mark : ℕ) → IsStarted (opened rows mark)
 started_opened rows mark = record { past = tt; rising = tt; later = tt; drawn = omega arith; opened = omega arith; after = tt; begun = tt }

@@ -13,8 +13,8 @@ use Rattle.mvo_theory.specs.Sound.{IsSound}
 use Rattle.mvo_theory.specs.Calls.{Call, Result, Run, answer_in, after_accepted, after_refused, after_call, steps_of, MayRun, after_run, IsKept}
 use Rattle.mvo_theory.specs.Words.{is_done, words_left}
 use Rattle.mvo_theory.specs.Claims.{new_claim}
-use Rattle.mvo_theory.proofs.Called.{kept_after_call}
-use Rattle.mvo_theory.proofs.Lines.{each_part}
+use Rattle.mvo_theory.proofs.Runs.{kept_after_call}
+use Rattle.mvo_theory.proofs.Stamped.{each_part}
 use Rattle.mvo_theory.proofs.Below.{EndsStay, stays_same, stays_after_operation, stays_after_begin, stays_after_termination, stays_after_prepare, stays_after_check, stays_after_commit, stays_aborted}
 use Rattle.mvo_theory.proofs.Trim.{is_after, timeline_trimmed}
 use Rattle.mvo_theory.specs.Calls.Result.{Accepted, Refused}

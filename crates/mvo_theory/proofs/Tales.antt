@@ -94,7 +94,7 @@ pairs_others e (x ∷ xs) h =
     ap (λ ts. cond (x.settled || (x.end == e)) ((x.end, x.id) ∷ ts) ts) (pairs_others e xs h.1)
     ∙ ap (λ (b : Bool). cond b ((x.end, x.id) ∷ pairs xs) (pairs xs)) (or-false x.settled (x.end == e) (ne_eqb x.end e h.0))
 
--- the committed ones of the steps with the commit are the settled ones of the end order after it
+-- the committed ones of the steps with the commit are the settled ones among the stamped ones after it
 pub committed_between : (steps : List Step) (before after : List StampedTx) (x : StampedTx) → IsRising (before ++ x ∷ after) → x.settled ≡ false → committed steps ≡ pairs (before ++ x ∷ after) →
     committed (steps ++ Commits x.id x.end ∷ []) ≡ pairs (map (with_settled x.end) (before ++ x ∷ after))
 committed_between steps before after x r o h =

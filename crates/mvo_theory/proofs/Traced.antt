@@ -16,7 +16,7 @@ use Rattle.mvo_theory.specs.AfterTrace.{IsAfterTrace}
 use Rattle.mvo_theory.specs.Traced.{DependsOn, is_abort_of, HasAbortedDependency, IsDependency, IsTraced, AreTraced}
 use Rattle.mvo_theory.proofs.Each.{each_weaker, each_both, each_append, each_map, each_filter}
 use Rattle.mvo_theory.proofs.Footprints.{or_left, or_right, any_left, any_right}
-use Rattle.mvo_theory.proofs.Lines.{each_part}
+use Rattle.mvo_theory.proofs.Stamped.{each_part}
 use Rattle.mvo_theory.proofs.Apart.{IsIn}
 use Rattle.mvo_theory.proofs.Exact.{depends_only}
 use Rattle.mvo_theory.proofs.LastWriter.{last_is}
@@ -39,7 +39,7 @@ depends_later opening xs ys t x e h = record {
 flagged_later : (opening : Map) (xs ys : List Step) (t u : ℕ) → HasAbortedDependency opening xs t u → HasAbortedDependency opening (xs ++ ys) t u
 flagged_later opening xs ys t u h = record { end' = h.end'; depends = depends_later opening xs ys t u h.end' h.depends; aborted = any_left (is_abort_of u) xs ys h.aborted }
 
--- what is asked of the end order
+-- what is asked of the stamped ones
 abbrev IsOne : ℕ → ℕ → StampedTx → Type 0
 IsOne d x y = y.end ≡ d → y.id ≡ x
 
@@ -64,7 +64,7 @@ kept_filter p l n d x lt h = each_part p (IsOne d x) l h
 kept_last : (l : List StampedTx) (y : StampedTx) (n : ℕ) → n ≤ y.end → IsKeptIn l (l ++ y ∷ []) n
 kept_last l y n le d x lt h = each_append (IsOne d x) l (y ∷ []) h ((λ e. absurd (omega arith)), tt)
 
--- the running ones, through a change of the end order
+-- the Active ones, through a change of the stamped ones
 active_later : (opening : Map) (xs ys : List Step) (s : State) (l' : List StampedTx) → IsSound s → ((n : ℕ) → n ≤ s.clock → IsKeptIn s.stamped l' n) → AreTraced opening xs s → AllByRecursion (λ r. IsTraced opening (xs ++ ys) l' r.id r.depends_on r.aborted_dependency) s.active
 active_later opening xs ys s l' k f h = each_both (IsActive s.base s.stamped s.clock) (λ r. IsTraced opening xs s.stamped r.id r.depends_on r.aborted_dependency) (λ r. IsTraced opening (xs ++ ys) l' r.id r.depends_on r.aborted_dependency)
     (λ r a q. traced_later opening xs ys s.stamped l' r.id r.depends_on r.aborted_dependency a.below (f r.id a.drawn) q) s.active k.active h.active
@@ -156,7 +156,7 @@ traced_after_trim opening xs ys s m k h =
       preparing = each_part (λ x. not (is_to m x)) (IsOpenTraced opening (xs ++ ys) l') s.stamped (preparing_later opening xs ys s l' k f h);
     }
 
--- ---- an abort dooms by the one that is aborted
+-- ---- an abort flags with the one that is aborted
 some_same : (u v : ℕ) → ◌≡◌ {A = Option ℕ} (Some u) (Some v) → u ≡ v
 some_same u v e = cc
 

@@ -17,11 +17,11 @@ use Rattle.mvo_theory.specs.Changes.{is_to, after_trim}
 use Rattle.mvo_theory.specs.Sound.{IsDecided, IsDecidedOn, changes, IsUnchanged, IsRising, IsLegal, IsConsistent, IsActive, IsPreparing, IsPlaced, IsSound, IsPast, IsStarted}
 use Rattle.mvo_theory.proofs.Each.{each_weaker, each_both, each_append, each_filter}
 use Rattle.mvo_theory.proofs.Footprints.{or_right, any_left, any_right}
-use Rattle.mvo_theory.proofs.Lines.{history_below-append, rising_filter, clear_filter, each_part, rising_both}
+use Rattle.mvo_theory.proofs.Stamped.{history_below-append, rising_filter, clear_filter, each_part, rising_both}
 use Rattle.mvo_theory.proofs.Counts.{seen_counts}
 use Rattle.mvo_theory.specs.Entries.Entry.{Key, Range}
 
--- ---- the end order in two
+-- ---- the stamped ones in two
 abbrev pub is_after : ℕ → StampedTx → Bool
 is_after m x = not (is_to m x)
 
@@ -151,7 +151,7 @@ sound_after_trim s m t h =
       }) s.active t.active h.active;
     }
 
--- a running transaction sees the same rows
+-- an Active transaction sees the same rows
 pub snapshots_trimmed : (s : State) (m : ℕ) → IsTrim m s → IsSound s → AllByRecursion (λ (r : ActiveTx). snapshot (after_trim s m) r.id ≡ snapshot s r.id) s.active
 snapshots_trimmed s m t h = each_both (λ r. m ≤ r.id) (IsActive s.base s.stamped s.clock) (λ (r : ActiveTx). snapshot (after_trim s m) r.id ≡ snapshot s r.id) (λ r le q.
     ap (after_history (history_of_active r.id s.active)) (sym (seen_trimmed s.base (filter (is_to m) s.stamped) (filter (is_after m) s.stamped) r.id (front_settled m s.stamped t.settled) (front_below m r.id s.stamped le q.others))

@@ -29,7 +29,7 @@ use Rattle.mvo_theory.specs.Causes.{when, or_next, was_valid, next_differs, conf
 use Rattle.mvo_theory.specs.Sound.{changes, IsRising, IsActive, IsPlaced}
 use Rattle.mvo_theory.specs.Claimed.{IsClaimed, HasClaims}
 use Rattle.mvo_theory.specs.Calls.{Call, why_not, IsKept}
-use Rattle.mvo_theory.proofs.Calls.{split_at}
+use Rattle.mvo_theory.proofs.Commits.{split_at}
 use Rattle.mvo_theory.proofs.Each.{each_always, each_both, each_filter}
 use Rattle.mvo_theory.proofs.Footprints.{any_none, key_same}
 use Rattle.mvo_theory.proofs.Apart.{IsIn, each_in}

@@ -15,7 +15,7 @@ use Rattle.mvo_theory.specs.Phases.{phase_by}
 use Rattle.mvo_theory.specs.Sound.{IsRising, IsLegal, IsPlaced, IsSound, IsNumbered, IsSingle, AreExclusive}
 use Rattle.mvo_theory.specs.AfterTrace.{pairs, IsAfterTrace}
 use Rattle.mvo_theory.proofs.Each.{each_weaker, each_both, each_append, each_front, each_back}
-use Rattle.mvo_theory.proofs.Lines.{each_part}
+use Rattle.mvo_theory.proofs.Stamped.{each_part}
 use Rattle.mvo_theory.proofs.Finds.{find_filter, count_filter}
 use Rattle.mvo_theory.proofs.Single.{preparing_found}
 use Rattle.mvo_theory.proofs.Tales.{pairs-append, legal_append}
@@ -103,8 +103,8 @@ preparing_after_trim s m t h = preparing_found t (filter (is_after m) s.stamped)
     go x l true e f = and_right (x.id == t) (not x.settled) (ap not e)
     go x l false e f = absurd (let g = f e in omega arith)
 
-pub stands_after_trim : (opening : Map) (xs : List Step) (s : State) (m : ℕ) → IsTrim m s → IsSound s → IsAfterTrace opening xs s → IsAfterTrace opening xs (after_trim s m)
-stands_after_trim opening xs s m t k h =
+pub trace_after_trim : (opening : Map) (xs : List Step) (s : State) (m : ℕ) → IsTrim m s → IsSound s → IsAfterTrace opening xs s → IsAfterTrace opening xs (after_trim s m)
+trace_after_trim opening xs s m t k h =
     let front = filter (is_to m) s.stamped in
     let back = filter (is_after m) s.stamped in
     let both = parted m s.stamped k.rising in

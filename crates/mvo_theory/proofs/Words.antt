@@ -30,7 +30,7 @@ use Rattle.mvo_theory.proofs.Each.{each_weaker, each_append, each_map}
 use Rattle.mvo_theory.proofs.Who.{active_holds}
 use Rattle.mvo_theory.proofs.LastWriter.{found_in}
 use Rattle.mvo_theory.proofs.Cases.{found_is}
-use Rattle.mvo_theory.proofs.Called.{kept_opened, kept_after_call}
+use Rattle.mvo_theory.proofs.Runs.{kept_opened, kept_after_call}
 
 -- ---- as many as its operations wrote
 words_by_count : (before : History) (claims : List Claim) (op : Op) (a : AnswerData) → length (words_by before claims op a) ≡ words_in op a

@@ -22,7 +22,7 @@ some_same v z q = cc
 some_none : (w : Refusal) → ◌≡◌ {A = Option Refusal} (Some w) None → ⊥
 some_none w q = cc
 
--- where it stands in the end order
+-- where it stands among the stamped ones
 pub split_at : (t : ℕ) (stamped : List StampedTx) (x : StampedTx) → preparing_of t stamped ≡ Some x → (before : List StampedTx) × (after : List StampedTx) × (stamped ≡ before ++ x ∷ after) × (x.id ≡ t) × (x.settled ≡ false)
 split_at t [] x h = absurd (none_some x h)
 split_at t (y ∷ ys) x h = go ((y.id == t) && not y.settled) refl h (λ q. split_at t ys x q)
@@ -34,16 +34,16 @@ split_at t (y ∷ ys) x h = go ((y.id == t) && not y.settled) refl h (λ q. spli
         ([], ys, ap (λ (z : StampedTx). z ∷ ys) is, subst (λ (z : StampedTx). z.id ≡ t) is (eqb-true y.id t p.0), subst (λ (z : StampedTx). z.settled ≡ false) is (not-true y.settled p.1))
     go false f g r = let q = r g in (y ∷ q.0, q.1, ap (λ zs. y ∷ zs) q.2, q.3, q.4)
 
-no_flag : (d : Option ℕ) (v : Bool) → or_flagged d (if_stands (not v) NotValidated None) ≡ None → (d ≡ None) × (v ≡ true)
-no_flag (Some x) v h = absurd (some_none (DependencyAborted (record { 0 = x })) h)
-no_flag None true h = (refl, refl)
-no_flag None false h = absurd (some_none NotValidated h)
+not_flagged_valid : (d : Option ℕ) (v : Bool) → or_flagged d (if_stands (not v) NotValidated None) ≡ None → (d ≡ None) × (v ≡ true)
+not_flagged_valid (Some x) v h = absurd (some_none (DependencyAborted (record { 0 = x })) h)
+not_flagged_valid None true h = (refl, refl)
+not_flagged_valid None false h = absurd (some_none NotValidated h)
 
 -- settle: where no refusal's cause stands and it waits for none, the commit keeps what a core keeps
 pub sound_settled : (s : State) (t : ℕ) (x : StampedTx) → preparing_of t s.stamped ≡ Some x → why_not_settle s t ≡ None → waiting_for x.depends_on s.stamped ≡ None → IsSound s → IsSound (after_commit s t x.end)
 sound_settled s t x f w n h =
     let p = split_at t s.stamped x f in
-    let q = no_flag x.aborted_dependency x.valid (sym (ap (not_settled_at s t) f) ∙ settle_none s t w) in
+    let q = not_flagged_valid x.aborted_dependency x.valid (sym (ap (not_settled_at s t) f) ∙ settle_none s t w) in
     let there : IsSound (record s { stamped = p.0 ++ x ∷ p.1 }) = subst (λ (l : List StampedTx). IsSound (record s { stamped = l })) p.2 h in
     subst (λ (l : List StampedTx). IsSound (after_commit (record s { stamped = l }) t x.end)) (sym p.2)
     (subst (λ (i : ℕ). IsSound (after_commit (record s { stamped = p.0 ++ x ∷ p.1 }) i x.end)) p.3

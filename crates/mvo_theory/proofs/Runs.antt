@@ -25,12 +25,12 @@ use Rattle.mvo_theory.specs.Claimed.{HasClaims, AreClaimed}
 use Rattle.mvo_theory.specs.Snapshots.{is_aborted, HasEnds, footprint_in, HasFootprints}
 use Rattle.mvo_theory.specs.Calls.{Call, Result, Run, why_not, takes_memory, IsRefusal, MayCome, answer_in, after_accepted, steps_unless, steps_of_accepted, after_refused, steps_of_refused, after_call, steps_of, MayRun, after_run, trace_of, IsKept}
 use Rattle.mvo_theory.specs.Words.{is_done, words_left}
-use Rattle.mvo_theory.proofs.Worded.{kept_worded, kept_taken_over, kept_closed}
+use Rattle.mvo_theory.proofs.Finishing.{kept_worded, kept_taken_over, kept_closed}
 use Rattle.mvo_theory.proofs.Each.{each_weaker, each_both, each_append}
 use Rattle.mvo_theory.proofs.Sound.{sound_after_begin, IsAnswer, sound_after_operation, sound_after_prepare, IsCheck, sound_after_check}
 use Rattle.mvo_theory.proofs.Ends.{sound_after_abort_of_active, sound_after_abort_of_preparing}
 use Rattle.mvo_theory.proofs.Causes.{change_none}
-use Rattle.mvo_theory.proofs.Calls.{split_at, sound_settled}
+use Rattle.mvo_theory.proofs.Commits.{split_at, sound_settled}
 use Rattle.mvo_theory.proofs.Settle.{rising_before, rising_after}
 use Rattle.mvo_theory.proofs.Tales.{serial_after_trace}
 use Rattle.mvo_theory.proofs.Numbered.{numbered_after_begin, numbered_after_operation, numbered_after_prepare, numbered_after_check, numbered_after_commit, numbered_after_abort_of_active, numbered_after_abort_of_preparing}
@@ -38,9 +38,9 @@ use Rattle.mvo_theory.proofs.Single.{single_opened, single_after_begin, single_a
 use Rattle.mvo_theory.proofs.Phases.{IsUnended}
 use Rattle.mvo_theory.proofs.Started.{started_opened, started_after_begin, started_after_operation, started_after_prepare, started_after_check, started_after_commit, started_after_abort_of_active, started_after_abort_of_preparing, started_after_termination}
 use Rattle.mvo_theory.proofs.Trim.{sound_after_trim, started_after_trim}
-use Rattle.mvo_theory.proofs.Trimmed.{may_trim, numbered_after_trim, single_after_trim, exclusive_after_trim, stands_after_trim}
+use Rattle.mvo_theory.proofs.Trimmed.{may_trim, numbered_after_trim, single_after_trim, exclusive_after_trim, trace_after_trim}
 use Rattle.mvo_theory.proofs.Who.{active_holds, id_of, active_done, active_after_prepare, preparing_after_check, preparing_settled, unended_rolled_back, unended_done, unended_after_prepare, unended_after_check, unended_settled, ended_finished}
-use Rattle.mvo_theory.proofs.AfterTrace.{alone_open, stands_opened, stands_after_begin, stands_after_operation, stands_after_prepare, stands_after_check, stands_after_commit, stands_aborted, stands_after_termination}
+use Rattle.mvo_theory.proofs.AfterTrace.{alone_open, trace_opened, trace_after_begin, trace_after_operation, trace_after_prepare, trace_after_check, trace_after_commit, trace_aborted, trace_after_termination}
 use Rattle.mvo_theory.proofs.LastWriter.{found_in}
 use Rattle.mvo_theory.proofs.Traced.{traced_opened, traced_after_begin, traced_after_prepare, traced_after_check, traced_after_commit, traced_after_abort_of_active, traced_same, traced_after_termination, traced_after_trim, traced_after_abort_of_preparing, traced_after_operation}
 use Rattle.mvo_theory.proofs.Snapshots.{history_is, seen_traced}
@@ -51,7 +51,7 @@ use Rattle.mvo_theory.proofs.Claims.{first_claim, exclusive_after_begin, IsFirst
 use Rattle.mvo_theory.specs.Calls.Result.{Accepted, Refused}
 use Rattle.mvo_theory.specs.Calls.Call.{Begin, Do, Precommit, Validate, Settle, Rollback, Finish, Trim, Close}
 
--- ---- what a running transaction sees
+-- ---- what an Active transaction sees
 pub sees : (s : State) (t : ℕ) → IsNumbered s → AllByRecursion (λ (r : ActiveTx). r.id ≡ t → snapshot s t ≡ after_history r.history (seen_by s.base s.stamped r.id)) s.active
 sees s t n = each_weaker (λ (r : ActiveTx). r.id ≡ t → history_of_active t s.active ≡ r.history) (λ (r : ActiveTx). r.id ≡ t → snapshot s t ≡ after_history r.history (seen_by s.base s.stamped r.id))
     (λ r f e. ap (λ ts. after_history ts (seen_by s.base s.stamped t)) (f e) ∙ ap (λ (u : ℕ). after_history r.history (seen_by s.base s.stamped u)) (sym e)) s.active (history_is t s.active n.distinct)
@@ -88,7 +88,7 @@ kept_done opening xs s t op w h =
       single = single_after_operation s t op a h.single;
       exclusive = exclusive_after_operation s t op a (omega arith) (first_now s t op found.0 found.1 found.3 h.numbered) h.exclusive;
       started = started_after_operation s t op a h.started;
-      after_trace = stands_after_operation opening xs s t op a found.0 found.1 h.sound h.numbered h.after_trace;
+      after_trace = trace_after_operation opening xs s t op a found.0 found.1 h.sound h.numbered h.after_trace;
       traced = traced_after_operation opening xs s t op a found.0 found.1 (only_one t s.active found.0 found.1 h.numbered.distinct) h.sound h.single h.started h.after_trace h.traced;
       claimed = claimed_after_operation opening xs s t op a h.sound h.single h.started h.after_trace h.claimed;
       has_ends = ends_after_operation xs s t op a h.has_ends;
@@ -109,7 +109,7 @@ kept_begun opening xs s h = record {
   single = single_after_begin s (s.clock + 1) (omega arith) h.sound h.single;
   exclusive = exclusive_after_begin s (s.clock + 1) h.exclusive;
   started = started_after_begin s (s.clock + 1) (omega arith) h.started;
-  after_trace = stands_after_begin opening xs s (s.clock + 1) (omega arith) h.sound h.single h.after_trace;
+  after_trace = trace_after_begin opening xs s (s.clock + 1) (omega arith) h.sound h.single h.after_trace;
   traced = traced_after_begin opening xs (Begins (s.clock + 1) ∷ []) s (s.clock + 1) h.sound h.traced;
   claimed = claimed_after_begin xs (Begins (s.clock + 1) ∷ []) s (s.clock + 1) h.claimed;
   has_ends = ends_after_begin xs s (s.clock + 1) (omega arith) h.sound h.started h.has_ends;
@@ -130,7 +130,7 @@ kept_prepared opening xs s t w h =
       single = subst IsSingle now (single_after_prepare s r (s.clock + 1) same (omega arith) h.single);
       exclusive = subst AreExclusive now (exclusive_after_prepare s r (s.clock + 1) same h.exclusive);
       started = subst IsStarted now (started_after_prepare s r (s.clock + 1) (omega arith) h.started);
-      after_trace = stands_after_prepare opening xs s t r found.1 h.single h.after_trace;
+      after_trace = trace_after_prepare opening xs s t r found.1 h.single h.after_trace;
       traced = subst (AreTraced opening (xs ++ Prepares t (s.clock + 1) ∷ [])) now (traced_after_prepare opening xs (Prepares t (s.clock + 1) ∷ []) s r (s.clock + 1) (omega arith) (active_holds (IsActive s.base s.stamped s.clock) t s.active r found.1 h.sound.active).0
           (active_holds (λ q. IsTraced opening xs s.stamped q.id q.depends_on q.aborted_dependency) t s.active r found.1 h.traced.active).0 h.sound h.traced);
       claimed = subst (AreClaimed (xs ++ Prepares t (s.clock + 1) ∷ [])) now (claimed_after_prepare xs (Prepares t (s.clock + 1) ∷ []) s r (s.clock + 1) (active_holds (λ q. HasClaims s.marks.opening xs q.id q.history q.claims) t s.active r found.1 h.claimed.active).0 h.claimed);
@@ -181,7 +181,7 @@ kept_checked opening xs s t w h =
       single = subst IsSingle now (single_at x v x.valid);
       exclusive = subst AreExclusive now (exclusive_at x v x.valid);
       started = subst IsStarted now (started_at x v x.valid);
-      after_trace = stands_after_check opening xs s t h.after_trace;
+      after_trace = trace_after_check opening xs s t h.after_trace;
       traced = subst (AreTraced opening (xs ++ Checks t ∷ [])) now (traced_at x v x.valid);
       claimed = subst (AreClaimed (xs ++ Checks t ∷ [])) now (claimed_at x v x.valid);
       has_ends = subst (HasEnds (xs ++ Checks t ∷ [])) now (ends_at x v x.valid);
@@ -234,7 +234,7 @@ kept_committed opening xs s t x f w n h =
       single = subst IsSingle now (single_after_commit s t x f h.sound h.single);
       exclusive = subst AreExclusive now (exclusive_after_commit s t x.end h.exclusive);
       started = subst IsStarted now (started_after_commit s t x.end h.started);
-      after_trace = subst (λ (e : ℕ). IsAfterTrace opening (xs ++ Commits t e ∷ []) (after_commit_now s t)) (sym (ap end_at f)) (stands_after_commit opening xs s t x f h.sound h.single h.started h.after_trace);
+      after_trace = subst (λ (e : ℕ). IsAfterTrace opening (xs ++ Commits t e ∷ []) (after_commit_now s t)) (sym (ap end_at f)) (trace_after_commit opening xs s t x f h.sound h.single h.started h.after_trace);
       traced = subst (AreTraced opening (xs ++ Commits t (end_of s t) ∷ [])) now (traced_after_commit opening xs (Commits t (end_of s t) ∷ []) s t x.end h.sound h.traced);
       claimed = subst (AreClaimed (xs ++ Commits t (end_of s t) ∷ [])) now (claimed_after_commit xs (Commits t (end_of s t) ∷ []) s t x.end h.claimed);
       has_ends = subst (HasEnds (xs ++ Commits t (end_of s t) ∷ [])) now (ends_after_commit xs s t t (end_of s t) x.end h.has_ends);
@@ -257,7 +257,7 @@ kept_settled opening xs s t w h = go (awaited s t) refl
 kept_aborted : (opening : Map) (xs : List Step) (s : State) (t : ℕ) → IsUnended s t → IsKept opening xs s → IsKept opening (xs ++ Aborts t ∷ []) (after_abort s t)
 kept_aborted opening xs s t u h =
     let q = go (preparing_of t s.stamped) refl in
-    record { sound = q.0; numbered = q.1; single = q.2; exclusive = q.3; started = q.4; after_trace = stands_aborted opening xs s t u h.sound h.single h.after_trace; traced = q.5; claimed = q.6; has_ends = q.7; prints = q.8 }
+    record { sound = q.0; numbered = q.1; single = q.2; exclusive = q.3; started = q.4; after_trace = trace_aborted opening xs s t u h.sound h.single h.after_trace; traced = q.5; claimed = q.6; has_ends = q.7; prints = q.8 }
   where
     gone : (r : ActiveTx) → active_of t s.active ≡ Some r → HasEnds (xs ++ Aborts t ∷ []) (after_abort_of_active s t)
     gone r f =
@@ -295,14 +295,14 @@ kept_failed opening xs s t r f h = go (is_failure r) refl
     go false e = same_trace opening xs s h
 
 -- ---- finish
-kept_left : (opening : Map) (xs : List Step) (s : State) (t : ℕ) → why_not_finish s t ≡ None → IsKept opening xs s → IsKept opening (xs ++ Terminates t ∷ []) (after_termination s t)
-kept_left opening xs s t w h = record {
+kept_terminated : (opening : Map) (xs : List Step) (s : State) (t : ℕ) → why_not_finish s t ≡ None → IsKept opening xs s → IsKept opening (xs ++ Terminates t ∷ []) (after_termination s t)
+kept_terminated opening xs s t w h = record {
   sound = record { legal = h.sound.legal; rising = h.sound.rising; clear = h.sound.clear; placed = h.sound.placed; preparing = h.sound.preparing; active = h.sound.active };
   numbered = record { distinct = h.numbered.distinct; apart = h.numbered.apart; before = h.numbered.before };
   single = single_after_termination s t h.single;
   exclusive = exclusive_after_termination s t h.exclusive;
   started = started_after_termination s t h.started;
-  after_trace = stands_after_termination opening xs s t (ended_finished s t w) h.single h.after_trace;
+  after_trace = trace_after_termination opening xs s t (ended_finished s t w) h.single h.after_trace;
   traced = traced_after_termination opening xs (Terminates t ∷ []) s t h.sound h.traced;
   claimed = claimed_after_termination xs (Terminates t ∷ []) s t h.claimed;
   has_ends = ends_after_termination xs s t h.has_ends;
@@ -317,7 +317,7 @@ kept_trimmed opening xs s m w h = let t = may_trim s m w h.sound in record {
   single = single_after_trim s m h.single;
   exclusive = exclusive_after_trim s m h.exclusive;
   started = started_after_trim s m t h.sound h.started;
-  after_trace = stands_after_trim opening xs s m t h.sound h.after_trace;
+  after_trace = trace_after_trim opening xs s m t h.sound h.after_trace;
   traced = subst (λ ys. AreTraced opening ys (after_trim s m)) (append-nil xs) (traced_after_trim opening xs [] s m h.sound h.traced);
   claimed = claimed_after_trim xs s m h.claimed;
   has_ends = ends_after_trim xs s m h.sound h.has_ends;
@@ -352,7 +352,7 @@ kept_finished : (opening : Map) (xs : List Step) (s : State) (t : ℕ) → why_n
 kept_finished opening xs s t w h = go (is_done s t)
   where
     go : (b : Bool) → IsKept opening (xs ++ cond b (Terminates t ∷ []) []) (cond b (after_termination s t) (with_words (words_left t) s))
-    go true = kept_left opening xs s t w h
+    go true = kept_terminated opening xs s t w h
     go false = same_trace opening xs (with_words (words_left t) s) (kept_worded opening xs s (words_left t) h)
 
 kept_accepted : (opening : Map) (xs : List Step) (s : State) (c : Call) → why_not s c ≡ None → IsKept opening xs s → IsKept opening (xs ++ steps_of_accepted s c) (after_accepted s c)
@@ -383,7 +383,7 @@ kept_opened rows mark = record {
   single = single_opened rows mark;
   exclusive = λ k n. omega arith;
   started = started_opened rows mark;
-  after_trace = stands_opened rows mark;
+  after_trace = trace_opened rows mark;
   traced = traced_opened rows mark;
   claimed = claimed_opened rows mark;
   has_ends = ends_opened rows mark;

@@ -1,4 +1,4 @@
--- What a change of the end order leaves as it was.
+-- What a change of the stamped ones leaves as it was.
 use Rattle.std.proofs.Common.{◌≡◌, ℕ, ◌<◌, ◌≤◌, Bool, true, false, cond, ◌||◌, List, [], ◌∷◌, ◌++◌, Option, None, Some, map, refl, sym, ap, ◌∙◌, subst, ◌⊎◌, inl, inr, arith, append_assoc}
 use Rattle.std.specs.Prelude.{⊤, nat_lt, ◌==◌, ◌&&◌, is_some}
 use Rattle.std.specs.List.{AllByRecursion, filter, list_any}
@@ -78,12 +78,12 @@ has_rest ds (Some y) x e = go y.settled
     go true = e
     go false = has_more ds y.end x e
 
--- more to rest on
+-- more to depend on
 pub decided_more : (k : RowKey) (b : ℕ) (ds es : List ℕ) (stamped : List StampedTx) → ((d : ℕ) → has_end ds d ≡ true → has_end es d ≡ true) → IsDecided k b ds stamped → IsDecided k b es stamped
 decided_more k b ds es [] f h = tt
 decided_more k b ds es (x ∷ xs) f h = (λ o w. elim (h.0 o w) [ inl q ↦ inl (f x.end q) | inr q ↦ inr q ], decided_more k b ds es xs f h.1)
 
--- ---- one more at the end of the end order, that ends above the begin
+-- ---- one more at the end of the stamped ones, that ends above the begin
 pub history_below-append : (b : ℕ) (xs ys : List StampedTx) → history_below b (xs ++ ys) ≡ history_below b xs ++ history_below b ys
 history_below-append b [] ys = refl
 history_below-append b (x ∷ xs) ys =
@@ -169,7 +169,7 @@ pub unchanged_map : (f : StampedTx → StampedTx) → IsLike f → (b c : ℕ) (
 unchanged_map f l b c e xs h = each_map f (λ u. b < u.end → u.end < c → changes e u ≡ false) (λ u. b < u.end → u.end < c → changes e u ≡ false)
     (λ u g x y. changes_like f l e u ∙ g (let p = (l u).0 in omega arith) (let p = (l u).0 in omega arith)) xs h
 
--- ---- some are taken out of the end order, on which this one doesn't rest
+-- ---- some are taken out of the stamped ones, on which this one doesn't depend
 abbrev pub IsOut : (StampedTx → Bool) → List ℕ → StampedTx → Type 0
 IsOut p ds x = p x ≡ false → (x.settled ≡ false) × (has_end ds x.end ≡ false)
 
