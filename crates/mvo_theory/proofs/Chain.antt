@@ -1,20 +1,18 @@
 -- The groups that a run closes are one chain, and what they hold stays.
 use Rattle.std.proofs.Common.{◌≡◌, ℕ, ◌+◌, Bool, true, false, cond, List, [], ◌∷◌, ◌++◌, Option, None, Some, length, refl, sym, ap, ◌∙◌, subst, arith, append_assoc, append-nil}
-use Rattle.std.specs.Prelude.{⊤, nat_le, filter}
-use Rattle.mvo_types.specs.declared.op.Op.{Op}
+use Rattle.std.specs.Prelude.{nat_le, filter}
 use Rattle.mvo_types.specs.declared.refusal.Refusal.{Refusal}
 use Rattle.mvo_types.specs.Keys.{Map}
-use Rattle.mvo_types.specs.AnswerData.{AnswerData}
 use Rattle.mvo_model.specs.Trace.{Step}
 use Rattle.mvo_theory.specs.Entries.{entries}
-use Rattle.mvo_theory.specs.State.{State, Marks, StampedTx, ActiveTx, Claim, opened, active_of, preparing_of, timeline}
-use Rattle.mvo_theory.specs.Marks.{IsClosedAt, StaysBelow, settled_to}
+use Rattle.mvo_theory.specs.State.{State, Marks, StampedTx, ActiveTx, Claim, opened, active_of, preparing_of}
+use Rattle.mvo_theory.specs.Marks.{IsClosedAt, StaysBelow}
 use Rattle.mvo_theory.specs.Groups.{Group, is_due, IsGroupOf, AreGroupsOf}
-use Rattle.mvo_theory.specs.Changes.{after_check, after_operation, taken_over, after_answer, after_termination, with_words, after_finish, after_close}
+use Rattle.mvo_theory.specs.Changes.{after_check, after_operation, taken_over, after_termination, with_words, after_finish, after_close}
 use Rattle.mvo_theory.specs.Words.{is_done, words_left}
 use Rattle.mvo_theory.specs.Claims.{new_claim}
 use Rattle.mvo_theory.specs.Causes.{awaited, is_failure}
-use Rattle.mvo_theory.specs.Steps.{after_precommit_of, after_precommit, after_validate_of, after_validate, after_commit_of, after_commit_now, after_settle_unless, after_settle, after_abort_of, after_abort, after_refusal}
+use Rattle.mvo_theory.specs.Steps.{after_precommit_of, after_precommit, after_validate_of, after_validate, after_commit_of, after_settle_unless, after_settle, after_abort_of, after_abort}
 use Rattle.mvo_theory.specs.Calls.{Call, Result, Run, answer_in, after_accepted, after_refused, after_call, steps_of, MayCome, MayRun, after_run, group_of, groups_of, IsKept}
 use Rattle.mvo_theory.specs.Calls.Call.{Begin, Do, Precommit, Validate, Settle, Rollback, Finish, Trim, Close}
 use Rattle.mvo_theory.specs.Calls.Result.{Accepted, Refused}

@@ -8,7 +8,7 @@ use Rattle.mvo_types.specs.declared.row.RowKey.{RowKey}
 use Rattle.mvo_types.specs.declared.op.Op.{Op}
 use Rattle.mvo_types.specs.declared.op.Op.TheVariants.{Read, Scan, Insert, Update, Delete}
 use Rattle.mvo_types.specs.Keys.{Map, key_cmp}
-use Rattle.mvo_types.specs.RowData.{ContentData, content_of}
+use Rattle.mvo_types.specs.RowData.{content_of}
 use Rattle.mvo_types.specs.AnswerData.{AnswerData}
 use Rattle.mvo_types.specs.AnswerData.AnswerData.{Updated, Deleted}
 use Rattle.mvo_types.specs.Write.Effect.{Put, Delete as Gone}

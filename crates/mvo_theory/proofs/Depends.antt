@@ -7,7 +7,6 @@ use Rattle.std.specs.FinMap as fin
 use Rattle.std.proofs.lemmas.Bool.{false≢true, true≢false, ltb-true, and_parts}
 use Rattle.mvo_types.specs.declared.row.RowKey.{RowKey}
 use Rattle.mvo_types.specs.declared.op.Op.{Op}
-use Rattle.mvo_types.specs.RowData.{ContentData}
 use Rattle.mvo_types.specs.Keys.{Map, key_cmp}
 use Rattle.mvo_types.specs.Write.{Effect, Write, content_after_last}
 use Rattle.mvo_model.specs.History.{History, write_of, write_at, later, net_write, AreSerial, after_history}

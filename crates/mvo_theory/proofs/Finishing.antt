@@ -1,14 +1,13 @@
 -- Finishing and the closed mark change nothing that a core keeps.
 use Rattle.std.proofs.Common.{◌≡◌, ℕ, ◌≤◌, ◌+◌, Bool, true, false, cond, List, [], ◌∷◌, Option, None, Some, map, refl, sym, ap, ◌∙◌, arith}
 use Rattle.std.specs.Prelude.{◌==◌}
-use Rattle.std.specs.List.{AllByRecursion}
 use Rattle.mvo_types.specs.Keys.{Map}
 use Rattle.mvo_model.specs.Trace.{Step}
 use Rattle.mvo_theory.specs.State.{State, ActiveTx, StampedTx, EndedTx, Word, Claim, active_of, preparing_of, ended_of, is_ended_as}
 use Rattle.mvo_theory.specs.Changes.{with_words, taken_over, after_close}
 use Rattle.mvo_theory.specs.Words.{words_without}
-use Rattle.mvo_theory.specs.Phases.{phase_by, phase_in}
-use Rattle.mvo_theory.specs.Sound.{IsSound, IsNumbered, IsSingle, IsStarted, how_many}
+use Rattle.mvo_theory.specs.Phases.{phase_by}
+use Rattle.mvo_theory.specs.Sound.{IsSingle, how_many}
 use Rattle.mvo_theory.specs.Calls.{IsKept}
 use Rattle.mvo_theory.proofs.Each.{each_map}
 

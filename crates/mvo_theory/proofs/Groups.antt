@@ -1,19 +1,18 @@
 -- The next group has the commits above its prev and at most its mark, and it stays so.
-use Rattle.std.proofs.Common.{◌≡◌, ℕ, ◌≤◌, ◌<◌, ◌+◌, Bool, true, false, cond, List, [], ◌∷◌, ◌++◌, Option, None, Some, length, refl, sym, ap, ◌∙◌, subst, arith, append-nil, append_assoc}
-use Rattle.std.specs.Prelude.{⊤, nat_lt, nat_le, ◌==◌, ◌&&◌, drop, filter}
+use Rattle.std.proofs.Common.{◌≡◌, ℕ, ◌≤◌, ◌<◌, ◌+◌, Bool, true, false, cond, List, [], ◌∷◌, ◌++◌, Some, length, refl, sym, ap, ◌∙◌, subst, arith, append-nil, append_assoc}
+use Rattle.std.specs.Prelude.{⊤, nat_lt, nat_le, ◌&&◌, drop, filter}
 use Rattle.std.specs.List.{AllByRecursion}
-use Rattle.std.proofs.lemmas.Bool.{and_parts, leb-true, leb-false, le-leb, lt-leb, ltb-true, true≢false, false≢true}
+use Rattle.std.proofs.lemmas.Bool.{and_parts, leb-true, leb-false, le-leb, lt-leb, ltb-true, true≢false}
 use Rattle.std.proofs.lemmas.List.Elements.{filter-append}
 use Rattle.std.proofs.Math.Seq.{drop-append_seam}
 use Rattle.mvo_types.specs.Keys.{Map}
-use Rattle.mvo_model.specs.History.{History}
 use Rattle.mvo_model.specs.Trace.{Step}
 use Rattle.mvo_theory.specs.State.{State, StampedTx, timeline}
 use Rattle.mvo_theory.specs.Marks.{Commit, IsClosedAt, settled_to, least_open, below_open, low_water}
 use Rattle.mvo_theory.specs.Groups.{Group, Limits, is_writing, is_due, due, IsFull, IsLongest, last_of, mark_by, IsNextGroup, IsGroupOf}
 use Rattle.mvo_theory.specs.Sound.{IsRising, IsPlaced}
 use Rattle.mvo_theory.specs.Calls.{IsKept}
-use Rattle.mvo_theory.proofs.Each.{each_weaker, each_append, each_front, each_filter, each_always}
+use Rattle.mvo_theory.proofs.Each.{each_weaker, each_front, each_filter, each_always}
 use Rattle.mvo_theory.proofs.AfterTrace.{rising_all}
 use Rattle.mvo_theory.proofs.Trimmed.{low_below}
 

@@ -5,7 +5,6 @@ use Rattle.std.specs.List.{AllByRecursion, filter, list_any}
 use Rattle.std.proofs.lemmas.Bool.{ltb-true, le-ltb, eq-eqb, false≢true, true≢false, and_parts}
 use Rattle.mvo_types.specs.declared.row.RowKey.{RowKey}
 use Rattle.mvo_types.specs.Keys.{Map}
-use Rattle.mvo_types.specs.RowData.{ContentData}
 use Rattle.mvo_types.specs.Write.{Effect}
 use Rattle.mvo_model.specs.History.{History, after_history, later, net_write}
 use Rattle.mvo_model.proofs.Serials.{net_write-append}

@@ -11,9 +11,9 @@ use Rattle.mvo_types.specs.declared.op.Op.{Op}
 use Rattle.mvo_types.specs.declared.op.Op.TheVariants.{Read, Scan, Insert, Update, Delete}
 use Rattle.mvo_types.specs.declared.limits.TheConstants.{MAX_STAMP, MAX_TABLE, MAX_DATA_LEN, MAX_UNFINISHED}
 use Rattle.mvo_types.specs.declared.refusal.Refusal.{Refusal}
-use Rattle.mvo_types.specs.declared.refusal.Refusal.TheVariants.{NotValidated, NothingToDo, RingFull, NoSuchTransaction, NotActive, NotEnded, TableFull, DataTooLong, BadTable, ClockSpent}
+use Rattle.mvo_types.specs.declared.refusal.Refusal.TheVariants.{NotValidated, NothingToDo, RingFull, NotActive, TableFull, DataTooLong, BadTable, ClockSpent}
 use Rattle.mvo_types.specs.declared.row.RowKey.{RowKey}
-use Rattle.mvo_types.specs.RowData.{ContentData, RowData}
+use Rattle.mvo_types.specs.RowData.{RowData}
 use Rattle.mvo_types.specs.Keys.{Map, key_cmp}
 use Rattle.mvo_types.specs.Write.{Effect}
 use Rattle.mvo_model.specs.History.{after_history, net_write}
@@ -24,8 +24,8 @@ use Rattle.mvo_theory.specs.Dependencies.{is_writer, last_writer, has_end}
 use Rattle.mvo_theory.specs.Claims.{end_or, origin, has_claim}
 use Rattle.mvo_theory.specs.Changes.{is_to, after_trim}
 use Rattle.mvo_theory.specs.Marks.{least_open, below_open, low_water}
-use Rattle.mvo_theory.proofs.Cases.{do_cases, precommit_cases, begin_cases, conflict_by, preparing_head, rollback_by, finish_by, if_stands, or_flagged, not_there, not_written, not_prepared, not_op, not_done_at, not_active, not_checked_at, not_settled_at, is_ended_in}
-use Rattle.mvo_theory.specs.Causes.{when, or_next, was_valid, next_differs, conflicts, why_not_precommit, why_not_begin, differs, unsettled, active_claim, stamped_claim, or_cause, claimed_by, conflict, why_not_do, is_changer, or_first, last_end, change_of, entry_differs, why_not_validate, why_not_settle, waiting_for, awaited_by, awaited}
+use Rattle.mvo_theory.proofs.Cases.{do_cases, precommit_cases, begin_cases, conflict_by, preparing_head, rollback_by, finish_by, if_stands, or_flagged, not_there, not_written, not_prepared, not_op, not_done_at, not_active}
+use Rattle.mvo_theory.specs.Causes.{when, or_next, was_valid, next_differs, conflicts, why_not_precommit, why_not_begin, differs, unsettled, active_claim, stamped_claim, or_cause, claimed_by, why_not_do, is_changer, or_first, last_end, change_of, entry_differs, why_not_validate, why_not_settle, waiting_for, awaited_by, awaited}
 use Rattle.mvo_theory.specs.Sound.{changes, IsRising, IsActive, IsPlaced}
 use Rattle.mvo_theory.specs.Claimed.{IsClaimed, HasClaims}
 use Rattle.mvo_theory.specs.Calls.{Call, why_not, IsKept}

@@ -5,9 +5,9 @@ use Rattle.std.specs.List.{AllByRecursion}
 use Rattle.std.proofs.lemmas.Bool.{eqb-true, false≢true}
 use Rattle.mvo_types.specs.declared.op.Op.{Op}
 use Rattle.mvo_types.specs.declared.refusal.Refusal.{Refusal}
-use Rattle.mvo_types.specs.declared.refusal.Refusal.TheVariants.{NoSuchTransaction, Ended, NotActive, NotPreparing, NotEnded, DependencyAborted}
+use Rattle.mvo_types.specs.declared.refusal.Refusal.TheVariants.{NotActive, NotPreparing, DependencyAborted}
 use Rattle.mvo_theory.specs.State.{EndedTx, ended_of, State, StampedTx, ActiveTx, active_of, preparing_of}
-use Rattle.mvo_theory.proofs.Cases.{not_there_by, do_cases, precommit_cases, validate_none, settle_none, validate_not, settle_not, rollback_none, finish_none, ended_in, or_flagged, not_there, not_active, not_preparing, not_done_at, not_op, not_prepared, not_settled_at, not_checked_at, is_ended_in}
+use Rattle.mvo_theory.proofs.Cases.{not_there_by, do_cases, precommit_cases, validate_none, settle_none, validate_not, settle_not, rollback_none, finish_none, ended_in, or_flagged, not_active, not_preparing, not_done_at, not_op, not_prepared, not_settled_at, not_checked_at, is_ended_in}
 use Rattle.mvo_theory.specs.Causes.{why_not_do, why_not_precommit, why_not_settle, why_not_validate, is_failure, why_not_rollback, why_not_finish}
 use Rattle.mvo_theory.proofs.Each.{each_always}
 use Rattle.mvo_theory.proofs.Phases.{IsUnended}

@@ -1,6 +1,6 @@
 -- How many words an ended transaction has left.
 use Rattle.std.proofs.Common.{◌≡◌, ℕ, ◌≤◌, ◌+◌, Bool, true, false, cond, List, [], ◌∷◌, ◌++◌, Option, None, Some, length, map, refl, sym, ap, ◌∙◌, subst, arith, append-nil, append_assoc}
-use Rattle.std.specs.Prelude.{◌==◌, nat_le, drop, not, ⊤, is_some, if◌then◌else◌}
+use Rattle.std.specs.Prelude.{◌==◌, nat_le, drop, not, is_some}
 use Rattle.std.specs.List.{AllByRecursion, filter}
 use Rattle.std.proofs.lemmas.List.{length-append, length-drop}
 use Rattle.std.proofs.lemmas.Bool.{leb-true, leb-false}
@@ -15,13 +15,13 @@ use Rattle.mvo_model.specs.History.{History, net_write}
 use Rattle.mvo_model.specs.Trace.{Step, history_of, history_by}
 use Rattle.mvo_model.specs.Trace.Step.{Aborts, Terminates}
 use Rattle.mvo_theory.specs.Entries.{entries}
-use Rattle.mvo_theory.specs.State.{State, ActiveTx, StampedTx, EndedTx, Claim, Word, Outcome, opened, active_of, preparing_of, ended_of, history_of_active}
+use Rattle.mvo_theory.specs.State.{State, ActiveTx, StampedTx, EndedTx, Claim, Word, Outcome, active_of, preparing_of, ended_of}
 use Rattle.mvo_theory.specs.State.Outcome.{Committed, Aborted}
 use Rattle.mvo_theory.specs.Claims.{ended_key, claims_with, claim_with, new_claim, origin}
 use Rattle.mvo_theory.specs.Words.{words_by, words_behind, words_of, words_in, word_count, words_held, words_now, is_end_of, words_without, is_last_word, is_done, words_left, HasWords}
-use Rattle.mvo_theory.specs.Changes.{after_check, after_commit, after_operation, with_words, taken_over, without_ended, after_termination, after_finish, committed_tx, aborted_tx}
+use Rattle.mvo_theory.specs.Changes.{after_check, after_operation, with_words, taken_over, without_ended, after_termination, after_finish, committed_tx, aborted_tx}
 use Rattle.mvo_theory.specs.Causes.{awaited, is_failure, end_of}
-use Rattle.mvo_theory.specs.Steps.{after_precommit_of, after_precommit, after_validate_of, after_validate, after_commit_of, after_commit_now, after_settle_unless, after_settle, after_abort_of, after_abort, after_refusal, steps_of_refusal}
+use Rattle.mvo_theory.specs.Steps.{after_precommit_of, after_precommit, after_validate_of, after_validate, after_commit_of, after_settle_unless, after_abort_of, after_abort}
 use Rattle.mvo_theory.specs.AfterTrace.{IsAfterTrace}
 use Rattle.mvo_theory.specs.Calls.{Call, Result, Run, answer_in, after_accepted, after_refused, after_call, steps_unless, steps_of_accepted, steps_of_refused, steps_of, MayRun, after_run, trace_of, IsKept}
 use Rattle.mvo_theory.specs.Calls.Call.{Begin, Do, Precommit, Validate, Settle, Rollback, Finish, Trim, Close}
@@ -30,7 +30,7 @@ use Rattle.mvo_theory.proofs.Each.{each_weaker, each_append, each_map}
 use Rattle.mvo_theory.proofs.Who.{active_holds}
 use Rattle.mvo_theory.proofs.LastWriter.{found_in}
 use Rattle.mvo_theory.proofs.Cases.{found_is}
-use Rattle.mvo_theory.proofs.Runs.{kept_opened, kept_after_call}
+use Rattle.mvo_theory.proofs.Runs.{kept_after_call}
 
 -- ---- as many as its operations wrote
 words_by_count : (before : History) (claims : List Claim) (op : Op) (a : AnswerData) → length (words_by before claims op a) ≡ words_in op a

@@ -1,16 +1,14 @@
 -- Worked examples: what the definitions say of small runs, computed.
-use Rattle.std.proofs.Common.{◌≡◌, ℕ, Bool, true, false, [], ◌∷◌, None, Some, refl}
+use Rattle.std.proofs.Common.{◌≡◌, true, false, [], ◌∷◌, None, Some, refl}
 use Rattle.std.specs.FinMap as fin
 use Rattle.mvo_types.specs.declared.cause.Cause.TheVariants.{Active}
 use Rattle.mvo_types.specs.declared.refusal.Refusal.TheVariants.{Ended, WriteConflict, ValidationFailed, DependencyAborted, NothingToDo, RingFull}
-use Rattle.mvo_types.specs.declared.row.RowKey.{RowKey}
 use Rattle.mvo_types.specs.declared.op.Op.TheVariants.{Read, Scan, Insert, Update, Delete}
-use Rattle.mvo_types.specs.RowData.{ContentData, RowData}
 use Rattle.mvo_types.specs.Write.Effect.{Delete as Gone}
 use Rattle.mvo_types.specs.Keys.{Map}
 use Rattle.mvo_types.specs.AnswerData.AnswerData.{Found, Rows, Inserted, Updated, Deleted}
-use Rattle.mvo_model.specs.History.{History, net_write}
-use Rattle.mvo_theory.specs.State.{State, Word, opened, preparing_of, ended_of, timeline, history_of_active}
+use Rattle.mvo_model.specs.History.{net_write}
+use Rattle.mvo_theory.specs.State.{State, opened, preparing_of, ended_of, history_of_active}
 use Rattle.mvo_theory.specs.State.Word.{Own}
 use Rattle.mvo_theory.specs.State.Outcome.{Committed, Aborted as WasAborted}
 use Rattle.mvo_model.specs.Trace.Phase.{Committed as IsCommitted}

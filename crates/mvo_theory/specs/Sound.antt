@@ -1,10 +1,10 @@
 -- What each core keeps, with several Preparing transactions.
-use Rattle.std.specs.Prelude.{ℕ, ◌≡◌, ◌≢◌, ◌+◌, ◌<◌, ◌≤◌, ◌⊎◌, ◌==◌, ◌&&◌, Bool, true, false, not, is_some, List, [], ◌∷◌, cond, take, None, ⊤}
+use Rattle.std.specs.Prelude.{ℕ, ◌≡◌, ◌≢◌, ◌+◌, ◌<◌, ◌≤◌, ◌⊎◌, Bool, true, false, is_some, List, [], ◌∷◌, cond, take, None, ⊤}
 use Rattle.std.specs.List.{AllByRecursion, list_any}
 use Rattle.mvo_types.specs.declared.row.RowKey.{RowKey}
 use Rattle.mvo_types.specs.Keys.{Map}
 use Rattle.mvo_model.specs.History.{History, AreSerial, net_write, after_history}
-use Rattle.mvo_theory.specs.State.{EndedTx, State, StampedTx, ActiveTx, seen_by, is_active_as, is_preparing_as, is_ended_as}
+use Rattle.mvo_theory.specs.State.{State, StampedTx, ActiveTx, seen_by, is_active_as, is_preparing_as, is_ended_as}
 use Rattle.mvo_theory.specs.Entries.{Entry, entry_of, entries}
 use Rattle.mvo_theory.specs.Ranges.{Row, shows, footprint_of}
 use Rattle.mvo_theory.specs.Dependencies.{is_writer, has_end, counts_for}
