@@ -1,13 +1,16 @@
 -- The next group has the commits above its prev and at most its mark, and it stays so.
-use Rattle.std.proofs.Common.{◌≡◌, ℕ, ◌≤◌, ◌<◌, ◌+◌, Bool, true, false, cond, List, [], ◌∷◌, ◌++◌, Some, length, refl, sym, ap, ◌∙◌, subst, arith, append-nil, append_assoc}
-use Rattle.std.specs.Prelude.{⊤, nat_lt, nat_le, ◌&&◌, drop, filter}
+use Rattle.std.proofs.Common.{◌≡◌, ℕ, ◌≤◌, ◌<◌, ◌+◌, Bool, true, false, cond, Option, None, Some, List, [], ◌∷◌, ◌++◌, length, refl, inl, inr, sym, ap, ◌∙◌, subst, arith, append-nil, append_assoc}
+use Rattle.std.specs.Prelude.{⊤, ◌==◌, nat_lt, nat_le, ◌&&◌, drop, filter}
 use Rattle.std.specs.List.{AllByRecursion}
-use Rattle.std.proofs.lemmas.Bool.{and_parts, leb-true, leb-false, le-leb, lt-leb, ltb-true, true≢false}
+use Rattle.std.proofs.lemmas.Bool.{and_parts, leb-true, leb-false, le-leb, lt-leb, ltb-true, true≢false, cases_lt, eq-eqb}
 use Rattle.std.proofs.lemmas.List.Elements.{filter-append}
 use Rattle.std.proofs.Math.Seq.{drop-append_seam}
 use Rattle.mvo_types.specs.Keys.{Map}
 use Rattle.mvo_model.specs.Trace.{Step}
 use Rattle.mvo_theory.specs.State.{State, StampedTx, timeline}
+use Rattle.mvo_types.specs.declared.refusal.Refusal.{Refusal}
+use Rattle.mvo_types.specs.declared.refusal.Refusal.TheVariants.{NothingToDo, RingFull}
+use Rattle.mvo_theory.specs.Causes.{when, first_cause, why_not_close}
 use Rattle.mvo_theory.specs.Marks.{Commit, IsClosedAt, settled_to, least_open, below_open, low_water}
 use Rattle.mvo_theory.specs.Groups.{Group, Limits, is_writing, is_due, due, IsFull, IsLongest, last_of, mark_by, IsNextGroup, IsGroupOf}
 use Rattle.mvo_theory.specs.Sound.{IsRising, IsPlaced}
@@ -224,3 +227,31 @@ not_longer fits front (c ∷ cs) rest (y ∷ ys) zs l f e h =
 
 pub longest_is_longest : (fits : Limits) (commits taken ys zs : List Commit) → AreLimits fits → IsLongest fits commits taken → commits ≡ ys ++ zs → fits ys ≡ true → length ys ≤ length taken
 longest_is_longest fits commits taken ys zs l h e f = not_longer fits [] taken (drop (length taken) commits) ys zs l h.full (h.beginning ∙ e) f
+
+-- ---- a group that is closed has a mark above its prev, where each record alone fits
+last_above : (m e : ℕ) (cs : List Commit) → m < e → AllByRecursion (λ (c : Commit). m < c.0) cs → m < last_of e cs
+last_above m e [] l h = l
+last_above m e (c ∷ cs) l h = last_above m c.0 cs h.0 h.1
+
+none_refusal : (w : Refusal) → ◌≡◌ {A = Option Refusal} (Some w) None → ⊥
+none_refusal w q = cc
+
+pub close_rises : (s : State) (fits : Limits) (g : Group) (full : Bool) → ((c : Commit) → fits (c ∷ []) ≡ true) → IsClosedAt s.marks.closed s → why_not_close s full ≡ None → IsNextGroup fits s g → g.prev < g.mark
+close_rises s fits g full one c w n = go (drop (length g.commits) (due s)) n.longest.beginning n.longest.full n.mark
+  where
+    below : s.marks.closed ≤ low_water s
+    below = closed_below_low s.marks.closed s c
+
+    moved : (b : Bool) → (low_water s == s.marks.closed) ≡ b → first_cause (when b NothingToDo ∷ when full RingFull ∷ []) ≡ None → s.marks.closed < low_water s
+    moved true e q = absurd (none_refusal NothingToDo q)
+    moved false e q = elim (cases_lt s.marks.closed (low_water s)) [ inl l ↦ l | inr l ↦ absurd (true≢false (sym (eq-eqb (low_water s) s.marks.closed (let b = below in omega arith)) ∙ e)) ]
+
+    above : (taken rest : List Commit) → taken ++ rest ≡ due s → IsFull fits taken rest → (m : ℕ) → m ≡ mark_by (low_water s) s.marks.closed taken rest → s.marks.closed < m
+    above taken [] e f m q = subst (λ (i : ℕ). s.marks.closed < i) (sym q) (moved (low_water s == s.marks.closed) refl w)
+    above [] (d ∷ ds) e f m q = absurd (true≢false (sym (one d) ∙ f))
+    above (t ∷ ts) (d ∷ ds) e f m q =
+        let each = subst (AllByRecursion (λ (x : Commit). s.marks.closed < x.0)) (sym e) (due_above s) in
+        subst (λ (i : ℕ). s.marks.closed < i) (sym q) (last_above s.marks.closed t.0 ts each.0 (each_front (λ (x : Commit). s.marks.closed < x.0) ts (d ∷ ds) each.1))
+
+    go : (rest : List Commit) → g.commits ++ rest ≡ due s → IsFull fits g.commits rest → g.mark ≡ mark_by (low_water s) s.marks.closed g.commits rest → g.prev < g.mark
+    go rest e f m = subst (λ (i : ℕ). i < g.mark) (sym n.prev) (above g.commits rest e f g.mark m)
