@@ -30,7 +30,7 @@ pub get-after_effect : (q k : RowKey) (e : Effect) (m : Map) → fin.get (after_
 get-after_effect q k (Put h) m = fin.get-insert keys_total m k h q
 get-after_effect q k Delete m = fin.get-remove keys_total m k q
 
-get-after_write : (q : RowKey) (w : Option Write) (m : Map) → fin.get (after_write w m) q ≡ content_after_last (write_at q w) (fin.get m q)
+pub get-after_write : (q : RowKey) (w : Option Write) (m : Map) → fin.get (after_write w m) q ≡ content_after_last (write_at q w) (fin.get m q)
 get-after_write q None m = refl
 get-after_write q (Some w) m = get-after_effect q w.0 w.1 m ∙ sym (last_cond (eq_by_cmp key_cmp q w.0) w.1 (fin.get m q))
 
@@ -46,7 +46,7 @@ later_assoc : (a b c : Option Effect) → later a (later b c) ≡ later (later a
 later_assoc None b c = refl
 later_assoc (Some h) b c = refl
 
-later-none : (a : Option Effect) → later a None ≡ a
+pub later-none : (a : Option Effect) → later a None ≡ a
 later-none None = refl
 later-none (Some h) = refl
 
