@@ -1,5 +1,5 @@
 -- Queues of transactions by a timestamp.
-use Rattle.std.specs.Prelude.{ℕ, ◌≡◌, ◌+◌, ◌≤◌, ◌⊎◌, Bool, eqb, Option, Some, None, List, [], ◌∷◌}
+use Rattle.std.specs.Prelude.{ℕ, ◌≡◌, ◌+◌, ◌≤◌, ◌⊎◌, Bool, eqb, Option, Some, None, List, [], ◌∷◌, ◌++◌}
 use Rattle.mvo_txn.specs.declared.state.TxState.{TxState}
 use Rattle.mvo_txn.specs.declared.state.TxState.TheVariants.{Active, Preparing, Committed, Aborted}
 use Rattle.std.specs.Option.{option_map, option_eq}
@@ -53,3 +53,15 @@ pub record IsListing (stamp_of : ℕ → Option ℕ) (high : ℕ) (ms : List Mar
 pub record IsQueue (stamp_of : ℕ → Option ℕ) (high : ℕ) (ms : List Mark) : Type 0 where
   pub listing : IsListing stamp_of high ms
   pub current : IsCurrent stamp_of ms
+
+-- the queue with one more behind
+abbrev pub with_mark : List Mark → ℕ → ℕ → List Mark
+with_mark ms stamp id = ms ++ record { stamp = stamp; id = id } ∷ []
+
+-- one that was a queue still is
+abbrev pub Keeps : (ℕ → Option ℕ) → List Mark → List Mark → Type 0
+Keeps stamp_of old new = (high : ℕ) → IsQueue stamp_of high old → IsQueue stamp_of high new
+
+-- one whose first need not have counted is a queue
+abbrev pub Trims : (ℕ → Option ℕ) → List Mark → List Mark → Type 0
+Trims stamp_of old new = (high : ℕ) → IsListing stamp_of high old → IsQueue stamp_of high new

@@ -33,10 +33,13 @@ state_back (Committed s) = refl
 state_back Aborted = refl
 
 abbrev pub coded_state : Coded TxState
-coded_state = code_by (ℕ × ℕ) (coded× coded_ℕ coded_ℕ) state_pair (λ p. state_of_pair p.0 p.1) state_back
+coded_state =
+    code_by (ℕ × ℕ) (coded× coded_ℕ coded_ℕ) state_pair (λ p. state_of_pair p.0 p.1) state_back
 
 abbrev pub coded_seat : {P : Type 0} → Coded P → Coded (Seat P)
-coded_seat {P} c = code_by (TxState × P) (coded× coded_state c) (λ s. (s.state, s.kept)) (λ p. record { state = p.0; kept = p.1 }) (λ _. refl)
+coded_seat {P} c =
+    code_by (TxState × P) (coded× coded_state c)
+    (λ s. (s.state, s.kept)) (λ p. record { state = p.0; kept = p.1 }) (λ _. refl)
 
 abbrev pub coded_seats : {P : Type 0} → Coded P → Coded (SeatMap P)
 coded_seats c = map.code coded_ℕ (coded_seat c)
@@ -44,6 +47,10 @@ coded_seats c = map.code coded_ℕ (coded_seat c)
 -- how a transaction stands, if it has a seat
 abbrev pub state_in : {P : Type 0} → SeatMap P → ℕ → Option TxState
 state_in m id = option_map (λ seat. seat.state) (map.get m id)
+
+-- what is kept of a transaction, if it has a seat
+abbrev pub kept_in : {P : Type 0} → SeatMap P → ℕ → Option P
+kept_in m id = option_map (λ seat. seat.kept) (map.get m id)
 
 abbrev pub with_state_at : {P : Type 0} → Option (Seat P) → SeatMap P → ℕ → TxState → SeatMap P
 with_state_at None m id state = m

@@ -7,7 +7,7 @@ use Rattle.mvo_types.specs.declared.refusal.Refusal.{Refusal}
 use Rattle.mvo_types.specs.declared.refusal.Refusal.TheVariants.{TableFull, ClockSpent, OutOfMemory}
 use Rattle.mvo_txn.specs.declared.state.TxState.{TxState}
 use Rattle.mvo_txn.specs.declared.state.TxState.TheVariants.{Active, Preparing, Committed, Aborted}
-use Rattle.mvo_txn.specs.Seats.{SeatMap, coded_seats, state_in, with_state}
+use Rattle.mvo_txn.specs.Seats.{SeatMap, coded_seats, state_in, kept_in, with_state, with_kept}
 use Rattle.mvo_txn.specs.Queue.{open_end}
 
 -- the clock, and each unfinished transaction by its id
@@ -16,7 +16,9 @@ pub record Txns (P : Type 0) : Type 0 where
   pub seats : SeatMap P
 
 abbrev pub coded_txns : {P : Type 0} → Coded P → Coded (Txns P)
-coded_txns {P} c = code_by (ℕ × SeatMap P) (coded× coded_ℕ (coded_seats c)) (λ t. (t.clock, t.seats)) (λ p. record { clock = p.0; seats = p.1 }) (λ _. refl)
+coded_txns {P} c =
+    code_by (ℕ × SeatMap P) (coded× coded_ℕ (coded_seats c))
+    (λ t. (t.clock, t.seats)) (λ p. record { clock = p.0; seats = p.1 }) (λ _. refl)
 
 -- nobody has begun
 abbrev pub no_txns : {P : Type 0} → ℕ → Txns P
@@ -25,6 +27,10 @@ no_txns mark = record { clock = mark; seats = map.empty }
 -- how the transaction stands
 abbrev pub state_of : {P : Type 0} → Txns P → ℕ → Option TxState
 state_of t id = state_in t.seats id
+
+-- what is kept of the transaction
+abbrev pub kept_of : {P : Type 0} → Txns P → ℕ → Option P
+kept_of t id = kept_in t.seats id
 
 -- ---- how one stands
 abbrev pub IsPreparing : Option TxState → Type 0
@@ -49,15 +55,25 @@ IsEnded (Some Aborted) = Unit {0}
 -- ---- what calls leave
 -- a transaction begins, and this is kept of it
 abbrev pub after_begin : {P : Type 0} → Txns P → P → Txns P
-after_begin t kept = record { clock = t.clock + 1; seats = map.insert t.seats (t.clock + 1) (record { state = Active; kept = kept }) }
+after_begin t kept = record {
+  clock = t.clock + 1;
+  seats = map.insert t.seats (t.clock + 1) (record { state = Active; kept = kept });
+}
 
 -- it draws its end
 abbrev pub after_prepare : {P : Type 0} → Txns P → ℕ → Txns P
-after_prepare t id = record { clock = t.clock + 1; seats = with_state t.seats id (Preparing (record { 0 = t.clock + 1 })) }
+after_prepare t id = record {
+  clock = t.clock + 1;
+  seats = with_state t.seats id (Preparing (record { 0 = t.clock + 1 }));
+}
 
 -- it stands so
 abbrev pub after_change : {P : Type 0} → Txns P → ℕ → TxState → Txns P
 after_change t id state = record t { seats = with_state t.seats id state }
+
+-- this is kept of it
+abbrev pub after_write : {P : Type 0} → Txns P → ℕ → P → Txns P
+after_write t id kept = record t { seats = with_kept t.seats id kept }
 
 -- it leaves
 abbrev pub after_terminate : {P : Type 0} → Txns P → ℕ → Txns P
@@ -69,7 +85,8 @@ spent_clock clock = if nat_le MAX_STAMP clock then Some ClockSpent else None
 
 -- why no transaction begins: the first cause that stands
 abbrev pub why_not_begun : {P : Type 0} → Txns P → Option Refusal
-why_not_begun t = if nat_le MAX_UNFINISHED (map.len t.seats) then Some TableFull else spent_clock t.clock
+why_not_begun t =
+    if nat_le MAX_UNFINISHED (map.len t.seats) then Some TableFull else spent_clock t.clock
 
 -- the refusal that has a cause, and out of memory where none has
 abbrev pub IsRefusal : Option Refusal → Refusal → Type 0

@@ -1,6 +1,7 @@
-ghost use Rattle.std.specs.Prelude.{◌≡◌, ℕ, ◌<◌, ◌++◌, ◌∷◌, [], IfOk, OnOk};
+ghost use Rattle.std.specs.Prelude.{◌≡◌, ◌<◌, [], IfOk, OnOk};
 ghost use Rattle.std.specs.VecDeque.{deque_len, deque_capacity};
-ghost use Rattle.mvo_txn.specs.Queue.{stamp_in, first_stamp, IsListing, IsQueue};
+ghost use Rattle.mvo_txn.specs.Queue.{first_stamp, with_mark};
+ghost use Rattle.mvo_txn.specs.Sound.{KeepsQueue, TrimsQueue};
 
 use crate::mark::{Kind, Mark};
 use crate::seats::Seats;
@@ -40,8 +41,7 @@ impl Queue {
     /// Makes room for one more. Where room is short it drops those that no longer count.
     pub(crate) fn make_room<P>(&mut self, seats: &Seats<P>) -> Result<(), AllocError>
         ensures kind { self.new.kind ≡ self.old.kind }
-        ensures kept { (high : ℕ) → IsQueue (stamp_in self.old.kind seats.now) high self.old.marks.items
-            → IsQueue (stamp_in self.old.kind seats.now) high self.new.marks.items }
+        ensures kept { KeepsQueue seats.now self.old self.new }
         ensures room { OnOk result (deque_len self.new.marks < deque_capacity self.new.marks) }
     {
         let kind = self.kind;
@@ -55,7 +55,7 @@ impl Queue {
     pub(crate) fn push(&mut self, stamp: u64, id: u64)
         requires { deque_len self.old.marks < deque_capacity self.old.marks }
         ensures kind { self.new.kind ≡ self.old.kind }
-        ensures marks { self.new.marks.items ≡ self.old.marks.items ++ record { stamp = stamp; id = id } ∷ [] }
+        ensures marks { self.new.marks.items ≡ with_mark self.old.marks.items stamp id }
     {
         let _ = self.marks.push_back(Mark { stamp, id });
     }
@@ -63,8 +63,7 @@ impl Queue {
     /// Drops from the front those that no longer count.
     pub(crate) fn trim<P>(&mut self, seats: &Seats<P>)
         ensures kind { self.new.kind ≡ self.old.kind }
-        ensures kept { (high : ℕ) → IsListing (stamp_in self.old.kind seats.now) high self.old.marks.items
-            → IsQueue (stamp_in self.old.kind seats.now) high self.new.marks.items }
+        ensures kept { TrimsQueue seats.now self.old self.new }
     {
         while let Some(mark) = self.marks.front() {
             if self.kind.is_current(seats, *mark) {

@@ -1,9 +1,9 @@
 ghost use Rattle.std.specs.Prelude.{◌≡◌, IfOk, OnErr, OnOk, IsSome, option_copied};
-ghost use Rattle.std.specs.Option.{option_copied_mut, option_map};
+ghost use Rattle.std.specs.Option.{option_copied_mut};
 ghost use Rattle.std.specs.FinMap as map;
 ghost use Rattle.std.specs.Borrow.{sem};
 ghost use Rattle.mvo_txn.specs.Lends.{LendsKeptOfSeats};
-ghost use Rattle.mvo_txn.specs.Seats.{with_state};
+ghost use Rattle.mvo_txn.specs.Seats.{kept_in, with_state};
 
 use crate::seat::Seat;
 use crate::state::TxState;
@@ -55,7 +55,7 @@ impl<P> Seats<P> {
     /// What is kept of a transaction, for writing.
     pub(crate) fn kept_mut(&mut self, id: u64) -> Option<&mut P>
         ensures* writes_back { sem 𝓛 (LendsKeptOfSeats P.row self.entry id result) }
-        ensures value { option_copied_mut result ≡ option_map (λ seat. seat.kept) (map.get self.old id) }
+        ensures value { option_copied_mut result ≡ kept_in self.old id }
     {
         match self.held.get_mut(&id) {
             Some(seat) => Some(&mut seat.kept),

@@ -1,10 +1,10 @@
 ghost use Rattle.std.specs.Prelude.{◌≡◌, ◌≤◌, ◌==◌, IfOk, IfErr, OnOk, OnErr, Some, None, option_copied};
-ghost use Rattle.std.specs.Option.{option_copied_mut, option_map};
+ghost use Rattle.std.specs.Option.{option_copied_mut};
 ghost use Rattle.std.specs.FinMap as map;
 ghost use Rattle.std.specs.Borrow.{sem};
 ghost use Rattle.mvo_types.specs.declared.limits.TheConstants.{MAX_STAMP};
 ghost use Rattle.mvo_txn.specs.Lends.{LendsKept};
-ghost use Rattle.mvo_txn.specs.Txns.{no_txns, state_of, IsPreparing, IsUnended, IsEnded, IsTable};
+ghost use Rattle.mvo_txn.specs.Txns.{no_txns, state_of, kept_of, IsPreparing, IsUnended, IsEnded, IsTable};
 ghost use Rattle.mvo_txn.specs.Txns.{after_begin, after_prepare, after_change, after_terminate};
 ghost use Rattle.mvo_txn.specs.Txns.{why_not_begun, spent_clock, IsRefusal, IsOldestBegin, IsLowWater};
 
@@ -103,7 +103,7 @@ impl<P> TxnTable<P> {
     /// What is kept of the transaction, for writing.
     pub fn get_mut(&mut self, id: TxId) -> Option<&mut P>
         ensures* writes_back { sem 𝓛 (LendsKept P.row self.entry id.0 result) }
-        ensures value { option_copied_mut result ≡ option_map (λ seat. seat.kept) (map.get self.old.seats id.0) }
+        ensures value { option_copied_mut result ≡ kept_of self.old id.0 }
     {
         self.seats.kept_mut(id.0)
     }
@@ -182,7 +182,7 @@ impl<P> TxnTable<P> {
     /// Lets a Committed or Aborted transaction leave, and answers what was kept of it.
     pub fn terminate(&mut self, id: TxId) -> P
         requires { IsEnded (state_of self.old id.0) }
-        ensures kept { option_map (λ seat. seat.kept) (map.get self.old.seats id.0) ≡ Some result }
+        ensures kept { kept_of self.old id.0 ≡ Some result }
         ensures gone { self.new ≡ after_terminate self.old id.0 }
     {
         let seat = self.seats.remove(id.0).unwrap();
