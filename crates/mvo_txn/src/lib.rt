@@ -14,3 +14,6 @@ mod table;
 pub use seat::Seat;
 pub use state::TxState;
 pub use table::TxnTable;
+
+#[cfg(test)]
+mod tests;
