@@ -46,7 +46,7 @@ impl<P> Model for TxnTable<P> {
 }
 
 impl<P> TxnTable<P> {
-    /// No transaction, and the clock at the mark. All room for transactions is taken here.
+    /// No transaction, and the clock at the mark. Room for as many as may be unfinished is taken.
     pub fn new(alloc: Global, mark: Stamp) -> Result<TxnTable<P>, AllocError>
         requires { mark.0 ≤ MAX_STAMP }
         ensures { IfOk result (λ t. t ≡ no_txns mark.0) }
@@ -108,7 +108,8 @@ impl<P> TxnTable<P> {
         self.seats.kept_mut(id.0)
     }
 
-    /// Begins a transaction: draws its id, and keeps this of it.
+    /// Begins a transaction: draws its id, and keeps this of it. A refusal drops what was given. It
+    /// may take memory, where the places of those that left have to be made free again.
     pub fn begin(&mut self, kept: P) -> Result<TxId, Refusal>
     where
         P: Drop,
