@@ -1,5 +1,5 @@
 -- A table of transactions with their dependencies.
-use Rattle.std.specs.Prelude.{ℕ, ◌≡◌, Bool, true, false, cond, eqb, IsSome, List, [], Option, None, Some}
+use Rattle.std.specs.Prelude.{ℕ, ◌≡◌, Bool, true, false, cond, eqb, List, [], Option, None, Some}
 use Rattle.std.specs.Option.{option_map}
 use Rattle.std.specs.FinMap as map
 use Rattle.mvo_types.specs.declared.ids.TxId.{TxId}
@@ -8,10 +8,6 @@ use Rattle.mvo_txn.specs.Txns.{Txns, kept_of, after_write}
 use Rattle.mvo_deps.specs.declared.node.Node.{Node}
 use Rattle.mvo_deps.specs.Data.{DependencyData, no_dependencies, is_among}
 use Rattle.mvo_deps.specs.Data.{with_dependency, with_dependent, without_dependents}
-
--- the transaction is unfinished
-abbrev pub HasSeat : {P : Type 0} → Txns P → ℕ → Type 0
-HasSeat t id = IsSome (map.get t.seats id)
 
 abbrev pub data_in : {P : Type 0} → Option (Node P) → DependencyData
 data_in None = no_dependencies
@@ -32,22 +28,20 @@ abbrev pub after_change : {P : Type 0} → Txns (Node P) → ℕ
     → (DependencyData → DependencyData) → Txns (Node P)
 after_change t id change = after_change_at (kept_of t id) t id change
 
--- it depends on the other just where it is one of the other's dependents
-abbrev pub IsLinked : {P : Type 0} → Txns (Node P) → TxId → TxId → Type 0
-IsLinked t tx on = is_among on (data_of t tx).on ≡ is_among tx (data_of t on).dependents
-
 -- it depends on the other, where it did not yet
 abbrev pub after_register : {P : Type 0} → Txns (Node P) → TxId → TxId → Txns (Node P)
 after_register t tx on =
     cond (is_among on (data_of t tx).on) t
-    (after_change (after_change t on.0 (with_dependent tx)) tx.0 (with_dependency on))
+    (cond (is_among tx (data_of t on).dependents) t
+    (after_change (after_change t on.0 (with_dependent tx)) tx.0 (with_dependency on)))
 
 abbrev pub changed_if : Bool → (DependencyData → DependencyData) → DependencyData → DependencyData
 changed_if true change d = change d
 changed_if false change d = d
 
 -- the seat where the dependencies are changed so
-abbrev pub with_data : {P : Type 0} → (DependencyData → DependencyData) → Seat (Node P) → Seat (Node P)
+abbrev pub with_data : {P : Type 0}
+    → (DependencyData → DependencyData) → Seat (Node P) → Seat (Node P)
 with_data change s =
     record s { kept = record s.kept { dependencies = change s.kept.dependencies } }
 

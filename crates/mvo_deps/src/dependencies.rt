@@ -69,6 +69,13 @@ impl Dependencies {
         self.on.contains(&id)
     }
 
+    /// Whether the transaction depends on it.
+    pub(crate) fn has_dependent(&self, id: TxId) -> bool
+        ensures { result ≡ is_among id self.now.dependents }
+    {
+        self.dependents.contains(&id)
+    }
+
     /// On whom it depends, in the order in which they were registered.
     pub(crate) fn on(&self) -> &[TxId]
         ensures { result.now ≡ self.now.on }

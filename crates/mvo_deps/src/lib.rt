@@ -16,3 +16,6 @@ pub use node::Node;
 pub use registration::register;
 pub use report::{report_abort, report_commit};
 pub use waiting::waiting_for;
+
+#[cfg(test)]
+mod tests;

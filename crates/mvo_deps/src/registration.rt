@@ -1,26 +1,26 @@
-ghost use Rattle.std.specs.Prelude.{◌≡◌, ◌≢◌, false, OnOk, OnErr};
+ghost use Rattle.std.specs.Prelude.{◌≡◌, false, OnOk, OnErr};
 ghost use Rattle.mvo_deps.specs.Data.{is_among, with_dependency, with_dependent};
 ghost use Rattle.mvo_deps.specs.Data.{without_last_dependent};
-ghost use Rattle.mvo_deps.specs.Nodes.{HasSeat, IsLinked, data_of, after_change, after_register};
+ghost use Rattle.mvo_deps.specs.Nodes.{data_of, after_change, after_register};
 
 use crate::node::Node;
 use mvo_txn::TxnTable;
 use mvo_types::TxId;
 use std::alloc::AllocError;
 
-/// Lets one transaction depend on another, which isn't settled. One that it depends on already
-/// changes nothing.
+/// Lets an unfinished transaction depend on another, which isn't settled. One that it depends on
+/// already changes nothing.
 ///
-/// Takes time by the number of those that the first depends on.
+/// Takes time by the number of those that the first depends on, and where the other is new, of
+/// those that depend on the other.
 pub fn register<P>(table: &mut TxnTable<Node<P>>, tx: TxId, on: TxId) -> Result<(), AllocError>
-    requires other { tx.0 ≢ on.0 }
-    requires seat { HasSeat table.old tx.0 }
-    requires on_seat { HasSeat table.old on.0 }
-    requires linked { IsLinked table.old tx on }
     ensures ok { OnOk result (table.new ≡ after_register table.old tx on) }
     ensures err { OnErr result (table.new ≡ table.old) }
 {
     if depends_on(table, tx, on) {
+        return Ok(());
+    }
+    if has_dependent(table, on, tx) {
         return Ok(());
     }
     add_dependent(table, on, tx)?;
@@ -36,6 +36,15 @@ fn depends_on<P>(table: &TxnTable<Node<P>>, tx: TxId, on: TxId) -> bool
 {
     match table.get(tx) {
         Some(seat) => seat.kept.dependencies.depends_on(on),
+        None => false,
+    }
+}
+
+fn has_dependent<P>(table: &TxnTable<Node<P>>, on: TxId, id: TxId) -> bool
+    ensures { result ≡ is_among id (data_of table.now on).dependents }
+{
+    match table.get(on) {
+        Some(seat) => seat.kept.dependencies.has_dependent(id),
         None => false,
     }
 }
