@@ -1,0 +1,54 @@
+ghost use Rattle.std.specs.Prelude.{◌≡◌};
+ghost use Rattle.mvo_deps.specs.Data.{IsApart, after_commit, after_abort, noted};
+ghost use Rattle.mvo_deps.specs.Nodes.{after_change, IsEachChanged, IsReported};
+
+use crate::node::Node;
+use crate::outcome::Outcome;
+use mvo_txn::TxnTable;
+use mvo_types::TxId;
+
+/// Tells those that depend on a transaction that it is committed: each waits for one less.
+///
+/// It takes no memory, and time by the number of those that it tells.
+pub fn report_commit<P>(table: &mut TxnTable<Node<P>>, on: TxId)
+    ensures { IsReported after_commit table.old table.new on }
+{
+    report(table, on, Outcome::Committed);
+}
+
+/// Tells those that depend on a transaction that it is aborted: each is flagged with its id,
+/// unless it was flagged, and waits for one less.
+///
+/// It takes no memory, and time by the number of those that it tells.
+pub fn report_abort<P>(table: &mut TxnTable<Node<P>>, on: TxId)
+    ensures { IsReported (after_abort on) table.old table.new on }
+{
+    report(table, on, Outcome::Aborted(on));
+}
+
+fn report<P>(table: &mut TxnTable<Node<P>>, on: TxId, outcome: Outcome)
+    ensures { IsReported (noted outcome) table.old table.new on }
+{
+    let Some(node) = table.get_mut(on) else {
+        return;
+    };
+    let dependents = node.dependencies.take_dependents();
+    note_each(table, &dependents, outcome);
+}
+
+fn note_each<P>(table: &mut TxnTable<Node<P>>, ids: &[TxId], outcome: Outcome)
+    requires { IsApart ids.now }
+    ensures { IsEachChanged (noted outcome) table.old table.new ids.now }
+{
+    for id in ids {
+        note(table, *id, outcome);
+    }
+}
+
+fn note<P>(table: &mut TxnTable<Node<P>>, id: TxId, outcome: Outcome)
+    ensures { table.new ≡ after_change table.old id.0 (noted outcome) }
+{
+    if let Some(node) = table.get_mut(id) {
+        node.dependencies.note(outcome);
+    }
+}
