@@ -8,9 +8,11 @@ mod links;
 mod probe;
 mod seeds;
 mod slot;
+mod walk;
 
 pub use heads::Heads;
 pub use index::HashIndex;
+pub use walk::Versions;
 
 #[cfg(test)]
 mod index_tests;
