@@ -1,0 +1,8 @@
+//! Stand-in.
+#![tactic(auto)]
+
+mod state;
+mod table;
+
+pub use state::TxState;
+pub use table::TxnTable;

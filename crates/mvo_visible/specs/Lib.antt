@@ -1,0 +1,5 @@
+pub mod Words
+pub mod Versions
+pub mod Changes
+pub mod Shown
+pub mod Walked
