@@ -15,7 +15,7 @@ use Rattle.mvo_visible.specs.declared.walked.Walked.{Walked}
 use Rattle.mvo_visible.specs.Words.{States, seen_of, names}
 use Rattle.mvo_visible.specs.Versions.{Numbered, and_version, versions_by, is_own, is_own_newest, own_newest}
 use Rattle.mvo_visible.specs.Changes.{greater, is_at, changes_by, changes_of, greatest_below, first_with, owner_with, done_with, deciding, both, later_of, later, put_of, removal_of}
-use Rattle.mvo_visible.specs.Shown.{IsSettledBehind, StopsAt, StopsAtSettled}
+use Rattle.mvo_visible.specs.Shown.{IsSettledBehind, HasFallingStamps, HasOwnInFront}
 use Rattle.mvo_visible.specs.Walked.{walked_over, walked_on, is_last_at, is_last}
 use Rattle.mvo_visible.proofs.Decides.{option_or-none, option_or_assoc, deciding-append, first_with-append, none_above, greatest_under}
 
@@ -165,9 +165,24 @@ keeps b s n es ds c at shows below all settled = by_first (greatest_below b es) 
         above None = omega (arith, at)
         above (Some r) = omega (arith, at)
 
-stop_keeps : (states : States) (b r : ℕ) (e : Numbered) (rest : List Numbered) → IsStop states b e → StopsAt states b r e rest → later (deciding b (changes_by states e)) (deciding b (changes_of states rest)) ≡ deciding b (changes_by states e)
-stop_keeps states b r e rest stop at =
-    let behind = at.settled stop.stamp stop.put in
+-- what is asked of all versions, at one of them
+abbrev IsFallingAt : States → Numbered → List Numbered → Type 0
+IsFallingAt states e rest = (s : Stamp) → seen_of states e.1.begin ≡ Settled s → IsSettledBehind states s.0 rest
+
+abbrev IsOwnFirst : States → ℕ → ℕ → Numbered → List Numbered → Type 0
+IsOwnFirst states b r e rest = (s : Stamp) → seen_of states e.1.begin ≡ Settled s → s.0 < b → list_any (is_own r) rest ≡ false
+
+pub falling_at : (states : States) (xs : List Numbered) (e : Numbered) (rest : List Numbered) → HasFallingStamps states (xs ++ e ∷ rest) → IsFallingAt states e rest
+falling_at states [] e rest s = s.0
+falling_at states (x ∷ xs) e rest s = falling_at states xs e rest s.1
+
+pub own_first : (states : States) (b r : ℕ) (xs : List Numbered) (e : Numbered) (rest : List Numbered) → HasOwnInFront states b r (xs ++ e ∷ rest) → IsOwnFirst states b r e rest
+own_first states b r [] e rest s = s.0
+own_first states b r (x ∷ xs) e rest s = own_first states b r xs e rest s.1
+
+stop_keeps : (states : States) (b : ℕ) (e : Numbered) (rest : List Numbered) → IsStop states b e → IsFallingAt states e rest → later (deciding b (changes_by states e)) (deciding b (changes_of states rest)) ≡ deciding b (changes_by states e)
+stop_keeps states b e rest stop falling =
+    let behind = falling stop.stamp stop.put in
     let s = stop.stamp in
     let end' = seen_of states e.1.end in
     let first : changes_by states e ≡ record { stamp = s; version = Some e.0; owner = None } ∷ removal_of end' =
@@ -177,10 +192,10 @@ stop_keeps states b r e rest stop at =
     ∙ keeps b s.0 e.0 (removal_of end') (changes_of states rest) (record { stamp = s; version = Some e.0; owner = None }) refl refl stop.below behind.below behind.settled
     ∙ ap (deciding b) (sym first)
 
-pub walked_stop : (states : States) (b r : ℕ) (xs : List Numbered) (e : Numbered) (rest : List Numbered) → is_last states b e.1 ≡ true → StopsAt states b r e rest → walked_over states b r (xs ++ e ∷ []) ≡ walked_over states b r (xs ++ e ∷ rest)
-walked_stop states b r xs e rest last at =
+pub walked_stop : (states : States) (b r : ℕ) (xs : List Numbered) (e : Numbered) (rest : List Numbered) → is_last states b e.1 ≡ true → IsFallingAt states e rest → IsOwnFirst states b r e rest → walked_over states b r (xs ++ e ∷ []) ≡ walked_over states b r (xs ++ e ∷ rest)
+walked_stop states b r xs e rest last falling own =
     let stop = stop_is states b e last in
-    let no_own : list_any (is_own r) rest ≡ false = at.others stop.stamp stop.put stop.below in
+    let no_own : list_any (is_own r) rest ≡ false = own stop.stamp stop.put stop.below in
     sym (ap (walked_over states b r) (sym (append_assoc xs (e ∷ []) rest))
     ∙ walked_is states b r (xs ++ e ∷ []) rest
     ∙ ap (λ o. record { own = list_any (is_own r) (xs ++ e ∷ []) || o; newest = option_or (own_newest r (xs ++ e ∷ [])) (own_newest r rest); change = later (deciding b (changes_of states (xs ++ e ∷ []))) (deciding b (changes_of states rest)) }) no_own
@@ -199,11 +214,6 @@ walked_stop states b r xs e rest last at =
         ∙ sym (deciding-append b (cs ++ es) ds)
         ∙ ap (deciding b) (append_assoc cs es ds)
         ∙ deciding-append b cs (es ++ ds)
-        ∙ ap (later (deciding b cs)) (deciding-append b es ds ∙ stop_keeps states b r e rest (stop_is states b e last) at)
+        ∙ ap (later (deciding b cs)) (deciding-append b es ds ∙ stop_keeps states b e rest (stop_is states b e last) falling)
         ∙ sym (deciding-append b cs es)
         ∙ ap (deciding b) (sym parts)
-
--- what is asked of all versions, at one of them
-pub stops_at : (states : States) (b r : ℕ) (xs : List Numbered) (e : Numbered) (rest : List Numbered) → StopsAtSettled states b r (xs ++ e ∷ rest) → StopsAt states b r e rest
-stops_at states b r [] e rest s = s.0
-stops_at states b r (x ∷ xs) e rest s = stops_at states b r xs e rest s.1

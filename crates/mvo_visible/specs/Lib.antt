@@ -3,3 +3,4 @@ pub mod Versions
 pub mod Changes
 pub mod Shown
 pub mod Walked
+pub mod Causes

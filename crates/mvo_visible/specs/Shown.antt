@@ -27,11 +27,16 @@ pub record IsSettledBehind (states : States) (s : ℕ) (vs : List Numbered) : Ty
   pub below : AllByRecursion (λ c. c.stamp.0 ≤ s) (changes_of states vs)
   pub settled : owner_with s (changes_of states vs) ≡ None
 
--- the versions stand so that a walk may stop at a put that is settled below b: the reader wrote nothing behind it
-pub record StopsAt (states : States) (b reader : ℕ) (e : Numbered) (vs : List Numbered) : Type 0 where
-  pub settled : (s : Stamp) → seen_of states e.1.begin ≡ Settled s → IsSettledBehind states s.0 vs
-  pub others : (s : Stamp) → seen_of states e.1.begin ≡ Settled s → s.0 < b → list_any (is_own reader) vs ≡ false
+-- so it is behind each put that is settled
+abbrev pub HasFallingStamps : States → List Numbered → Type 0
+HasFallingStamps states [] = ⊤
+HasFallingStamps states (e ∷ es) =
+    ((s : Stamp) → seen_of states e.1.begin ≡ Settled s → IsSettledBehind states s.0 es)
+    × HasFallingStamps states es
 
-abbrev pub StopsAtSettled : States → ℕ → ℕ → List Numbered → Type 0
-StopsAtSettled states b reader [] = ⊤
-StopsAtSettled states b reader (e ∷ es) = StopsAt states b reader e es × StopsAtSettled states b reader es
+-- behind a put that is settled below b the reader wrote nothing
+abbrev pub HasOwnInFront : States → ℕ → ℕ → List Numbered → Type 0
+HasOwnInFront states b reader [] = ⊤
+HasOwnInFront states b reader (e ∷ es) =
+    ((s : Stamp) → seen_of states e.1.begin ≡ Settled s → s.0 < b → list_any (is_own reader) es ≡ false)
+    × HasOwnInFront states b reader es

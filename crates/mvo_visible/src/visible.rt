@@ -2,7 +2,7 @@ ghost use Rattle.std.specs.Prelude.{◌≡◌, ◌||◌, cond};
 ghost use Rattle.mvo_visible.specs.Words as words;
 ghost use Rattle.mvo_txn.specs.States.{state_of};
 ghost use Rattle.mvo_visible.specs.Versions.{is_own_newest, versions_at};
-ghost use Rattle.mvo_visible.specs.Shown.{StopsAtSettled, own_or, shown_to};
+ghost use Rattle.mvo_visible.specs.Shown.{HasFallingStamps, HasOwnInFront, own_or, shown_to};
 ghost use Rattle.mvo_visible.specs.Walked.{walked_on};
 
 use crate::outcome::Shown;
@@ -26,7 +26,8 @@ pub fn shown<P>(
     reader: TxId,
     key: RowKey,
 ) -> Shown
-    requires { StopsAtSettled (state_of table.now) at.0 reader.0 (versions_at chains.now index.now.versions key) }
+    requires falling { HasFallingStamps (state_of table.now) (versions_at chains.now index.now.versions key) }
+    requires own { HasOwnInFront (state_of table.now) at.0 reader.0 (versions_at chains.now index.now.versions key) }
     ensures { result ≡ shown_to (state_of table.now) at.0 reader.0 (versions_at chains.now index.now.versions key) }
 {
     let mut walked = Walked {

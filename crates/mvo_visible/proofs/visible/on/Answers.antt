@@ -18,12 +18,12 @@ returns g c =
     let end' = seen_of states c.args.version.now.end in
     let newest = c.or.ensures ∙ ap (option_or w.newest) c.own_newest-newest.ensures in
     let change =
-        c.later.ensures
-        ∙ ap (later w.change)
-        (c.change_below.ensures
-        ∙ ap (λ p. later (deciding b (put_of n p c.seen_by_others-end.result)) (deciding b (removal_of c.seen_by_others-end.result))) c.seen_by_others-put.ensures
-        ∙ ap (λ e. later (deciding b (put_of n put e)) (deciding b (removal_of e))) c.seen_by_others-end.ensures
-        ∙ sym (deciding-append b (put_of n put end') (removal_of end'))) in
+    c.later.ensures
+    ∙ ap (later w.change)
+    (c.change_below.ensures
+    ∙ ap (λ p. later (deciding b (put_of n p c.seen_by_others-end.result)) (deciding b (removal_of c.seen_by_others-end.result))) c.seen_by_others-put.ensures
+    ∙ ap (λ e. later (deciding b (put_of n put e)) (deciding b (removal_of e))) c.seen_by_others-end.ensures
+    ∙ sym (deciding-append b (put_of n put end') (removal_of end'))) in
     let own = names r c.args.version.now.begin || names r c.args.version.now.end in
     let one = cond (is_own_newest r (n, c.args.version.now)) (Some n) None in
     ap (λ o. record { own = w.own || o; newest = c.or.result; change = c.later.result }) c.is_own.ensures

@@ -7,9 +7,9 @@ use Rattle.mvo_hash.specs.Lists.{number, numbers_of}
 use Rattle.mvo_txn.specs.States.{state_of}
 use Rattle.mvo_visible.specs.declared.walked.Walked.{Walked}
 use Rattle.mvo_visible.specs.Versions.{and_version, versions_by}
-use Rattle.mvo_visible.specs.Shown.{own_or, StopsAtSettled}
+use Rattle.mvo_visible.specs.Shown.{own_or, HasFallingStamps, HasOwnInFront}
 use Rattle.mvo_visible.specs.Walked.{walked_over, walked_on, is_last}
-use Rattle.mvo_visible.proofs.Walks.{versions_by-append, walked_more, walked_stop, stops_at}
+use Rattle.mvo_visible.proofs.Walks.{versions_by-append, walked_more, walked_stop, falling_at, own_first}
 use Rattle.mvo_visible.proofs.visible.shown.Goals.{in-None, in-Some+in-Some-get+then-is_last}
 use Rattle.mvo_visible.proofs.visible.shown.Goals as goal
 
@@ -78,6 +78,6 @@ returns g c =
           let back = versions_by slots c.next.new.self in
           w.walked-is ∙ w.on-walked.ensures ∙ ap (λ k. walked_on states b r k (n, v)) c.loop-number.invariant.0
           ∙ sym (walked_more states b r front (n, v))
-          ∙ walked_stop states b r front (n, v) back (sym w.is_last.ensures ∙ w.if-is_last.true) (stops_at states b r front (n, v) back (subst (λ vs. StopsAtSettled states b r vs) split c.requires))
+          ∙ walked_stop states b r front (n, v) back (sym w.is_last.ensures ∙ w.if-is_last.true) (falling_at states front (n, v) back (subst (λ vs. HasFallingStamps states vs) split c.requires.falling)) (own_first states b r front (n, v) back (subst (λ vs. HasOwnInFront states b r vs) split c.requires.own))
           ∙ ap (walked_over states b r) (sym split)
     ])
