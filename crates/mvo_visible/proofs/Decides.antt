@@ -3,7 +3,7 @@ use Rattle.std.proofs.Common.{◌≡◌, ◌≢◌, ◌⊎◌, ℕ, max, ◌<◌
 use Rattle.std.proofs.lemmas.Bool.{cases_Bool, cond-true, cond-false, eqb-true, eq-eqb, ne_eqb, eqb-false, ltb-true, ltb-false, lt-ltb}
 use Rattle.std.specs.Option.{option_map, option_or}
 use Rattle.mvo_visible.specs.declared.change.Change.{Change}
-use Rattle.mvo_visible.specs.Changes.{greater, greatest_below, first_with, done_with, deciding, both, later_of, later}
+use Rattle.mvo_visible.specs.Changes.{greater, greatest, greatest_below, first_with, done_with, deciding, both, later_of, later}
 
 -- ---- the first that is told
 pub option_or-none : {A : Type 0} (a : Option A) → option_or a None ≡ a
@@ -21,10 +21,6 @@ first_with-append f s (c ∷ cs) ds =
     ∙ sym (option_or_assoc (cond (eqb c.stamp.0 s) (f c) None) (first_with f s cs) (first_with f s ds))
 
 -- ---- the greatest stamp
-abbrev greatest : Option ℕ → Option ℕ → Option ℕ
-greatest None y = y
-greatest (Some s) y = Some (greater s y)
-
 greater_assoc : (s : ℕ) (x y : Option ℕ) → greater s (greatest x y) ≡ greater (greater s x) y
 greater_assoc s None y = refl
 greater_assoc s (Some r) None = refl
@@ -34,7 +30,7 @@ greatest_step : (b : Bool) (s : ℕ) (x y : Option ℕ) → cond b (Some (greate
 greatest_step true s x y = ap Some (greater_assoc s x y)
 greatest_step false s x y = refl
 
-greatest_below-append : (b : ℕ) (cs ds : List Change) → greatest_below b (cs ++ ds) ≡ greatest (greatest_below b cs) (greatest_below b ds)
+pub greatest_below-append : (b : ℕ) (cs ds : List Change) → greatest_below b (cs ++ ds) ≡ greatest (greatest_below b cs) (greatest_below b ds)
 greatest_below-append b [] ds = refl
 greatest_below-append b (c ∷ cs) ds =
     ap (λ x. cond (ltb c.stamp.0 b) (Some (greater c.stamp.0 x)) x) (greatest_below-append b cs ds)

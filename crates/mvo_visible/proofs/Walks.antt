@@ -46,10 +46,22 @@ pub versions_by-append : (slots : Slots) (ms ns : List VersionNo) → versions_b
 versions_by-append slots [] ns = refl
 versions_by-append slots (m ∷ ms) ns = ap (and_version m (version_at slots m)) (versions_by-append slots ms ns) ∙ and_version-append m (version_at slots m) (versions_by slots ms) (versions_by slots ns)
 
-changes_one : (states : States) (e : Numbered) → changes_of states (e ∷ []) ≡ changes_by states e
+-- ---- the versions with more numbers
+pub versions_more : (slots : Slots) (ns : List VersionNo) (n : VersionNo) (v : Version) → Some v ≡ version_at slots n → versions_by slots (ns ++ n ∷ []) ≡ versions_by slots ns ++ (n, v) ∷ []
+versions_more slots ns n v e = versions_by-append slots ns (n ∷ []) ∙ ap (λ o. versions_by slots ns ++ and_version n o []) (sym e)
+
+pub versions_same : (slots : Slots) (ns : List VersionNo) (n : VersionNo) → None ≡ version_at slots n → versions_by slots (ns ++ n ∷ []) ≡ versions_by slots ns
+versions_same slots ns n e =
+    versions_by-append slots ns (n ∷ []) ∙ ap (λ o. versions_by slots ns ++ and_version n o []) (sym e) ∙ append-nil (versions_by slots ns)
+
+pub versions_at_stop : (slots : Slots) (all ns : List VersionNo) (n : VersionNo) (v : Version) (rest : List VersionNo) → all ≡ ns ++ n ∷ rest → Some v ≡ version_at slots n → versions_by slots all ≡ versions_by slots ns ++ (n, v) ∷ versions_by slots rest
+versions_at_stop slots all ns n v rest e there =
+    ap (versions_by slots) e ∙ versions_by-append slots ns (n ∷ rest) ∙ ap (λ o. versions_by slots ns ++ and_version n o (versions_by slots rest)) (sym there)
+
+pub changes_one : (states : States) (e : Numbered) → changes_of states (e ∷ []) ≡ changes_by states e
 changes_one states e = append-nil (changes_by states e)
 
-changes-append : (states : States) (xs ys : List Numbered) → changes_of states (xs ++ ys) ≡ changes_of states xs ++ changes_of states ys
+pub changes-append : (states : States) (xs ys : List Numbered) → changes_of states (xs ++ ys) ≡ changes_of states xs ++ changes_of states ys
 changes-append states xs ys = flat_map-append (changes_by states) xs ys
 
 walked_is : (states : States) (b r : ℕ) (xs ys : List Numbered) → walked_over states b r (xs ++ ys) ≡ record {
@@ -166,7 +178,7 @@ keeps b s n es ds c at shows below all settled = by_first (greatest_below b es) 
         above (Some r) = omega (arith, at)
 
 -- what is asked of all versions, at one of them
-abbrev IsFallingAt : States → Numbered → List Numbered → Type 0
+abbrev pub IsFallingAt : States → Numbered → List Numbered → Type 0
 IsFallingAt states e rest = (s : Stamp) → seen_of states e.1.begin ≡ Settled s → IsSettledBehind states s.0 rest
 
 abbrev IsOwnFirst : States → ℕ → ℕ → Numbered → List Numbered → Type 0

@@ -47,6 +47,11 @@ abbrev pub greater : ℕ → Option ℕ → ℕ
 greater s None = s
 greater s (Some r) = max s r
 
+-- the greater of two, if they are there
+abbrev pub greatest : Option ℕ → Option ℕ → Option ℕ
+greatest None y = y
+greatest (Some s) y = Some (greater s y)
+
 -- the greatest stamp below b
 abbrev pub greatest_below : ℕ → List Change → Option ℕ
 greatest_below b [] = None

@@ -9,19 +9,12 @@ use Rattle.mvo_visible.specs.declared.walked.Walked.{Walked}
 use Rattle.mvo_visible.specs.Versions.{and_version, versions_by}
 use Rattle.mvo_visible.specs.Shown.{own_or, HasFallingStamps, HasOwnInFront}
 use Rattle.mvo_visible.specs.Walked.{walked_over, walked_on, is_last}
-use Rattle.mvo_visible.proofs.Walks.{versions_by-append, walked_more, walked_stop, falling_at, own_first}
+use Rattle.mvo_visible.proofs.Walks.{versions_more, versions_same, versions_at_stop, walked_more, walked_stop, falling_at, own_first}
 use Rattle.mvo_visible.proofs.visible.shown.Goals.{in-None, in-Some+in-Some-get+then-is_last}
 use Rattle.mvo_visible.proofs.visible.shown.Goals as goal
 
 pub loop-number-init : goal.loop-number-init
 loop-number-init g c = (refl, sym c.walk-number-items.ensures ∙ sym c.into_iter-number-iterator.ensures.into_iter_gives)
-
-versions_more : (slots : Slots) (ns : List VersionNo) (n : VersionNo) (v : Version) → Some v ≡ version_at slots n → versions_by slots (ns ++ n ∷ []) ≡ versions_by slots ns ++ (n, v) ∷ []
-versions_more slots ns n v e = versions_by-append slots ns (n ∷ []) ∙ ap (λ o. versions_by slots ns ++ and_version n o []) (sym e)
-
-versions_same : (slots : Slots) (ns : List VersionNo) (n : VersionNo) → None ≡ version_at slots n → versions_by slots (ns ++ n ∷ []) ≡ versions_by slots ns
-versions_same slots ns n e =
-    versions_by-append slots ns (n ∷ []) ∙ ap (λ o. versions_by slots ns ++ and_version n o []) (sym e) ∙ append-nil (versions_by slots ns)
 
 pub loop-number-preserved-else-is_last : goal.loop-number-preserved-else-is_last
 loop-number-preserved-else-is_last g c =
@@ -49,10 +42,6 @@ loop-number-preserved g c =
       c.loop-number.invariant.0 ∙ ap (walked_over states c.args.at.0 c.args.reader.0) (sym (versions_same slots ns n there)),
       c.loop-number.invariant.1 ∙ ap (λ it. ns ++ it) c.in-Some.ensures.steps ∙ sym (append_assoc ns (n ∷ []) c.next.new.self),
     )
-
-versions_at_stop : (slots : Slots) (all ns : List VersionNo) (n : VersionNo) (v : Version) (rest : List VersionNo) → all ≡ ns ++ n ∷ rest → Some v ≡ version_at slots n → versions_by slots all ≡ versions_by slots ns ++ (n, v) ∷ versions_by slots rest
-versions_at_stop slots all ns n v rest e there =
-    ap (versions_by slots) e ∙ versions_by-append slots ns (n ∷ rest) ∙ ap (λ o. versions_by slots ns ++ and_version n o (versions_by slots rest)) (sym there)
 
 pub returns : goal.returns
 returns g c =

@@ -1,0 +1,11 @@
+//! What a transaction looked at, and whether another has changed it between its begin and its end.
+#![tactic(auto)]
+
+mod between;
+mod check;
+mod entry;
+mod validate;
+
+pub use check::Check;
+pub use entry::Entry;
+pub use validate::check_entry;
