@@ -1,8 +1,0 @@
-//! Stand-in.
-#![tactic(auto)]
-
-mod state;
-mod table;
-
-pub use state::TxState;
-pub use table::TxnTable;
