@@ -1,0 +1,5 @@
+pub mod Held
+pub mod Queues
+pub mod Stamps
+pub mod Tables
+pub mod Firsts

@@ -1,0 +1,207 @@
+-- Each call keeps the queues those of the seats.
+use Rattle.std.proofs.Common.{◌≡◌, ◌≢◌, ℕ, ◌+◌, ◌<◌, ◌≤◌, Bool, true, false, cond, List, [], ◌∷◌, ◌++◌, Option, Some, None, IsSome, refl, sym, ap, subst, ◌∙◌, arith, ◌⊎◌, inl, inr, ⊎_elim}
+use Rattle.std.proofs.lemmas.Bool.{cases_eq}
+use Rattle.std.proofs.lemmas.Option.{none-some}
+use Rattle.std.specs.Option.{option_map}
+use Rattle.std.specs.FinMap.{get, insert, remove, len, empty, get-empty, len-empty}
+use Rattle.std.specs.Ordering.{nat_cmp}
+use Rattle.mvo_types.specs.declared.limits.TheConstants.{MAX_STAMP, MAX_UNFINISHED}
+use Rattle.mvo_txn.specs.declared.state.TxState.{TxState}
+use Rattle.mvo_txn.specs.declared.state.TxState.TheVariants.{Active, Preparing, Committed, Aborted}
+use Rattle.mvo_txn.specs.declared.mark.Kind.{Kind}
+use Rattle.mvo_txn.specs.declared.mark.Kind.TheVariants.{Begin, OpenEnd}
+use Rattle.mvo_txn.specs.declared.mark.Mark.{Mark}
+use Rattle.mvo_txn.specs.declared.queue.Queue.{Queue}
+use Rattle.mvo_txn.specs.declared.seat.Seat.{Seat}
+use Rattle.mvo_txn.specs.Seats.{SeatMap, state_in, with_state, with_state_at, with_kept, with_kept_at}
+use Rattle.mvo_txn.specs.Queue.{stamp_in, open_end, IsListing, IsQueue}
+use Rattle.mvo_txn.specs.Sound.{IsQueueOf, IsSound}
+use Rattle.mvo_txn.specs.Txns.{IsUnended, IsEnded}
+use Rattle.mvo_txn.proofs.Queues.{queue_same, queue_behind, listing_less, listed_below}
+use Rattle.mvo_txn.proofs.Stamps.{get_inserted, get_beside, get_removed, get_left, len_replaced, len_grown, len_left, same_begins, same_ends, same_beside}
+
+module _ {P : Type 0} where
+  -- ---- one queue
+  abbrev pub Keeps : Kind → SeatMap P → List Mark → List Mark → Type 0
+  Keeps kind m old new = (high : ℕ) → IsQueue (stamp_in kind m) high old → IsQueue (stamp_in kind m) high new
+
+  abbrev pub Trims : Kind → SeatMap P → List Mark → List Mark → Type 0
+  Trims kind m old new = (high : ℕ) → IsListing (stamp_in kind m) high old → IsQueue (stamp_in kind m) high new
+
+  pub queue_roomy : (kind : Kind) (clock : ℕ) (m : SeatMap P) (q r : Queue) → r.kind ≡ q.kind → Keeps q.kind m q.marks.items r.marks.items → IsQueueOf kind clock m q → IsQueueOf kind clock m r
+  queue_roomy kind clock m q r same kept is = record {
+    kind_is = same ∙ is.kind_is;
+    queue = subst (λ k. IsQueue (stamp_in k m) (clock + 1) r.marks.items) is.kind_is (kept (clock + 1) (subst (λ k. IsQueue (stamp_in k m) (clock + 1) q.marks.items) (sym is.kind_is) is.queue));
+  }
+
+  queue_trimmed : (kind : Kind) (clock : ℕ) (m n : SeatMap P) (q r : Queue) → r.kind ≡ q.kind → Trims q.kind n q.marks.items r.marks.items → ((id stamp : ℕ) → stamp_in kind n id ≡ Some stamp → stamp_in kind m id ≡ Some stamp) → IsQueueOf kind clock m q → IsQueueOf kind clock n r
+  queue_trimmed kind clock m n q r same trims less is = record {
+    kind_is = same ∙ is.kind_is;
+    queue = subst (λ k. Trims k n q.marks.items r.marks.items) is.kind_is trims (clock + 1)
+        (listing_less (stamp_in kind m) (stamp_in kind n) (clock + 1) q.marks.items less is.queue.listing);
+  }
+
+  queue_untouched : (kind : Kind) (clock later : ℕ) (m n : SeatMap P) (q : Queue) → clock ≤ later → ((id : ℕ) → stamp_in kind n id ≡ stamp_in kind m id) → IsQueueOf kind clock m q → IsQueueOf kind later n q
+  queue_untouched kind clock later m n q le same is = record {
+    kind_is = is.kind_is;
+    queue = queue_same (stamp_in kind m) (stamp_in kind n) (clock + 1) (later + 1) q.marks.items (omega arith) same is.queue;
+  }
+
+  queue_pushed : (kind : Kind) (clock : ℕ) (m n : SeatMap P) (q r : Queue) (id : ℕ) → r.kind ≡ q.kind → r.marks.items ≡ q.marks.items ++ record { stamp = clock + 1; id = id } ∷ []
+      → stamp_in kind m id ≡ None → stamp_in kind n id ≡ Some (clock + 1) → ((i : ℕ) → i ≢ id → get n i ≡ get m i) → IsQueueOf kind clock m q → IsQueueOf kind (clock + 1) n r
+  queue_pushed kind clock m n q r id same items none now others is = record {
+    kind_is = same ∙ is.kind_is;
+    queue = subst (IsQueue (stamp_in kind n) (clock + 1 + 1)) (sym items)
+        (queue_behind (stamp_in kind m) (stamp_in kind n) (clock + 1) (clock + 1 + 1) (record { stamp = clock + 1; id = id }) q.marks.items none now
+        (λ i ne. same_beside kind m n i (others i ne)) (omega arith) (omega arith) is.queue);
+  }
+
+  pub queue_of_none : (kind : Kind) (clock : ℕ) (q : Queue) → q.kind ≡ kind → q.marks.items ≡ [] → IsQueueOf kind clock (empty {X = Seat P} {R = nat_cmp}) q
+  queue_of_none kind clock q is none = record {
+    kind_is = is;
+    queue = subst (IsQueue (stamp_in kind (empty {X = Seat P} {R = nat_cmp})) (clock + 1)) (sym none) (record {
+      listing = record { rising = omega arith; complete = λ id stamp e. none-some stamp (sym (no_stamp kind id) ∙ e) };
+      current = tt;
+    });
+  } where
+    no_stamp : (k : Kind) (id : ℕ) → stamp_in k (empty {X = Seat P} {R = nat_cmp}) id ≡ None
+    no_stamp Begin id = ap (option_map (λ _. id)) (get-empty nat_cmp id)
+    no_stamp OpenEnd id = ap (λ o. open_end (option_map (λ s. s.state) o)) (get-empty nat_cmp id)
+
+  -- ---- the table
+  seat_at : (o : Option (Seat P)) (state : TxState) → option_map (λ s. s.state) o ≡ Some state → (seat : Seat P) × ((o ≡ Some seat) × (seat.state ≡ state))
+  seat_at None state e = absurd (none-some state e)
+  seat_at (Some seat) state e = (seat, (refl, ap (λ o. Rattle.std.specs.Option.unwrap_or o seat.state) e))
+
+  fresh_at : (m : SeatMap P) (clock : ℕ) (q : Queue) → IsQueueOf Begin clock m q → (o : Option (Seat P)) → get m (clock + 1) ≡ o → get m (clock + 1) ≡ None
+  fresh_at m clock q is None e = e
+  fresh_at m clock q is (Some seat) e =
+      let lt : clock + 1 < clock + 1 = listed_below 1 (clock + 1) (clock + 1) (clock + 1) q.marks.items is.queue.listing.rising (is.queue.listing.complete (clock + 1) (clock + 1) (ap (option_map (λ _. clock + 1)) e)) in
+      absurd (omega arith)
+
+  -- the next number of the clock is nobody's id
+  pub fresh : (m : SeatMap P) (clock : ℕ) (q : Queue) → IsQueueOf Begin clock m q → get m (clock + 1) ≡ None
+  fresh m clock q is = fresh_at m clock q is (get m (clock + 1)) refl
+
+  pub sound_none : (clock : ℕ) (m : SeatMap P) (b e : Queue) → clock ≤ MAX_STAMP → m ≡ empty → b.kind ≡ Begin → b.marks.items ≡ [] → e.kind ≡ OpenEnd → e.marks.items ≡ [] → IsSound clock m b e
+  sound_none clock m b e le is b_is b_none e_is e_none =
+      subst (λ m. IsSound clock m b e) (sym is) (record {
+        stamped = le;
+        few = let none = len-empty nat_cmp (Seat P) in omega (arith, none);
+        begins_are = queue_of_none Begin clock b b_is b_none;
+        open_ends_are = queue_of_none OpenEnd clock e e_is e_none;
+      })
+
+  -- room is made in a queue
+  pub sound_roomy_begins : (clock : ℕ) (m : SeatMap P) (b b' e : Queue) → b'.kind ≡ b.kind → Keeps b.kind m b.marks.items b'.marks.items → IsSound clock m b e → IsSound clock m b' e
+  sound_roomy_begins clock m b b' e same kept s = record {
+    stamped = s.stamped;
+    few = s.few;
+    begins_are = queue_roomy Begin clock m b b' same kept s.begins_are;
+    open_ends_are = s.open_ends_are;
+  }
+
+  pub sound_roomy_ends : (clock : ℕ) (m : SeatMap P) (b e e' : Queue) → e'.kind ≡ e.kind → Keeps e.kind m e.marks.items e'.marks.items → IsSound clock m b e → IsSound clock m b e'
+  sound_roomy_ends clock m b e e' same kept s = record {
+    stamped = s.stamped;
+    few = s.few;
+    begins_are = s.begins_are;
+    open_ends_are = queue_roomy OpenEnd clock m e e' same kept s.open_ends_are;
+  }
+
+  pub sound_begun : (clock : ℕ) (m n : SeatMap P) (b b' e : Queue) (kept : P) → clock < MAX_STAMP → len m < MAX_UNFINISHED
+      → n ≡ insert m (clock + 1) (record { state = Active; kept = kept }) → b'.kind ≡ b.kind → b'.marks.items ≡ b.marks.items ++ record { stamp = clock + 1; id = clock + 1 } ∷ []
+      → IsSound clock m b e → IsSound (clock + 1) n b' e
+  sound_begun clock m n b b' e kept lt few is same items s =
+      let seat : Seat P = record { state = Active; kept = kept } in
+      let new = fresh m clock b s.begins_are in
+      subst (λ n. IsSound (clock + 1) n b' e) (sym is) (record {
+        stamped = omega arith;
+        few = let grown = len_grown m (clock + 1) seat new in omega arith;
+        begins_are = queue_pushed Begin clock m (insert m (clock + 1) seat) b b' (clock + 1) same items (ap (option_map (λ _. clock + 1)) new) (ap (option_map (λ _. clock + 1)) (get_inserted m (clock + 1) seat)) (get_beside m (clock + 1) seat) s.begins_are;
+        open_ends_are = queue_untouched OpenEnd clock (clock + 1) m (insert m (clock + 1) seat) e (omega arith)
+            (same_ends m (clock + 1) seat (sym (ap (λ o. open_end (option_map (λ s. s.state) o)) new))) s.open_ends_are;
+      })
+
+  pub sound_prepared : (clock : ℕ) (m n : SeatMap P) (b e e' : Queue) (id : ℕ) → clock < MAX_STAMP → state_in m id ≡ Some Active
+      → n ≡ with_state m id (Preparing (record { 0 = clock + 1 })) → e'.kind ≡ e.kind → e'.marks.items ≡ e.marks.items ++ record { stamp = clock + 1; id = id } ∷ []
+      → IsSound clock m b e → IsSound (clock + 1) n b e'
+  sound_prepared clock m n b e e' id lt active is same items s =
+      let old = seat_at (get m id) Active active in
+      let seat : Seat P = record { state = Preparing (record { 0 = clock + 1 }); kept = old.0.kept } in
+      subst (λ n. IsSound (clock + 1) n b e') (sym (is ∙ ap (λ o. with_state_at o m id (Preparing (record { 0 = clock + 1 }))) old.1.0)) (record {
+        stamped = omega arith;
+        few = let same_len = len_replaced m id old.0 seat old.1.0 in omega (arith, s.few);
+        begins_are = queue_untouched Begin clock (clock + 1) m (insert m id seat) b (omega arith) (same_begins m id old.0 seat old.1.0) s.begins_are;
+        open_ends_are = queue_pushed OpenEnd clock m (insert m id seat) e e' id same items (ap open_end active) (ap (λ o. open_end (option_map (λ s. s.state) o)) (get_inserted m id seat)) (get_beside m id seat) s.open_ends_are;
+      })
+
+  fewer_ends : (m : SeatMap P) (id : ℕ) (new : Seat P) → open_end (Some new.state) ≡ None → (i stamp : ℕ) → stamp_in OpenEnd (insert m id new) i ≡ Some stamp → stamp_in OpenEnd m i ≡ Some stamp
+  fewer_ends m id new closed i stamp e =
+      ⊎_elim
+      (λ is. absurd (none-some stamp (sym (ap (stamp_in OpenEnd (insert m id new)) is ∙ ap (λ o. open_end (option_map (λ s. s.state) o)) (get_inserted m id new) ∙ closed) ∙ e)))
+      (λ ne. sym (same_beside OpenEnd m (insert m id new) i (get_beside m id new i ne)) ∙ e)
+      (cases_eq i id)
+
+  pub sound_closed : (clock : ℕ) (m n : SeatMap P) (b e e' : Queue) (id : ℕ) (before after : TxState) → state_in m id ≡ Some before → open_end (Some after) ≡ None
+      → n ≡ with_state m id after → e'.kind ≡ e.kind → Trims e.kind n e.marks.items e'.marks.items → IsSound clock m b e → IsSound clock n b e'
+  sound_closed clock m n b e e' id before after was closed is same trims s =
+      let old = seat_at (get m id) before was in
+      let seat : Seat P = record { state = after; kept = old.0.kept } in
+      let is_inserted = is ∙ ap (λ o. with_state_at o m id after) old.1.0 in
+      subst (λ n. IsSound clock n b e') (sym is_inserted) (record {
+        stamped = s.stamped;
+        few = let same_len = len_replaced m id old.0 seat old.1.0 in omega (arith, s.few);
+        begins_are = queue_untouched Begin clock clock m (insert m id seat) b (omega arith) (same_begins m id old.0 seat old.1.0) s.begins_are;
+        open_ends_are = queue_trimmed OpenEnd clock m (insert m id seat) e e' same (subst (λ n. Trims e.kind n e.marks.items e'.marks.items) is_inserted trims) (fewer_ends m id seat closed) s.open_ends_are;
+      })
+
+  pub sound_kept : (clock : ℕ) (m : SeatMap P) (b e : Queue) (id : ℕ) (kept : P) → IsSound clock m b e → IsSound clock (with_kept m id kept) b e
+  sound_kept clock m b e id kept s =
+      elim (get m id) as (λ o. get m id ≡ o → IsSound clock (with_kept_at o m id kept) b e) [
+        | None ↦ λ _. s
+        | Some old ↦ λ there.
+            let seat : Seat P = record { state = old.state; kept = kept } in
+            record {
+              stamped = s.stamped;
+              few = let same_len = len_replaced m id old seat there in omega (arith, s.few);
+              begins_are = queue_untouched Begin clock clock m (insert m id seat) b (omega arith) (same_begins m id old seat there) s.begins_are;
+              open_ends_are = queue_untouched OpenEnd clock clock m (insert m id seat) e (omega arith) (same_ends m id seat (sym (ap (λ o. open_end (option_map (λ s. s.state) o)) there))) s.open_ends_are;
+            }
+      ] refl
+
+  fewer_begins : (m : SeatMap P) (id i stamp : ℕ) → stamp_in Begin (remove m id) i ≡ Some stamp → stamp_in Begin m i ≡ Some stamp
+  fewer_begins m id i stamp e =
+      ⊎_elim
+      (λ is. absurd (none-some stamp (sym (ap (λ j. option_map (λ _. i) (get (remove m id) j)) is ∙ ap (option_map (λ _. i)) (get_removed m id)) ∙ e)))
+      (λ ne. sym (same_beside Begin m (remove m id) i (get_left m id i ne)) ∙ e)
+      (cases_eq i id)
+
+  same_ends_left : (m : SeatMap P) (id : ℕ) → open_end (state_in m id) ≡ None → (i : ℕ) → stamp_in OpenEnd (remove m id) i ≡ stamp_in OpenEnd m i
+  same_ends_left m id closed i =
+      ⊎_elim
+      (λ is. ap (stamp_in OpenEnd (remove m id)) is ∙ ap (λ o. open_end (option_map (λ s. s.state) o)) (get_removed m id) ∙ sym closed ∙ sym (ap (stamp_in OpenEnd m) is))
+      (λ ne. same_beside OpenEnd m (remove m id) i (get_left m id i ne))
+      (cases_eq i id)
+
+  pub sound_left : (clock : ℕ) (m n : SeatMap P) (b b' e : Queue) (id : ℕ) → open_end (state_in m id) ≡ None → n ≡ remove m id → b'.kind ≡ b.kind
+      → Trims b.kind n b.marks.items b'.marks.items → IsSound clock m b e → IsSound clock n b' e
+  sound_left clock m n b b' e id closed is same trims s =
+      subst (λ n. IsSound clock n b' e) (sym is) (record {
+        stamped = s.stamped;
+        few = let less = len_left m id in omega (arith, s.few);
+        begins_are = queue_trimmed Begin clock m (remove m id) b b' same (subst (λ n. Trims b.kind n b.marks.items b'.marks.items) is trims) (fewer_begins m id) s.begins_are;
+        open_ends_are = queue_untouched OpenEnd clock clock m (remove m id) e (omega arith) (same_ends_left m id closed) s.open_ends_are;
+      })
+
+-- ---- how one stands
+pub unended_state : (o : Option TxState) → IsUnended o → (state : TxState) × (o ≡ Some state)
+unended_state None h = absurd h
+unended_state (Some state) h = (state, refl)
+
+pub ended_is_closed : (o : Option TxState) → IsEnded o → open_end o ≡ None
+ended_is_closed None h = absurd h
+ended_is_closed (Some Active) h = absurd h
+ended_is_closed (Some (Preparing end)) h = absurd h
+ended_is_closed (Some (Committed end)) h = refl
+ended_is_closed (Some Aborted) h = refl

@@ -1,0 +1,5 @@
+pub mod Seats
+pub mod Queue
+pub mod Txns
+pub mod Lends
+pub mod Sound

@@ -1,0 +1,75 @@
+ghost use Rattle.std.specs.Prelude.{◌≡◌, ◌<◌, [], IfOk, OnOk};
+ghost use Rattle.std.specs.VecDeque.{deque_len, deque_capacity};
+ghost use Rattle.mvo_txn.specs.Queue.{first_stamp, with_mark};
+ghost use Rattle.mvo_txn.specs.Sound.{KeepsQueue, TrimsQueue};
+
+use crate::mark::{Kind, Mark};
+use crate::seats::Seats;
+use std::alloc::{AllocError, Global};
+use std::collections::VecDeque;
+
+/// Transactions in the order of a timestamp. The first one counts; those behind it that no longer
+/// count are dropped once they come first, or where room is short.
+#[derive(Drop)]
+pub(crate) struct Queue {
+    pub(crate) kind: Kind,
+    pub(crate) marks: VecDeque<Mark>,
+}
+
+impl Queue {
+    /// No transactions, and room for so many.
+    pub(crate) fn new(alloc: Global, kind: Kind, room: usize) -> Result<Queue, AllocError>
+        ensures kind { IfOk result (λ q. q.kind ≡ kind) }
+        ensures marks { IfOk result (λ q. q.marks.items ≡ []) }
+    {
+        Ok(Queue {
+            kind,
+            marks: VecDeque::with_capacity(alloc, room)?,
+        })
+    }
+
+    /// The first timestamp.
+    pub(crate) fn first(&self) -> Option<u64>
+        ensures { result ≡ first_stamp self.now.marks.items }
+    {
+        match self.marks.front() {
+            Some(mark) => Some(mark.stamp),
+            None => None,
+        }
+    }
+
+    /// Makes room for one more. Where room is short it drops those that no longer count.
+    pub(crate) fn make_room<P>(&mut self, seats: &Seats<P>) -> Result<(), AllocError>
+        ensures kind { self.new.kind ≡ self.old.kind }
+        ensures kept { KeepsQueue seats.now self.old self.new }
+        ensures room { OnOk result (deque_len self.new.marks < deque_capacity self.new.marks) }
+    {
+        let kind = self.kind;
+        if self.marks.len() >= self.marks.capacity() {
+            self.marks.retain(|mark| kind.is_current(seats, *mark));
+        }
+        self.marks.reserve(1)
+    }
+
+    /// Adds a transaction behind the others.
+    pub(crate) fn push(&mut self, stamp: u64, id: u64)
+        requires { deque_len self.old.marks < deque_capacity self.old.marks }
+        ensures kind { self.new.kind ≡ self.old.kind }
+        ensures marks { self.new.marks.items ≡ with_mark self.old.marks.items stamp id }
+    {
+        let _ = self.marks.push_back(Mark { stamp, id });
+    }
+
+    /// Drops from the front those that no longer count.
+    pub(crate) fn trim<P>(&mut self, seats: &Seats<P>)
+        ensures kind { self.new.kind ≡ self.old.kind }
+        ensures kept { TrimsQueue seats.now self.old self.new }
+    {
+        while let Some(mark) = self.marks.front() {
+            if self.kind.is_current(seats, *mark) {
+                break;
+            }
+            self.marks.pop_front();
+        }
+    }
+}

@@ -1,0 +1,213 @@
+ghost use Rattle.std.specs.Prelude.{◌≡◌, ◌≤◌, ◌==◌, IfOk, IfErr, OnOk, OnErr, Some, None, option_copied};
+ghost use Rattle.std.specs.Option.{option_copied_mut};
+ghost use Rattle.std.specs.FinMap as map;
+ghost use Rattle.std.specs.Borrow.{sem};
+ghost use Rattle.mvo_types.specs.declared.limits.TheConstants.{MAX_STAMP};
+ghost use Rattle.mvo_txn.specs.Lends.{LendsKept};
+ghost use Rattle.mvo_txn.specs.Txns.{no_txns, state_of, kept_of, IsPreparing, IsUnended, IsEnded, IsTable};
+ghost use Rattle.mvo_txn.specs.Txns.{after_begin, after_prepare, after_change, after_terminate};
+ghost use Rattle.mvo_txn.specs.Txns.{why_not_begun, spent_clock, IsRefusal, IsOldestBegin, IsLowWater};
+
+use crate::mark::Kind;
+use crate::queue::Queue;
+use crate::seat::Seat;
+use crate::seats::Seats;
+use crate::state::TxState;
+use mvo_types::{MAX_STAMP, MAX_UNFINISHED, Refusal, Stamp, TxId};
+use std::alloc::{AllocError, Global};
+use std::marker::Model;
+
+// Marks of those that no longer count take as much room at most as those that do.
+const QUEUE_ROOM: usize = 2 * MAX_UNFINISHED;
+
+/// The unfinished transactions by id, and the clock. Contracts see the clock and a finite map.
+///
+/// Every call takes constant time, by the mean over all calls: none goes over the table.
+#[derive(Drop)]
+pub struct TxnTable<P> {
+    clock: u64,
+    seats: Seats<P>,
+    begins: Queue,
+    open_ends: Queue,
+}
+
+impl<P> Model for TxnTable<P> {
+    ghost use Rattle.mvo_txn.specs.Txns.{Txns, coded_txns};
+
+    ghost Value = { Txns P };
+
+    ghost coded = { coded_txns P.code };
+
+    ghost use Rattle.mvo_txn.specs.Sound.{IsSound};
+
+    ghost view = { λ t. record { clock = t.clock; seats = t.seats } };
+
+    ghost invariant = { λ t. IsSound t.clock t.seats t.begins t.open_ends };
+}
+
+impl<P> TxnTable<P> {
+    /// No transaction, and the clock at the mark. All room for transactions is taken here.
+    pub fn new(alloc: Global, mark: Stamp) -> Result<TxnTable<P>, AllocError>
+        requires { mark.0 ≤ MAX_STAMP }
+        ensures { IfOk result (λ t. t ≡ no_txns mark.0) }
+    {
+        let begins = Queue::new(alloc, Kind::Begin, QUEUE_ROOM)?;
+        let open_ends = Queue::new(alloc, Kind::OpenEnd, QUEUE_ROOM)?;
+        Ok(TxnTable {
+            clock: mark.0,
+            seats: Seats::new(alloc, MAX_UNFINISHED)?,
+            begins,
+            open_ends,
+        })
+    }
+
+    /// The last timestamp that was drawn.
+    pub fn clock(&self) -> Stamp
+        ensures value { result.0 ≡ self.now.clock }
+        ensures sound { IsTable self.now }
+    {
+        Stamp(self.clock)
+    }
+
+    /// How many transactions are unfinished.
+    pub fn len(&self) -> usize
+        ensures { result ≡ map.len self.now.seats }
+    {
+        self.seats.len()
+    }
+
+    /// Whether none is.
+    pub fn is_empty(&self) -> bool
+        ensures { result ≡ (map.len self.now.seats == 0) }
+    {
+        self.len() == 0
+    }
+
+    /// How the transaction stands, if it is unfinished.
+    pub fn state(&self, id: TxId) -> Option<TxState>
+        ensures { result ≡ state_of self.now id.0 }
+    {
+        match self.seats.get(id.0) {
+            Some(seat) => Some(seat.state),
+            None => None,
+        }
+    }
+
+    /// How the transaction stands, with what is kept of it.
+    pub fn get(&self, id: TxId) -> Option<&Seat<P>>
+        ensures { option_copied result ≡ map.get self.now.seats id.0 }
+    {
+        self.seats.get(id.0)
+    }
+
+    /// What is kept of the transaction, for writing.
+    pub fn get_mut(&mut self, id: TxId) -> Option<&mut P>
+        ensures* writes_back { sem 𝓛 (LendsKept P.row self.entry id.0 result) }
+        ensures value { option_copied_mut result ≡ kept_of self.old id.0 }
+    {
+        self.seats.kept_mut(id.0)
+    }
+
+    /// Begins a transaction: draws its id, and keeps this of it.
+    pub fn begin(&mut self, kept: P) -> Result<TxId, Refusal>
+    where
+        P: Drop,
+        ensures id { IfOk result (λ id. id.0 ≡ self.new.clock) }
+        ensures ok { OnOk result (self.new ≡ after_begin self.old kept) }
+        ensures no_cause { OnOk result (why_not_begun self.old ≡ None) }
+        ensures refused { IfErr result (IsRefusal (why_not_begun self.old)) }
+        ensures err { OnErr result (self.new ≡ self.old) }
+    {
+        if self.seats.len() >= MAX_UNFINISHED {
+            return Err(Refusal::TableFull);
+        }
+        if self.clock >= MAX_STAMP {
+            return Err(Refusal::ClockSpent);
+        }
+        let id = self.clock + 1;
+        self.begins.make_room(&self.seats)?;
+        let seat = Seat {
+            state: TxState::Active,
+            kept,
+        };
+        self.seats.insert(id, seat)?;
+        self.begins.push(id, id);
+        self.clock = id;
+        Ok(TxId(id))
+    }
+
+    /// Draws the end timestamp of an Active transaction, which is Preparing from then on.
+    pub fn prepare(&mut self, id: TxId) -> Result<Stamp, Refusal>
+        requires { state_of self.old id.0 ≡ Some TxState.Active }
+        ensures end { IfOk result (λ end. end.0 ≡ self.new.clock) }
+        ensures ok { OnOk result (self.new ≡ after_prepare self.old id.0) }
+        ensures no_cause { OnOk result (spent_clock self.old.clock ≡ None) }
+        ensures refused { IfErr result (IsRefusal (spent_clock self.old.clock)) }
+        ensures err { OnErr result (self.new ≡ self.old) }
+    {
+        if self.clock >= MAX_STAMP {
+            return Err(Refusal::ClockSpent);
+        }
+        let end = self.clock + 1;
+        self.open_ends.make_room(&self.seats)?;
+        self.seats.set_state(id.0, TxState::Preparing(Stamp(end)));
+        self.open_ends.push(end, id.0);
+        self.clock = end;
+        Ok(Stamp(end))
+    }
+
+    /// Settles a Preparing transaction, and answers its end timestamp.
+    pub fn commit(&mut self, id: TxId) -> Stamp
+        requires { IsPreparing (state_of self.old id.0) }
+        ensures end { state_of self.old id.0 ≡ Some (TxState.Preparing result) }
+        ensures committed { self.new ≡ after_change self.old id.0 (TxState.Committed result) }
+    {
+        let Some(TxState::Preparing(end)) = self.state(id) else {
+            unreachable!()
+        };
+        self.seats.set_state(id.0, TxState::Committed(end));
+        self.open_ends.trim(&self.seats);
+        end
+    }
+
+    /// Undoes an Active or Preparing transaction.
+    pub fn abort(&mut self, id: TxId)
+        requires { IsUnended (state_of self.old id.0) }
+        ensures { self.new ≡ after_change self.old id.0 TxState.Aborted }
+    {
+        self.seats.set_state(id.0, TxState::Aborted);
+        self.open_ends.trim(&self.seats);
+    }
+
+    /// Lets a Committed or Aborted transaction leave, and answers what was kept of it.
+    pub fn terminate(&mut self, id: TxId) -> P
+        requires { IsEnded (state_of self.old id.0) }
+        ensures kept { kept_of self.old id.0 ≡ Some result }
+        ensures gone { self.new ≡ after_terminate self.old id.0 }
+    {
+        let seat = self.seats.remove(id.0).unwrap();
+        self.begins.trim(&self.seats);
+        let Seat { state: _, kept } = seat;
+        kept
+    }
+
+    /// The least begin of the unfinished transactions, or the clock if there is none.
+    pub fn oldest_begin(&self) -> Stamp
+        ensures { IsOldestBegin self.now result.0 }
+    {
+        match self.begins.first() {
+            Some(begin) => Stamp(begin),
+            None => Stamp(self.clock),
+        }
+    }
+
+    /// One below the least end of the Preparing transactions, or the clock if there is none.
+    pub fn low_water(&self) -> Stamp
+        ensures { IsLowWater self.now result.0 }
+    {
+        match self.open_ends.first() {
+            Some(end) => Stamp(end - 1),
+            None => Stamp(self.clock),
+        }
+    }
+}
