@@ -1,5 +1,5 @@
 ghost use Rattle.std.specs.Prelude.{◌≡◌, ◌&&◌, nat_lt, cond};
-ghost use Rattle.mvo_txn.specs.States.{state_of};
+ghost use Rattle.mvo_txn.specs.Txns.{state_of};
 ghost use Rattle.mvo_visible.specs.Changes.{changes_by, changes_of, greatest, removal_of};
 ghost use Rattle.mvo_visible.specs.Versions.{versions_at};
 ghost use Rattle.mvo_visible.specs.Shown.{HasFallingStamps};

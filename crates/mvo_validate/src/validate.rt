@@ -1,6 +1,6 @@
 ghost use Rattle.std.specs.Prelude.{◌≡◌};
 ghost use Rattle.mvo_types.specs.declared.row.RowKey.{RowKey as TheKey};
-ghost use Rattle.mvo_txn.specs.States.{state_of};
+ghost use Rattle.mvo_txn.specs.Txns.{state_of};
 ghost use Rattle.mvo_visible.specs.Changes.{changes_of};
 ghost use Rattle.mvo_visible.specs.Versions.{versions_at};
 ghost use Rattle.mvo_visible.specs.Shown.{HasFallingStamps};

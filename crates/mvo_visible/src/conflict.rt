@@ -1,5 +1,5 @@
 ghost use Rattle.std.specs.Prelude.{◌≡◌};
-ghost use Rattle.mvo_txn.specs.States.{state_of};
+ghost use Rattle.mvo_txn.specs.Txns.{state_of};
 ghost use Rattle.mvo_visible.specs.Causes.{cause_of};
 
 use mvo_txn::{TxState, TxnTable};

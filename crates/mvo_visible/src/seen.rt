@@ -1,5 +1,5 @@
 ghost use Rattle.std.specs.Prelude.{◌≡◌, ◌==◌};
-ghost use Rattle.mvo_txn.specs.States.{state_of};
+ghost use Rattle.mvo_txn.specs.Txns.{state_of};
 ghost use Rattle.mvo_visible.specs.Words.{seen_of};
 ghost use Rattle.mvo_visible.specs.Words as words;
 ghost use Rattle.mvo_visible.specs.Changes.{is_at};

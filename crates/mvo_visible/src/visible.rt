@@ -1,6 +1,6 @@
 ghost use Rattle.std.specs.Prelude.{◌≡◌, ◌||◌, cond};
 ghost use Rattle.mvo_visible.specs.Words as words;
-ghost use Rattle.mvo_txn.specs.States.{state_of};
+ghost use Rattle.mvo_txn.specs.Txns.{state_of};
 ghost use Rattle.mvo_visible.specs.Versions.{is_own_newest, versions_at};
 ghost use Rattle.mvo_visible.specs.Shown.{HasFallingStamps, HasOwnInFront, own_or, shown_to};
 ghost use Rattle.mvo_visible.specs.Walked.{walked_on};

@@ -1,7 +1,7 @@
 ghost use Rattle.std.specs.Prelude.{◌≡◌, ◌∷◌, [], nat_lt, cond};
 ghost use Rattle.mvo_visible.specs.Changes.{deciding, is_at, later, later_of, put_of, removal_of, unless_removed};
 ghost use Rattle.mvo_visible.specs.Walked.{is_last};
-ghost use Rattle.mvo_txn.specs.States.{state_of};
+ghost use Rattle.mvo_txn.specs.Txns.{state_of};
 
 use crate::change::Change;
 use crate::seen::{Seen, seen_by_others};

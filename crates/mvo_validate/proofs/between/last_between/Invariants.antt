@@ -1,6 +1,6 @@
 use Rattle.std.proofs.Common.{◌≡◌, ◌++◌, map, filter}
 use Rattle.mvo_hash.specs.Lists.{number, numbers_of}
-use Rattle.mvo_txn.specs.States.{state_of}
+use Rattle.mvo_txn.specs.Txns.{state_of}
 use Rattle.mvo_visible.specs.Versions.{versions_by}
 use Rattle.mvo_validate.specs.Entries.{has_sort}
 use Rattle.mvo_validate.proofs.Windows.{seen_between}

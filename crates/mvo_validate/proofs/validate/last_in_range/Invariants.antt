@@ -2,7 +2,7 @@ use Rattle.std.proofs.Common.{◌≡◌, ◌++◌, filter}
 use Rattle.std.specs.FinMap as fin
 use Rattle.mvo_range.specs.Place.{is_between}
 use Rattle.std.specs.List.{flat_map}
-use Rattle.mvo_txn.specs.States.{state_of}
+use Rattle.mvo_txn.specs.Txns.{state_of}
 use Rattle.mvo_validate.specs.Entries.{versions_of_place}
 use Rattle.mvo_validate.proofs.Windows.{seen_between}
 use Rattle.mvo_validate.proofs.validate.last_in_range.Given as goal

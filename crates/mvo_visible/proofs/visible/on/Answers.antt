@@ -1,6 +1,6 @@
 use Rattle.std.proofs.Common.{◌≡◌, ◌||◌, cond, Some, None, ap, sym, ◌∙◌}
 use Rattle.std.specs.Option.{option_or}
-use Rattle.mvo_txn.specs.States.{state_of}
+use Rattle.mvo_txn.specs.Txns.{state_of}
 use Rattle.mvo_visible.specs.Words.{seen_of, names}
 use Rattle.mvo_visible.specs.Versions.{is_own_newest}
 use Rattle.mvo_visible.specs.Changes.{deciding, later, put_of, removal_of}

@@ -4,7 +4,7 @@ use Rattle.mvo_chain.specs.declared.version.Version.{Version}
 use Rattle.mvo_chain.specs.declared.version.VersionNo.{VersionNo}
 use Rattle.mvo_chain.specs.Slots.{Slots, version_at}
 use Rattle.mvo_hash.specs.Lists.{number, numbers_of}
-use Rattle.mvo_txn.specs.States.{state_of}
+use Rattle.mvo_txn.specs.Txns.{state_of}
 use Rattle.mvo_visible.specs.declared.walked.Walked.{Walked}
 use Rattle.mvo_visible.specs.Versions.{and_version, versions_by}
 use Rattle.mvo_visible.specs.Shown.{own_or, HasFallingStamps, HasOwnInFront}
