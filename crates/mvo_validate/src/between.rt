@@ -26,8 +26,8 @@ pub fn last_between<P>(
     key: RowKey,
     sort: Option<u64>,
 ) -> Option<u64>
-    requires { HasFallingStamps (state_of table.now) (versions_at chains.now index.now.versions key) }
-    ensures { result ≡ stamp_between begin.0 end.0
+    ensures { HasFallingStamps (state_of table.now) (versions_at chains.now index.now.versions key) →
+        result ≡ stamp_between begin.0 end.0
         (changes_of (state_of table.now) (versions_of_sort chains.now index.now.versions key sort)) }
 {
     let mut last = None;

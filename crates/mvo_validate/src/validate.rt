@@ -1,9 +1,7 @@
 ghost use Rattle.std.specs.Prelude.{◌≡◌};
-ghost use Rattle.mvo_types.specs.declared.row.RowKey.{RowKey as TheKey};
 ghost use Rattle.mvo_txn.specs.Txns.{state_of};
 ghost use Rattle.mvo_visible.specs.Changes.{changes_of};
-ghost use Rattle.mvo_visible.specs.Versions.{versions_at};
-ghost use Rattle.mvo_visible.specs.Shown.{HasFallingStamps};
+ghost use Rattle.mvo_visible.specs.Shown.{AllHaveFallingStamps};
 ghost use Rattle.mvo_validate.specs.Between.{checked_by, stamp_between};
 ghost use Rattle.mvo_validate.specs.Entries.{versions_in};
 
@@ -28,8 +26,8 @@ pub fn check_entry<P>(
     end: Stamp,
     entry: Entry,
 ) -> Check
-    requires { (key : TheKey) → HasFallingStamps (state_of table.now) (versions_at chains.now index.now.versions key) }
-    ensures { result ≡ checked_by (stamp_between begin.0 end.0
+    ensures { AllHaveFallingStamps (state_of table.now) chains.now index.now.versions →
+        result ≡ checked_by (stamp_between begin.0 end.0
         (changes_of (state_of table.now) (versions_in chains.now index.now.versions ranges.now entry))) }
 {
     let last = match entry {
@@ -57,8 +55,8 @@ fn last_in_range<P>(
     lo: u64,
     hi: u64,
 ) -> Option<u64>
-    requires { (key : TheKey) → HasFallingStamps (state_of table.now) (versions_at chains.now index.now.versions key) }
-    ensures { result ≡ stamp_between begin.0 end.0 (changes_of (state_of table.now)
+    ensures { AllHaveFallingStamps (state_of table.now) chains.now index.now.versions →
+        result ≡ stamp_between begin.0 end.0 (changes_of (state_of table.now)
         (versions_in chains.now index.now.versions ranges.now (Entry.Range of lo hi))) }
 {
     let mut last = None;

@@ -1,13 +1,16 @@
 -- The version that a transaction is shown.
 use Rattle.std.specs.Prelude.{◌≡◌, ℕ, ◌≤◌, ◌<◌, Bool, false, cond, List, [], ◌∷◌, ◌++◌, Option, None, Some, ⊤}
 use Rattle.std.specs.List.{AllByRecursion, list_any}
+use Rattle.mvo_types.specs.declared.row.RowKey.{RowKey}
 use Rattle.mvo_chain.specs.declared.version.VersionNo.{VersionNo}
+use Rattle.mvo_chain.specs.Slots.{Slots}
+use Rattle.mvo_hash.specs.Lists.{Lists}
 use Rattle.mvo_visible.specs.declared.seen.Seen.TheVariants.{Settled}
 use Rattle.mvo_types.specs.declared.ids.Stamp.{Stamp}
 use Rattle.mvo_visible.specs.declared.change.Change.{Change}
 use Rattle.mvo_visible.specs.declared.outcome.Shown.{Shown}
 use Rattle.mvo_visible.specs.Words.{States, seen_of}
-use Rattle.mvo_visible.specs.Versions.{Numbered, is_own, own_newest}
+use Rattle.mvo_visible.specs.Versions.{Numbered, versions_at, is_own, own_newest}
 use Rattle.mvo_visible.specs.Changes.{changes_of, owner_with, deciding}
 
 abbrev pub shown_by : Option Change → Shown
@@ -40,3 +43,8 @@ HasOwnInFront states b reader [] = ⊤
 HasOwnInFront states b reader (e ∷ es) =
     ((s : Stamp) → seen_of states e.1.begin ≡ Settled s → s.0 < b → list_any (is_own reader) es ≡ false)
     × HasOwnInFront states b reader es
+
+-- at each key
+abbrev pub AllHaveFallingStamps : States → Slots → Lists → Type 0
+AllHaveFallingStamps states slots lists =
+    (key : RowKey) → HasFallingStamps states (versions_at slots lists key)

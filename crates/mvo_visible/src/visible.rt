@@ -17,7 +17,9 @@ use mvo_types::{RowKey, Stamp, TxId};
 /// none, where it wrote the key itself; else what the change of the others with the greatest stamp
 /// below `at` put, if that didn't remove it too.
 ///
-/// It looks at the versions from the newest on, up to the first whose put is settled below `at`.
+/// It looks at the versions from the newest on, up to the first whose put is settled below `at` and
+/// that isn't removed with the stamp of its put. So it answers that where the versions stand in
+/// order: none behind a settled put has a greater stamp, or is the reader's if that is below `at`.
 pub fn shown<P>(
     chains: &Chains,
     index: &HashIndex,
@@ -26,9 +28,9 @@ pub fn shown<P>(
     reader: TxId,
     key: RowKey,
 ) -> Shown
-    requires falling { HasFallingStamps (state_of table.now) (versions_at chains.now index.now.versions key) }
-    requires own { HasOwnInFront (state_of table.now) at.0 reader.0 (versions_at chains.now index.now.versions key) }
-    ensures { result ≡ shown_to (state_of table.now) at.0 reader.0 (versions_at chains.now index.now.versions key) }
+    ensures { let vs = versions_at chains.now index.now.versions key in
+        HasFallingStamps (state_of table.now) vs → HasOwnInFront (state_of table.now) at.0 reader.0 vs →
+        result ≡ shown_to (state_of table.now) at.0 reader.0 vs }
 {
     let mut walked = Walked {
         own: false,

@@ -45,7 +45,7 @@ loop-number-preserved g c =
     )
 
 pub returns-then-is_before : goal.returns-then-is_before
-returns-then-is_before g c =
+returns-then-is_before g c falling =
     let states = state_of c.args.table.now in
     let b = c.args.begin.0 in
     let e = c.args.end.0 in
@@ -63,5 +63,5 @@ returns-then-is_before g c =
     c.with_version-last.ensures
     ∙ ap (λ l. cond (p (n, v)) (greatest l (stamp_between b e (changes_by states (n, v)))) l) c.loop-number.invariant.0
     ∙ sym (more states b e p front (n, v))
-    ∙ no_more states b e p front (n, v) back (ap (is_before b) (sym c.seen_by_others.ensures) ∙ sym c.is_before.ensures ∙ c.if-is_before.true) (falling_at states front (n, v) back (subst (λ vs. HasFallingStamps states vs) split c.requires))
+    ∙ no_more states b e p front (n, v) back (ap (is_before b) (sym c.seen_by_others.ensures) ∙ sym c.is_before.ensures ∙ c.if-is_before.true) (falling_at states front (n, v) back (subst (λ vs. HasFallingStamps states vs) split falling))
     ∙ ap (λ vs. seen_between states b e (filter p vs)) (append_assoc front ((n, v) ∷ []) back ∙ sym split)

@@ -10,7 +10,7 @@ use Rattle.mvo_validate.proofs.Windows.{seen_between, seen_between-append}
 use Rattle.mvo_validate.proofs.validate.last_in_range.Goals as goal
 
 pub loop-place-init : goal.loop-place-init
-loop-place-init g c = (refl, sym c.between-place-items.ensures ∙ sym c.into_iter-place-iterator.ensures.into_iter_gives)
+loop-place-init g c = (λ _. refl, sym c.between-place-items.ensures ∙ sym c.into_iter-place-iterator.ensures.into_iter_gives)
 
 pub loop-place-preserved : goal.loop-place-preserved
 loop-place-preserved g c =
@@ -20,10 +20,10 @@ loop-place-preserved g c =
     let one = versions_of_place c.args.chains.now c.args.index.now.versions in
     let ps = c.loop-place.yielded in
     let p : Place × ℕ = (c.in-Some.place, c.in-Some.field-0-1) in (
-      c.greatest-last.ensures
-          ∙ ap (λ l. greatest l c.last_between-here.result) c.loop-place.invariant.0
+      λ falling. c.greatest-last.ensures
+          ∙ ap (λ l. greatest l c.last_between-here.result) (c.loop-place.invariant.0 falling)
           ∙ ap (greatest (seen_between states b e (flat_map one ps)))
-          (c.last_between-here.ensures ∙ ap (λ k. seen_between states b e (versions_of_sort c.args.chains.now c.args.index.now.versions k (Some c.in-Some.place.sort))) c.row_key-key.ensures
+          (c.last_between-here.ensures (falling c.row_key-key.result) ∙ ap (λ k. seen_between states b e (versions_of_sort c.args.chains.now c.args.index.now.versions k (Some c.in-Some.place.sort))) c.row_key-key.ensures
           ∙ ap (seen_between states b e) (sym (append-nil (one p))))
           ∙ sym (seen_between-append states b e (flat_map one ps) (flat_map one (p ∷ [])))
           ∙ ap (seen_between states b e) (sym (flat_map-append one ps (p ∷ []))),
@@ -31,7 +31,7 @@ loop-place-preserved g c =
     )
 
 pub returns : goal.returns
-returns g c =
-    c.loop-place.invariant.0
+returns g c falling =
+    c.loop-place.invariant.0 falling
     ∙ ap (λ ps. seen_between (state_of c.args.table.now) c.args.begin.0 c.args.end.0 (flat_map (versions_of_place c.args.chains.now c.args.index.now.versions) ps))
     (sym (c.loop-place.invariant.1 ∙ ap (λ it. c.loop-place.yielded ++ it) c.in-None.ensures.steps.0 ∙ append-nil c.loop-place.yielded))
