@@ -26,9 +26,11 @@ pub fn last_between<P>(
     key: RowKey,
     sort: Option<u64>,
 ) -> Option<u64>
-    ensures { HasFallingStamps (state_of table.now) (versions_at chains.now index.now.versions key) →
+    ensures { let states = state_of table.now in
+        let lists = index.now.versions in
+        HasFallingStamps states (versions_at chains.now lists key) →
         result ≡ stamp_between begin.0 end.0
-        (changes_of (state_of table.now) (versions_of_sort chains.now index.now.versions key sort)) }
+        (changes_of states (versions_of_sort chains.now lists key sort)) }
 {
     let mut last = None;
     for number in index.walk(key) {
@@ -52,8 +54,9 @@ fn with_version<P>(
     end: Stamp,
     sort: Option<u64>,
 ) -> Option<u64>
-    ensures { result ≡ cond (has_sort sort (number, version.now))
-        (greatest last (stamp_between begin.0 end.0 (changes_by (state_of table.now) (number, version.now)))) last }
+    ensures { let changes = changes_by (state_of table.now) (number, version.now) in
+        result ≡ cond (has_sort sort (number, version.now))
+        (greatest last (stamp_between begin.0 end.0 changes)) last }
 {
     if is_of_sort(number, version, sort) {
         greatest(last, changed_between(table, number, version, begin, end))
@@ -80,7 +83,8 @@ fn changed_between<P>(
     begin: Stamp,
     end: Stamp,
 ) -> Option<u64>
-    ensures { result ≡ stamp_between begin.0 end.0 (changes_by (state_of table.now) (number, version.now)) }
+    ensures { let changes = changes_by (state_of table.now) (number, version.now) in
+        result ≡ stamp_between begin.0 end.0 changes }
 {
     let put = stamp_between(seen_by_others(table, version.begin), begin, end);
     let ended = stamp_between(seen_by_others(table, version.end), begin, end);

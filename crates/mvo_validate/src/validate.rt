@@ -26,9 +26,11 @@ pub fn check_entry<P>(
     end: Stamp,
     entry: Entry,
 ) -> Check
-    ensures { AllHaveFallingStamps (state_of table.now) chains.now index.now.versions →
+    ensures { let states = state_of table.now in
+        let lists = index.now.versions in
+        AllHaveFallingStamps states chains.now lists →
         result ≡ checked_by (stamp_between begin.0 end.0
-        (changes_of (state_of table.now) (versions_in chains.now index.now.versions ranges.now entry))) }
+        (changes_of states (versions_in chains.now lists ranges.now entry))) }
 {
     let last = match entry {
         Entry::Key(key) => last_between(chains, index, table, begin, end, key, None),

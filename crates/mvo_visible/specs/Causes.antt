@@ -16,7 +16,8 @@ cause_in t (Some (Preparing e)) = Some (cause.Stamped e)
 cause_in t (Some (Committed e)) = Some (cause.Stamped e)
 cause_in t (Some Aborted) = None
 
--- whom the End word of a version tells to another writer: nobody where it is infinity, or names that writer or one that is Aborted or gone
+-- whom the End word of a version tells to another writer: nobody where it is infinity, or names
+-- that writer or one that is Aborted or gone
 abbrev pub cause_of : States → ℕ → Held → Option Cause
 cause_of states writer (At s) = Some (cause.Stamped s)
 cause_of states writer (By t) = cond (t.0 == writer) None (cause_in t (states t.0))

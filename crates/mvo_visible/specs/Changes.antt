@@ -24,7 +24,8 @@ unless_removed n s end' = cond (is_at s.0 end') None (Some n)
 -- the put of a version is a change
 abbrev pub put_of : VersionNo → Seen → Seen → List Change
 put_of n Nothing end' = []
-put_of n (Settled s) end' = record { stamp = s; version = unless_removed n s end'; owner = None } ∷ []
+put_of n (Settled s) end' =
+    record { stamp = s; version = unless_removed n s end'; owner = None } ∷ []
 put_of n (Speculative s t) end' =
     record { stamp = s; version = unless_removed n s end'; owner = Some t } ∷ []
 
@@ -36,7 +37,8 @@ removal_of (Speculative s t) = record { stamp = s; version = None; owner = Some 
 
 abbrev pub changes_by : States → Numbered → List Change
 changes_by states e =
-    put_of e.0 (seen_of states e.1.begin) (seen_of states e.1.end) ++ removal_of (seen_of states e.1.end)
+    put_of e.0 (seen_of states e.1.begin) (seen_of states e.1.end)
+    ++ removal_of (seen_of states e.1.end)
 
 -- all changes that versions say
 abbrev pub changes_of : States → List Numbered → List Change
@@ -73,7 +75,8 @@ owner_with s cs = first_with (λ c. c.owner) s cs
 
 -- what was done with the stamp
 abbrev pub done_with : List Change → ℕ → Change
-done_with cs s = record { stamp = record { 0 = s }; version = version_with s cs; owner = owner_with s cs }
+done_with cs s =
+    record { stamp = record { 0 = s }; version = version_with s cs; owner = owner_with s cs }
 
 -- what was done with the greatest stamp below b
 abbrev pub deciding : ℕ → List Change → Option Change

@@ -26,7 +26,8 @@ walked_on states b reader w e = record {
   change = later w.change (deciding b (changes_by states e));
 }
 
--- whether nothing behind a version matters below b: its put is settled, and it isn't removed with the same stamp
+-- whether nothing behind a version matters below b: its put is settled, and it isn't removed with
+-- the same stamp
 abbrev pub is_last_at : ℕ → Seen → Seen → Bool
 is_last_at b Nothing end' = false
 is_last_at b (Settled s) end' = nat_lt s.0 b && not (is_at s.0 end')

@@ -2,7 +2,7 @@ ghost use Rattle.std.specs.Prelude.{◌≡◌, ◌||◌, cond};
 ghost use Rattle.mvo_visible.specs.Words as words;
 ghost use Rattle.mvo_txn.specs.Txns.{state_of};
 ghost use Rattle.mvo_visible.specs.Versions.{is_own_newest, versions_at};
-ghost use Rattle.mvo_visible.specs.Shown.{HasFallingStamps, HasOwnInFront, own_or, shown_to};
+ghost use Rattle.mvo_visible.specs.Shown.{IsInOrder, own_or, shown_to};
 ghost use Rattle.mvo_visible.specs.Walked.{walked_on};
 
 use crate::outcome::Shown;
@@ -29,7 +29,7 @@ pub fn shown<P>(
     key: RowKey,
 ) -> Shown
     ensures { let vs = versions_at chains.now index.now.versions key in
-        HasFallingStamps (state_of table.now) vs → HasOwnInFront (state_of table.now) at.0 reader.0 vs →
+        IsInOrder (state_of table.now) at.0 reader.0 vs →
         result ≡ shown_to (state_of table.now) at.0 reader.0 vs }
 {
     let mut walked = Walked {
@@ -71,7 +71,8 @@ fn on<P>(
 
 /// Whether the reader put the version or ended it.
 fn is_own(version: &Version, reader: TxId) -> bool
-    ensures { result ≡ (words.names reader.0 version.now.begin || words.names reader.0 version.now.end) }
+    ensures { result ≡
+        (words.names reader.0 version.now.begin || words.names reader.0 version.now.end) }
 {
     names(version.begin, reader) || names(version.end, reader)
 }

@@ -33,7 +33,8 @@ pub fn is_last<P>(table: &TxnTable<P>, version: &Version, at: Stamp) -> bool
 
 /// The deciding one of the changes that a version's words say.
 pub fn change_below(number: VersionNo, put: Seen, end: Seen, at: Stamp) -> Option<Change>
-    ensures { result ≡ later (deciding at.0 (put_of number put end)) (deciding at.0 (removal_of end)) }
+    ensures { result ≡
+        later (deciding at.0 (put_of number put end)) (deciding at.0 (removal_of end)) }
 {
     later(put_below(number, put, end, at), removal_below(end, at))
 }

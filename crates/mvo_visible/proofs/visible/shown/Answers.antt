@@ -44,7 +44,7 @@ loop-number-preserved g c =
     )
 
 pub returns : goal.returns
-returns g c falling own =
+returns g c order =
     let states = state_of c.args.table.now in
     let b = c.args.at.0 in
     let r = c.args.reader.0 in
@@ -67,6 +67,6 @@ returns g c falling own =
           let back = versions_by slots c.next.new.self in
           w.walked-is ∙ w.on-walked.ensures ∙ ap (λ k. walked_on states b r k (n, v)) c.loop-number.invariant.0
           ∙ sym (walked_more states b r front (n, v))
-          ∙ walked_stop states b r front (n, v) back (sym w.is_last.ensures ∙ w.if-is_last.true) (falling_at states front (n, v) back (subst (λ vs. HasFallingStamps states vs) split falling)) (own_first states b r front (n, v) back (subst (λ vs. HasOwnInFront states b r vs) split own))
+          ∙ walked_stop states b r front (n, v) back (sym w.is_last.ensures ∙ w.if-is_last.true) (falling_at states front (n, v) back (subst (λ vs. HasFallingStamps states vs) split order.falling)) (own_first states b r front (n, v) back (subst (λ vs. HasOwnInFront states b r vs) split order.own))
           ∙ ap (walked_over states b r) (sym split)
     ])
