@@ -8,3 +8,4 @@ pub mod Unlinks
 pub mod Uses
 pub mod Views
 pub mod Walks
+pub mod Walking

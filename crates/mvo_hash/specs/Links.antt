@@ -118,3 +118,11 @@ pub record IsUnlinked (old new : List Link) (number : ℕ) : Type 0 where
   pub older : (n : ℕ) → n < length old → n ≢ number
       → (link new n).older
       ≡ cond (eqb n (link old number).newer) (link old number).older (link old n).older
+
+-- a walk stands at the newest of a chain of numbers, or at its end
+pub record IsWalk (ls : List Link) (at : ℕ) : Type 0 where
+  pub newer : ℕ
+  pub numbered : length ls ≤ unheld
+  pub starts : at ≡ first_or_none (walk ls (length ls) at)
+  pub chained : IsChain ls newer (walk ls (length ls) at)
+  pub short : length (walk ls (length ls) at) ≤ length ls

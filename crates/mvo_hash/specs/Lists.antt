@@ -5,6 +5,7 @@ use Rattle.std.specs.Coded.{Coded, code_by, coded×, coded_ℕ, coded_list}
 use Rattle.std.specs.FinMap as map
 use Rattle.mvo_types.specs.declared.row.RowKey.{RowKey}
 use Rattle.mvo_types.specs.Keys.{key_cmp, coded_key}
+use Rattle.mvo_chain.specs.declared.version.VersionNo.{VersionNo}
 
 -- a finite map from keys to the numbers of their versions, newest first, where each key has one at
 -- least
@@ -40,6 +41,10 @@ numbers_of lists key = or_empty (map.get lists key)
 abbrev pub with_numbers : Lists → RowKey → List ℕ → Lists
 with_numbers lists key [] = map.remove lists key
 with_numbers lists key (n ∷ ns) = map.insert lists key (n ∷ ns)
+
+-- the number of a version as the code has it
+abbrev pub number : ℕ → VersionNo
+number n = record { 0 = n }
 
 abbrev pub newest_of : List ℕ → Option ℕ
 newest_of [] = None

@@ -4,11 +4,12 @@ ghost use Rattle.std.specs.Option.{option_map};
 ghost use Rattle.std.specs.FinMap as finite_map;
 ghost use Rattle.mvo_hash.specs.Links.{beheaded};
 ghost use Rattle.mvo_hash.specs.Lists.{no_versions, numbers_of, with_numbers, newest_of, without};
-ghost use Rattle.mvo_hash.specs.Lists.{is_among, IsFresh, IsHeld, IsOlder, IsPastAll};
+ghost use Rattle.mvo_hash.specs.Lists.{is_among, number, IsFresh, IsHeld, IsOlder, IsPastAll};
 
 use crate::heads::Heads;
 use crate::link::{Link, NONE, UNHELD, or_none};
 use crate::links::{join, listed, reach, unlink};
+use crate::walk::Versions;
 use mvo_chain::VersionNo;
 use mvo_types::RowKey;
 use std::alloc::{AllocError, Global};
@@ -110,6 +111,13 @@ impl HashIndex {
     {
         let newest = or_none(self.heads.get(key));
         listed(alloc, &self.links, newest)
+    }
+
+    /// A walk over the versions of a key, newest first. It takes no memory.
+    pub fn walk(&self, key: RowKey) -> Versions<'_>
+        ensures { result ≡ map number (numbers_of self.now.versions key) }
+    {
+        Versions::from(&self.links, or_none(self.heads.get(key)))
     }
 
     /// Adds a version in front of those of its key. It takes room for one version at most, and none

@@ -8,6 +8,8 @@ mod links;
 mod probe;
 mod seeds;
 mod slot;
+mod walk;
 
 pub use heads::Heads;
 pub use index::HashIndex;
+pub use walk::Versions;

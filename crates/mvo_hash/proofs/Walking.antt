@@ -1,0 +1,64 @@
+-- A walk along a chain, a number at a time.
+use Rattle.std.proofs.Common.{◌≡◌, ◌≢◌, ℕ, ◌<◌, ◌≤◌, List, [], ◌∷◌, length, map, Some, refl, sym, ap, ◌∙◌, subst, arith}
+use Rattle.mvo_hash.specs.declared.link.Link.{Link}
+use Rattle.mvo_hash.specs.Links.{no_number, unheld, link, first_or_none, walk, IsChain, IsWalk}
+use Rattle.std.specs.Iterator.{MakesProgress, item_count}
+use Rattle.std.specs.FinMap.{get}
+use Rattle.mvo_types.specs.declared.row.RowKey.{RowKey}
+use Rattle.mvo_hash.specs.Table.{Map}
+use Rattle.mvo_hash.specs.Links.{number_or_none, numbers, IsIndex}
+use Rattle.mvo_hash.proofs.Chains.{walk_chain, chain_short}
+use Rattle.mvo_hash.proofs.Views.{walk_starts, link_read}
+
+-- what a step of a walk does
+pub record Steps (ls : List Link) (at : ℕ) : Type 0 where
+  pub within : at < length ls
+  pub first : walk ls (length ls) at ≡ at ∷ walk ls (length ls) (link ls at).older
+  pub next : IsWalk ls (link ls at).older
+
+go : (ls : List Link) (at newer : ℕ) (ns : List ℕ) → length ls ≤ unheld → at ≢ no_number → walk ls (length ls) at ≡ ns → at ≡ first_or_none ns → IsChain ls newer ns → length ns ≤ length ls → Steps ls at
+go ls at newer [] small there is starts chained short = absurd (there starts)
+go ls at newer (n ∷ ns) small there is starts chained short =
+    let older : (link ls at).older ≡ first_or_none ns = ap (λ m. (link ls m).older) starts ∙ chained.2 in
+    let within : n < length ls = chained.0 in
+    let rest : walk ls (length ls) (link ls at).older ≡ ns =
+    ap (walk ls (length ls)) older ∙ walk_chain ls n ns (length ls) small chained.3 (omega (arith, short)) in record {
+      within = omega (arith, starts, within);
+      first = is ∙ ap (λ m. m ∷ ns) (sym starts) ∙ ap (λ ms. at ∷ ms) (sym rest);
+      next = record {
+        newer = n;
+        numbered = small;
+        starts = older ∙ ap first_or_none (sym rest);
+        chained = subst (λ (ms : List ℕ). IsChain ls n ms) (sym rest) chained.3;
+        short = subst (λ (ms : List ℕ). length ms ≤ length ls) (sym rest) (omega (arith, short));
+      };
+    }
+
+pub steps : (ls : List Link) (at : ℕ) → IsWalk ls at → at ≢ no_number → Steps ls at
+steps ls at w there = go ls at w.newer (walk ls (length ls) at) w.numbered there refl w.starts w.chained w.short
+
+done : (ls : List Link) (newer : ℕ) (ns : List ℕ) → length ls ≤ unheld → first_or_none ns ≡ no_number → IsChain ls newer ns → ns ≡ []
+done ls newer [] small e chained = refl
+done ls newer (n ∷ ns) small e chained = let within : n < length ls = chained.0 in absurd (omega (arith, within, small, e))
+
+-- at no number the walk is at its end
+pub walk_done : (ls : List Link) (at : ℕ) → IsWalk ls at → at ≡ no_number → walk ls (length ls) at ≡ []
+walk_done ls at w e = done ls w.newer (walk ls (length ls) at) w.numbered (sym w.starts ∙ e) w.chained
+
+-- a walk along a key's numbers
+pub index_walk : (heads : Map) (ls : List Link) → IsIndex heads ls → (key : RowKey) → IsWalk ls (number_or_none (get heads key))
+index_walk heads ls t key = record {
+  newer = no_number;
+  numbered = t.numbered;
+  starts = walk_starts heads ls t key;
+  chained = t.chained key;
+  short = chain_short ls no_number (numbers heads ls key) (t.chained key) (t.apart key);
+}
+
+-- a call that gave the first item that was left
+pub goes_first : {A : Type 0} (can : List A → Type 0) → ((l : List A) → can l) → (s t : List A) (x : A) → s ≡ x ∷ t → MakesProgress can (item_count (λ rest. rest)) s (Some x) t
+goes_first can always s t x e = record {
+  on = λ _. (always t, tt, subst (λ l. length t < length l) (sym e) (omega arith));
+  keeps = always t;
+  rests = λ _. tt;
+}

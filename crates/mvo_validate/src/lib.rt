@@ -1,0 +1,13 @@
+//! What a transaction looked at, and whether another has changed it between its begin and its end.
+#![tactic(auto)]
+
+mod between;
+mod check;
+mod entries;
+mod entry;
+mod validate;
+
+pub use check::Check;
+pub use entries::Entries;
+pub use entry::Entry;
+pub use validate::check_entry;

@@ -1,0 +1,6 @@
+pub mod Words
+pub mod Versions
+pub mod Changes
+pub mod Shown
+pub mod Walked
+pub mod Causes

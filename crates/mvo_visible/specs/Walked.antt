@@ -1,0 +1,37 @@
+-- What a walk over versions has found.
+use Rattle.std.specs.Prelude.{ℕ, ◌||◌, ◌&&◌, nat_lt, Bool, false, not, cond, List, Option, None, Some}
+use Rattle.std.specs.Option.{option_or}
+use Rattle.std.specs.List.{list_any}
+use Rattle.mvo_chain.specs.declared.version.Version.{Version}
+use Rattle.mvo_visible.specs.declared.seen.Seen.{Seen}
+use Rattle.mvo_visible.specs.declared.seen.Seen.TheVariants.{Nothing, Settled, Speculative}
+use Rattle.mvo_visible.specs.declared.walked.Walked.{Walked}
+use Rattle.mvo_visible.specs.Words.{States, seen_of}
+use Rattle.mvo_visible.specs.Versions.{Numbered, is_own, is_own_newest, own_newest}
+use Rattle.mvo_visible.specs.Changes.{is_at, changes_by, changes_of, deciding, later}
+
+-- what is found over these versions
+abbrev pub walked_over : States → ℕ → ℕ → List Numbered → Walked
+walked_over states b reader vs = record {
+  own = list_any (is_own reader) vs;
+  newest = own_newest reader vs;
+  change = deciding b (changes_of states vs);
+}
+
+-- and over one more
+abbrev pub walked_on : States → ℕ → ℕ → Walked → Numbered → Walked
+walked_on states b reader w e = record {
+  own = w.own || is_own reader e;
+  newest = option_or w.newest (cond (is_own_newest reader e) (Some e.0) None);
+  change = later w.change (deciding b (changes_by states e));
+}
+
+-- whether nothing behind a version matters below b: its put is settled, and it isn't removed with
+-- the same stamp
+abbrev pub is_last_at : ℕ → Seen → Seen → Bool
+is_last_at b Nothing end' = false
+is_last_at b (Settled s) end' = nat_lt s.0 b && not (is_at s.0 end')
+is_last_at b (Speculative s t) end' = false
+
+abbrev pub is_last : States → ℕ → Version → Bool
+is_last states b v = is_last_at b (seen_of states v.begin) (seen_of states v.end)

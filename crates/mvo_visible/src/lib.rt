@@ -1,0 +1,16 @@
+//! Which version of a key a transaction is shown, on whom it then depends, and who has ended a
+//! version before it.
+#![tactic(auto)]
+
+mod change;
+mod conflict;
+mod outcome;
+mod seen;
+mod visible;
+mod walked;
+
+pub use change::Change;
+pub use conflict::ended_by;
+pub use outcome::Shown;
+pub use seen::{Seen, names, seen_by_others};
+pub use visible::shown;

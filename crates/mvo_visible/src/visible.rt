@@ -1,0 +1,111 @@
+ghost use Rattle.std.specs.Prelude.{◌≡◌, ◌||◌, cond};
+ghost use Rattle.mvo_visible.specs.Words as words;
+ghost use Rattle.mvo_txn.specs.Txns.{state_of};
+ghost use Rattle.mvo_visible.specs.Versions.{is_own_newest, versions_at};
+ghost use Rattle.mvo_visible.specs.Shown.{IsInOrder, own_or, shown_to};
+ghost use Rattle.mvo_visible.specs.Walked.{walked_on};
+
+use crate::outcome::Shown;
+use crate::seen::{names, seen_by_others};
+use crate::walked::{Walked, change_below, is_last, later};
+use mvo_chain::{Chains, Version, VersionNo};
+use mvo_hash::HashIndex;
+use mvo_txn::TxnTable;
+use mvo_types::{RowKey, Stamp, TxId};
+
+/// The version of a key that a transaction with the begin `at` is shown: its own newest one, or
+/// none, where it wrote the key itself; else what the change of the others with the greatest stamp
+/// below `at` put, if that didn't remove it too.
+///
+/// It looks at the versions from the newest on, up to the first whose put is settled below `at` and
+/// that isn't removed with the stamp of its put. So it answers that where the versions stand in
+/// order: none behind a settled put has a greater stamp, or is the reader's if that is below `at`.
+pub fn shown<P>(
+    chains: &Chains,
+    index: &HashIndex,
+    table: &TxnTable<P>,
+    at: Stamp,
+    reader: TxId,
+    key: RowKey,
+) -> Shown
+    ensures { let vs = versions_at chains.now index.now.versions key in
+        IsInOrder (state_of table.now) at.0 reader.0 vs →
+        result ≡ shown_to (state_of table.now) at.0 reader.0 vs }
+{
+    let mut walked = Walked {
+        own: false,
+        newest: None,
+        change: None,
+    };
+    for number in index.walk(key) {
+        if let Some(version) = chains.get(number) {
+            walked = on(walked, number, version, table, at, reader);
+            if is_last(table, version, at) {
+                break;
+            }
+        }
+    }
+    shown_by(walked)
+}
+
+/// What is found, over one version more.
+fn on<P>(
+    walked: Walked,
+    number: VersionNo,
+    version: &Version,
+    table: &TxnTable<P>,
+    at: Stamp,
+    reader: TxId,
+) -> Walked
+    ensures { result ≡ walked_on (state_of table.now) at.0 reader.0 walked (number, version.now) }
+{
+    let put = seen_by_others(table, version.begin);
+    let end = seen_by_others(table, version.end);
+    let newest = own_newest(number, version, reader);
+    Walked {
+        own: walked.own | is_own(version, reader),
+        newest: walked.newest.or(newest),
+        change: later(walked.change, change_below(number, put, end, at)),
+    }
+}
+
+/// Whether the reader put the version or ended it.
+fn is_own(version: &Version, reader: TxId) -> bool
+    ensures { result ≡
+        (words.names reader.0 version.now.begin || words.names reader.0 version.now.end) }
+{
+    names(version.begin, reader) || names(version.end, reader)
+}
+
+/// The version, if the reader put it and hasn't ended it.
+fn own_newest(number: VersionNo, version: &Version, reader: TxId) -> Option<VersionNo>
+    ensures { result ≡ cond (is_own_newest reader.0 (number, version.now)) (Some number) None }
+{
+    if names(version.begin, reader) && !names(version.end, reader) {
+        Some(number)
+    } else {
+        None
+    }
+}
+
+/// The reader's own newest, where it wrote the key, and else what the change shows.
+fn shown_by(walked: Walked) -> Shown
+    ensures { result ≡ own_or walked.own walked.newest walked.change }
+{
+    if walked.own {
+        return Shown {
+            version: walked.newest,
+            depends_on: None,
+        };
+    }
+    match walked.change {
+        Some(change) => Shown {
+            version: change.version,
+            depends_on: change.owner,
+        },
+        None => Shown {
+            version: None,
+            depends_on: None,
+        },
+    }
+}
