@@ -1,0 +1,6 @@
+pub mod Data
+pub mod Files
+pub mod Answers
+pub mod Reading
+pub mod Flags
+pub mod Loading

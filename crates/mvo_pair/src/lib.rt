@@ -1,0 +1,18 @@
+//! Pairs of a data file and a delta file: their bytes, their writing, and their live records.
+#![tactic(auto)]
+
+mod data;
+mod delta;
+mod entry;
+mod format;
+mod header;
+mod live;
+mod number;
+mod pair;
+mod unread;
+
+pub use entry::Entry;
+pub use format::{FIRST_FORMAT, Format};
+pub use live::Live;
+pub use pair::{Pair, load_pair};
+pub use unread::Unread;
