@@ -2,7 +2,7 @@
 use Rattle.std.proofs.Common.{◌≡◌, ◌⊎◌, inl, inr, ⊎_elim, ℕ, zero, suc, Bool, true, false, cond, List, [], ◌∷◌, length, Option, Some, None, Result, Ok, Err, refl, sym, ap, subst, ◌∙◌, ◌<◌, ◌^◌, arith}
 use Rattle.std.specs.Prelude.{◌&&◌}
 use Rattle.mvo_types.specs.declared.refusal.Refusal.{Refusal}
-use Rattle.mvo_types.specs.declared.refusal.Refusal.TheVariants.{OutOfMemory}
+use Rattle.mvo_types.specs.declared.refusal.Refusal.TheVariants.{OutOfMemory, DiskFault}
 use Rattle.mvo_group.specs.Reading.{◌>>=◌, times}
 use Rattle.mvo_group.proofs.Fields.{bind_some, some_is}
 use Rattle.mvo_pair.specs.Data.{EntryData, live_of}
@@ -10,11 +10,12 @@ use Rattle.mvo_pair.specs.declared.format.Format.{Format}
 use Rattle.mvo_group.proofs.Fields.{IsBytes}
 use Rattle.mvo_pair.specs.Answers.{Found, file_refusal, Goes, After, IsOnly}
 use Rattle.mvo_pair.specs.Loading.{DataSays, DeltaSays, LoadsAs}
+use Rattle.mvo_pair.specs.Writing.{IsStop, CountsFaults}
 use Rattle.mvo_pair.proofs.Said.{data_says, data_alone, delta_says, delta_alone}
 use Rattle.mvo_pair.specs.declared.pair.Pair.{Pair}
 use Rattle.mvo_pair.specs.Reading.{and_then, of_file, data_found, header_found, entries_found, entries_kept, entry_at, all_keep, rise, delta_found, live_found, pair_found}
 use Rattle.mvo_pair.specs.declared.unread.Unread.{Unread}
-use Rattle.mvo_pair.specs.declared.unread.Unread.TheVariants.{Memory, Broken}
+use Rattle.mvo_pair.specs.declared.unread.Unread.TheVariants.{Memory, Broken, OtherVersion}
 
 module _ {X Y : Type 0} (file : ℕ) (r : Found X) (f : X → Result Y Refusal) where
   pub err_file : (e : Unread) (a : Refusal) → a ≡ file_refusal file e → (e ≡ Memory) ⊎ (r ≡ Err e) → (a ≡ OutOfMemory) ⊎ (and_then (of_file file r) f ≡ Err a)
@@ -59,6 +60,10 @@ data_len f lo hi count bytes es e = go (header_found 1146050125 f.version bytes)
 
 -- ---- what is found of a pair is the one answer
 
+stops_there : (f : Format) (p : Pair) (data_bytes delta : List ℕ) (u : Unread) (e : Refusal) → e ≡ file_refusal p.data_file u → data_found f p.lo.0 p.hi.0 p.records data_bytes ≡ Err u → pair_found f p data_bytes delta ≡ Err e
+unfolding pair_found
+stops_there f p data_bytes delta u e is h = ap (λ r. and_then (of_file p.data_file r) (live_found f p delta)) h ∙ ap Err (sym is)
+
 only_at : {Y : Type 0} (says : Y → Type 0) (y z : Y) → y ≡ z → IsOnly says y → IsOnly says z
 only_at says y z e only = subst (λ w. IsOnly says w) e only
 
@@ -77,13 +82,13 @@ pub record Fits (f : Format) (p : Pair) : Type 0 where
   pub hi : p.hi.0 < 2 ^ 64
   pub records : p.records < 2 ^ 32
 
-pub loads : (f : Format) (p : Pair) (data_bytes delta : List ℕ) → Fits f p → IsBytes data_bytes → IsBytes delta → IsOnly (LoadsAs f p data_bytes delta) (pair_found f p data_bytes delta)
+pub loads : (f : Format) (p : Pair) (data_bytes delta : List ℕ) → Fits f p → IsBytes data_bytes → ((es : List EntryData) → data_found f p.lo.0 p.hi.0 p.records data_bytes ≡ Ok es → IsBytes delta) → IsOnly (LoadsAs f p data_bytes delta) (pair_found f p data_bytes delta)
 unfolding pair_found live_found
 loads f p data_bytes delta fits bytes numbers =
     after_only p.data_file (DataSays f p data_bytes) (λ es. After p.delta_file (DeltaSays f p delta) (λ ns out. out ≡ Ok (live_of ns es))) (live_found f p delta) (data_found f p.lo.0 p.hi.0 p.records data_bytes)
     (data_says f p.lo.0 p.hi.0 p.records data_bytes bytes fits.table fits.size fits.hi fits.version) (data_alone f p.lo.0 p.hi.0 p.records data_bytes bytes fits.table fits.size fits.hi fits.version)
-    (λ es _. after_only p.delta_file (DeltaSays f p delta) (λ ns out. out ≡ Ok (live_of ns es)) (λ ns. Ok (live_of ns es)) (delta_found f.version p.records p.entries delta)
-    (delta_says f.version p.records p.entries delta numbers (omega (arith, fits.records)) fits.version) (delta_alone f.version p.records p.entries delta numbers (omega (arith, fits.records)) fits.version) (λ ns _. (refl, λ z e. e)))
+    (λ es is. after_only p.delta_file (DeltaSays f p delta) (λ ns out. out ≡ Ok (live_of ns es)) (λ ns. Ok (live_of ns es)) (delta_found f.version p.records p.entries delta)
+    (delta_says f.version p.records p.entries delta (numbers es is) (omega (arith, fits.records)) fits.version) (delta_alone f.version p.records p.entries delta (numbers es is) (omega (arith, fits.records)) fits.version) (λ ns _. (refl, λ z e. e)))
 
 -- the result is what is found, so it is the one answer
 pub tells_ok : {Y : Type 0} (says : Result Y Refusal → Type 0) (found : Result Y Refusal) (y : Y) → IsOnly says found → found ≡ Ok y → IsOnly says (Ok y)
@@ -91,3 +96,35 @@ tells_ok says found y only e = only_at says found (Ok y) e only
 
 pub tells_err : {Y : Type 0} (says : Result Y Refusal → Type 0) (found : Result Y Refusal) (e : Refusal) (P : Type 0) → IsOnly says found → P ⊎ (found ≡ Err e) → P ⊎ IsOnly says (Err e)
 tells_err says found e P only h = ⊎_elim (λ (p : P). inl p) (λ (is : found ≡ Err e). inr (only_at says found (Err e) is only)) h
+
+-- ---- where the delta file isn't read
+
+pub data_stops : (f : Format) (p : Pair) (data_bytes delta : List ℕ) (u : Unread) (e : Refusal) → Fits f p → IsBytes data_bytes → e ≡ file_refusal p.data_file u
+    → (u ≡ Memory) ⊎ (data_found f p.lo.0 p.hi.0 p.records data_bytes ≡ Err u) → IsStop e ⊎ IsOnly (LoadsAs f p data_bytes delta) (Err e)
+data_stops f p data_bytes delta u e fits bytes is (inl h) = inl (inl (is ∙ ap (file_refusal p.data_file) h))
+data_stops f p data_bytes delta u e fits bytes is (inr h) =
+    let broken : pair_found f p data_bytes delta ≡ Err e = stops_there f p data_bytes delta u e is h in
+    inr (only_at (LoadsAs f p data_bytes delta) (pair_found f p data_bytes delta) (Err e) broken (loads f p data_bytes delta fits bytes (λ es there. absurd (no_both es there))))
+  where
+    no_both : (es : List EntryData) → data_found f p.lo.0 p.hi.0 p.records data_bytes ≡ Ok es → ⊥
+    no_both es there = cc
+
+-- ---- only a call of the device is a fault
+
+file_no_fault : (file : ℕ) (u : Unread) → file_refusal file u ≡ DiskFault → ⊥
+file_no_fault file Broken e = cc
+file_no_fault file OtherVersion e = cc
+file_no_fault file Memory e = cc
+
+live_no_fault : {X Y : Type 0} (file : ℕ) (r : Found X) (f : X → Y) (e : Refusal) → and_then (of_file file r) (λ x. Ok (f x)) ≡ Err e → e ≡ DiskFault → ⊥
+live_no_fault file (Ok x) f e is fault = absurd cc
+live_no_fault file (Err u) f e is fault = let same : file_refusal file u ≡ e = cc in file_no_fault file u (same ∙ fault)
+
+counts_none : (X : Type 0) (before now : ℕ) (e : Refusal) → (e ≡ DiskFault → ⊥) → now ≡ before → CountsFaults {X = X} before now (Err e)
+counts_none X before now DiskFault other same = absurd (other refl)
+counts_none X before now _ other same = same
+
+pub counts_live : (X : Type 0) (f : Format) (p : Pair) (delta : List ℕ) (es : List EntryData) (before now : ℕ) (e : Refusal) → (e ≡ OutOfMemory) ⊎ (live_found f p delta es ≡ Err e) → now ≡ before → CountsFaults {X = X} before now (Err e)
+unfolding live_found
+counts_live X f p delta es before now e (inl h) same = counts_none X before now e (λ fault. let two : OutOfMemory ≡ DiskFault = sym h ∙ fault in cc) same
+counts_live X f p delta es before now e (inr h) same = counts_none X before now e (live_no_fault p.delta_file (delta_found f.version p.records p.entries delta) (λ ns. live_of ns es) e h) same

@@ -119,11 +119,11 @@ words_of : (es : List EntryData) → AllByRecursion HasFields es → AllByRecurs
 words_of [] all = tt
 words_of (e ∷ es) all = (record { key = all.0.key; sort = all.0.sort }, words_of es all.1)
 
-magic_is : field 4 1146050125 ≡ data_magic
+pub magic_is : field 4 1146050125 ≡ data_magic
 unfolding field
 magic_is = refl
 
-delta_magic_is : field 4 1162827341 ≡ delta_magic
+pub delta_magic_is : field 4 1162827341 ≡ delta_magic
 unfolding field
 delta_magic_is = refl
 

@@ -1,5 +1,5 @@
 -- Reading the files of a pair from left to right: what is found in some bytes, or which rule they break.
-use Rattle.std.specs.Prelude.{◌≡◌, ◌⊎◌, ℕ, zero, suc, ◌+◌, Bool, true, false, List, [], ◌∷◌, ◌++◌, length, take, drop, Option, Some, None, Result, Ok, Err, nat_lt, nat_le, not, ◌==◌, ◌&&◌, if◌then◌else◌}
+use Rattle.std.specs.Prelude.{◌≡◌, ◌⊎◌, ℕ, zero, suc, ◌+◌, ◌<◌, slice_index, Bool, true, false, List, [], ◌∷◌, ◌++◌, length, take, drop, Option, Some, None, Result, Ok, Err, nat_lt, nat_le, not, ◌==◌, ◌&&◌, if◌then◌else◌}
 use Rattle.std.specs.List.{list_any}
 use Rattle.std.specs.Ordering.{is_lt}
 use Rattle.byteorder.specs.Endian.{little_number}
@@ -20,6 +20,10 @@ and_then (Err e) f = Err e
 abbrev pub Finds : {X Y E : Type 0} → E → (X → Y) → Result X E → Result Y E → Type 0
 Finds memory view (Ok x) found = found ≡ Ok (view x)
 Finds memory view (Err e) found = (e ≡ memory) ⊎ (found ≡ Err e)
+
+-- each is a byte, as each value of the program has it
+abbrev pub IsBytes : List ℕ → Type 0
+IsBytes bytes = (i : ℕ) → slice_index bytes i < 256
 
 -- the number in the first n bytes
 unfoldable pub number : ℕ → List ℕ → ℕ

@@ -1,7 +1,7 @@
 //! Reads a data file.
 ghost use Rattle.std.specs.Prelude.{◌≡◌, ◌⊎◌, List, Ok, Err, ◌+◌, ◌≤◌, length, IfOk, IfErr, IfSome, map, drop, Contains};
 ghost use Rattle.mvo_group.specs.Reading.{Gives};
-ghost use Rattle.mvo_pair.specs.Reading.{Finds, number, len_found, entry_of, keeps, entry_found, found_at, data_found, places_from, rise, is_below};
+ghost use Rattle.mvo_pair.specs.Reading.{Finds, IsBytes, number, len_found, entry_of, keeps, entry_found, found_at, data_found, places_from, rise, is_below};
 
 use crate::entry::Entry;
 use crate::format::Format;
@@ -152,8 +152,9 @@ pub fn read_data(
     pair: Pair,
     bytes: &[u8],
 ) -> Result<Vec<Entry>, Unread>
-    ensures { Finds Unread.Memory (λ v. v.items) result
+    ensures found { Finds Unread.Memory (λ v. v.items) result
         (data_found format pair.lo.0 pair.hi.0 pair.records bytes.now) }
+    ensures bytes { IsBytes bytes.now }
 {
     let body = match behind_header(DATA_MAGIC, format.version, bytes) {
         Ok(body) => body,

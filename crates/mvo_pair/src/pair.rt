@@ -2,7 +2,7 @@
 ghost use Rattle.std.specs.Prelude.{◌≡◌, ◌⊎◌, ◌<◌, ◌^◌, List, Ok, Err, length};
 ghost use Rattle.mvo_pair.specs.Answers.{Tells, file_refusal};
 ghost use Rattle.mvo_pair.specs.Loading.{LoadsAs};
-ghost use Rattle.mvo_pair.specs.Reading.{Finds, live_found};
+ghost use Rattle.mvo_pair.specs.Reading.{Finds, IsBytes, live_found};
 
 use crate::data::read_data;
 use crate::delta::read_delta;
@@ -31,7 +31,7 @@ pub struct Pair {
 }
 
 /// How a file that isn't read is refused.
-fn refusal_of(file: u16, e: Unread) -> Refusal
+pub fn refusal_of(file: u16, e: Unread) -> Refusal
     ensures { result ≡ file_refusal file e }
 {
     match e {
@@ -50,8 +50,9 @@ pub fn live_in(
     delta: &[u8],
 ) -> Result<Vec<Live>, Refusal>
     requires { length entries.items ≡ pair.records }
-    ensures { Finds Refusal.OutOfMemory (λ v. v.items) result
+    ensures found { Finds Refusal.OutOfMemory (λ v. v.items) result
         (live_found format pair delta.now entries.items) }
+    ensures bytes { IsBytes delta.now }
 {
     let named = match read_delta(alloc, format.version, pair.records, pair.entries, delta) {
         Ok(named) => named,
