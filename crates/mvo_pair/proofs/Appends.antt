@@ -10,7 +10,7 @@ use Rattle.mvo_disk.specs.Torn.{torn_whole}
 use Rattle.mvo_group.specs.Body.{field}
 use Rattle.mvo_group.proofs.Fields.{length-field}
 use Rattle.mvo_pair.specs.Files.{AreNumbers, HasNumbers, header, delta_magic, delta_bytes}
-use Rattle.mvo_pair.specs.Writing.{KeepsNumbers, GainsNumbers, place_behind}
+use Rattle.mvo_pair.specs.Writing.{KeepsNumbers, place_behind}
 
 length-numbers : (ns : List ℕ) → length (flat_map (field 4) ns) ≡ 4 * length ns
 length-numbers [] = refl

@@ -1,5 +1,5 @@
 -- The tests of the rules, and the rules.
-use Rattle.std.proofs.Common.{◌≡◌, ◌≢◌, ◌⊎◌, inl, inr, ⊎_elim, ℕ, zero, suc, ◌+◌, ◌<◌, ◌≤◌, ◌^◌, Bool, true, false, cond, ltb, leb, eqb, List, [], ◌∷◌, ◌++◌, length, refl, sym, ap, subst, ◌∙◌, eq-eqb, arith}
+use Rattle.std.proofs.Common.{◌≡◌, ℕ, ◌<◌, ◌^◌, arith, Bool, true, false, ltb, leb, eqb, List, [], ◌∷◌, length, refl, sym, ap, ◌∙◌, eq-eqb}
 use Rattle.std.specs.Prelude.{◌&&◌, ◌||◌, not, nat_eq}
 use Rattle.std.specs.List.{AllByRecursion, IsDistinct}
 use Rattle.std.specs.List.Sorted.{IsStrictlySortedBy}
@@ -14,7 +14,9 @@ use Rattle.std.proofs.lemmas.Bool.{ltb-true, lt-ltb, leb-true, le-leb, eqb-true,
 use Rattle.mvo_pair.specs.Data.{EntryData, entry_cmp}
 use Rattle.mvo_pair.specs.declared.format.Format.{Format}
 use Rattle.mvo_pair.specs.Reading.{keeps, all_keep, is_below, rise, has, are_numbers}
-use Rattle.mvo_pair.specs.Files.{IsEntry, AreNumbers}
+use Rattle.mvo_pair.specs.Spelling.{IsShort}
+use Rattle.std.specs.List.{All}
+use Rattle.mvo_pair.specs.Files.{IsEntry, AreEntries, AreNumbers}
 
 and_parts : (a b : Bool) → (a && b) ≡ true → (a ≡ true) × (b ≡ true)
 and_parts true b e = (refl, e)
@@ -120,3 +122,15 @@ numbers_are below ns t = let p = numbers_each below ns t in record { each = All-
 
 pub numbers_test : (below : ℕ) (ns : List ℕ) → AreNumbers below ns → are_numbers below ns ≡ true
 numbers_test below ns are = numbers_each_test below ns (recursion_from_All (λ n. n < below) ns are.each) are.distinct
+
+-- ---- all rules of the records
+
+module _ (f : Format) (lo hi : ℕ) (es : List EntryData) where
+  pub are_rules : (all_keep f lo hi es && rise es) ≡ true → AreEntries f lo hi es
+  are_rules t = let p = and_parts (all_keep f lo hi es) (rise es) t in record { each = All-from_recursion (IsEntry f lo hi) es (all_rules f lo hi es p.0); rise = rise_is es p.1 }
+
+  pub are_test : AreEntries f lo hi es → (all_keep f lo hi es && rise es) ≡ true
+  are_test are = both (all_keep f lo hi es) (rise es) (all_test f lo hi es (recursion_from_All (IsEntry f lo hi) es are.each)) (rise_test es are.rise)
+
+  pub are_short : f.max_data_len < 2 ^ 16 → AreEntries f lo hi es → All IsShort es
+  are_short small are k d lt = let e = are.each k d lt in omega (arith, e.size)

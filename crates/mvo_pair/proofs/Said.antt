@@ -1,19 +1,19 @@
 -- What is found of a data file or a delta file is what its bytes say, and nothing else is.
-use Rattle.std.proofs.Common.{◌≡◌, ◌≢◌, ◌⊎◌, inl, inr, ℕ, zero, suc, ◌+◌, ◌*◌, ◌<◌, ◌≤◌, ◌^◌, Bool, true, false, cond, ltb, eqb, List, [], ◌∷◌, ◌++◌, length, take, drop, Option, Some, None, Result, Ok, Err, refl, sym, ap, subst, ◌∙◌, eq-eqb, append_assoc, arith}
+use Rattle.std.proofs.Common.{◌≡◌, ◌≢◌, ℕ, ◌<◌, ◌≤◌, ◌^◌, Bool, true, false, cond, ltb, eqb, List, [], ◌∷◌, ◌++◌, length, drop, Option, Some, None, Ok, Err, refl, sym, ap, subst, ◌∙◌, eq-eqb, append_assoc, arith}
 use Rattle.std.specs.Prelude.{◌&&◌}
 use Rattle.std.specs.List.{flat_map, AllByRecursion}
 use Rattle.std.proofs.lemmas.Bool.{ltb-false, le-ltb, eqb-true, ne_eqb}
 use Rattle.std.proofs.lemmas.List.{length-append, drop_at}
 use Rattle.std.proofs.lemmas.List.Elements.{All-from_recursion, recursion_from_All}
 use Rattle.mvo_group.specs.Body.{field}
-use Rattle.mvo_group.specs.Reading.{◌>>=◌, times, number_at}
-use Rattle.mvo_group.proofs.Fields.{IsBytes, IsBytes-drop, Takes, number_takes, number_again, length-field}
+use Rattle.mvo_group.specs.Reading.{times, number_at}
+use Rattle.mvo_group.proofs.Fields.{IsBytes, IsBytes-drop, number_takes, number_again, length-field}
 use Rattle.mvo_group.proofs.Loop.{times_take, times_again}
-use Rattle.mvo_pair.specs.Data.{EntryData, entry_cmp}
+use Rattle.mvo_pair.specs.Data.{EntryData}
 use Rattle.mvo_pair.specs.declared.format.Format.{Format}
 use Rattle.mvo_pair.specs.Answers.{Found, Says}
 use Rattle.mvo_pair.specs.Reading.{and_then, number, header_found, entry_at, all_keep, rise, entries_kept, entries_found, are_numbers, numbers_kept, numbers_found, data_found, delta_found}
-use Rattle.mvo_pair.specs.Files.{entry_bytes, data_bytes, delta_bytes, IsEntry, HasWords, AreEntries, HasEntries, HasNumbers, AreNumbers, IsOtherVersion, data_magic, delta_magic, header}
+use Rattle.mvo_pair.specs.Files.{entry_bytes, IsEntry, HasWords, HasEntries, HasNumbers, IsOtherVersion, data_magic, delta_magic, header}
 use Rattle.mvo_pair.specs.declared.unread.Unread.{Unread}
 use Rattle.mvo_pair.specs.declared.unread.Unread.TheVariants.{Memory, Broken, OtherVersion}
 use Rattle.mvo_pair.proofs.Spelled.{HasFields, entry_takes, entry_again, field_there, number_back_is, field_behind}

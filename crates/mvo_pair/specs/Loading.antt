@@ -1,5 +1,5 @@
 -- What loading a pair answers.
-use Rattle.std.specs.Prelude.{◌≡◌, ℕ, List, Result, Ok, Err}
+use Rattle.std.specs.Prelude.{◌≡◌, ℕ, List, Result, Ok}
 use Rattle.mvo_types.specs.declared.refusal.Refusal.{Refusal}
 use Rattle.mvo_pair.specs.Data.{EntryData, Numbered, live_of}
 use Rattle.mvo_pair.specs.Files.{HasEntries, HasNumbers, data_magic, delta_magic}

@@ -1,7 +1,8 @@
 //! Reads a data file.
-ghost use Rattle.std.specs.Prelude.{◌≡◌, ◌⊎◌, List, Ok, Err, ◌+◌, ◌≤◌, length, IfOk, IfErr, IfSome, map, drop, Contains};
+ghost use Rattle.std.specs.Prelude.{◌≡◌, ◌⊎◌, List, Ok, Err, ◌+◌, ◌≤◌, length, IfOk, IfErr, IfSome, map, drop, Contains, IsTrue, ◌↔◌};
 ghost use Rattle.mvo_group.specs.Reading.{Gives};
-ghost use Rattle.mvo_pair.specs.Reading.{Finds, IsBytes, number, len_found, entry_of, keeps, entry_found, found_at, data_found, places_from, rise, is_below};
+ghost use Rattle.mvo_pair.specs.Files.{AreEntries};
+ghost use Rattle.mvo_pair.specs.Reading.{all_keep, Finds, IsBytes, number, len_found, entry_of, keeps, entry_found, found_at, data_found, places_from, rise, is_below};
 
 use crate::entry::Entry;
 use crate::format::Format;
@@ -143,6 +144,27 @@ fn rise(entries: &[Entry]) -> bool
         rest = after;
     }
     true
+}
+
+fn all_keep(format: Format, pair: Pair, entries: &[Entry]) -> bool
+    ensures { result ≡ all_keep format pair.lo.0 pair.hi.0 entries.now }
+{
+    let mut rest = entries;
+    while let [first, after @ ..] = rest {
+        if !keeps(format, pair, first) {
+            return false;
+        }
+        rest = after;
+    }
+    true
+}
+
+/// Whether these may be the records of a pair: each with a begin above its lo and at most its hi
+/// and within the limits, in strictly rising order of (begin, table, key).
+pub fn are_entries(format: Format, pair: Pair, entries: &[Entry]) -> bool
+    ensures { IsTrue result ↔ AreEntries format pair.lo.0 pair.hi.0 entries.now }
+{
+    all_keep(format, pair, entries) && rise(entries)
 }
 
 /// The records of a data file, and nothing where one breaks a rule.

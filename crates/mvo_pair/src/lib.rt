@@ -14,6 +14,7 @@ mod read;
 mod unread;
 mod writing;
 
+pub use data::are_entries;
 pub use entry::Entry;
 pub use format::{FIRST_FORMAT, Format};
 pub use live::Live;

@@ -1,5 +1,5 @@
 -- A record in front of its data, and its data, are the record.
-use Rattle.std.proofs.Common.{◌≡◌, ◌<◌, ◌++◌, ◌∷◌, ◌*◌, ◌%◌, [], List, ℕ, length, sym, ap, ◌∙◌, append_assoc, refl, arith}
+use Rattle.std.proofs.Common.{◌≡◌, ◌<◌, ◌++◌, ◌∷◌, ◌%◌, [], List, ℕ, length, sym, ap, ◌∙◌, append_assoc, refl, arith}
 use Rattle.mvo_group.specs.Body.{field}
 use Rattle.mvo_types.specs.declared.row.RowKey.{RowKey}
 use Rattle.mvo_types.specs.RowData.{RowData}

@@ -1,13 +1,10 @@
-use Rattle.std.proofs.Common.{◌≡◌, ◌⊎◌, ℕ, List, inl, inr, ⊎_elim, length, ap, sym, subst, ◌∙◌, refl, Ok, Err, Result, arith}
-use Rattle.mvo_types.specs.declared.refusal.Refusal.{Refusal}
-use Rattle.mvo_group.proofs.Fields.{IsBytes}
+use Rattle.std.proofs.Common.{◌≡◌, ◌⊎◌, ℕ, List, inl, inr, ⊎_elim, subst, ◌∙◌, Ok, Err, arith}
 use Rattle.mvo_pair.specs.Answers.{IsOnly}
-use Rattle.mvo_pair.specs.Data.{EntryData, Numbered}
 use Rattle.mvo_pair.specs.Loading.{LoadsAs}
 use Rattle.mvo_pair.specs.Writing.{IsStop}
 use Rattle.mvo_pair.specs.declared.format.Format.{Format}
 use Rattle.mvo_pair.specs.declared.pair.Pair.{Pair}
-use Rattle.mvo_pair.specs.Reading.{pair_found, live_found, data_found}
+use Rattle.mvo_pair.specs.Reading.{pair_found, live_found}
 use Rattle.mvo_pair.proofs.Loads.{Fits, ok_file, data_len, loads, tells_ok, tells_err, data_stops, counts_live}
 use Rattle.mvo_pair.proofs.read.read_pair.Goals as goal
 
