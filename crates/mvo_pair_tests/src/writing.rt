@@ -95,7 +95,15 @@ fn appended(alloc: Global, bytes: &[u8], counted: u32, numbers: &[u32]) -> Resul
     if disk.faults() != 0 || disk.bytes(5).len() < 8 + 4 * counted as usize {
         return Err(Fail::from("too short a file"));
     }
-    append_delta(alloc, &mut disk, pair(1, counted), numbers)?;
+    let pair = Pair {
+        data_file: 4,
+        delta_file: 5,
+        lo: Stamp(0),
+        hi: Stamp(2),
+        records: 1,
+        entries: counted,
+    };
+    append_delta(alloc, &mut disk, pair, numbers)?;
     Ok(disk)
 }
 
@@ -120,10 +128,11 @@ fn a_pair_is_read_from_its_disk(rt: HostRuntime) -> Result<(), Fail> {
     let mut disk = written(alloc, pair(1, 0), 2, 0x61)?;
     for (entries, wanted) in [(0, Ok(1)), (1, Err(Refusal::Corrupt(5)))] {
         assert_eq!(rt; count(alloc, pair(1, entries), &DATA, &DELTA), wanted);
-        if disk.faults() != 0 {
-            return Err(Fail::from("a fault"));
+        let pair = pair(1, entries);
+        if pair.data_file >= 1024 || pair.delta_file >= 1024 || disk.faults() != 0 {
+            return Err(Fail::from("files"));
         }
-        match read_pair(alloc, &mut disk, FIRST_FORMAT, pair(1, entries)) {
+        match read_pair(alloc, &mut disk, FIRST_FORMAT, pair) {
             Ok(live) => assert_eq!(rt; Ok(live.len()), wanted),
             Err(refused) => assert_eq!(rt; Err(refused), wanted),
         }

@@ -1,0 +1,4 @@
+pub mod Apart
+pub mod One
+pub mod Exact
+pub mod Opening
