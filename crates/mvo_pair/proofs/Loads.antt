@@ -5,6 +5,7 @@ use Rattle.mvo_types.specs.declared.refusal.Refusal.{Refusal}
 use Rattle.mvo_types.specs.declared.refusal.Refusal.TheVariants.{OutOfMemory, DiskFault}
 use Rattle.mvo_group.specs.Reading.{◌>>=◌, times}
 use Rattle.mvo_group.proofs.Fields.{bind_some, some_is}
+use Rattle.mvo_pair.specs.declared.data.TheConstants.{DATA_MAGIC}
 use Rattle.mvo_pair.specs.Data.{EntryData, live_of}
 use Rattle.mvo_pair.specs.declared.format.Format.{Format}
 use Rattle.mvo_group.proofs.Fields.{IsBytes}
@@ -52,7 +53,7 @@ entries_len f lo hi count body es e = go (times entry_at count body) refl e
 
 pub data_len : (f : Format) (lo hi count : ℕ) (bytes : List ℕ) (es : List EntryData) → data_found f lo hi count bytes ≡ Ok es → length es ≡ count
 unfolding data_found
-data_len f lo hi count bytes es e = go (header_found 1146050125 f.version bytes) e
+data_len f lo hi count bytes es e = go (header_found DATA_MAGIC f.version bytes) e
   where
     go : (r : Found (List ℕ)) → are (and_then r (entries_found f lo hi count)) es → length es ≡ count
     go (Ok body) h = entries_len f lo hi count body es h

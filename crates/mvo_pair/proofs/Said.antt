@@ -9,6 +9,8 @@ use Rattle.mvo_group.specs.Body.{field}
 use Rattle.mvo_group.specs.Reading.{times, number_at}
 use Rattle.mvo_group.proofs.Fields.{IsBytes, IsBytes-drop, number_takes, number_again, length-field}
 use Rattle.mvo_group.proofs.Loop.{times_take, times_again}
+use Rattle.mvo_pair.specs.declared.data.TheConstants.{DATA_MAGIC}
+use Rattle.mvo_pair.specs.declared.delta.TheConstants.{DELTA_MAGIC}
 use Rattle.mvo_pair.specs.Data.{EntryData}
 use Rattle.mvo_pair.specs.declared.format.Format.{Format}
 use Rattle.mvo_pair.specs.Answers.{Found, Says}
@@ -119,11 +121,11 @@ words_of : (es : List EntryData) → AllByRecursion HasFields es → AllByRecurs
 words_of [] all = tt
 words_of (e ∷ es) all = (record { key = all.0.key; sort = all.0.sort }, words_of es all.1)
 
-pub magic_is : field 4 1146050125 ≡ data_magic
+pub magic_is : field 4 DATA_MAGIC ≡ data_magic
 unfolding field
 magic_is = refl
 
-pub delta_magic_is : field 4 1162827341 ≡ delta_magic
+pub delta_magic_is : field 4 DELTA_MAGIC ≡ delta_magic
 unfolding field
 delta_magic_is = refl
 
@@ -158,9 +160,9 @@ module _ (f : Format) (lo hi count : ℕ) (bytes : List ℕ) where
 
   sound_data : IsBytes bytes → IsSound data_magic f.version Holds bytes (data_found f lo hi count bytes)
   unfolding data_found
-  sound_data fits = go (header_found 1146050125 f.version bytes) (head_is 1146050125 f.version bytes fits)
+  sound_data fits = go (header_found DATA_MAGIC f.version bytes) (head_is DATA_MAGIC f.version bytes fits)
     where
-      go : (r : Found (List ℕ)) → IsHead 1146050125 f.version bytes r → IsSound data_magic f.version Holds bytes (and_then r (entries_found f lo hi count))
+      go : (r : Found (List ℕ)) → IsHead DATA_MAGIC f.version bytes r → IsSound data_magic f.version Holds bytes (and_then r (entries_found f lo hi count))
       go (Ok body) h = sound_entries body (h.0 ∙ ap (λ (l : List ℕ). header l f.version ++ body) magic_is) h.1
       go (Err OtherVersion) h = subst (λ (l : List ℕ). IsOtherVersion l f.version bytes) magic_is h
       go (Err Broken) h = tt
@@ -172,7 +174,7 @@ module _ (f : Format) (lo hi count : ℕ) (bytes : List ℕ) where
     again_data es h =
         let whole : bytes ≡ header data_magic f.version ++ (flat_map entry_bytes es ++ h.rest) = h.whole ∙ append_assoc (header data_magic f.version) (flat_map entry_bytes es) h.rest in
         let each = recursion_from_All (IsEntry f lo hi) es h.are.each in
-        let head = head_again 1146050125 f.version bytes (flat_map entry_bytes es ++ h.rest) (omega arith) number_fits (whole ∙ ap (λ (l : List ℕ). header l f.version ++ (flat_map entry_bytes es ++ h.rest)) (sym magic_is)) in
+        let head = head_again DATA_MAGIC f.version bytes (flat_map entry_bytes es ++ h.rest) (omega arith) number_fits (whole ∙ ap (λ (l : List ℕ). header l f.version ++ (flat_map entry_bytes es ++ h.rest)) (sym magic_is)) in
         let read = times_again entry_at entry_bytes HasFields entry_again es h.rest (fields_of f lo hi few_tables small word es each (recursion_from_All HasWords es h.words)) in
         let counted : times entry_at count (flat_map entry_bytes es ++ h.rest) ≡ Some (es, h.rest) = ap (λ k. times entry_at k (flat_map entry_bytes es ++ h.rest)) (sym h.counted) ∙ read in
         ap (λ r. and_then r (entries_found f lo hi count)) head ∙ ap (entries_kept f lo hi) counted
@@ -180,7 +182,7 @@ module _ (f : Format) (lo hi count : ℕ) (bytes : List ℕ) where
 
     other_data : IsOtherVersion data_magic f.version bytes → data_found f lo hi count bytes ≡ Err OtherVersion
     unfolding data_found
-    other_data o = ap (λ r. and_then r (entries_found f lo hi count)) (head_other 1146050125 f.version bytes (omega arith) (subst (λ (l : List ℕ). IsOtherVersion l f.version bytes) (sym magic_is) o))
+    other_data o = ap (λ r. and_then r (entries_found f lo hi count)) (head_other DATA_MAGIC f.version bytes (omega arith) (subst (λ (l : List ℕ). IsOtherVersion l f.version bytes) (sym magic_is) o))
 
     -- what is found of a data file is said of it
     pub data_says : Says data_magic f.version Holds bytes (data_found f lo hi count bytes)
@@ -216,9 +218,9 @@ module _ (version below count : ℕ) (bytes : List ℕ) where
 
   sound_delta : IsBytes bytes → IsSound delta_magic version Names bytes (delta_found version below count bytes)
   unfolding delta_found
-  sound_delta fits = go (header_found 1162827341 version bytes) (head_is 1162827341 version bytes fits)
+  sound_delta fits = go (header_found DELTA_MAGIC version bytes) (head_is DELTA_MAGIC version bytes fits)
     where
-      go : (r : Found (List ℕ)) → IsHead 1162827341 version bytes r → IsSound delta_magic version Names bytes (and_then r (numbers_found below count))
+      go : (r : Found (List ℕ)) → IsHead DELTA_MAGIC version bytes r → IsSound delta_magic version Names bytes (and_then r (numbers_found below count))
       go (Ok body) h = sound_numbers body (h.0 ∙ ap (λ (l : List ℕ). header l version ++ body) delta_magic_is) h.1
       go (Err OtherVersion) h = subst (λ (l : List ℕ). IsOtherVersion l version bytes) delta_magic_is h
       go (Err Broken) h = tt
@@ -229,14 +231,14 @@ module _ (version below count : ℕ) (bytes : List ℕ) where
     unfolding delta_found numbers_found
     again_delta ns h =
         let whole : bytes ≡ header delta_magic version ++ (flat_map (field 4) ns ++ h.rest) = h.whole ∙ append_assoc (header delta_magic version) (flat_map (field 4) ns) h.rest in
-        let head = head_again 1162827341 version bytes (flat_map (field 4) ns ++ h.rest) (omega arith) number_fits (whole ∙ ap (λ (l : List ℕ). header l version ++ (flat_map (field 4) ns ++ h.rest)) (sym delta_magic_is)) in
+        let head = head_again DELTA_MAGIC version bytes (flat_map (field 4) ns ++ h.rest) (omega arith) number_fits (whole ∙ ap (λ (l : List ℕ). header l version ++ (flat_map (field 4) ns ++ h.rest)) (sym delta_magic_is)) in
         let read = times_again (number_at 4) (field 4) (λ n. n < 256 ^ 4) (number_again 4) ns h.rest (four_fit below ns few (recursion_from_All (λ n. n < below) ns h.are.each)) in
         let counted : times (number_at 4) count (flat_map (field 4) ns ++ h.rest) ≡ Some (ns, h.rest) = ap (λ k. times (number_at 4) k (flat_map (field 4) ns ++ h.rest)) (sym h.counted) ∙ read in
         ap (λ r. and_then r (numbers_found below count)) head ∙ ap (numbers_kept below) counted ∙ ap (λ t. cond t (Ok ns) (Err Broken)) (numbers_test below ns h.are)
 
     other_delta : IsOtherVersion delta_magic version bytes → delta_found version below count bytes ≡ Err OtherVersion
     unfolding delta_found
-    other_delta o = ap (λ r. and_then r (numbers_found below count)) (head_other 1162827341 version bytes (omega arith) (subst (λ (l : List ℕ). IsOtherVersion l version bytes) (sym delta_magic_is) o))
+    other_delta o = ap (λ r. and_then r (numbers_found below count)) (head_other DELTA_MAGIC version bytes (omega arith) (subst (λ (l : List ℕ). IsOtherVersion l version bytes) (sym delta_magic_is) o))
 
     pub delta_says : Says delta_magic version Names bytes (delta_found version below count bytes)
     delta_says = says_found delta_magic version Names bytes (delta_found version below count bytes) (sound_delta fits) again_delta other_delta

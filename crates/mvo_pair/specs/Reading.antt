@@ -6,6 +6,8 @@ use Rattle.byteorder.specs.Endian.{little_number}
 use Rattle.mvo_types.specs.declared.row.RowKey.{RowKey}
 use Rattle.mvo_types.specs.declared.refusal.Refusal.{Refusal}
 use Rattle.mvo_group.specs.Reading.{◌>>=◌, times, number_at}
+use Rattle.mvo_pair.specs.declared.data.TheConstants.{DATA_MAGIC}
+use Rattle.mvo_pair.specs.declared.delta.TheConstants.{DELTA_MAGIC}
 use Rattle.mvo_pair.specs.Data.{EntryData, Numbered, entry_cmp, live_of}
 use Rattle.mvo_pair.specs.Answers.{Found, file_refusal}
 use Rattle.mvo_pair.specs.declared.format.Format.{Format}
@@ -133,12 +135,12 @@ numbers_found below count body = numbers_kept below (times (number_at 4) count b
 -- what is found of a data file: its records
 unfoldable pub data_found : Format → ℕ → ℕ → ℕ → List ℕ → Found (List EntryData)
 data_found f lo hi count bytes =
-    and_then (header_found 1146050125 f.version bytes) (entries_found f lo hi count)
+    and_then (header_found DATA_MAGIC f.version bytes) (entries_found f lo hi count)
 
 -- what is found of a delta file: its numbers
 unfoldable pub delta_found : ℕ → ℕ → ℕ → List ℕ → Found (List ℕ)
 delta_found version below count bytes =
-    and_then (header_found 1162827341 version bytes) (numbers_found below count)
+    and_then (header_found DELTA_MAGIC version bytes) (numbers_found below count)
 
 -- ---- pairs
 
