@@ -1,14 +1,20 @@
 -- The laws of opening, for any functions that read a slot and a segment.
 use Rattle.std.specs.Prelude.{◌≡◌, ◌↔◌, ℕ, ◌<◌, ◌^◌, Bool, List, Option, Some, Result, Ok, slice_index}
 use Rattle.std.specs.List.{AllByRecursion}
+use Rattle.std.specs.FinMap.{get}
+use Rattle.std.specs.List.{Contains}
+use Rattle.mvo_types.specs.declared.row.RowKey.{RowKey}
+use Rattle.mvo_types.specs.RowData.{ContentData}
 use Rattle.mvo_types.specs.Keys.{Map}
 use Rattle.mvo_types.specs.declared.refusal.Refusal.{Refusal}
 use Rattle.mvo_group.specs.Data.{GroupData}
+use Rattle.mvo_pair.specs.Data.{Numbered}
 use Rattle.mvo_pair.specs.Answers.{IsOnly}
 use Rattle.mvo_pair.specs.declared.format.Format.{Format}
 use Rattle.mvo_pair.specs.declared.pair.Pair.{Pair}
 use Rattle.mvo_image.specs.Opens.{Image, Outcome, ManifestData, Opens}
 use Rattle.mvo_image.specs.Gives.{Gives}
+use Rattle.mvo_image.specs.Rows.{AreApart, kept_in, rows_of}
 
 -- what is found of a slot: by its file's number and bytes
 abbrev pub SlotReader : Type 0
@@ -54,3 +60,8 @@ abbrev pub IsExact : Type 0
 IsExact = (slot : SlotReader) (segment : SegmentReader) (f : Format) (image : Image) (rows : Map)
     (mark : ℕ) → OpensBy slot segment f image (Ok (rows, mark)) ↔
     GivesBy slot segment f image rows mark
+
+-- Where no two live records have one key, the rows of some pairs are those of their live records.
+abbrev pub RowsAreLive : Type 0
+RowsAreLive = (lives : List (List Numbered)) → AreApart lives → (k : RowKey) (h : ContentData) →
+    (get (rows_of lives) k ≡ Some h) ↔ Contains (kept_in lives) (k, h)

@@ -26,9 +26,13 @@ AreApart lives = IsDistinct (eq_by_cmp key_cmp) (keys_of lives)
 abbrev pub kept_of : Numbered → RowKey × ContentData
 kept_of l = (key_of l, content_of l.1.row)
 
+-- the live records of some pairs as rows at their keys
+abbrev pub kept_in : List (List Numbered) → List (RowKey × ContentData)
+kept_in lives = flat_map (λ live. map kept_of live) lives
+
 -- the rows of the live records
 abbrev pub rows_of : List (List Numbered) → Map
-rows_of lives = rows.from_entries (flat_map (λ live. map kept_of live) lives)
+rows_of lives = rows.from_entries (kept_in lives)
 
 -- the rows after a committed transaction
 abbrev pub after_record : Map → RecordData → Map
