@@ -20,7 +20,8 @@ use Rattle.mvo_image.specs.Rows.{AreApart, kept_in, rows_of}
 abbrev pub SlotReader : Type 0
 SlotReader = ℕ → List ℕ → Result (Option ManifestData) Refusal
 
--- what is found of a segment: by its file's number, the mark before it, whether it is last, and its bytes
+-- what is found of a segment: by its file's number, the mark before it, whether it is last, and
+-- its bytes
 abbrev pub SegmentReader : Type 0
 SegmentReader = ℕ → ℕ → Bool → List ℕ → Result (List GroupData) Refusal
 

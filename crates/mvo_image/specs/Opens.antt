@@ -1,6 +1,6 @@
--- What opening an image answers: rows and mark, or the first broken rule. Looked at are slot 0, slot 1,
--- the pairs in order (of each the data file, the delta file, and its live records beside those before),
--- and the segments in order.
+-- What opening an image answers: rows and mark, or the first broken rule. Looked at are slot 0,
+-- slot 1, the pairs in order (of each the data file, the delta file, and its live records beside
+-- those before), and the segments in order.
 use Rattle.std.specs.Prelude.{◌≡◌, ◌⊎◌, ℕ, Bool, true, false, nat_lt, List, [], ◌∷◌, ◌++◌, Option, Some, None, Result, Ok, Err, if◌then◌else◌}
 use Rattle.mvo_types.specs.Keys.{Map}
 use Rattle.mvo_types.specs.declared.refusal.Refusal.{Refusal}
@@ -31,7 +31,7 @@ pub record ManifestData : Type 0 where
 abbrev pub SlotReading : Type 1
 SlotReading = ℕ → List ℕ → Result (Option ManifestData) Refusal → Type 0
 
--- what a segment of this number says of its bytes: the groups behind a mark; only the last may have none
+-- what a segment of this number says of its bytes: the groups behind a mark, some but in the last
 abbrev pub SegmentReading : Type 1
 SegmentReading = ℕ → ℕ → Bool → List ℕ → Result (List GroupData) Refusal → Type 0
 

@@ -1,4 +1,5 @@
--- Reading the files of a pair from left to right: what is found in some bytes, or which rule they break.
+-- Reading the files of a pair from left to right: what is found in some bytes, or which rule
+-- they break.
 use Rattle.std.specs.Prelude.{◌≡◌, ◌⊎◌, ℕ, zero, suc, ◌+◌, ◌<◌, slice_index, Bool, true, List, [], ◌∷◌, length, take, drop, Option, Some, None, Result, Ok, Err, nat_lt, nat_le, not, ◌==◌, ◌&&◌, if◌then◌else◌}
 use Rattle.std.specs.List.{list_any}
 use Rattle.std.specs.Ordering.{is_lt}

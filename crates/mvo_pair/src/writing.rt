@@ -16,8 +16,8 @@ use mvo_disk::{Disk, rewrite_synced, write_synced};
 use mvo_types::Refusal;
 use std::alloc::Global;
 
-/// Gives the data file of a pair these records, whatever it held, and syncs it. A stop at any moment leaves
-/// the other files as they were. Memory is taken before the first call.
+/// Gives the data file of a pair these records, whatever it held, and syncs it. A stop at any
+/// moment leaves the other files as they were. Memory is taken before the first call.
 pub fn write_data<D: Disk>(
     alloc: Global,
     disk: &mut D,
@@ -48,8 +48,8 @@ pub fn write_data<D: Disk>(
     }
 }
 
-/// Gives the delta file of a pair these record numbers, whatever it held, and syncs it. A stop at any moment leaves
-/// the other files as they were. Memory is taken before the first call.
+/// Gives the delta file of a pair these record numbers, whatever it held, and syncs it. A stop at
+/// any moment leaves the other files as they were. Memory is taken before the first call.
 pub fn write_delta<D: Disk>(
     alloc: Global,
     disk: &mut D,
@@ -95,7 +95,8 @@ pub fn append_delta<D: Disk>(
     requires durable { Only (D.content disk.old pair.delta_file)
         (D.may_leave disk.old pair.delta_file) }
     ensures written { OnOk result (Holds (D.content disk.old pair.delta_file)
-        (place_behind pair.entries) (flat_map (field 4) numbers.now) (D.content disk.new pair.delta_file)) }
+        (place_behind pair.entries) (flat_map (field 4) numbers.now)
+        (D.content disk.new pair.delta_file)) }
     ensures gains { OnOk result (GainsNumbers (D.content disk.old pair.delta_file)
         (D.content disk.new pair.delta_file) pair.entries numbers.now) }
     ensures durable { OnOk result (Only (D.content disk.new pair.delta_file)
