@@ -1,8 +1,7 @@
 -- The rows of live records with different keys.
-use Rattle.std.proofs.Common.{◌≡◌, ◌↔◌, ℕ, Bool, true, false, List, [], ◌∷◌, ◌++◌, Option, Some, refl, sym, ap, subst, ◌∙◌}
+use Rattle.std.proofs.Common.{◌≡◌, true, List, [], ◌∷◌, ◌++◌, refl, sym, ap, subst, ◌∙◌}
 use Rattle.std.specs.Prelude.{map}
-use Rattle.std.specs.List.{flat_map, IsDistinct, Contains}
-use Rattle.std.specs.Map.{lookup}
+use Rattle.std.specs.List.{IsDistinct}
 use Rattle.std.specs.Ordering.{eq_by_cmp, is_eq}
 use Rattle.std.specs.Cmp.{eq_by_cmp_equiv}
 use Rattle.std.specs.declared.cmp.Ordering.{Ordering}
@@ -15,7 +14,7 @@ use Rattle.mvo_types.specs.RowData.{ContentData}
 use Rattle.mvo_types.specs.Keys.{key_cmp}
 use Rattle.mvo_types.proofs.Maps.{keys_total, exact_keys, get_held}
 use Rattle.mvo_pair.specs.Data.{Numbered}
-use Rattle.mvo_image.specs.Rows.{AreApart, key_of, keys_of, kept_of, kept_in, rows_of}
+use Rattle.mvo_image.specs.Rows.{key_of, keys_of, kept_of, kept_in}
 use Rattle.mvo_image.specs.Laws.{RowsAreLive}
 
 abbrev first_of : RowKey × ContentData → RowKey

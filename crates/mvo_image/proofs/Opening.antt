@@ -1,15 +1,14 @@
 -- The laws of opening.
-use Rattle.std.proofs.Common.{◌≡◌, ℕ, Bool, List, [], ◌∷◌, Option, Some, Result, Ok, refl, sym}
+use Rattle.std.proofs.Common.{◌≡◌, List, [], ◌∷◌, refl, sym}
 use Rattle.std.specs.List.{AllByRecursion}
-use Rattle.mvo_pair.specs.Answers.{IsOnly}
 use Rattle.mvo_pair.specs.Loading.{LoadsAs}
 use Rattle.mvo_pair.specs.Reading.{pair_found}
 use Rattle.mvo_pair.specs.declared.format.Format.{Format}
 use Rattle.mvo_pair.specs.declared.pair.Pair.{Pair}
 use Rattle.mvo_pair.proofs.Loads.{Fits, loads}
-use Rattle.mvo_image.specs.Opens.{Image, ManifestData}
-use Rattle.mvo_image.specs.Laws.{SlotReader, SegmentReader, HasWords, IsReadable, HasOneAnswer, IsExact}
-use Rattle.mvo_image.proofs.One.{HasOne, EachHasOne, opens_one}
+use Rattle.mvo_image.specs.Opens.{Image}
+use Rattle.mvo_image.specs.Laws.{SlotReader, HasWords, IsReadable, HasOneAnswer, IsExact}
+use Rattle.mvo_image.proofs.One.{HasOne, opens_one}
 use Rattle.mvo_image.proofs.Exact.{gives_opens, opens_gives}
 
 -- a function has one value

@@ -1,6 +1,5 @@
 -- A well formed image, and the rows and the mark that it gives.
-use Rattle.std.specs.Prelude.{◌≡◌, ℕ, List, [], ◌∷◌, ◌++◌, Option, Some, None, Ok}
-use Rattle.std.specs.List.{AllZip}
+use Rattle.std.specs.Prelude.{◌≡◌, ℕ, List, [], ◌∷◌, ◌++◌, Option, Some, Ok}
 use Rattle.mvo_types.specs.Keys.{Map}
 use Rattle.mvo_group.specs.Data.{GroupData}
 use Rattle.mvo_pair.specs.Data.{Numbered}
