@@ -1,0 +1,5 @@
+pub mod Apart
+pub mod Base
+pub mod One
+pub mod Exact
+pub mod Opening

@@ -1,0 +1,12 @@
+use Rattle.mvo_image.proofs.Opening.{one_answer, exact}
+use Rattle.mvo_image.proofs.Base.{rows_are_live}
+use Rattle.mvo_image.proofs.laws.laws_of_opening.Goals as goal
+
+pub returns-clause-one : goal.returns-clause-one
+returns-clause-one c = one_answer
+
+pub returns-clause-exact : goal.returns-clause-exact
+returns-clause-exact c = exact
+
+pub returns-clause-live : goal.returns-clause-live
+returns-clause-live c = rows_are_live

@@ -1,0 +1,4 @@
+pub mod Rows
+pub mod Opens
+pub mod Gives
+pub mod Laws

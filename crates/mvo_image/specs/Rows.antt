@@ -1,0 +1,47 @@
+-- The rows that the files of an image make up.
+use Rattle.std.specs.Prelude.{ℕ, List, map, fold}
+use Rattle.std.specs.List.{flat_map, IsDistinct}
+use Rattle.std.specs.Ordering.{eq_by_cmp}
+use Rattle.std.specs.FinMap as rows
+use Rattle.mvo_types.specs.declared.row.RowKey.{RowKey}
+use Rattle.mvo_types.specs.Keys.{Map, key_cmp}
+use Rattle.mvo_types.specs.RowData.{ContentData, content_of}
+use Rattle.mvo_model.specs.History.{after_effect}
+use Rattle.mvo_group.specs.Data.{RecordData, GroupData}
+use Rattle.mvo_pair.specs.Data.{Numbered}
+
+-- the key of a live record
+abbrev pub key_of : Numbered → RowKey
+key_of l = l.1.row.key
+
+-- the keys of the live records of some pairs
+abbrev pub keys_of : List (List Numbered) → List RowKey
+keys_of lives = flat_map (λ live. map key_of live) lives
+
+-- no two live records have one key
+abbrev pub AreApart : List (List Numbered) → Type 0
+AreApart lives = IsDistinct (eq_by_cmp key_cmp) (keys_of lives)
+
+-- a live record as the row at its key
+abbrev pub kept_of : Numbered → RowKey × ContentData
+kept_of l = (key_of l, content_of l.1.row)
+
+-- the live records of some pairs as rows at their keys
+abbrev pub kept_in : List (List Numbered) → List (RowKey × ContentData)
+kept_in lives = flat_map (λ live. map kept_of live) lives
+
+-- the rows of the live records
+abbrev pub rows_of : List (List Numbered) → Map
+rows_of lives = rows.from_entries (kept_in lives)
+
+-- the rows after a committed transaction
+abbrev pub after_record : Map → RecordData → Map
+after_record m r = fold (λ n w. after_effect w.0 w.1 n) m r.writes
+
+-- the rows after the transactions of some groups, in order
+abbrev pub after_groups : Map → List GroupData → Map
+after_groups m gs = fold after_record m (flat_map (λ g. g.records) gs)
+
+-- the mark of the last group, or the one before the first
+abbrev pub mark_after : ℕ → List GroupData → ℕ
+mark_after mark gs = fold (λ n g. g.mark) mark gs

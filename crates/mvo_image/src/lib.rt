@@ -1,0 +1,6 @@
+//! What opening the image of a disk answers: rows and mark, or the first broken rule.
+#![tactic(auto)]
+
+mod laws;
+
+pub use laws::laws_of_opening;
