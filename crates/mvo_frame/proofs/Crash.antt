@@ -1,0 +1,1 @@
+-- What a stop leaves of a segment in each of the two steps of an append.

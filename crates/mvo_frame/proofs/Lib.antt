@@ -1,0 +1,3 @@
+pub mod Grouped
+pub mod Walk
+pub mod Crash
