@@ -1,6 +1,7 @@
 -- The group that is found has the body, and the group with a body is found.
 use Rattle.std.proofs.Common.{◌≡◌, ◌⊎◌, inl, inr, ℕ, ◌<◌, ◌≤◌, ◌^◌, Bool, true, false, cond, ltb, leb, List, [], ◌∷◌, map, length, Option, Some, None, refl, sym, ap, subst, ◌∙◌, arith}
 use Rattle.std.specs.Prelude.{◌&&◌}
+use Rattle.std.specs.Option.{IfSome}
 use Rattle.std.specs.List.{All, AllByRecursion, list_all}
 use Rattle.std.proofs.lemmas.Bool.{ltb-true, lt-ltb, leb-true, le-leb}
 use Rattle.std.proofs.lemmas.List.Elements.{All-from_recursion, recursion_from_All}
@@ -122,8 +123,8 @@ unfolding group_found
 group_back g is = ap (λ o. o >>= λ h. cond (keeps_rules h) (Some h) None) (group_again g is) ∙ ap (λ t. cond t (Some g) None) (rules_pass g is.rules)
 
 -- a function that answers the group with these bytes, if there is one, answers what is found
-pub group_answer : (o : Option GroupData) (body : List ℕ) → IsBytes body → ((g : GroupData) → are o g → IsGroup g × (body ≡ body_of g)) → ((g : GroupData) → IsGroup g → body ≡ body_of g → are o g) → group_found body ≡ o
-group_answer (Some g) body fits sound again = let h = sound g refl in ap group_found h.1 ∙ group_back g h.0
+pub group_answer : (o : Option GroupData) (body : List ℕ) → IsBytes body → IfSome o (λ g. IsGroup g × (body ≡ body_of g)) → ((g : GroupData) → IsGroup g → body ≡ body_of g → are o g) → group_found body ≡ o
+group_answer (Some g) body fits sound again = ap group_found sound.1 ∙ group_back g sound.0
 group_answer None body fits sound again = go (group_found body) refl
   where
     go : (o : Option GroupData) → group_found body ≡ o → group_found body ≡ None

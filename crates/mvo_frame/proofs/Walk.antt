@@ -4,6 +4,7 @@ use Rattle.std.specs.Prelude.{◌&&◌}
 use Rattle.std.proofs.lemmas.Bool.{ltb-true, lt-ltb, ltb-false, le-ltb, eqb-true, ne_eqb}
 use Rattle.std.proofs.lemmas.List.{take_at, drop_at, length-take}
 use Rattle.mvo_types.specs.declared.limits.TheConstants.{MAX_SEGMENT_LEN}
+use Rattle.mvo_types.specs.declared.refusal.Refusal.{Refusal}
 use Rattle.mvo_types.specs.declared.refusal.Refusal.TheVariants.{Corrupt, BadVersion}
 use Rattle.mvo_group.specs.Data.{GroupData}
 use Rattle.mvo_group.specs.Rules.{IsGroup}
@@ -13,7 +14,7 @@ use Rattle.mvo_group.proofs.Fields.{IsBytes, IsBytes-drop, IsBytes-take, bind_so
 use Rattle.mvo_group.proofs.Sizes.{length-body_of}
 use Rattle.mvo_format.specs.declared.header.TheConstants.{OPEN, HEADER_LEN}
 use Rattle.mvo_format.specs.Found.{Found, and_then, Says, IsOtherVersion, header, header_found}
-use Rattle.mvo_format.proofs.Said.{IsSound, says_found, found_says}
+use Rattle.mvo_format.proofs.Said.{IsSound, says_found, found_says, err_then, ok_then}
 use Rattle.mvo_format.proofs.Headers.{IsHead, head_is, head_again, head_other}
 use Rattle.mvo_frame.specs.declared.magic.TheConstants.{MAGIC}
 use Rattle.mvo_frame.specs.declared.kind.Kind.{Kind}
@@ -90,7 +91,7 @@ module _ (place mark : ℕ) where
 
 -- ---- frames
 
-longer : (place mark : ℕ) (g : GroupData) (after rest : List ℕ) → IsNextFrame place mark g after rest → length rest ≤ length after
+pub longer : (place mark : ℕ) (g : GroupData) (after rest : List ℕ) → IsNextFrame place mark g after rest → length rest ≤ length after
 longer place mark g after rest next = omega (arith, ap (λ (l : List ℕ). length l) next.whole, length-append (sized (body_of g)) rest)
 
 -- a frame, and those behind it
@@ -167,6 +168,26 @@ module _ (version file mark : ℕ) (kind : Kind) (bytes : List ℕ) where
       go : (r : Found (List ℕ)) → IsHead file MAGIC version bytes r → IsSound file Other Holds (and_then r (λ rest. groups_found file kind (frames_at (length rest) HEADER_LEN mark rest)))
       go (Ok rest) h = by_frames rest h (frames_at (length rest) HEADER_LEN mark rest) refl
       go (Err e) h = h
+
+  -- what is found, step by step
+  pub head_refused : (e : Refusal) → header_found file MAGIC version bytes ≡ Err e → segment_found version file mark kind bytes ≡ Err e
+  unfolding segment_found
+  head_refused e h = err_then (header_found file MAGIC version bytes) (λ rest. groups_found file kind (frames_found mark rest)) e h
+
+  pub behind_head : (rest : List ℕ) (o : Option (List GroupData)) → header_found file MAGIC version bytes ≡ Ok rest → frames_found mark rest ≡ o → segment_found version file mark kind bytes ≡ groups_found file kind o
+  unfolding segment_found
+  behind_head rest o h f = ok_then (header_found file MAGIC version bytes) (λ rest. groups_found file kind (frames_found mark rest)) rest (groups_found file kind o) h (ap (groups_found file kind) f)
+
+  pub last_enough : (gs : List GroupData) → kind ≡ Last → groups_found file kind (Some gs) ≡ Ok gs
+  last_enough gs is = ap (λ (k : Kind). enough_found file k gs) is
+
+  pub none_sealed : (gs : List GroupData) → kind ≡ Sealed → length gs ≡ 0 → groups_found file kind (Some gs) ≡ Err (Corrupt file)
+  none_sealed [] is none = ap (λ (k : Kind). enough_found file k []) is
+  none_sealed (g ∷ gs) is none = absurd (omega (arith, none))
+
+  pub some_sealed : (gs : List GroupData) → kind ≡ Sealed → length gs ≢ 0 → groups_found file kind (Some gs) ≡ Ok gs
+  some_sealed [] is some = absurd (some refl)
+  some_sealed (g ∷ gs) is some = ap (λ (k : Kind). enough_found file k (g ∷ gs)) is
 
   module _ (word : version < 2 ^ 32) where
     -- a segment's groups are found

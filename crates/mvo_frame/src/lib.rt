@@ -4,12 +4,12 @@
 mod contents;
 mod kind;
 mod magic;
-
-
-
+mod reading;
+mod segment;
+mod writing;
 
 pub use contents::Contents;
 pub use kind::Kind;
 pub use magic::MAGIC;
-
-
+pub use reading::read_all;
+pub use segment::Segment;
