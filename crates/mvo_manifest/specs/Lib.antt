@@ -1,0 +1,4 @@
+pub mod Data
+pub mod Rules
+pub mod Body
+pub mod Reading
