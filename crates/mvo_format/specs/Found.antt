@@ -1,0 +1,69 @@
+-- What is found in the bytes of a file, and the header that each file begins with.
+use Rattle.std.specs.Prelude.{◌≡◌, ◌≢◌, ◌⊎◌, ℕ, ◌<◌, ◌^◌, List, ◌++◌, Option, Some, None}
+use Rattle.std.specs.Prelude.{Result, Ok, Err, ◌==◌, if◌then◌else◌}
+use Rattle.mvo_types.specs.declared.refusal.Refusal.{Refusal}
+use Rattle.mvo_types.specs.declared.refusal.Refusal.TheVariants.{Corrupt, BadVersion, OutOfMemory}
+use Rattle.mvo_group.specs.Body.{field}
+use Rattle.mvo_group.specs.Reading.{◌>>=◌, number_at}
+
+-- what the bytes hold, or how opening refuses them
+abbrev pub Found : Type 0 → Type 0
+Found X = Result X Refusal
+
+abbrev pub and_then : {X Y : Type 0} → Found X → (X → Found Y) → Found Y
+and_then (Ok x) f = f x
+and_then (Err e) f = Err e
+
+-- what a function answers, seen by view, is what is found
+abbrev pub Finds : {X Y : Type 0} → (X → Y) → Found X → Found Y → Type 0
+Finds view (Ok x) found = found ≡ Ok (view x)
+Finds view (Err e) found = found ≡ Err e
+
+-- the same, or it was refused memory
+abbrev pub Tells : {X Y : Type 0} → (X → Y) → Found X → Found Y → Type 0
+Tells view (Ok x) found = found ≡ Ok (view x)
+Tells view (Err e) found = (e ≡ OutOfMemory) ⊎ (found ≡ Err e)
+
+-- ---- what is found, against what the bytes hold
+
+-- neither another version nor any value
+pub record IsNeither {X : Type 0} (Other : Type 0) (Holds : X → Type 0) : Type 0 where
+  pub version : Other → ⊥
+  pub value : (x : X) → Holds x → ⊥
+
+-- What is found of a file: a value that it holds, or its version is another, or neither.
+abbrev pub Says : {X : Type 0} → ℕ → Type 0 → (X → Type 0) → Found X → Type 0
+Says file Other Holds (Ok x) = Holds x
+Says file Other Holds (Err e) =
+    ((e ≡ BadVersion) × Other) ⊎ ((e ≡ Corrupt file) × IsNeither Other Holds)
+
+-- ---- headers
+
+-- a magic, and a version
+abbrev pub header : ℕ → ℕ → List ℕ
+header magic version = field 4 magic ++ field 4 version
+
+-- the magic is right, and the version field, which is whole, has another number
+pub record IsOtherVersion (magic version : ℕ) (bytes : List ℕ) : Type 0 where
+  pub number : ℕ
+  pub rest : List ℕ
+  pub whole : bytes ≡ header magic number ++ rest
+  pub fits : number < 2 ^ 32
+  pub other : number ≢ version
+
+-- the two numbers in front, and what stands behind them
+unfoldable pub header_at : List ℕ → Option ((ℕ × ℕ) × List ℕ)
+header_at bytes = do
+  magic ← number_at 4 bytes
+  version ← number_at 4 magic.1
+  Some ((magic.0, version.0), version.1)
+
+abbrev pub header_kept : ℕ → ℕ → ℕ → Option ((ℕ × ℕ) × List ℕ) → Found (List ℕ)
+header_kept file magic version None = Err (Corrupt file)
+header_kept file magic version (Some x) =
+    if x.0.0 == magic then (if x.0.1 == version then Ok x.1 else Err BadVersion)
+    else Err (Corrupt file)
+
+-- what stands behind the magic and the version
+unfoldable pub header_found : ℕ → ℕ → ℕ → List ℕ → Found (List ℕ)
+header_found file magic version bytes = header_kept file magic version (header_at bytes)

@@ -1,0 +1,38 @@
+//! The magic and the version in front of a file.
+ghost use Rattle.std.specs.Prelude.{◌≡◌};
+ghost use Rattle.mvo_format.specs.Found.{Finds, header_found};
+
+use crate::number::u32_at;
+use mvo_types::Refusal;
+
+/// The value of a gate that is open. Every other value is closed.
+pub const OPEN: u8 = 0xa5;
+
+/// The version that is written.
+pub const VERSION: u32 = 1;
+
+/// How many bytes the magic and the version have.
+pub const HEADER_LEN: usize = 8;
+
+/// What stands behind the magic and the version. The magic is looked at before the version.
+///
+/// Refused: Corrupt with the file where the magic is another or either is cut short, then
+/// BadVersion where the version is another.
+#[tactic(auto, unfolding(crate::specs::Found::header_found, crate::specs::Found::header_at))]
+pub fn behind_header(file: u16, magic: u32, version: u32, bytes: &[u8]) -> Result<&[u8], Refusal>
+    ensures { Finds (λ rest. rest.now) result (header_found file magic version bytes.now) }
+{
+    let Some((number, rest)) = u32_at(bytes) else {
+        return Err(Refusal::Corrupt(file));
+    };
+    let Some((found, rest)) = u32_at(rest) else {
+        return Err(Refusal::Corrupt(file));
+    };
+    if number != magic {
+        return Err(Refusal::Corrupt(file));
+    }
+    if found != version {
+        return Err(Refusal::BadVersion);
+    }
+    Ok(rest)
+}

@@ -1,0 +1,5 @@
+//! Tests of manifests and their slots.
+#![tactic(auto)]
+
+#[cfg(test)]
+mod tests;
