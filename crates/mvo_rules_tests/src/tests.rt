@@ -1,0 +1,169 @@
+use crate::counts::{Counts, count};
+use crate::draws::{Draws, key_of};
+use crate::engine::{Engine, SORTS};
+use crate::open::Open;
+use crate::plain::{checked, shown_of_others};
+use mvo_txn::TxState;
+use mvo_types::{RowKey, Stamp, TxId};
+use mvo_validate::{Check, Entries, Entry};
+use mvo_visible::Shown;
+use std::process::Abort;
+use std::test::Fail;
+
+const STEPS: u64 = 4_000;
+
+/// What a transaction is shown: what it wrote last itself, and else what the others show.
+fn wanted(engine: &Engine, tx: &Open, key: RowKey, counts: &mut Counts) -> Shown {
+    match tx.last_write(key) {
+        Some(version) => {
+            if version.is_some() {
+                count(&mut counts.own);
+            } else {
+                count(&mut counts.own_deleted);
+            }
+            Shown {
+                version,
+                depends_on: None,
+            }
+        }
+        None => shown_of_others(engine, Stamp(tx.id.0), key),
+    }
+}
+
+/// Compares what each Active transaction is shown, and one that would begin in between.
+fn compare_shown(rt: &impl Abort, engine: &Engine, at: Stamp, key: RowKey, counts: &mut Counts) {
+    for tx in engine.open.iter() {
+        if engine.table.state(tx.id) == Some(TxState::Active) {
+            let shown = engine.shown_to(tx.id, key);
+            let want = wanted(engine, tx, key, counts);
+            assert_eq!(rt; shown, want, "{:?} {key:?}", tx.id);
+            if shown.depends_on.is_some() {
+                count(&mut counts.speculative);
+            }
+        }
+    }
+    let id = TxId(at.0);
+    if engine.table.state(id).is_none() {
+        let want = shown_of_others(engine, at, key);
+        assert_eq!(rt; engine.shown_to(id, key), want, "{id:?} {key:?}");
+    }
+}
+
+/// Compares the checks of an entry for each transaction that is Preparing.
+fn compare_checks(rt: &impl Abort, engine: &Engine, entry: Entry, counts: &mut Counts) {
+    for tx in engine.open.iter() {
+        if let Some(TxState::Preparing(end)) = engine.table.state(tx.id) {
+            let check = engine.check(tx.id, end, entry);
+            let want = checked(engine, Stamp(tx.id.0), end, entry);
+            assert_eq!(rt; check, want, "{:?} {entry:?}", tx.id);
+            if let Check::Differs(stamp) = check {
+                note_difference(engine, stamp, entry, counts);
+            }
+        }
+    }
+}
+
+fn note_difference(engine: &Engine, stamp: Stamp, entry: Entry, counts: &mut Counts) {
+    if matches!(entry, Entry::Range(_, _, _)) {
+        count(&mut counts.ranges);
+    }
+    for tx in engine.open.iter() {
+        if engine.table.state(tx.id) == Some(TxState::Preparing(stamp)) {
+            count(&mut counts.by_preparing);
+        }
+    }
+}
+
+/// Counts a key that two Preparing transactions inserted.
+fn note_inserts(engine: &Engine, key: RowKey, counts: &mut Counts) {
+    let mut inserts = 0u64;
+    for tx in engine.open.iter() {
+        if engine.is_preparing(tx.id) && tx.has_inserted(key) {
+            count(&mut inserts);
+        }
+    }
+    if inserts > 1 {
+        count(&mut counts.inserted_twice);
+    }
+}
+
+fn compare(rt: &impl Abort, engine: &Engine, draws: &mut Draws, counts: &mut Counts) {
+    // Until it is aborted, the changes of one that depends on an Aborted one may stand behind a
+    // later put that is settled. Then the versions are out of order, and nothing is promised.
+    if engine
+        .open
+        .iter()
+        .any(|tx| tx.flagged && engine.is_preparing(tx.id))
+    {
+        return count(&mut counts.unordered);
+    }
+    let at = Stamp(draws.below(engine.table.clock().0.saturating_add(2)));
+    for key in 0..4 {
+        compare_shown(rt, engine, at, key_of(key), counts);
+        compare_checks(rt, engine, Entry::Key(key_of(key)), counts);
+        note_inserts(engine, key_of(key), counts);
+    }
+    let entry = Entry::Range(3, draws.below(SORTS), draws.below(SORTS));
+    compare_checks(rt, engine, entry, counts);
+}
+
+/// Each case of interest is met often enough.
+fn assert_met(rt: &impl Abort, counts: &Counts) {
+    for met in [
+        counts.speculative,
+        counts.own,
+        counts.own_deleted,
+        counts.by_preparing,
+    ] {
+        assert!(rt; met > 500, "{counts:?}");
+    }
+    for met in [counts.inserted_twice, counts.ranges] {
+        assert!(rt; met > 10, "{counts:?}");
+    }
+    assert!(rt; counts.unordered < 200, "{counts:?}");
+}
+
+fn assert_run(rt: &impl Abort, counts: &Counts) {
+    assert_eq!(rt; counts.strange, 0);
+    for met in [counts.conflicts, counts.failed, counts.committed] {
+        assert!(rt; met > 20, "{counts:?}");
+    }
+    assert!(rt; counts.waits > 0, "{counts:?}");
+}
+
+#[test]
+fn agrees_with_plain_walks(rt: HostRuntime) -> Result<(), Fail> {
+    let alloc = rt.alloc();
+    for seed in [1, 0x9e37_79b9_7f4a_7c15, 2_026] {
+        let mut draws = Draws(seed);
+        let mut counts = Counts::new();
+        let mut engine = Engine::new(alloc, seed)?;
+        for _step in 0..STEPS {
+            engine.advance(&mut draws)?;
+            compare(&rt, &engine, &mut draws, &mut counts);
+        }
+        assert_met(&rt, &counts);
+        assert_run(&rt, &engine.counts);
+    }
+    Ok(())
+}
+
+#[test]
+fn entries_stand_in_the_order_of_their_first_use(rt: HostRuntime) -> Result<(), Fail> {
+    let key = Entry::Key(key_of(7));
+    let range = Entry::Range(3, 7, 9);
+    let empty = Entry::Range(3, 9, 7);
+    let mut entries = Entries::new(rt.alloc());
+    assert_eq!(rt; entries.at(0), None);
+    for entry in [range, key, range, empty, key] {
+        entries.note(entry)?;
+    }
+    assert_eq!(rt; entries.len(), 3);
+    let want = [Some(range), Some(key), Some(empty), None];
+    for (place, entry) in want.into_iter().enumerate() {
+        assert_eq!(rt; entries.at(place), entry, "at {place}");
+    }
+    assert!(rt; entries.contains(empty));
+    assert!(rt; !entries.contains(Entry::Key(key_of(9))));
+    Ok(())
+}
