@@ -1,0 +1,5 @@
+//! Tests of the log segments.
+#![tactic(auto)]
+
+#[cfg(test)]
+mod tests;
