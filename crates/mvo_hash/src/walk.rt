@@ -4,8 +4,8 @@ use crate::link::{Link, NONE};
 use mvo_chain::VersionNo;
 use std::marker::Model;
 
-/// A walk over the versions of a key, newest first. Contracts see it as the list of the numbers that
-/// are still to come. A step takes constant time.
+/// A walk over the versions of a key, newest first. Contracts see it as the list of the numbers
+/// that are still to come. A step takes constant time.
 #[derive(Drop)]
 pub struct Versions<'a> {
     links: &'a [Link],

@@ -69,6 +69,11 @@ fn compare(rt: &impl Abort, table: &TxnTable<u64>, list: &Vec<Plain>, clock: u64
     );
 }
 
+/// The transaction with this state.
+fn standing(id: TxId, state: TxState, kept: u64) -> Option<Plain> {
+    Some(Plain { id, state, kept })
+}
+
 /// Takes the transaction on, and gives what it is then, or nothing if it left.
 fn step(
     rt: &impl Abort,
@@ -84,37 +89,21 @@ fn step(
     match table.state(id) {
         Some(TxState::Active) if draw % 4 == 0 => {
             table.abort(id);
-            Ok(Some(Plain {
-                id,
-                state: TxState::Aborted,
-                kept,
-            }))
+            Ok(standing(id, TxState::Aborted, kept))
         }
         Some(TxState::Active) => {
             let end = table.prepare(id)?;
             assert_eq!(rt; end, table.clock());
-            Ok(Some(Plain {
-                id,
-                state: TxState::Preparing(end),
-                kept,
-            }))
+            Ok(standing(id, TxState::Preparing(end), kept))
         }
         Some(TxState::Preparing(_)) if draw % 4 == 0 => {
             table.abort(id);
-            Ok(Some(Plain {
-                id,
-                state: TxState::Aborted,
-                kept,
-            }))
+            Ok(standing(id, TxState::Aborted, kept))
         }
         Some(TxState::Preparing(_)) => {
             let end = table.commit(id);
             assert_eq!(rt; state, TxState::Preparing(end));
-            Ok(Some(Plain {
-                id,
-                state: TxState::Committed(end),
-                kept,
-            }))
+            Ok(standing(id, TxState::Committed(end), kept))
         }
         Some(TxState::Committed(_)) | Some(TxState::Aborted) => {
             assert_eq!(rt; table.terminate(id), kept);
