@@ -6,7 +6,8 @@ use Rattle.std.specs.List.{All, AllByRecursion, list_all}
 use Rattle.std.proofs.lemmas.Bool.{ltb-true, lt-ltb, leb-true, le-leb}
 use Rattle.std.proofs.lemmas.List.Elements.{All-from_recursion, recursion_from_All}
 use Rattle.mvo_types.specs.declared.limits.TheConstants.{MAX_TABLE, MAX_DATA_LEN, MAX_WRITES, MAX_RECORDS, MAX_STAMP, MAX_BODY_LEN}
-use Rattle.mvo_group.specs.Data.{NetWrite, RecordData, GroupData}
+use Rattle.mvo_types.specs.Write.{Write}
+use Rattle.mvo_group.specs.Data.{RecordData, GroupData}
 use Rattle.mvo_group.specs.Rules.{data_of, body_len, KeepsLimits, IsRecord, KeepsRules, HasWords, IsGroup}
 use Rattle.mvo_group.specs.Body.{body_of}
 use Rattle.mvo_group.specs.Reading.{◌>>=◌, group_at}
@@ -25,11 +26,11 @@ both_are false b p q = absurd cc
 
 -- ---- the tests are the rules
 
-limits_are : (w : NetWrite) → keeps_limits w ≡ true → KeepsLimits w
+limits_are : (w : Write) → keeps_limits w ≡ true → KeepsLimits w
 unfolding keeps_limits
 limits_are w e = let p = both_of (leb w.0.table MAX_TABLE) (leb (length (data_of w.1)) MAX_DATA_LEN) e in record { table = leb-true _ _ p.0; size = leb-true _ _ p.1 }
 
-limits_pass : (w : NetWrite) → KeepsLimits w → keeps_limits w ≡ true
+limits_pass : (w : Write) → KeepsLimits w → keeps_limits w ≡ true
 unfolding keeps_limits
 limits_pass w k = both_are (leb w.0.table MAX_TABLE) (leb (length (data_of w.1)) MAX_DATA_LEN) (le-leb _ _ k.table) (le-leb _ _ k.size)
 

@@ -7,7 +7,8 @@ use Rattle.mvo_types.specs.declared.limits.TheConstants.{MAX_SEGMENT_LEN, MAX_ST
 use Rattle.mvo_types.specs.declared.limits.TheConstants.{MAX_DATA_LEN, MAX_WRITES, MAX_RECORDS}
 use Rattle.mvo_types.specs.declared.limits.TheConstants.{MAX_BODY_LEN}
 use Rattle.mvo_types.specs.declared.refusal.Refusal.TheVariants.{Corrupt}
-use Rattle.mvo_group.specs.Data.{NetWrite, RecordData, GroupData}
+use Rattle.mvo_types.specs.Write.{Write}
+use Rattle.mvo_group.specs.Data.{RecordData, GroupData}
 use Rattle.mvo_group.specs.Rules.{data_of, body_len}
 use Rattle.mvo_group.specs.Body.{body_of}
 use Rattle.mvo_group.specs.Reading.{◌>>=◌, number_at, data_at, group_at}
@@ -21,7 +22,7 @@ use Rattle.mvo_frame.specs.Frames.{sized}
 
 -- ---- the rules of a group, as tests
 
-unfoldable pub keeps_limits : NetWrite → Bool
+unfoldable pub keeps_limits : Write → Bool
 keeps_limits w = nat_le w.0.table MAX_TABLE && nat_le (length (data_of w.1)) MAX_DATA_LEN
 
 unfoldable pub is_record : RecordData → Bool

@@ -12,7 +12,9 @@ use Rattle.std.specs.declared.cmp.Ordering.TheVariants.{Less, Equal, Greater}
 use Rattle.mvo_types.specs.declared.row.RowKey.{RowKey}
 use Rattle.mvo_types.specs.RowData.{row_with}
 use Rattle.mvo_types.specs.Keys.{Map, key_cmp}
-use Rattle.mvo_model.specs.Serial.{scan, is_in_range, in_scan_order}
+use Rattle.mvo_types.specs.RowLists.{is_within}
+use Rattle.mvo_model.specs.Order.{in_order}
+use Rattle.mvo_model.specs.Serial.{scan, scan_cmp}
 use Rattle.mvo_theory.specs.Entries.Entry.{Range}
 use Rattle.mvo_theory.specs.Ranges.{Row, shows, pass, AgreeOn}
 
@@ -91,6 +93,6 @@ filter_same p m n h =
 -- rows that agree on the range give the scan the same answer
 pub scan_same : (t lo hi : ℕ) (m n : Map) → AgreeOn (Range t lo hi) m n → scan m t lo hi ≡ scan n t lo hi
 scan_same t lo hi m n h =
-    ap in_scan_order (filter-map (is_in_range t lo hi) (λ e. row_with e.0 e.1) (fin.entries m)
+    ap (in_order scan_cmp) (filter-map (is_within t lo hi) (λ e. row_with e.0 e.1) (fin.entries m)
     ∙ ap (map (λ (e : Row). row_with e.0 e.1)) (filter_same (shows (Range t lo hi)) m n h)
-    ∙ sym (filter-map (is_in_range t lo hi) (λ e. row_with e.0 e.1) (fin.entries n)))
+    ∙ sym (filter-map (is_within t lo hi) (λ e. row_with e.0 e.1) (fin.entries n)))

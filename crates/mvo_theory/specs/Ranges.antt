@@ -7,7 +7,7 @@ use Rattle.mvo_types.specs.declared.row.RowKey.{RowKey}
 use Rattle.mvo_types.specs.RowData.{ContentData, row_with}
 use Rattle.mvo_types.specs.Keys.{Map, key_cmp}
 use Rattle.mvo_types.specs.Write.{Write, content_after}
-use Rattle.mvo_model.specs.Serial.{is_in_range}
+use Rattle.mvo_types.specs.RowLists.{is_within}
 use Rattle.mvo_model.specs.History.{History, write_of, after_write}
 use Rattle.mvo_theory.specs.Entries.{Entry, entry_of}
 use Rattle.mvo_theory.specs.Entries.Entry.{Key, Range}
@@ -19,7 +19,7 @@ Row = RowKey × ContentData
 -- whether a row shows in the entry: it is at the key, or in the range
 abbrev pub shows : Entry → Row → Bool
 shows (Key k) r = eq_by_cmp key_cmp r.0 k
-shows (Range table lo hi) r = is_in_range table lo hi (row_with r.0 r.1)
+shows (Range table lo hi) r = is_within table lo hi (row_with r.0 r.1)
 
 -- what stands at the key q, if it passes the test
 abbrev pub pass : (Row → Bool) → RowKey → Option ContentData → Option ContentData
