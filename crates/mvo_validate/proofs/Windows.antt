@@ -1,6 +1,6 @@
 -- Stamps between a begin and an end, over more versions, and where none is left.
-use Rattle.std.proofs.Common.{◌≡◌, ℕ, ◌<◌, ◌≤◌, Bool, true, false, cond, ltb, List, [], ◌∷◌, ◌++◌, Option, None, Some, refl, sym, ap, ◌∙◌, subst, inl, inr, append-nil, filter, arith}
-use Rattle.std.proofs.lemmas.Bool.{cases_Bool, cond-true, cond-false, le-ltb, leb-true}
+use Rattle.std.proofs.Common.{◌≡◌, ℕ, ◌≤◌, Bool, true, false, cond, ltb, List, [], ◌∷◌, ◌++◌, Option, None, Some, refl, sym, ap, ◌∙◌, append-nil, filter, arith}
+use Rattle.std.proofs.lemmas.Bool.{cond-false, le-ltb, leb-true}
 use Rattle.std.proofs.lemmas.List.Elements.{filter-append}
 use Rattle.std.specs.List.{AllByRecursion}
 use Rattle.mvo_types.specs.declared.ids.Stamp.{Stamp}
@@ -10,7 +10,6 @@ use Rattle.mvo_visible.specs.declared.seen.Seen.TheVariants.{Nothing, Settled, S
 use Rattle.mvo_visible.specs.Words.{States, seen_of}
 use Rattle.mvo_visible.specs.Versions.{Numbered}
 use Rattle.mvo_visible.specs.Changes.{changes_by, changes_of, greatest, greatest_below}
-use Rattle.mvo_visible.specs.Shown.{IsSettledBehind}
 use Rattle.mvo_visible.proofs.Decides.{greatest_below-append}
 use Rattle.mvo_visible.proofs.Walks.{changes_one, changes-append, IsFallingAt}
 use Rattle.mvo_validate.specs.Between.{is_above, stamp_between, is_before}

@@ -1,5 +1,5 @@
 -- What an entry looks at.
-use Rattle.std.specs.Prelude.{ℕ, ◌==◌, Bool, true, List, map, filter, Option, None, Some}
+use Rattle.std.specs.Prelude.{ℕ, ◌==◌, Bool, true, List, filter, Option, None, Some}
 use Rattle.std.specs.List.{flat_map}
 use Rattle.std.specs.FinMap as fin
 use Rattle.mvo_types.specs.declared.row.RowKey.{RowKey}

@@ -1,7 +1,6 @@
 -- Entries in the order of their first use.
-use Rattle.std.specs.Prelude.{ℕ, ◌==◌, ◌&&◌, Bool, false, if◌then◌else◌, List, [], ◌∷◌, ◌++◌}
+use Rattle.std.specs.Prelude.{◌==◌, ◌&&◌, Bool, false, if◌then◌else◌, List, [], ◌∷◌, ◌++◌}
 use Rattle.std.specs.List.{list_any}
-use Rattle.mvo_types.specs.declared.row.RowKey.{RowKey}
 use Rattle.mvo_validate.specs.declared.entry.Entry.{Entry}
 use Rattle.mvo_validate.specs.declared.entry.Entry.TheVariants.{Key, Range}
 

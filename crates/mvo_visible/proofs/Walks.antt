@@ -1,8 +1,8 @@
 -- What a walk finds over more versions, and where it may stop.
-use Rattle.std.proofs.Common.{◌≡◌, ◌≢◌, ℕ, max, ◌<◌, ◌≤◌, Bool, true, false, not, ◌&&◌, ◌||◌, cond, eqb, ltb, List, [], ◌∷◌, ◌++◌, Option, None, Some, refl, sym, ap, ◌∙◌, subst, inl, inr, append_assoc, append-nil, arith}
-use Rattle.std.proofs.lemmas.Bool.{cases_Bool, cond-true, cond-false, eqb-true, eq-eqb, ne_eqb, eqb-false, ltb-true, ltb-false, lt-ltb, le-ltb, not-true, and_parts, or_parts}
+use Rattle.std.proofs.Common.{◌≡◌, ◌≢◌, ℕ, max, ◌<◌, ◌≤◌, Bool, true, false, not, ◌&&◌, ◌||◌, cond, eqb, ltb, List, [], ◌∷◌, ◌++◌, Option, None, Some, refl, sym, ap, ◌∙◌, inl, inr, append_assoc, append-nil, arith}
+use Rattle.std.proofs.lemmas.Bool.{cases_Bool, cond-true, cond-false, eqb-true, eq-eqb, eqb-false, ltb-true, lt-ltb, le-ltb, not-true, and_parts, or_parts}
 use Rattle.std.proofs.lemmas.Grind.{flat_map-append}
-use Rattle.std.specs.List.{AllByRecursion, list_any, flat_map}
+use Rattle.std.specs.List.{AllByRecursion, list_any}
 use Rattle.std.specs.Option.{option_map, option_or}
 use Rattle.mvo_types.specs.declared.ids.Stamp.{Stamp}
 use Rattle.mvo_chain.specs.declared.version.Version.{Version}
@@ -11,13 +11,12 @@ use Rattle.mvo_chain.specs.Slots.{Slots, version_at}
 use Rattle.mvo_visible.specs.declared.seen.Seen.{Seen}
 use Rattle.mvo_visible.specs.declared.seen.Seen.TheVariants.{Nothing, Settled, Speculative}
 use Rattle.mvo_visible.specs.declared.change.Change.{Change}
-use Rattle.mvo_visible.specs.declared.walked.Walked.{Walked}
 use Rattle.mvo_visible.specs.Words.{States, seen_of, names}
 use Rattle.mvo_visible.specs.Versions.{Numbered, and_version, versions_by, is_own, is_own_newest, own_newest}
-use Rattle.mvo_visible.specs.Changes.{greater, is_at, changes_by, changes_of, greatest_below, first_with, owner_with, done_with, deciding, both, later_of, later, put_of, removal_of}
+use Rattle.mvo_visible.specs.Changes.{greater, is_at, changes_by, changes_of, greatest_below, first_with, owner_with, done_with, deciding, both, later, put_of, removal_of}
 use Rattle.mvo_visible.specs.Shown.{IsSettledBehind, HasFallingStamps, HasOwnInFront}
 use Rattle.mvo_visible.specs.Walked.{walked_over, walked_on, is_last_at, is_last}
-use Rattle.mvo_visible.proofs.Decides.{option_or-none, option_or_assoc, deciding-append, first_with-append, none_above, greatest_under}
+use Rattle.mvo_visible.proofs.Decides.{option_or-none, option_or_assoc, deciding-append}
 
 -- ---- one version more
 or_false : (b : Bool) → (b || false) ≡ b

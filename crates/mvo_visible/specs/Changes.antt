@@ -1,5 +1,5 @@
 -- The changes of a key by others, and the one that decides below a timestamp.
-use Rattle.std.specs.Prelude.{ℕ, max, ◌==◌, nat_lt, Bool, true, false, cond, List, [], ◌∷◌, ◌++◌, Option, None, Some}
+use Rattle.std.specs.Prelude.{ℕ, max, ◌==◌, nat_lt, Bool, false, cond, List, [], ◌∷◌, ◌++◌, Option, None, Some}
 use Rattle.std.specs.List.{flat_map}
 use Rattle.std.specs.Option.{option_map, option_or}
 use Rattle.mvo_types.specs.declared.ids.TxId.{TxId}

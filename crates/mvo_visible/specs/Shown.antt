@@ -1,5 +1,5 @@
 -- The version that a transaction is shown.
-use Rattle.std.specs.Prelude.{◌≡◌, ℕ, ◌≤◌, ◌<◌, Bool, false, cond, List, [], ◌∷◌, ◌++◌, Option, None, Some, ⊤}
+use Rattle.std.specs.Prelude.{◌≡◌, ℕ, ◌≤◌, ◌<◌, Bool, false, cond, List, [], ◌∷◌, Option, None, Some, ⊤}
 use Rattle.std.specs.List.{AllByRecursion, list_any}
 use Rattle.mvo_types.specs.declared.row.RowKey.{RowKey}
 use Rattle.mvo_chain.specs.declared.version.VersionNo.{VersionNo}

@@ -1,5 +1,5 @@
 -- What a walk over versions has found.
-use Rattle.std.specs.Prelude.{ℕ, ◌||◌, ◌&&◌, nat_lt, Bool, false, not, cond, List, Option, None, Some}
+use Rattle.std.specs.Prelude.{ℕ, ◌||◌, ◌&&◌, nat_lt, Bool, false, not, cond, List, None, Some}
 use Rattle.std.specs.Option.{option_or}
 use Rattle.std.specs.List.{list_any}
 use Rattle.mvo_chain.specs.declared.version.Version.{Version}

@@ -1,11 +1,8 @@
-use Rattle.std.proofs.Common.{◌≡◌, List, [], ◌∷◌, ◌++◌, Option, Some, None, map, filter, cond, ap, sym, refl, ◌∙◌, subst, append_assoc, append-nil}
+use Rattle.std.proofs.Common.{[], ◌∷◌, ◌++◌, map, filter, cond, ap, sym, ◌∙◌, subst, append_assoc}
 use Rattle.std.specs.Option.{option_copied}
-use Rattle.mvo_chain.specs.declared.version.Version.{Version}
-use Rattle.mvo_chain.specs.declared.version.VersionNo.{VersionNo}
-use Rattle.mvo_chain.specs.Slots.{Slots, version_at}
 use Rattle.mvo_hash.specs.Lists.{number, numbers_of}
 use Rattle.mvo_txn.specs.Txns.{state_of}
-use Rattle.mvo_visible.specs.Versions.{Numbered, versions_by}
+use Rattle.mvo_visible.specs.Versions.{versions_by}
 use Rattle.mvo_visible.specs.Changes.{changes_by, greatest}
 use Rattle.mvo_visible.specs.Shown.{HasFallingStamps}
 use Rattle.mvo_visible.proofs.Walks.{falling_at, versions_more, versions_same, versions_at_stop}

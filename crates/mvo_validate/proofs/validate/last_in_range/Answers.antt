@@ -1,10 +1,9 @@
-use Rattle.std.proofs.Common.{◌≡◌, ℕ, List, [], ◌∷◌, ◌++◌, Some, filter, ap, sym, refl, ◌∙◌, append_assoc, append-nil}
+use Rattle.std.proofs.Common.{ℕ, [], ◌∷◌, ◌++◌, Some, ap, sym, refl, ◌∙◌, append_assoc, append-nil}
 use Rattle.std.proofs.lemmas.Grind.{flat_map-append}
 use Rattle.std.specs.List.{flat_map}
 use Rattle.mvo_range.specs.declared.place.Place.{Place}
 use Rattle.mvo_txn.specs.Txns.{state_of}
-use Rattle.mvo_visible.specs.Changes.{changes_of, greatest}
-use Rattle.mvo_validate.specs.Between.{stamp_between}
+use Rattle.mvo_visible.specs.Changes.{greatest}
 use Rattle.mvo_validate.specs.Entries.{versions_of_place, versions_of_sort}
 use Rattle.mvo_validate.proofs.Windows.{seen_between, seen_between-append}
 use Rattle.mvo_validate.proofs.validate.last_in_range.Goals as goal

@@ -1,4 +1,4 @@
-use Rattle.std.proofs.Common.{◌≡◌, ◌||◌, cond, Some, None, ap, sym, ◌∙◌}
+use Rattle.std.proofs.Common.{◌||◌, cond, Some, None, ap, sym, ◌∙◌}
 use Rattle.std.specs.Option.{option_or}
 use Rattle.mvo_txn.specs.Txns.{state_of}
 use Rattle.mvo_visible.specs.Words.{seen_of, names}

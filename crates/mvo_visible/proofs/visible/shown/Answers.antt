@@ -1,14 +1,11 @@
-use Rattle.std.proofs.Common.{◌≡◌, List, [], ◌∷◌, ◌++◌, Option, Some, None, map, ap, sym, refl, ◌∙◌, subst, append_assoc, append-nil}
+use Rattle.std.proofs.Common.{◌≡◌, [], ◌∷◌, ◌++◌, map, ap, sym, refl, ◌∙◌, subst, append_assoc, append-nil}
 use Rattle.std.specs.Option.{option_copied}
-use Rattle.mvo_chain.specs.declared.version.Version.{Version}
-use Rattle.mvo_chain.specs.declared.version.VersionNo.{VersionNo}
-use Rattle.mvo_chain.specs.Slots.{Slots, version_at}
 use Rattle.mvo_hash.specs.Lists.{number, numbers_of}
 use Rattle.mvo_txn.specs.Txns.{state_of}
 use Rattle.mvo_visible.specs.declared.walked.Walked.{Walked}
-use Rattle.mvo_visible.specs.Versions.{and_version, versions_by}
+use Rattle.mvo_visible.specs.Versions.{versions_by}
 use Rattle.mvo_visible.specs.Shown.{own_or, HasFallingStamps, HasOwnInFront}
-use Rattle.mvo_visible.specs.Walked.{walked_over, walked_on, is_last}
+use Rattle.mvo_visible.specs.Walked.{walked_over, walked_on}
 use Rattle.mvo_visible.proofs.Walks.{versions_more, versions_same, versions_at_stop, walked_more, walked_stop, falling_at, own_first}
 use Rattle.mvo_visible.proofs.visible.shown.Goals.{in-None, in-Some+in-Some-get+then-is_last}
 use Rattle.mvo_visible.proofs.visible.shown.Goals as goal
