@@ -7,7 +7,8 @@ use Rattle.mvo_types.specs.declared.op.Op.{Op}
 use Rattle.mvo_types.specs.Keys.{Map}
 use Rattle.mvo_types.specs.AnswerData.{AnswerData}
 use Rattle.mvo_model.specs.History.{History}
-use Rattle.mvo_model.specs.Trace.{Step, history_by, history_of, commit_of, commits, by_end, committed as committed_in}
+use Rattle.mvo_model.specs.Trace.{Step, history_by, history_of, commit_of, commits, end_cmp, committed as committed_in}
+use Rattle.mvo_model.specs.Order.{in_order}
 use Rattle.mvo_model.specs.Trace.Step.{Begins, Answers, Prepares, Checks, Commits, Aborts, Terminates}
 use Rattle.mvo_model.proofs.Traces.{history_of-push, commits-push}
 use Rattle.mvo_theory.specs.State.{State, StampedTx, ActiveTx, after_settled, opened, active_of, preparing_of}
@@ -39,7 +40,7 @@ still_history : (xs : List Step) (x : Step) (t : ℕ) (ts : History) → history
 still_history xs x t ts n e = history_of-push t xs x ∙ ap (λ us. history_of t xs ++ us) n ∙ append-nil (history_of t xs) ∙ e
 
 still_committed : (xs : List Step) (x : Step) (cs : List (ℕ × ℕ)) → commit_of x ≡ [] → committed_in xs ≡ cs → committed_in (xs ++ x ∷ []) ≡ cs
-still_committed xs x cs n e = ap by_end (commits-push xs x ∙ ap (λ us. commits xs ++ us) n ∙ append-nil (commits xs)) ∙ e
+still_committed xs x cs n e = ap (in_order end_cmp) (commits-push xs x ∙ ap (λ us. commits xs ++ us) n ∙ append-nil (commits xs)) ∙ e
 
 says_silent : (opening : Map) (xs : List Step) (x : Step) (s : State) → ((t : ℕ) → history_by x t ≡ []) → commit_of x ≡ [] → SaysHistory opening xs s → SaysHistory opening (xs ++ x ∷ []) s
 says_silent opening xs x s n m h = record {

@@ -30,7 +30,7 @@ now_open : (a b : Bool) → (a || b) ≡ false → a ≡ false
 now_open true b h = absurd (true≢false h)
 now_open false b h = refl
 
-like_settled : (e : ℕ) → IsLike (with_settled e)
+pub like_settled : (e : ℕ) → IsLike (with_settled e)
 like_settled e = λ x. (refl, refl, λ q. or_true x.settled (x.end == e) q, refl)
 
 one_end : (t : StampedTx) (before after : List StampedTx) → IsRising (before ++ t ∷ after) → AllByRecursion (λ u. u.end ≡ t.end → u.history ≡ t.history) (before ++ t ∷ after)
