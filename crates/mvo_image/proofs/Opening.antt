@@ -1,36 +1,49 @@
 -- The laws of opening.
-use Rattle.std.proofs.Common.{◌≡◌, List, [], ◌∷◌, refl, sym}
+use Rattle.std.proofs.Common.{◌≡◌, ℕ, Bool, List, [], ◌∷◌, Some, Ok, sym, arith}
 use Rattle.std.specs.List.{AllByRecursion}
 use Rattle.mvo_pair.specs.Loading.{LoadsAs}
 use Rattle.mvo_pair.specs.Reading.{pair_found}
 use Rattle.mvo_pair.specs.declared.format.Format.{Format}
 use Rattle.mvo_pair.specs.declared.pair.Pair.{Pair}
 use Rattle.mvo_pair.proofs.Loads.{Fits, loads}
+use Rattle.mvo_frame.specs.Reading.{segment_found}
+use Rattle.mvo_frame.proofs.Walk.{segment_says, segment_alone}
+use Rattle.mvo_manifest.specs.Rules.{PairsRise}
+use Rattle.mvo_manifest.specs.Slots.{SlotSays}
+use Rattle.mvo_manifest.specs.Finding.{slot_found}
+use Rattle.mvo_manifest.proofs.Read.{slot_says, slot_alone}
 use Rattle.mvo_image.specs.Opens.{Image}
-use Rattle.mvo_image.specs.Laws.{SlotReader, HasWords, IsReadable, HasOneAnswer, IsExact}
+use Rattle.mvo_image.specs.Files.{kind_of, SegmentSays}
+use Rattle.mvo_image.specs.Laws.{AreFiles, HasOneAnswer, IsExact}
 use Rattle.mvo_image.proofs.One.{HasOne, opens_one}
 use Rattle.mvo_image.proofs.Exact.{gives_opens, opens_gives}
 
--- a function has one value
-value_one : {Y : Type 0} (y : Y) → HasOne (λ r. r ≡ y)
-value_one y = (y, (refl, λ z h. h))
+module _ (f : Format) (image : Image) (is : AreFiles f image) where
+  slot_one : (n : ℕ) → HasOne (SlotSays f.version n (image n))
+  slot_one n = (slot_found f.version n (image n), (slot_says f.version n is.version (image n) (is.bytes n), λ z h. sym (slot_alone f.version n is.version (image n) (is.bytes n) z h)))
 
-pairs_have_one : (slot : SlotReader) (f : Format) (image : Image) → IsReadable slot f image → (ps : List Pair) → AllByRecursion HasWords ps → AllByRecursion (λ p. HasOne (LoadsAs f p (image p.data_file) (image p.delta_file))) ps
-pairs_have_one slot f image is [] words = tt
-pairs_have_one slot f image is (p ∷ ps) words =
-    let fits : Fits f p = record { version = is.version; table = is.table; size = is.size; hi = words.0.0; records = words.0.1 } in
-    ((pair_found f p (image p.data_file) (image p.delta_file), loads f p (image p.data_file) (image p.delta_file) fits (is.bytes p.data_file) (λ es e. is.bytes p.delta_file)), pairs_have_one slot f image is ps words.1)
+  segment_one : (n mark : ℕ) (last : Bool) → HasOne (SegmentSays f.version n mark last (image n))
+  segment_one n mark last =
+      let kind = kind_of last in
+      (segment_found f.version n mark kind (image n), (segment_says f.version n mark kind (image n) is.version (is.bytes n), λ z h. sym (segment_alone f.version n mark kind (image n) is.version (is.bytes n) z h)))
+
+  -- the pairs of a manifest have their words, and so each has one answer
+  pairs_one : (lo hi : ℕ) (ps : List Pair) → PairsRise lo ps hi → AllByRecursion (λ p. HasOne (LoadsAs f p (image p.data_file) (image p.delta_file))) ps
+  pairs_one lo hi [] rise = tt
+  pairs_one lo hi (p ∷ ps) rise =
+      let fits : Fits f p = record { version = is.version; table = is.table; size = is.size; hi = omega (arith, rise.0.top); records = omega (arith, rise.0.records) } in
+      ((pair_found f p (image p.data_file) (image p.delta_file), loads f p (image p.data_file) (image p.delta_file) fits (is.bytes p.data_file) (λ es e. is.bytes p.delta_file)), pairs_one p.hi.0 hi ps rise.1)
 
 pub one_answer : HasOneAnswer
-one_answer slot segment f image is =
-    opens_one (λ n bytes r. r ≡ slot n bytes) (λ n mark last bytes r. r ≡ segment n mark last bytes) f image (record {
-      slot = λ n. value_one (slot n (image n));
-      pair = λ n m e. pairs_have_one slot f image is m.pairs (is.pairs n m (sym e));
-      segment = λ n mark last. value_one (segment n mark last (image n));
+one_answer f image is =
+    opens_one (SlotSays f.version) (SegmentSays f.version) f image (record {
+      slot = slot_one f image is;
+      pair = λ n m has. pairs_one f image is 0 m.checkpoint_mark m.pairs has.is.rules.rise;
+      segment = segment_one f image is;
     })
 
 pub exact : IsExact
-exact slot segment f image rows mark = (
-  opens_gives (λ n bytes r. r ≡ slot n bytes) (λ n mark last bytes r. r ≡ segment n mark last bytes) f image rows mark,
-  gives_opens (λ n bytes r. r ≡ slot n bytes) (λ n mark last bytes r. r ≡ segment n mark last bytes) f image rows mark,
+exact f image rows mark = (
+  opens_gives (SlotSays f.version) (SegmentSays f.version) f image rows mark,
+  gives_opens (SlotSays f.version) (SegmentSays f.version) f image rows mark,
 )

@@ -7,7 +7,9 @@ use Rattle.mvo_pair.specs.Loading.{LoadsAs}
 use Rattle.mvo_pair.specs.declared.format.Format.{Format}
 use Rattle.mvo_pair.specs.declared.pair.Pair.{Pair}
 use Rattle.mvo_image.specs.Rows.{AreApart, rows_of, after_groups, mark_after}
-use Rattle.mvo_image.specs.Opens.{Image, ManifestData, SlotReading, SegmentReading, newest, is_empty}
+use Rattle.mvo_manifest.specs.Data.{ManifestData}
+use Rattle.mvo_manifest.specs.Slots.{newest}
+use Rattle.mvo_image.specs.Opens.{Image, SlotReading, SegmentReading, is_empty}
 
 -- of the open slots, the manifest of the greater generation
 pub record IsInstalled (slots : SlotReading) (image : Image) (m : ManifestData) : Type 0 where

@@ -1,4 +1,5 @@
 pub mod Rows
 pub mod Opens
 pub mod Gives
+pub mod Files
 pub mod Laws

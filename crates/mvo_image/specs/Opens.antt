@@ -1,7 +1,8 @@
 -- What opening an image answers: rows and mark, or the first broken rule. Looked at are slot 0,
 -- slot 1, the pairs in order (of each the data file, the delta file, and its live records beside
 -- those before), and the segments in order.
-use Rattle.std.specs.Prelude.{◌≡◌, ◌⊎◌, ℕ, Bool, true, false, nat_lt, List, [], ◌∷◌, ◌++◌, Option, Some, None, Result, Ok, Err, if◌then◌else◌}
+use Rattle.std.specs.Prelude.{◌≡◌, ◌⊎◌, ℕ, Bool, true, false, List, [], ◌∷◌, ◌++◌}
+use Rattle.std.specs.Prelude.{Option, Some, None, Result, Ok, Err}
 use Rattle.mvo_types.specs.Keys.{Map}
 use Rattle.mvo_types.specs.declared.refusal.Refusal.{Refusal}
 use Rattle.mvo_types.specs.declared.refusal.Refusal.TheVariants.{Corrupt, NotFormatted}
@@ -10,6 +11,8 @@ use Rattle.mvo_pair.specs.Data.{Numbered}
 use Rattle.mvo_pair.specs.Loading.{LoadsAs}
 use Rattle.mvo_pair.specs.declared.format.Format.{Format}
 use Rattle.mvo_pair.specs.declared.pair.Pair.{Pair}
+use Rattle.mvo_manifest.specs.Data.{ManifestData}
+use Rattle.mvo_manifest.specs.Slots.{newest}
 use Rattle.mvo_image.specs.Rows.{AreApart, rows_of, after_groups, mark_after}
 
 -- the bytes of each file
@@ -19,13 +22,6 @@ Image = ℕ → List ℕ
 -- rows and mark, or a refusal
 abbrev pub Outcome : Type 0
 Outcome = Result (Map × ℕ) Refusal
-
--- which files make up an image
-pub record ManifestData : Type 0 where
-  pub generation : ℕ
-  pub checkpoint_mark : ℕ
-  pub pairs : List Pair
-  pub segments : List ℕ
 
 -- what a file of this number says of its bytes: a manifest, or none behind a closed gate
 abbrev pub SlotReading : Type 1
@@ -69,12 +65,6 @@ Segments reads image rows [] mark before out = out ≡ Ok (after_groups rows bef
 Segments reads image rows (n ∷ ns) mark before out =
     After (reads n mark (is_empty ns) (image n)) (λ gs.
     Segments reads image rows ns (mark_after mark gs) (before ++ gs)) out
-
--- the manifest of greater generation
-abbrev pub newest : Option ManifestData → Option ManifestData → Option ManifestData
-newest None b = b
-newest (Some m) None = Some m
-newest (Some m) (Some n) = if nat_lt m.generation n.generation then Some n else Some m
 
 abbrev pub OpensWith : SegmentReading → Format → Image → Option ManifestData → Outcome → Type 0
 OpensWith reads f image None out = out ≡ Err NotFormatted

@@ -4,7 +4,7 @@ ghost use Rattle.mvo_group.specs.Reading.{Gives, number_at, times};
 ghost use Rattle.mvo_manifest.specs.Data.{manifest_of};
 ghost use Rattle.mvo_manifest.specs.Reading.{pair_at, fields_at};
 
-use crate::pair::Pair;
+use mvo_pair::Pair;
 use mvo_format::{u16_at, u32_at, u64_at};
 use mvo_types::{MAX_PAIRS, MAX_SEGMENTS, Stamp};
 use std::alloc::{AllocError, Global};

@@ -6,7 +6,7 @@ ghost use Rattle.mvo_format.specs.Found.{header};
 ghost use Rattle.mvo_manifest.specs.Body.{pair_bytes};
 
 use crate::constants::MAGIC;
-use crate::pair::Pair;
+use mvo_pair::Pair;
 use byteorder::{ByteOrder, LittleEndian};
 use mvo_types::Stamp;
 use std::alloc::AllocError;

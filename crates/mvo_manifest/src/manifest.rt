@@ -1,6 +1,6 @@
 use crate::decode::{Fields, fields_of};
 use crate::encode::{append_pairs, append_segments, header_of};
-use crate::pair::Pair;
+use mvo_pair::Pair;
 use crate::rules::keep_rules;
 use mvo_types::Stamp;
 use std::alloc::{AllocError, Global};

@@ -1,0 +1,30 @@
+-- Opening an image whose slots and segments are read as their formats say.
+use Rattle.std.specs.Prelude.{ℕ, Bool, true, false}
+use Rattle.mvo_types.specs.Keys.{Map}
+use Rattle.mvo_format.specs.Found.{Says, IsOtherVersion}
+use Rattle.mvo_frame.specs.declared.kind.Kind.{Kind}
+use Rattle.mvo_frame.specs.declared.kind.Kind.TheVariants.{Sealed, Last}
+use Rattle.mvo_frame.specs.declared.magic.TheConstants.{MAGIC}
+use Rattle.mvo_frame.specs.Frames.{IsSegment}
+use Rattle.mvo_manifest.specs.Slots.{SlotSays}
+use Rattle.mvo_pair.specs.declared.format.Format.{Format}
+use Rattle.mvo_image.specs.Opens.{Image, Outcome, SegmentReading, Opens}
+use Rattle.mvo_image.specs.Gives.{Gives}
+
+abbrev pub kind_of : Bool → Kind
+kind_of true = Last
+kind_of false = Sealed
+
+-- what is found of a segment: its groups, or another version, or neither
+abbrev pub SegmentSays : ℕ → SegmentReading
+SegmentSays version n mark last bytes =
+    Says n (IsOtherVersion MAGIC version bytes)
+    (λ gs. IsSegment version mark (kind_of last) gs bytes)
+
+-- what opening an image answers
+abbrev pub OpensAs : Format → Image → Outcome → Type 0
+OpensAs f = Opens (SlotSays f.version) (SegmentSays f.version) f
+
+-- The image is well formed, and gives these rows and this mark.
+abbrev pub GivesRows : Format → Image → Map → ℕ → Type 0
+GivesRows f = Gives (SlotSays f.version) (SegmentSays f.version) f
