@@ -1,5 +1,5 @@
 -- The laws of opening.
-use Rattle.std.proofs.Common.{◌≡◌, ℕ, Bool, List, [], ◌∷◌, Some, Ok, sym, arith}
+use Rattle.std.proofs.Common.{ℕ, Bool, List, [], ◌∷◌, sym, arith}
 use Rattle.std.specs.List.{AllByRecursion}
 use Rattle.mvo_pair.specs.Loading.{LoadsAs}
 use Rattle.mvo_pair.specs.Reading.{pair_found}
@@ -11,21 +11,28 @@ use Rattle.mvo_frame.proofs.Walk.{segment_says, segment_alone}
 use Rattle.mvo_manifest.specs.Rules.{PairsRise}
 use Rattle.mvo_manifest.specs.Slots.{SlotSays}
 use Rattle.mvo_manifest.specs.Finding.{slot_found}
-use Rattle.mvo_manifest.proofs.Read.{slot_says, slot_alone}
+use Rattle.mvo_manifest.proofs.Read.{slot_says, slot_alone, pick_says, pick_alone}
 use Rattle.mvo_image.specs.Opens.{Image}
 use Rattle.mvo_image.specs.Files.{kind_of, SegmentSays}
-use Rattle.mvo_image.specs.Laws.{AreFiles, HasOneAnswer, IsExact}
+use Rattle.mvo_image.specs.Laws.{AreFiles, SlotIsExact, PickIsExact, SegmentIsExact, HasOneAnswer, IsExact}
 use Rattle.mvo_image.proofs.One.{HasOne, opens_one}
 use Rattle.mvo_image.proofs.Exact.{gives_opens, opens_gives}
 
+pub slot_exact : SlotIsExact
+slot_exact version slot bytes word fits = (slot_says version slot word bytes fits, λ z h. sym (slot_alone version slot word bytes fits z h))
+
+pub pick_exact : PickIsExact
+pick_exact version first second word fits fits_too = (pick_says version word first second fits fits_too, λ z h. sym (pick_alone version word first second fits fits_too z h))
+
+pub segment_exact : SegmentIsExact
+segment_exact version file mark kind bytes word fits = (segment_says version file mark kind bytes word fits, λ z h. sym (segment_alone version file mark kind bytes word fits z h))
+
 module _ (f : Format) (image : Image) (is : AreFiles f image) where
   slot_one : (n : ℕ) → HasOne (SlotSays f.version n (image n))
-  slot_one n = (slot_found f.version n (image n), (slot_says f.version n is.version (image n) (is.bytes n), λ z h. sym (slot_alone f.version n is.version (image n) (is.bytes n) z h)))
+  slot_one n = (slot_found f.version n (image n), slot_exact f.version n (image n) is.version (is.bytes n))
 
   segment_one : (n mark : ℕ) (last : Bool) → HasOne (SegmentSays f.version n mark last (image n))
-  segment_one n mark last =
-      let kind = kind_of last in
-      (segment_found f.version n mark kind (image n), (segment_says f.version n mark kind (image n) is.version (is.bytes n), λ z h. sym (segment_alone f.version n mark kind (image n) is.version (is.bytes n) z h)))
+  segment_one n mark last = (segment_found f.version n mark (kind_of last) (image n), segment_exact f.version n mark (kind_of last) (image n) is.version (is.bytes n))
 
   -- the pairs of a manifest have their words, and so each has one answer
   pairs_one : (lo hi : ℕ) (ps : List Pair) → PairsRise lo ps hi → AllByRecursion (λ p. HasOne (LoadsAs f p (image p.data_file) (image p.delta_file))) ps

@@ -1,7 +1,8 @@
 -- Opening an image whose slots and segments are read as their formats say.
-use Rattle.std.specs.Prelude.{ℕ, Bool, true, false}
+use Rattle.std.specs.Prelude.{ℕ, Bool, true, false, List}
 use Rattle.mvo_types.specs.Keys.{Map}
-use Rattle.mvo_format.specs.Found.{Says, IsOtherVersion}
+use Rattle.mvo_group.specs.Data.{GroupData}
+use Rattle.mvo_format.specs.Found.{Found, Says, IsOtherVersion}
 use Rattle.mvo_frame.specs.declared.kind.Kind.{Kind}
 use Rattle.mvo_frame.specs.declared.kind.Kind.TheVariants.{Sealed, Last}
 use Rattle.mvo_frame.specs.declared.magic.TheConstants.{MAGIC}
@@ -15,11 +16,13 @@ abbrev pub kind_of : Bool → Kind
 kind_of true = Last
 kind_of false = Sealed
 
--- what is found of a segment: its groups, or another version, or neither
+-- what a segment's bytes say: its groups, or another version, or neither
+abbrev pub SegmentIs : ℕ → ℕ → ℕ → Kind → List ℕ → Found (List GroupData) → Type 0
+SegmentIs version file mark kind bytes =
+    Says file (IsOtherVersion MAGIC version bytes) (λ gs. IsSegment version mark kind gs bytes)
+
 abbrev pub SegmentSays : ℕ → SegmentReading
-SegmentSays version n mark last bytes =
-    Says n (IsOtherVersion MAGIC version bytes)
-    (λ gs. IsSegment version mark (kind_of last) gs bytes)
+SegmentSays version n mark last = SegmentIs version n mark (kind_of last)
 
 -- what opening an image answers
 abbrev pub OpensAs : Format → Image → Outcome → Type 0

@@ -8,9 +8,16 @@ use Rattle.mvo_types.specs.Keys.{Map}
 use Rattle.mvo_pair.specs.Data.{Numbered}
 use Rattle.mvo_pair.specs.Answers.{IsOnly}
 use Rattle.mvo_pair.specs.declared.format.Format.{Format}
+use Rattle.mvo_frame.specs.declared.kind.Kind.{Kind}
+use Rattle.mvo_frame.specs.Reading.{segment_found}
+use Rattle.mvo_manifest.specs.Slots.{SlotSays, PickSays}
+use Rattle.mvo_manifest.specs.Finding.{slot_found, pick_found}
 use Rattle.mvo_image.specs.Opens.{Image, Outcome}
-use Rattle.mvo_image.specs.Files.{OpensAs, GivesRows}
+use Rattle.mvo_image.specs.Files.{SegmentIs, OpensAs, GivesRows}
 use Rattle.mvo_image.specs.Rows.{AreApart, kept_in, rows_of}
+
+abbrev pub AreBytes : List ℕ → Type 0
+AreBytes bytes = (i : ℕ) → slice_index bytes i < 256
 
 -- Files hold bytes, and the numbers of the version have their words, as each value of the program
 -- has it.
@@ -18,7 +25,23 @@ pub record AreFiles (f : Format) (image : Image) : Type 0 where
   pub version : f.version < 2 ^ 32
   pub table : f.max_table < 256
   pub size : f.max_data_len < 2 ^ 16
-  pub bytes : (n i : ℕ) → slice_index (image n) i < 256
+  pub bytes : (n : ℕ) → AreBytes (image n)
+
+-- What is found of a slot is said of its bytes, and nothing else is.
+abbrev pub SlotIsExact : Type 0
+SlotIsExact = (version slot : ℕ) (bytes : List ℕ) → version < 2 ^ 32 → AreBytes bytes →
+    IsOnly (SlotSays version slot bytes) (slot_found version slot bytes)
+
+-- So is what is found of both slots.
+abbrev pub PickIsExact : Type 0
+PickIsExact = (version : ℕ) (first second : List ℕ) → version < 2 ^ 32 → AreBytes first →
+    AreBytes second → IsOnly (PickSays version first second) (pick_found version first second)
+
+-- So is what is found of a segment.
+abbrev pub SegmentIsExact : Type 0
+SegmentIsExact = (version file mark : ℕ) (kind : Kind) (bytes : List ℕ) → version < 2 ^ 32 →
+    AreBytes bytes →
+    IsOnly (SegmentIs version file mark kind bytes) (segment_found version file mark kind bytes)
 
 -- Opening has one answer.
 abbrev pub HasOneAnswer : Type 0

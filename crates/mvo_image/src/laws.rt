@@ -1,9 +1,14 @@
+ghost use Rattle.mvo_image.specs.Laws.{SlotIsExact, PickIsExact, SegmentIsExact};
 ghost use Rattle.mvo_image.specs.Laws.{HasOneAnswer, IsExact, RowsAreLive};
 
-/// The laws of opening an image: there is one answer, and it is rows and a mark exactly where the
-/// image is well formed; and the rows before the groups are those of the live records. The call
-/// does nothing.
+/// The laws of opening an image. What the readers of slots and segments find is what the formats
+/// say of the bytes, and nothing else is said. Opening has one answer, which is rows and a mark
+/// exactly where the image is well formed; and the rows before the groups are those of the live
+/// records. The call does nothing.
 pub fn laws_of_opening()
+    ensures slot { SlotIsExact }
+    ensures pick { PickIsExact }
+    ensures segment { SegmentIsExact }
     ensures one { HasOneAnswer }
     ensures exact { IsExact }
     ensures live { RowsAreLive }

@@ -1,4 +1,4 @@
-use Rattle.mvo_image.proofs.Opening.{one_answer, exact}
+use Rattle.mvo_image.proofs.Opening.{slot_exact, pick_exact, segment_exact, one_answer, exact}
 use Rattle.mvo_image.proofs.Base.{rows_are_live}
 use Rattle.mvo_image.proofs.laws.laws_of_opening.Goals as goal
 
@@ -10,3 +10,12 @@ returns-clause-exact c = exact
 
 pub returns-clause-live : goal.returns-clause-live
 returns-clause-live c = rows_are_live
+
+pub returns-clause-slot : goal.returns-clause-slot
+returns-clause-slot c = slot_exact
+
+pub returns-clause-pick : goal.returns-clause-pick
+returns-clause-pick c = pick_exact
+
+pub returns-clause-segment : goal.returns-clause-segment
+returns-clause-segment c = segment_exact
