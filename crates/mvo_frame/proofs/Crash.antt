@@ -9,16 +9,14 @@ use Rattle.mvo_disk.specs.Disk.{Holds, Torn, Only, AllOf, Touched, LeavesOnly}
 use Rattle.mvo_disk.specs.Torn.{torn_whole, torn_byte}
 use Rattle.mvo_disk.specs.Moments.{started, weaker}
 use Rattle.mvo_group.specs.Data.{GroupData}
-use Rattle.mvo_group.specs.Rules.{IsGroup, body_len}
+use Rattle.mvo_group.specs.Rules.{IsGroup}
 use Rattle.mvo_group.specs.Body.{field, body_of}
 use Rattle.mvo_group.proofs.Fields.{length-field}
-use Rattle.mvo_group.proofs.Sizes.{length-body_of}
 use Rattle.mvo_format.specs.declared.header.TheConstants.{OPEN, HEADER_LEN}
 use Rattle.mvo_format.specs.Found.{header}
 use Rattle.mvo_frame.specs.declared.magic.TheConstants.{MAGIC}
-use Rattle.mvo_frame.specs.Frames.{sized, frame, front, mark_after, IsNextFrame, Frames, HasFrames}
+use Rattle.mvo_frame.specs.Frames.{sized, frame, front, mark_after, Frames, HasFrames}
 use Rattle.mvo_frame.specs.Standing.{gate_of, HasGate, Follows, IsWritten, HasWithOrWithout}
-use Rattle.mvo_frame.proofs.Walk.{length-sized}
 use Rattle.mvo_frame.proofs.Loop.{gate_of-push}
 
 -- ---- the groups of a segment, one after another and as one text

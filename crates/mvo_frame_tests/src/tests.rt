@@ -1,5 +1,5 @@
 use mvo_disk::{Disk, MemDisk};
-use mvo_format::VERSION;
+use mvo_format::{FIRST_FORMAT, Format, VERSION};
 use mvo_frame::{Kind, Segment, read_all};
 use mvo_group::Group;
 use mvo_types::Stamp;
@@ -14,8 +14,8 @@ const SEGMENT: [u8; 63] = [
 ];
 
 // What is found of a segment, as a line: how many groups and where its closed gate stands.
-fn found(alloc: Global, kind: Kind, bytes: &[u8]) -> Result<String, Fail> {
-    match read_all(alloc, VERSION, 3, Stamp(0), kind, bytes) {
+fn found(alloc: Global, format: Format, kind: Kind, bytes: &[u8]) -> Result<String, Fail> {
+    match read_all(alloc, format, 3, Stamp(0), kind, bytes) {
         Ok(contents) => {
             let groups = contents.groups.len();
             let gate = contents.gate;
@@ -90,11 +90,11 @@ fn a_group_is_appended(rt: HostRuntime) -> Result<(), Fail> {
 #[test]
 fn the_vector_is_read(rt: HostRuntime) -> Result<(), Fail> {
     let alloc = rt.alloc();
-    assert_eq!(rt; found(alloc, Kind::Last, &SEGMENT)?.as_str(), "1 at 62");
-    assert_eq!(rt; found(alloc, Kind::Sealed, &SEGMENT)?.as_str(), "1 at 62");
+    assert_eq!(rt; found(alloc, FIRST_FORMAT, Kind::Last, &SEGMENT)?.as_str(), "1 at 62");
+    assert_eq!(rt; found(alloc, FIRST_FORMAT, Kind::Sealed, &SEGMENT)?.as_str(), "1 at 62");
     let fresh = b"MVOL\x01\0\0\0\0";
-    assert_eq!(rt; found(alloc, Kind::Last, fresh)?.as_str(), "0 at 8");
-    assert_eq!(rt; found(alloc, Kind::Sealed, fresh)?.as_str(), "refused 54 3");
+    assert_eq!(rt; found(alloc, FIRST_FORMAT, Kind::Last, fresh)?.as_str(), "0 at 8");
+    assert_eq!(rt; found(alloc, FIRST_FORMAT, Kind::Sealed, fresh)?.as_str(), "refused 54 3");
     Ok(())
 }
 
@@ -104,7 +104,7 @@ fn each_change_is_found(rt: HostRuntime) -> Result<(), Fail> {
     let alloc = rt.alloc();
     for len in 0..SEGMENT.len() {
         let bytes = &SEGMENT[..len];
-        assert_eq!(rt; found(alloc, Kind::Last, bytes)?, plain(alloc, bytes)?);
+        assert_eq!(rt; found(alloc, FIRST_FORMAT, Kind::Last, bytes)?, plain(alloc, bytes)?);
     }
     for i in 0..SEGMENT.len() {
         for change in 1..=255 {
@@ -112,8 +112,27 @@ fn each_change_is_found(rt: HostRuntime) -> Result<(), Fail> {
             if let Some(byte) = bytes.get_mut(i) {
                 *byte ^= change;
             }
-            assert_eq!(rt; found(alloc, Kind::Last, &bytes)?, plain(alloc, &bytes)?);
+            assert_eq!(rt; found(alloc, FIRST_FORMAT, Kind::Last, &bytes)?, plain(alloc, &bytes)?);
         }
     }
+    Ok(())
+}
+
+// The put has table 0 and one byte of data.
+#[test]
+fn the_limits_are_those_of_the_version(rt: HostRuntime) -> Result<(), Fail> {
+    let alloc = rt.alloc();
+    let enough = Format {
+        version: VERSION,
+        max_table: 0,
+        max_data_len: 1,
+    };
+    assert_eq!(rt; found(alloc, enough, Kind::Last, &SEGMENT)?.as_str(), "1 at 62");
+    let short = Format {
+        version: VERSION,
+        max_table: 0,
+        max_data_len: 0,
+    };
+    assert_eq!(rt; found(alloc, short, Kind::Last, &SEGMENT)?.as_str(), "refused 54 3");
     Ok(())
 }

@@ -3,7 +3,7 @@ use Rattle.std.proofs.Common.{ℕ, Bool, List, [], ◌∷◌, sym, arith}
 use Rattle.std.specs.List.{AllByRecursion}
 use Rattle.mvo_pair.specs.Loading.{LoadsAs}
 use Rattle.mvo_pair.specs.Reading.{pair_found}
-use Rattle.mvo_pair.specs.declared.format.Format.{Format}
+use Rattle.mvo_format.specs.declared.format.Format.{Format}
 use Rattle.mvo_pair.specs.declared.pair.Pair.{Pair}
 use Rattle.mvo_pair.proofs.Loads.{Fits, loads}
 use Rattle.mvo_frame.specs.Reading.{segment_found}
@@ -25,14 +25,14 @@ pub pick_exact : PickIsExact
 pick_exact version first second word fits fits_too = (pick_says version word first second fits fits_too, λ z h. sym (pick_alone version word first second fits fits_too z h))
 
 pub segment_exact : SegmentIsExact
-segment_exact version file mark kind bytes word fits = (segment_says version file mark kind bytes word fits, λ z h. sym (segment_alone version file mark kind bytes word fits z h))
+segment_exact f file mark kind bytes word fits = (segment_says f file mark kind bytes word fits, λ z h. sym (segment_alone f file mark kind bytes word fits z h))
 
 module _ (f : Format) (image : Image) (is : AreFiles f image) where
   slot_one : (n : ℕ) → HasOne (SlotSays f.version n (image n))
   slot_one n = (slot_found f.version n (image n), slot_exact f.version n (image n) is.version (is.bytes n))
 
-  segment_one : (n mark : ℕ) (last : Bool) → HasOne (SegmentSays f.version n mark last (image n))
-  segment_one n mark last = (segment_found f.version n mark (kind_of last) (image n), segment_exact f.version n mark (kind_of last) (image n) is.version (is.bytes n))
+  segment_one : (n mark : ℕ) (last : Bool) → HasOne (SegmentSays f n mark last (image n))
+  segment_one n mark last = (segment_found f n mark (kind_of last) (image n), segment_exact f n mark (kind_of last) (image n) is.version (is.bytes n))
 
   -- the pairs of a manifest have their words, and so each has one answer
   pairs_one : (lo hi : ℕ) (ps : List Pair) → PairsRise lo ps hi → AllByRecursion (λ p. HasOne (LoadsAs f p (image p.data_file) (image p.delta_file))) ps
@@ -43,7 +43,7 @@ module _ (f : Format) (image : Image) (is : AreFiles f image) where
 
 pub one_answer : HasOneAnswer
 one_answer f image is =
-    opens_one (SlotSays f.version) (SegmentSays f.version) f image (record {
+    opens_one (SlotSays f.version) (SegmentSays f) f image (record {
       slot = slot_one f image is;
       pair = λ n m has. pairs_one f image is 0 m.checkpoint_mark m.pairs has.is.rules.rise;
       segment = segment_one f image is;
@@ -51,6 +51,6 @@ one_answer f image is =
 
 pub exact : IsExact
 exact f image rows mark = (
-  opens_gives (SlotSays f.version) (SegmentSays f.version) f image rows mark,
-  gives_opens (SlotSays f.version) (SegmentSays f.version) f image rows mark,
+  opens_gives (SlotSays f.version) (SegmentSays f) f image rows mark,
+  gives_opens (SlotSays f.version) (SegmentSays f) f image rows mark,
 )

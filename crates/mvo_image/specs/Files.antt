@@ -8,7 +8,7 @@ use Rattle.mvo_frame.specs.declared.kind.Kind.TheVariants.{Sealed, Last}
 use Rattle.mvo_frame.specs.declared.magic.TheConstants.{MAGIC}
 use Rattle.mvo_frame.specs.Frames.{IsSegment}
 use Rattle.mvo_manifest.specs.Slots.{SlotSays}
-use Rattle.mvo_pair.specs.declared.format.Format.{Format}
+use Rattle.mvo_format.specs.declared.format.Format.{Format}
 use Rattle.mvo_image.specs.Opens.{Image, Outcome, SegmentReading, Opens}
 use Rattle.mvo_image.specs.Gives.{Gives}
 
@@ -17,17 +17,17 @@ kind_of true = Last
 kind_of false = Sealed
 
 -- what a segment's bytes say: its groups, or another version, or neither
-abbrev pub SegmentIs : ℕ → ℕ → ℕ → Kind → List ℕ → Found (List GroupData) → Type 0
-SegmentIs version file mark kind bytes =
-    Says file (IsOtherVersion MAGIC version bytes) (λ gs. IsSegment version mark kind gs bytes)
+abbrev pub SegmentIs : Format → ℕ → ℕ → Kind → List ℕ → Found (List GroupData) → Type 0
+SegmentIs f file mark kind bytes =
+    Says file (IsOtherVersion MAGIC f.version bytes) (λ gs. IsSegment f mark kind gs bytes)
 
-abbrev pub SegmentSays : ℕ → SegmentReading
-SegmentSays version n mark last = SegmentIs version n mark (kind_of last)
+abbrev pub SegmentSays : Format → SegmentReading
+SegmentSays f n mark last = SegmentIs f n mark (kind_of last)
 
 -- what opening an image answers
 abbrev pub OpensAs : Format → Image → Outcome → Type 0
-OpensAs f = Opens (SlotSays f.version) (SegmentSays f.version) f
+OpensAs f = Opens (SlotSays f.version) (SegmentSays f) f
 
 -- The image is well formed, and gives these rows and this mark.
 abbrev pub GivesRows : Format → Image → Map → ℕ → Type 0
-GivesRows f = Gives (SlotSays f.version) (SegmentSays f.version) f
+GivesRows f = Gives (SlotSays f.version) (SegmentSays f) f

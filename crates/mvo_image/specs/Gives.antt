@@ -4,7 +4,7 @@ use Rattle.mvo_types.specs.Keys.{Map}
 use Rattle.mvo_group.specs.Data.{GroupData}
 use Rattle.mvo_pair.specs.Data.{Numbered}
 use Rattle.mvo_pair.specs.Loading.{LoadsAs}
-use Rattle.mvo_pair.specs.declared.format.Format.{Format}
+use Rattle.mvo_format.specs.declared.format.Format.{Format}
 use Rattle.mvo_pair.specs.declared.pair.Pair.{Pair}
 use Rattle.mvo_image.specs.Rows.{AreApart, rows_of, after_groups, mark_after}
 use Rattle.mvo_manifest.specs.Data.{ManifestData}

@@ -7,7 +7,7 @@ use Rattle.mvo_types.specs.RowData.{ContentData}
 use Rattle.mvo_types.specs.Keys.{Map}
 use Rattle.mvo_pair.specs.Data.{Numbered}
 use Rattle.mvo_pair.specs.Answers.{IsOnly}
-use Rattle.mvo_pair.specs.declared.format.Format.{Format}
+use Rattle.mvo_format.specs.declared.format.Format.{Format}
 use Rattle.mvo_frame.specs.declared.kind.Kind.{Kind}
 use Rattle.mvo_frame.specs.Reading.{segment_found}
 use Rattle.mvo_manifest.specs.Slots.{SlotSays, PickSays}
@@ -39,9 +39,9 @@ PickIsExact = (version : ℕ) (first second : List ℕ) → version < 2 ^ 32 →
 
 -- So is what is found of a segment.
 abbrev pub SegmentIsExact : Type 0
-SegmentIsExact = (version file mark : ℕ) (kind : Kind) (bytes : List ℕ) → version < 2 ^ 32 →
-    AreBytes bytes →
-    IsOnly (SegmentIs version file mark kind bytes) (segment_found version file mark kind bytes)
+SegmentIsExact = (f : Format) (file mark : ℕ) (kind : Kind) (bytes : List ℕ) →
+    f.version < 2 ^ 32 → AreBytes bytes →
+    IsOnly (SegmentIs f file mark kind bytes) (segment_found f file mark kind bytes)
 
 -- Opening has one answer.
 abbrev pub HasOneAnswer : Type 0

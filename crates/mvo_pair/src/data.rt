@@ -5,11 +5,11 @@ ghost use Rattle.mvo_pair.specs.Files.{AreEntries};
 ghost use Rattle.mvo_pair.specs.Reading.{all_keep, Finds, IsBytes, number, len_found, entry_of, keeps, entry_found, found_at, data_found, places_from, rise, is_below};
 
 use crate::entry::Entry;
-use crate::format::Format;
 use crate::header::behind_header;
 use crate::number::{u8_at, u16_at, u64_at};
 use crate::pair::Pair;
 use crate::unread::Unread;
+use mvo_format::Format;
 use mvo_types::{Row, RowKey, Stamp};
 use std::alloc::{AllocError, Global};
 

@@ -5,7 +5,6 @@ mod data;
 mod delta;
 mod encode;
 mod entry;
-mod format;
 mod header;
 mod live;
 mod number;
@@ -16,8 +15,8 @@ mod writing;
 
 pub use data::are_entries;
 pub use entry::Entry;
-pub use format::{FIRST_FORMAT, Format};
 pub use live::Live;
+pub use mvo_format::{FIRST_FORMAT, Format};
 pub use pair::{Pair, load_pair};
 pub use read::read_pair;
 pub use unread::Unread;

@@ -6,10 +6,10 @@ ghost use Rattle.mvo_pair.specs.Loading.{LoadsAs};
 ghost use Rattle.mvo_pair.specs.Writing.{IsStop, CountsFaults};
 
 use crate::data::read_data;
-use crate::format::Format;
 use crate::live::Live;
 use crate::pair::{Pair, live_in, refusal_of};
 use mvo_disk::{Disk, ReadFailure, read_whole};
+use mvo_format::Format;
 use mvo_types::Refusal;
 use std::alloc::Global;
 

@@ -9,10 +9,10 @@ ghost use Rattle.mvo_pair.specs.Writing.{IsWriteRefusal, KeepsNumbers, GainsNumb
 use crate::delta::NUMBER;
 use crate::encode::{encode_data, encode_delta, encode_numbers};
 use crate::entry::Entry;
-use crate::format::Format;
 use crate::header::HEADER;
 use crate::pair::Pair;
 use mvo_disk::{Disk, rewrite_synced, write_synced};
+use mvo_format::Format;
 use mvo_types::Refusal;
 use std::alloc::Global;
 

@@ -2,7 +2,7 @@ use Rattle.std.proofs.Common.{◌≡◌, ◌⊎◌, ℕ, List, inl, inr, ⊎_eli
 use Rattle.mvo_pair.specs.Answers.{IsOnly}
 use Rattle.mvo_pair.specs.Loading.{LoadsAs}
 use Rattle.mvo_pair.specs.Writing.{IsStop}
-use Rattle.mvo_pair.specs.declared.format.Format.{Format}
+use Rattle.mvo_format.specs.declared.format.Format.{Format}
 use Rattle.mvo_pair.specs.declared.pair.Pair.{Pair}
 use Rattle.mvo_pair.specs.Reading.{pair_found, live_found}
 use Rattle.mvo_pair.proofs.Loads.{Fits, ok_file, data_len, loads, tells_ok, tells_err, data_stops, counts_live}

@@ -1,4 +1,4 @@
-use Rattle.std.proofs.Common.{◌+◌, List, ℕ, length, sym, ap, ◌∙◌, arith}
+use Rattle.std.proofs.Common.{arith}
 use Rattle.mvo_disk.specs.Disk.{Torn}
 use Rattle.mvo_frame.specs.Standing.{HasWithOrWithout}
 use Rattle.mvo_frame.proofs.Crash.{gate_few, torn_gate, opened_gate, here_only}

@@ -1,4 +1,4 @@
-use Rattle.std.proofs.Common.{◌+◌, List, ℕ, length, sym, ap, ◌∙◌, arith}
+use Rattle.std.proofs.Common.{◌+◌, length, ◌∙◌, arith}
 use Rattle.mvo_disk.specs.Disk.{Torn}
 use Rattle.mvo_frame.specs.Frames.{HasFrames}
 use Rattle.mvo_frame.proofs.Crash.{gate_few, torn_behind, written_behind, here_only, unmoved}

@@ -1,3 +1,4 @@
+use crate::header::VERSION;
 use mvo_types::{MAX_DATA_LEN, MAX_TABLE};
 
 /// A version of the files, and what it allows.
@@ -13,7 +14,7 @@ pub struct Format {
 
 /// Version 1.
 pub const FIRST_FORMAT: Format = Format {
-    version: 1,
+    version: VERSION,
     max_table: MAX_TABLE,
     max_data_len: MAX_DATA_LEN as u16,
 };
