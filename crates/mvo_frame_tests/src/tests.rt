@@ -90,11 +90,23 @@ fn a_group_is_appended(rt: HostRuntime) -> Result<(), Fail> {
 #[test]
 fn the_vector_is_read(rt: HostRuntime) -> Result<(), Fail> {
     let alloc = rt.alloc();
-    assert_eq!(rt; found(alloc, FIRST_FORMAT, Kind::Last, &SEGMENT)?.as_str(), "1 at 62");
-    assert_eq!(rt; found(alloc, FIRST_FORMAT, Kind::Sealed, &SEGMENT)?.as_str(), "1 at 62");
+    assert_eq!(rt;
+        found(alloc, FIRST_FORMAT, Kind::Last, &SEGMENT)?.as_str(),
+        "1 at 62"
+    );
+    assert_eq!(rt;
+        found(alloc, FIRST_FORMAT, Kind::Sealed, &SEGMENT)?.as_str(),
+        "1 at 62"
+    );
     let fresh = b"MVOL\x01\0\0\0\0";
-    assert_eq!(rt; found(alloc, FIRST_FORMAT, Kind::Last, fresh)?.as_str(), "0 at 8");
-    assert_eq!(rt; found(alloc, FIRST_FORMAT, Kind::Sealed, fresh)?.as_str(), "refused 54 3");
+    assert_eq!(rt;
+        found(alloc, FIRST_FORMAT, Kind::Last, fresh)?.as_str(),
+        "0 at 8"
+    );
+    assert_eq!(rt;
+        found(alloc, FIRST_FORMAT, Kind::Sealed, fresh)?.as_str(),
+        "refused 54 3"
+    );
     Ok(())
 }
 
@@ -104,7 +116,10 @@ fn each_change_is_found(rt: HostRuntime) -> Result<(), Fail> {
     let alloc = rt.alloc();
     for len in 0..SEGMENT.len() {
         let bytes = &SEGMENT[..len];
-        assert_eq!(rt; found(alloc, FIRST_FORMAT, Kind::Last, bytes)?, plain(alloc, bytes)?);
+        assert_eq!(rt;
+            found(alloc, FIRST_FORMAT, Kind::Last, bytes)?,
+            plain(alloc, bytes)?
+        );
     }
     for i in 0..SEGMENT.len() {
         for change in 1..=255 {
@@ -112,7 +127,10 @@ fn each_change_is_found(rt: HostRuntime) -> Result<(), Fail> {
             if let Some(byte) = bytes.get_mut(i) {
                 *byte ^= change;
             }
-            assert_eq!(rt; found(alloc, FIRST_FORMAT, Kind::Last, &bytes)?, plain(alloc, &bytes)?);
+            assert_eq!(rt;
+                found(alloc, FIRST_FORMAT, Kind::Last, &bytes)?,
+                plain(alloc, &bytes)?
+            );
         }
     }
     Ok(())
@@ -127,12 +145,18 @@ fn the_limits_are_those_of_the_version(rt: HostRuntime) -> Result<(), Fail> {
         max_table: 0,
         max_data_len: 1,
     };
-    assert_eq!(rt; found(alloc, enough, Kind::Last, &SEGMENT)?.as_str(), "1 at 62");
+    assert_eq!(rt;
+        found(alloc, enough, Kind::Last, &SEGMENT)?.as_str(),
+        "1 at 62"
+    );
     let short = Format {
         version: VERSION,
         max_table: 0,
         max_data_len: 0,
     };
-    assert_eq!(rt; found(alloc, short, Kind::Last, &SEGMENT)?.as_str(), "refused 54 3");
+    assert_eq!(rt;
+        found(alloc, short, Kind::Last, &SEGMENT)?.as_str(),
+        "refused 54 3"
+    );
     Ok(())
 }
