@@ -13,7 +13,8 @@ use Rattle.mvo_format.specs.declared.format.Format.{Format}
 use Rattle.mvo_pair.specs.declared.pair.Pair.{Pair}
 use Rattle.mvo_manifest.specs.Data.{ManifestData}
 use Rattle.mvo_manifest.specs.Slots.{newest}
-use Rattle.mvo_image.specs.Rows.{AreApart, rows_of, after_groups, mark_after}
+use Rattle.mvo_frame.specs.Frames.{mark_after}
+use Rattle.mvo_image.specs.Rows.{AreApart, rows_of, after_groups}
 
 -- the bytes of each file
 abbrev pub Image : Type 0

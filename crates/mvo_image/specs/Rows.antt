@@ -41,7 +41,3 @@ after_record m r = fold (λ n w. after_effect w.0 w.1 n) m r.writes
 -- the rows after the transactions of some groups, in order
 abbrev pub after_groups : Map → List GroupData → Map
 after_groups m gs = fold after_record m (flat_map (λ g. g.records) gs)
-
--- the mark of the last group, or the one before the first
-abbrev pub mark_after : ℕ → List GroupData → ℕ
-mark_after mark gs = fold (λ n g. g.mark) mark gs
