@@ -1,0 +1,5 @@
+pub mod Named
+pub mod Opened
+pub mod Framed
+pub mod Grown
+pub mod Appended

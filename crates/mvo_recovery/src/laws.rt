@@ -1,0 +1,2 @@
+/// The laws of recovery. The call does nothing.
+pub fn laws_of_recovery() {}
