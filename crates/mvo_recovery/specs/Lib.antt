@@ -1,3 +1,4 @@
 pub mod Parts
 pub mod Settled
+pub mod Installing
 pub mod Rotation
