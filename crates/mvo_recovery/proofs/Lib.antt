@@ -5,3 +5,6 @@ pub mod Grown
 pub mod Appended
 pub mod Installed
 pub mod Rotated
+pub mod Begun
+pub mod Moments
+pub mod Proved

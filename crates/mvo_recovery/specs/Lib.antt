@@ -2,3 +2,5 @@ pub mod Parts
 pub mod Settled
 pub mod Installing
 pub mod Rotation
+pub mod Beginning
+pub mod Laws
