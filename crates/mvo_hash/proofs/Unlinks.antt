@@ -19,7 +19,7 @@ use Rattle.mvo_hash.proofs.Views.{put_at, put_same, put_other, numbers_shown, to
 pub without_here : (n m : ℕ) (ns : List ℕ) → eqb n m ≡ true → without n (m ∷ ns) ≡ without n ns
 without_here n m ns e = ap (λ b. cond (not b) (m ∷ without n ns) (without n ns)) e
 
-without_there : (n m : ℕ) (ns : List ℕ) → eqb n m ≡ false → without n (m ∷ ns) ≡ m ∷ without n ns
+pub without_there : (n m : ℕ) (ns : List ℕ) → eqb n m ≡ false → without n (m ∷ ns) ≡ m ∷ without n ns
 without_there n m ns e = ap (λ b. cond (not b) (m ∷ without n ns) (without n ns)) e
 
 -- to take out what isn't there changes nothing
