@@ -18,7 +18,8 @@ use Rattle.mvo_visible.specs.Fronts.{AllOwnInFront, DifferAt, IsUnsettledAt, wit
 use Rattle.mvo_visible.specs.Fronts.{StandsInFront, IsLatestBehind}
 
 -- What `shown` and `check_entry` ask of the versions is kept.
-pub record IsKept (states states' : States) (slots slots' : Slots) (lists lists' : Lists) : Type 0 where
+pub record IsKept
+    (states states' : States) (slots slots' : Slots) (lists lists' : Lists) : Type 0 where
   pub falling : AllHaveFallingStamps states slots lists → AllHaveFallingStamps states' slots' lists'
   pub own : (b reader : ℕ) → AllOwnInFront states b reader slots lists
       → AllOwnInFront states' b reader slots' lists'
