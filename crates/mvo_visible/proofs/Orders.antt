@@ -10,8 +10,8 @@ use Rattle.mvo_visible.specs.declared.seen.Seen.TheVariants.{Nothing, Settled, S
 use Rattle.mvo_visible.specs.Words.{States, seen_in, seen_of, names}
 use Rattle.mvo_visible.specs.Versions.{Numbered, versions_at}
 use Rattle.mvo_visible.specs.Shown.{HasFallingStamps, HasOwnInFront, IsSettledBehind}
-use Rattle.mvo_visible.specs.Fronts.{DifferAt, StandsInFront, IsLatestBehind}
-use Rattle.mvo_visible.specs.Laws.{PrepareKeepsOrder, CommitKeepsOrder, AbortKeepsOrder, FewerKeepFront}
+use Rattle.mvo_visible.specs.Fronts.{DifferAt, StandsInFront, IsLatestBehind, WroteNothingBehind}
+use Rattle.mvo_visible.specs.Laws.{PrepareKeepsOrder, CommitKeepsOrder, AbortKeepsOrder, FewerKeepFront, CommitKeepsFront}
 use Rattle.mvo_visible.proofs.Behind.{IsUnder, AreUnder, IsOthersBelow, behind_map, behind_zip, all_map, settled_behind, all_under, from_falling, to_falling, from_front, to_front}
 
 -- ---- what is seen in a word, where one transaction stands otherwise
@@ -166,3 +166,22 @@ module _ (t : ℕ) (states states' : States) (end' : Stamp) (d : DifferAt t stat
 pub commit_keeps_order : CommitKeepsOrder
 commit_keeps_order states states' t end' vs d was is h =
     (latest t states states' end' d was is vs, committed t states states' end' d was is vs h)
+
+module _ (t : ℕ) (states states' : States) (end' : Stamp) (d : DifferAt t states states') (was : states t ≡ Some (Preparing end')) (is : states' t ≡ Some (Committed end')) (b r : ℕ) (below : end'.0 < b) where
+  wrote_nothing : (vs : List Numbered) → HasOwnInFront states' b r vs → WroteNothingBehind t r vs
+  wrote_nothing [] h = tt
+  wrote_nothing (e ∷ es) h = (λ n. h.0 end' (now_settled t states states' end' d was is e.1.begin n) below, wrote_nothing es h.1)
+
+  front_committed : (vs : List Numbered) → HasOwnInFront states b r vs → WroteNothingBehind t r vs → HasOwnInFront states' b r vs
+  front_committed [] h w = tt
+  front_committed (e ∷ es) h w = (
+    λ s q l. elim (cases_Bool (names t e.1.begin)) [
+      | inl n ↦ w.0 n
+      | inr n ↦ h.0 s (sym (other_same t states states' d e.1.begin n) ∙ q) l
+    ],
+    front_committed es h.1 w.1,
+  )
+
+pub commit_keeps_front : CommitKeepsFront
+commit_keeps_front states states' t end' b r vs d was is below h =
+    (wrote_nothing t states states' end' d was is b r below vs, front_committed t states states' end' d was is b r below vs h)

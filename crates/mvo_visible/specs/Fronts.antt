@@ -1,5 +1,6 @@
 -- Which versions stand in front of the others of their key.
-use Rattle.std.specs.Prelude.{◌≡◌, ◌≢◌, ℕ, ◌+◌, true, List, [], ◌∷◌, Some, ⊤}
+use Rattle.std.specs.Prelude.{◌≡◌, ◌≢◌, ℕ, ◌+◌, true, false, List, [], ◌∷◌, Some, ⊤}
+use Rattle.std.specs.List.{list_any}
 use Rattle.mvo_types.specs.declared.row.RowKey.{RowKey}
 use Rattle.mvo_types.specs.declared.ids.Stamp.{Stamp}
 use Rattle.mvo_chain.specs.declared.version.Version.{Version}
@@ -7,7 +8,7 @@ use Rattle.mvo_chain.specs.Slots.{Slots, version_at}
 use Rattle.mvo_hash.specs.Lists.{Lists, number, numbers_of, with_numbers, without}
 use Rattle.mvo_visible.specs.declared.seen.Seen.TheVariants.{Settled}
 use Rattle.mvo_visible.specs.Words.{States, seen_of, names}
-use Rattle.mvo_visible.specs.Versions.{Numbered, versions_at}
+use Rattle.mvo_visible.specs.Versions.{Numbered, versions_at, is_own}
 use Rattle.mvo_visible.specs.Shown.{IsSettledBehind, HasOwnInFront}
 
 -- only this transaction may stand otherwise
@@ -45,3 +46,10 @@ abbrev pub IsLatestBehind : States → ℕ → ℕ → List Numbered → Type 0
 IsLatestBehind states s t [] = ⊤
 IsLatestBehind states s t (e ∷ es) =
     (names t e.1.begin ≡ true → IsSettledBehind states s es) × IsLatestBehind states s t es
+
+-- behind what the transaction put the reader wrote nothing
+abbrev pub WroteNothingBehind : ℕ → ℕ → List Numbered → Type 0
+WroteNothingBehind t reader [] = ⊤
+WroteNothingBehind t reader (e ∷ es) =
+    (names t e.1.begin ≡ true → list_any (is_own reader) es ≡ false)
+    × WroteNothingBehind t reader es

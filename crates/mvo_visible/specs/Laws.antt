@@ -15,7 +15,7 @@ use Rattle.mvo_visible.specs.Words.{States, seen_of}
 use Rattle.mvo_visible.specs.Versions.{Numbered}
 use Rattle.mvo_visible.specs.Shown.{AllHaveFallingStamps, HasFallingStamps, HasOwnInFront}
 use Rattle.mvo_visible.specs.Fronts.{AllOwnInFront, DifferAt, IsUnsettledAt, with_new, with_front}
-use Rattle.mvo_visible.specs.Fronts.{StandsInFront, IsLatestBehind}
+use Rattle.mvo_visible.specs.Fronts.{StandsInFront, IsLatestBehind, WroteNothingBehind}
 
 -- What `shown` and `check_entry` ask of the versions is kept.
 pub record IsKept
@@ -78,3 +78,11 @@ FewerKeepFront = (states states' : States) (b reader : ℕ) (vs : List Numbered)
     ((w : Held) (s : Stamp) → s.0 < b → seen_of states' w ≡ Settled s →
     seen_of states w ≡ Settled s) →
     HasOwnInFront states b reader vs → HasOwnInFront states' b reader vs
+
+-- A Preparing transaction commits with an end below b. What a reader wrote stays in front exactly
+-- where it wrote nothing behind what that one put.
+abbrev pub CommitKeepsFront : Type 0
+CommitKeepsFront = (states states' : States) (t : ℕ) (end' : Stamp) (b reader : ℕ)
+    (vs : List Numbered) → DifferAt t states states' → states t ≡ Some (Preparing end') →
+    states' t ≡ Some (Committed end') → end'.0 < b → HasOwnInFront states b reader vs →
+    HasOwnInFront states' b reader vs ↔ WroteNothingBehind t reader vs

@@ -1,6 +1,6 @@
 ghost use Rattle.mvo_visible.specs.Laws.{NewKeepsOrder, FrontKeepsOrder, AbortKeepsOrder};
 ghost use Rattle.mvo_visible.specs.Laws.{PrepareKeepsOrder, CommitKeepsOrder};
-ghost use Rattle.mvo_visible.specs.Laws.{AlikeKeepsOrder, FewerKeepFront};
+ghost use Rattle.mvo_visible.specs.Laws.{AlikeKeepsOrder, FewerKeepFront, CommitKeepsFront};
 
 /// The laws of the order in which the versions of a key stand, which `shown` asks for. A version
 /// whose put isn't settled may go in front at any time, and an abort takes nothing out of order.
@@ -14,4 +14,5 @@ pub fn laws_of_order()
     ensures commit { CommitKeepsOrder }
     ensures alike { AlikeKeepsOrder }
     ensures fewer { FewerKeepFront }
+    ensures commit_front { CommitKeepsFront }
 {}

@@ -1,5 +1,5 @@
 use Rattle.mvo_visible.proofs.Moves.{new_keeps_order, front_keeps_order, alike_keeps_order}
-use Rattle.mvo_visible.proofs.Orders.{abort_keeps_order, prepare_keeps_order, commit_keeps_order, fewer_keep_front}
+use Rattle.mvo_visible.proofs.Orders.{abort_keeps_order, prepare_keeps_order, commit_keeps_order, fewer_keep_front, commit_keeps_front}
 use Rattle.mvo_visible.proofs.laws.laws_of_order.Goals as goal
 
 pub returns-clause-new : goal.returns-clause-new
@@ -22,3 +22,6 @@ returns-clause-alike c = alike_keeps_order
 
 pub returns-clause-fewer : goal.returns-clause-fewer
 returns-clause-fewer c = fewer_keep_front
+
+pub returns-clause-commit_front : goal.returns-clause-commit_front
+returns-clause-commit_front c = commit_keeps_front
