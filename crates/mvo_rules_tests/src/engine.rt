@@ -313,7 +313,7 @@ impl Engine {
     }
 
     /// Replaces one word, or lets the transaction leave.
-    fn finish(&mut self, tx: &mut Open, end: Option<Stamp>) {
+    pub fn finish(&mut self, tx: &mut Open, end: Option<Stamp>) {
         if !tx.words.is_empty() {
             let word = tx.words.remove(0);
             self.replace(tx.id, word, end);

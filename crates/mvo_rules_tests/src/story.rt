@@ -1,4 +1,4 @@
-//! A story in which the order of writing isn't enough.
+//! Stories in which the order of writing isn't enough.
 
 use crate::draws::key_of;
 use crate::engine::Engine;
@@ -6,7 +6,7 @@ use crate::open::Open;
 use crate::plain::shown_of_others;
 use mvo_types::{Stamp, TxId};
 use mvo_visible::Shown;
-use std::alloc::AllocError;
+use std::alloc::{AllocError, Global};
 use std::process::Abort;
 use std::test::Fail;
 
@@ -54,4 +54,38 @@ fn a_removal_of_what_was_rolled_back_stands_in_front(rt: HostRuntime) -> Result<
     assert_eq!(rt; shown_now(&rt, &engine), left);
     assert_eq!(rt; engine.counts.strange, 0);
     Ok(())
+}
+
+/// T deletes the row that X put, and X rolls back. Y inserts the key and commits, and only then T
+/// draws its end: its removal is the latest change, though it stands at a row that nobody has put
+/// any more. X may have taken its word back by then.
+fn removes_what_nobody_put(rt: &impl Abort, alloc: Global, finishes: bool) -> Result<(), Fail> {
+    let mut engine = Engine::new(alloc, 5)?;
+    let mut x = begun(rt, &mut engine)?;
+    engine.insert(&mut x, key_of(1), 1)?;
+    engine.precommit(&x)?;
+    let mut t = begun(rt, &mut engine)?;
+    engine.delete(&mut t, key_of(1))?;
+    engine.abort(&x)?;
+    if finishes {
+        engine.finish(&mut x, None);
+    }
+    let mut y = begun(rt, &mut engine)?;
+    engine.insert(&mut y, key_of(1), 2)?;
+    engine.precommit(&y)?;
+    engine.settle(&y);
+    engine.precommit(&t)?;
+    let removed = Shown {
+        version: None,
+        depends_on: Some(t.id),
+    };
+    assert_eq!(rt; shown_now(rt, &engine), removed);
+    assert_eq!(rt; engine.counts.strange, 0);
+    Ok(())
+}
+
+#[test]
+fn a_removal_of_what_nobody_has_put_stands_in_front(rt: HostRuntime) -> Result<(), Fail> {
+    removes_what_nobody_put(&rt, rt.alloc(), false)?;
+    removes_what_nobody_put(&rt, rt.alloc(), true)
 }

@@ -133,13 +133,13 @@ fn assert_met(rt: &impl Abort, counts: &Counts) {
         counts.own_deleted,
         counts.by_preparing,
     ] {
-        assert!(rt; met > 3_000, "{counts:?}");
+        assert!(rt; met > 1_500, "{counts:?}");
     }
     for met in [counts.crowded, counts.doomed] {
-        assert!(rt; met > 400, "{counts:?}");
+        assert!(rt; met > 150, "{counts:?}");
     }
     for met in [counts.inserted_twice, counts.ranges] {
-        assert!(rt; met > 100, "{counts:?}");
+        assert!(rt; met > 50, "{counts:?}");
     }
 }
 
@@ -151,12 +151,12 @@ fn assert_run(rt: &impl Abort, counts: &Counts) {
         counts.committed,
         counts.moved,
     ] {
-        assert!(rt; met > 100, "{counts:?}");
+        assert!(rt; met > 60, "{counts:?}");
     }
     for met in [counts.waits, counts.flagged] {
-        assert!(rt; met > 50, "{counts:?}");
+        assert!(rt; met > 20, "{counts:?}");
     }
-    assert!(rt; counts.ended_unput > 5, "{counts:?}");
+    assert!(rt; counts.ended_unput > 0, "{counts:?}");
 }
 
 #[test]
