@@ -17,7 +17,7 @@ use Rattle.mvo_visible.specs.Words.{States, seen_of}
 use Rattle.mvo_visible.specs.Versions.{Numbered, and_version, versions_by, versions_at}
 use Rattle.mvo_visible.specs.Shown.{HasFallingStamps, HasOwnInFront}
 use Rattle.mvo_visible.specs.Fronts.{IsUnsettled, IsUnsettledAt}
-use Rattle.mvo_visible.specs.Laws.{SlotsDifferAt, NewKeepsOrder, FrontKeepsOrder, AlikeKeepsOrder, seen_both}
+use Rattle.mvo_visible.specs.Laws.{SlotsDifferAt, NewKeepsOrder, FrontKeepsOrder, LessKeepsOrder, UnheldKeepsOrder, AlikeKeepsOrder, seen_both}
 use Rattle.mvo_visible.proofs.Behind.{Behind, AreUnder, IsUnder, IsOthersBelow, from_falling, to_falling, from_front, to_front}
 
 -- the versions with these numbers
@@ -117,6 +117,24 @@ front_keeps_order states slots lists key n u = record {
       at_each (λ ns. HasOwnInFront states b r (versions slots ns)) lists key (n ∷ without n (numbers_of lists key)) q
       (to_front states b r (versions slots (n ∷ without n (numbers_of lists key))) (behind_front states slots (IsOthersBelow b r) n (numbers_of lists key) u (from_front states b r (versions slots (numbers_of lists key)) (h key))))
       (h q);
+}
+
+pub less_keeps_order : LessKeepsOrder
+less_keeps_order states slots lists key n = record {
+  falling = λ h q.
+      at_each (λ ns. HasFallingStamps states (versions slots ns)) lists key (without n (numbers_of lists key)) q
+      (to_falling states (versions slots (without n (numbers_of lists key))) (behind_without states slots (AreUnder states) n (numbers_of lists key) (from_falling states (versions slots (numbers_of lists key)) (h key))))
+      (h q);
+  own = λ b r h q.
+      at_each (λ ns. HasOwnInFront states b r (versions slots ns)) lists key (without n (numbers_of lists key)) q
+      (to_front states b r (versions slots (without n (numbers_of lists key))) (behind_without states slots (IsOthersBelow b r) n (numbers_of lists key) (from_front states b r (versions slots (numbers_of lists key)) (h key))))
+      (h q);
+}
+
+pub unheld_keeps_order : UnheldKeepsOrder
+unheld_keeps_order states slots slots' lists n d fresh = record {
+  falling = λ h q. subst (HasFallingStamps states) (sym (same_versions slots slots' n d (numbers_of lists q) (fresh.at q))) (h q);
+  own = λ b r h q. subst (HasOwnInFront states b r) (sym (same_versions slots slots' n d (numbers_of lists q) (fresh.at q))) (h q);
 }
 
 -- ---- versions that others see alike

@@ -32,6 +32,10 @@ with_new lists key n = with_numbers lists key (n ∷ numbers_of lists key)
 abbrev pub with_front : Lists → RowKey → ℕ → Lists
 with_front lists key n = with_numbers lists key (n ∷ without n (numbers_of lists key))
 
+-- the lists without a number of the key
+abbrev pub with_less : Lists → RowKey → ℕ → Lists
+with_less lists key n = with_numbers lists key (without n (numbers_of lists key))
+
 -- at each key, what the reader put or ended stands in front of each put that is settled below b
 abbrev pub AllOwnInFront : States → ℕ → ℕ → Slots → Lists → Type 0
 AllOwnInFront states b reader slots lists =

@@ -14,7 +14,7 @@ use Rattle.mvo_visible.specs.declared.seen.Seen.TheVariants.{Settled}
 use Rattle.mvo_visible.specs.Words.{States, seen_of}
 use Rattle.mvo_visible.specs.Versions.{Numbered}
 use Rattle.mvo_visible.specs.Shown.{AllHaveFallingStamps, HasFallingStamps, HasOwnInFront}
-use Rattle.mvo_visible.specs.Fronts.{AllOwnInFront, DifferAt, IsUnsettledAt, with_new, with_front}
+use Rattle.mvo_visible.specs.Fronts.{AllOwnInFront, DifferAt, IsUnsettledAt, with_new, with_front, with_less}
 use Rattle.mvo_visible.specs.Fronts.{StandsInFront, IsLatestBehind, WroteNothingBehind}
 
 -- What `shown` and `check_entry` ask of the versions is kept.
@@ -38,6 +38,16 @@ NewKeepsOrder = (states : States) (slots slots' : Slots) (lists : Lists) (key : 
 abbrev pub FrontKeepsOrder : Type 0
 FrontKeepsOrder = (states : States) (slots : Slots) (lists : Lists) (key : RowKey) (n : ℕ) →
     IsUnsettledAt states slots n → IsKept states states slots slots lists (with_front lists key n)
+
+-- A version of a key is removed.
+abbrev pub LessKeepsOrder : Type 0
+LessKeepsOrder = (states : States) (slots : Slots) (lists : Lists) (key : RowKey) (n : ℕ) →
+    IsKept states states slots slots lists (with_less lists key n)
+
+-- The slot of a number that no key has changes.
+abbrev pub UnheldKeepsOrder : Type 0
+UnheldKeepsOrder = (states : States) (slots slots' : Slots) (lists : Lists) (n : ℕ) →
+    SlotsDifferAt n slots slots' → IsFresh lists n → IsKept states states slots slots' lists lists
 
 -- A transaction is aborted.
 abbrev pub AbortKeepsOrder : Type 0

@@ -1,4 +1,5 @@
 ghost use Rattle.mvo_visible.specs.Laws.{NewKeepsOrder, FrontKeepsOrder, AbortKeepsOrder};
+ghost use Rattle.mvo_visible.specs.Laws.{LessKeepsOrder, UnheldKeepsOrder};
 ghost use Rattle.mvo_visible.specs.Laws.{PrepareKeepsOrder, CommitKeepsOrder};
 ghost use Rattle.mvo_visible.specs.Laws.{AlikeKeepsOrder, FewerKeepFront, CommitKeepsFront};
 
@@ -9,6 +10,8 @@ ghost use Rattle.mvo_visible.specs.Laws.{AlikeKeepsOrder, FewerKeepFront, Commit
 pub fn laws_of_order()
     ensures new { NewKeepsOrder }
     ensures front { FrontKeepsOrder }
+    ensures less { LessKeepsOrder }
+    ensures unheld { UnheldKeepsOrder }
     ensures abort { AbortKeepsOrder }
     ensures prepare { PrepareKeepsOrder }
     ensures commit { CommitKeepsOrder }

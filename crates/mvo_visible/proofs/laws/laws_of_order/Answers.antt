@@ -1,4 +1,4 @@
-use Rattle.mvo_visible.proofs.Moves.{new_keeps_order, front_keeps_order, alike_keeps_order}
+use Rattle.mvo_visible.proofs.Moves.{new_keeps_order, front_keeps_order, less_keeps_order, unheld_keeps_order, alike_keeps_order}
 use Rattle.mvo_visible.proofs.Orders.{abort_keeps_order, prepare_keeps_order, commit_keeps_order, fewer_keep_front, commit_keeps_front}
 use Rattle.mvo_visible.proofs.laws.laws_of_order.Goals as goal
 
@@ -25,3 +25,9 @@ returns-clause-fewer c = fewer_keep_front
 
 pub returns-clause-commit_front : goal.returns-clause-commit_front
 returns-clause-commit_front c = commit_keeps_front
+
+pub returns-clause-less : goal.returns-clause-less
+returns-clause-less c = less_keeps_order
+
+pub returns-clause-unheld : goal.returns-clause-unheld
+returns-clause-unheld c = unheld_keeps_order
