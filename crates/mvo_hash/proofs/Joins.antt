@@ -15,7 +15,7 @@ use Rattle.mvo_hash.proofs.Finds.{same_key, other_key, cases_key}
 use Rattle.mvo_hash.proofs.Chains.{eqb_same, among_within, chain_kept}
 use Rattle.mvo_hash.proofs.Views.{put_at, put_same, put_other, numbers_shown, to_index, grown_index, lists_put}
 
-first_among : (ns : List ℕ) → first_or_none ns ≢ no_number → is_among (first_or_none ns) ns ≡ true
+pub first_among : (ns : List ℕ) → first_or_none ns ≢ no_number → is_among (first_or_none ns) ns ≡ true
 first_among [] h = absurd (h refl)
 first_among (n ∷ ns) h = or_left (eqb n n) (is_among n ns) (eqb_same n)
 

@@ -1,6 +1,7 @@
 pub mod Chains
 pub mod Counts
 pub mod Finds
+pub mod Fronts
 pub mod Joins
 pub mod Puts
 pub mod Tables

@@ -16,10 +16,10 @@ use Rattle.mvo_hash.proofs.Chains.{eqb_same, among_within, newest_is, older_back
 use Rattle.mvo_hash.proofs.Joins.{held_within}
 use Rattle.mvo_hash.proofs.Views.{put_at, put_same, put_other, numbers_shown, to_index, lists_put}
 
-without_here : (n m : ℕ) (ns : List ℕ) → eqb n m ≡ true → without n (m ∷ ns) ≡ without n ns
+pub without_here : (n m : ℕ) (ns : List ℕ) → eqb n m ≡ true → without n (m ∷ ns) ≡ without n ns
 without_here n m ns e = ap (λ b. cond (not b) (m ∷ without n ns) (without n ns)) e
 
-without_there : (n m : ℕ) (ns : List ℕ) → eqb n m ≡ false → without n (m ∷ ns) ≡ m ∷ without n ns
+pub without_there : (n m : ℕ) (ns : List ℕ) → eqb n m ≡ false → without n (m ∷ ns) ≡ m ∷ without n ns
 without_there n m ns e = ap (λ b. cond (not b) (m ∷ without n ns) (without n ns)) e
 
 -- to take out what isn't there changes nothing
@@ -50,6 +50,14 @@ among_after n m (k ∷ ns) other a =
         | inl is ↦ or_left (eqb m k) (is_among m (without n ns)) is
         | inr b ↦ or_right (eqb m k) (is_among m (without n ns)) (among_after n m ns other b)
       ]
+    ]
+
+pub among_self : (n : ℕ) (ns : List ℕ) → is_among n (without n ns) ≡ false
+among_self n [] = refl
+among_self n (m ∷ ns) =
+    elim (cases_Bool (eqb n m)) [
+      | inl e ↦ ap (is_among n) (without_here n m ns e) ∙ among_self n ns
+      | inr f ↦ ap (is_among n) (without_there n m ns f) ∙ ap (λ b. b || is_among n (without n ns)) f ∙ among_self n ns
     ]
 
 pub apart_without : (n : ℕ) (ns : List ℕ) → IsApart ns → IsApart (without n ns)
@@ -214,7 +222,7 @@ module _ (heads heads' : Map) (old new : List Link) (at : RowKey → List ℕ) (
   absent k o = false_from_ne_true _ (λ h. o (t.only k key number h a))
 
   -- what each key has is what it had without the number
-  put_is : (k : RowKey) → at' k ≡ without number (at k)
+  pub put_is : (k : RowKey) → at' k ≡ without number (at k)
   put_is k =
       elim (cases_key k key) [
         | inl e ↦ put_same at key (without number (at key)) k e ∙ ap (λ q. without number (at q)) (sym e)

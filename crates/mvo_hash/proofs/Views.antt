@@ -109,6 +109,16 @@ unfolding none_if_empty
 get-with_numbers lists key [] q = get-remove keys_total lists key q
 get-with_numbers lists key (n ∷ ns) q = get-insert keys_total lists key (n ∷ ns) q
 
+-- the numbers of each key, once a key has these
+pub numbers_put : (lists : Lists) (key : RowKey) (ns : List ℕ) (q : RowKey) → numbers_of (with_numbers lists key ns) q ≡ cond (eq_by_cmp key_cmp q key) ns (numbers_of lists q)
+numbers_put lists key ns q =
+    ap or_empty (get-with_numbers lists key ns q) ∙ or_empty-cond (eq_by_cmp key_cmp q key) (none_if_empty ns) (get lists q)
+    ∙ ap (λ ms. cond (eq_by_cmp key_cmp q key) ms (numbers_of lists q)) (or_empty-none_if_empty ns)
+  where
+    or_empty-cond : (b : Bool) (o p : Option (List ℕ)) → or_empty (cond b o p) ≡ cond b (or_empty o) (or_empty p)
+    or_empty-cond true o p = refl
+    or_empty-cond false o p = refl
+
 -- two that hold the same numbers look the same
 pub same_lists : (heads heads' : Map) (ls ls' : List Link) (at at' : RowKey → List ℕ) → IsIndexOf heads ls at → IsIndexOf heads' ls' at' → ((q : RowKey) → at' q ≡ at q) → lists_of heads' ls' ≡ lists_of heads ls
 same_lists heads heads' ls ls' at at' t t' same =

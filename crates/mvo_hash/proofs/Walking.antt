@@ -1,5 +1,5 @@
 -- A walk along a chain, a number at a time.
-use Rattle.std.proofs.Common.{◌≡◌, ◌≢◌, ℕ, ◌<◌, ◌≤◌, List, [], ◌∷◌, length, map, Some, refl, sym, ap, ◌∙◌, subst, arith}
+use Rattle.std.proofs.Common.{◌≡◌, ◌≢◌, ℕ, ◌<◌, ◌≤◌, List, [], ◌∷◌, length, Some, refl, sym, ap, ◌∙◌, subst, arith}
 use Rattle.mvo_hash.specs.declared.link.Link.{Link}
 use Rattle.mvo_hash.specs.Links.{no_number, unheld, link, first_or_none, walk, IsChain, IsWalk}
 use Rattle.std.specs.Iterator.{MakesProgress, item_count}
@@ -8,7 +8,7 @@ use Rattle.mvo_types.specs.declared.row.RowKey.{RowKey}
 use Rattle.mvo_hash.specs.Table.{Map}
 use Rattle.mvo_hash.specs.Links.{number_or_none, numbers, IsIndex}
 use Rattle.mvo_hash.proofs.Chains.{walk_chain, chain_short}
-use Rattle.mvo_hash.proofs.Views.{walk_starts, link_read}
+use Rattle.mvo_hash.proofs.Views.{walk_starts}
 
 -- what a step of a walk does
 pub record Steps (ls : List Link) (at : ℕ) : Type 0 where

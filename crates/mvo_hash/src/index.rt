@@ -141,6 +141,22 @@ impl HashIndex {
         Ok(())
     }
 
+    /// Brings a version of the key to the front of the others, which stay in their order. It takes
+    /// no memory and no room, and changes nothing where the version is the newest already.
+    pub fn bring_to_front(&mut self, key: RowKey, version: VersionNo)
+        requires { IsTrue (is_among version.0 (numbers_of self.old.versions key)) }
+        ensures front { self.new.versions ≡ with_numbers self.old.versions key
+            (version.0 ∷ without version.0 (numbers_of self.old.versions key)) }
+        ensures room { self.new.room ≡ self.old.room }
+    {
+        if self.links[version.index()].newer == NONE {
+            return;
+        }
+        unlink(&mut self.links, version.0);
+        let newest = or_none(self.heads.set(key, version.0));
+        join(&mut self.links, version.0, newest);
+    }
+
     /// Removes a version of the key. It takes no memory and no room, and gives none back.
     pub fn remove(&mut self, key: RowKey, version: VersionNo)
         requires { IsTrue (is_among version.0 (numbers_of self.old.versions key)) }

@@ -83,6 +83,27 @@ fn toggled_in_both(
     }
 }
 
+// Brings the version to the front in both, where some key has it. Answers whether the index knew.
+fn fronted_in_both(
+    index: &mut HashIndex,
+    list: &mut Vec<(RowKey, VersionNo)>,
+    number: VersionNo,
+) -> Result<bool, AllocError> {
+    let alloc = *list.allocator();
+    match list.iter().position(|entry| entry.1 == number) {
+        Some(at) if at < list.len() => {
+            let entry = list.remove(at);
+            list.push(entry)?;
+            let there = has(alloc, index, entry.0, number)?;
+            if there {
+                index.bring_to_front(entry.0, number);
+            }
+            Ok(there)
+        }
+        _ => Ok(!index.is_held(number)),
+    }
+}
+
 // Whether the walk from version to version goes over these.
 fn walks_over(index: &HashIndex, versions: &[VersionNo]) -> bool {
     for (i, version) in versions.iter().enumerate() {
@@ -104,10 +125,17 @@ fn agrees_with_a_plain_list(rt: HostRuntime) -> Result<(), Fail> {
         let mut numbers = Numbers::new();
         let mut index = HashIndex::new(alloc, seed);
         let mut list: Vec<(RowKey, VersionNo)> = Vec::new(alloc);
-        for step in 0u32..4000 {
+        for step in 0u32..9000 {
             let key = some_key(&mut numbers);
             let number = some_version(&mut numbers);
-            let knew = toggled_in_both(&mut index, &mut list, key, number)?;
+            let room = index.room();
+            let knew = if numbers.below(3) == 0 {
+                toggled_in_both(&mut index, &mut list, key, number)?
+            } else {
+                let knew = fronted_in_both(&mut index, &mut list, number)?;
+                assert_eq!(rt; index.room(), room, "at step {step}");
+                knew
+            };
             assert!(rt; knew, "at step {step}");
             for shown in [key, some_key(&mut numbers)] {
                 let wanted = listed(alloc, list.as_slice(), shown)?;
@@ -121,6 +149,39 @@ fn agrees_with_a_plain_list(rt: HostRuntime) -> Result<(), Fail> {
                 assert!(rt; walks_over(&index, wanted.as_slice()), "at step {step}");
             }
         }
+    }
+    Ok(())
+}
+
+#[test]
+fn a_version_comes_to_the_front_of_its_key_alone(rt: HostRuntime) -> Result<(), Fail> {
+    let alloc = rt.alloc();
+    let mut index = HashIndex::new(alloc, 2);
+    let keys = [RowKey { table: 3, key: 4 }, RowKey { table: 3, key: 5 }];
+    for number in 0u32..8 {
+        let number = VersionNo(number);
+        let key = keys[(number.0 & 1) as usize];
+        let held = index.is_held(number);
+        assert!(rt; !held);
+        index.add(key, number)?;
+    }
+    // The oldest, one in between, and one that is in front already.
+    for (number, wanted) in [(0, [0, 6, 4, 2]), (4, [4, 0, 6, 2]), (4, [4, 0, 6, 2])] {
+        let number = VersionNo(number);
+        let there = has(alloc, &index, keys[0], number)?;
+        assert!(rt; there);
+        index.bring_to_front(keys[0], number);
+        let wanted = wanted.map(|n| VersionNo(n));
+        assert_eq!(rt;
+            index.versions_of(alloc, keys[0])?.as_slice(),
+            wanted.as_slice()
+        );
+        assert!(rt; walks_over(&index, wanted.as_slice()));
+        let others = [7, 5, 3, 1].map(|n| VersionNo(n));
+        assert_eq!(rt;
+            index.versions_of(alloc, keys[1])?.as_slice(),
+            others.as_slice()
+        );
     }
     Ok(())
 }

@@ -11,8 +11,16 @@ pub struct Counts {
     pub inserted_twice: u64,
     pub ranges: u64,
     pub committed: u64,
-    /// Steps after which the versions may be out of order.
-    pub unordered: u64,
+    /// Steps after which one is Preparing that depends on an Aborted one.
+    pub doomed: u64,
+    /// Dependents of one that was aborted.
+    pub flagged: u64,
+    /// Versions that came to the front from behind another.
+    pub moved: u64,
+    /// Versions that were ended at a precommit, and that nobody has put any more.
+    pub ended_unput: u64,
+    /// Steps after which three or more are Preparing.
+    pub crowded: u64,
     /// What must never be met.
     pub strange: u64,
 }
@@ -30,7 +38,11 @@ impl Counts {
             inserted_twice: 0,
             ranges: 0,
             committed: 0,
-            unordered: 0,
+            doomed: 0,
+            flagged: 0,
+            moved: 0,
+            ended_unput: 0,
+            crowded: 0,
             strange: 0,
         }
     }

@@ -54,7 +54,7 @@ impl Engine {
         let mut tx = self.open.swap_remove(at);
         match self.table.state(tx.id) {
             Some(TxState::Active) => self.operate(&mut tx, draws)?,
-            Some(TxState::Preparing(end)) => self.lead_on(&mut tx, end, draws),
+            Some(TxState::Preparing(end)) => self.lead_on(&mut tx, end, draws)?,
             Some(TxState::Committed(end)) => self.finish(&mut tx, Some(end)),
             Some(TxState::Aborted) => self.finish(&mut tx, None),
             None => count(&mut self.counts.strange),
@@ -65,7 +65,7 @@ impl Engine {
         Ok(())
     }
 
-    fn begin(&mut self) -> Result<(), AllocError> {
+    pub fn begin(&mut self) -> Result<(), AllocError> {
         match self.table.begin(0) {
             Ok(id) => self.open.push(Open::new(self.alloc, id))?,
             Err(Refusal::OutOfMemory) => return Err(AllocError),
@@ -75,12 +75,12 @@ impl Engine {
     }
 
     fn operate(&mut self, tx: &mut Open, draws: &mut Draws) -> Result<(), AllocError> {
-        if tx.flagged {
-            self.abort(tx.id);
-            return Ok(());
+        // One that depends on an Aborted one may go on for a while, and even draw its end.
+        if tx.flagged && draws.below(3) == 0 {
+            return self.abort(tx);
         }
         match draws.below(12) {
-            0 => self.abort(tx.id),
+            0 => self.abort(tx)?,
             1 | 2 => self.precommit(tx)?,
             3 | 4 => self.scan(tx, draws.below(SORTS), draws.below(SORTS))?,
             5 | 6 => {
@@ -113,7 +113,7 @@ impl Engine {
         Ok(())
     }
 
-    fn insert(&mut self, tx: &mut Open, key: RowKey, sort: u64) -> Result<(), AllocError> {
+    pub fn insert(&mut self, tx: &mut Open, key: RowKey, sort: u64) -> Result<(), AllocError> {
         if self.look(tx, key)?.is_none() {
             tx.inserted.push(key)?;
             self.put(tx, key, sort)?;
@@ -130,7 +130,7 @@ impl Engine {
         Ok(())
     }
 
-    fn delete(&mut self, tx: &mut Open, key: RowKey) -> Result<(), AllocError> {
+    pub fn delete(&mut self, tx: &mut Open, key: RowKey) -> Result<(), AllocError> {
         if let Some(number) = self.look(tx, key)? {
             if self.end(tx, number)? {
                 tx.writes.push((key, None))?;
@@ -170,7 +170,7 @@ impl Engine {
         };
         if ended_by(&self.table, version.end, tx.id).is_some() {
             count(&mut self.counts.conflicts);
-            self.abort(tx.id);
+            self.abort(tx)?;
             return Ok(false);
         }
         self.chains.claim_end(number, TxId(tx.id.0.min(MAX_STAMP)));
@@ -178,8 +178,9 @@ impl Engine {
         Ok(true)
     }
 
-    /// Draws the end, and brings the versions put to the front of their keys.
-    fn precommit(&mut self, tx: &Open) -> Result<(), AllocError> {
+    /// Draws the end, and brings to the front of their keys the versions that it put, and those
+    /// that it ended and that nobody has put any more.
+    pub fn precommit(&mut self, tx: &Open) -> Result<(), AllocError> {
         if self.table.state(tx.id) != Some(TxState::Active) {
             count(&mut self.counts.strange);
             return Ok(());
@@ -188,12 +189,45 @@ impl Engine {
             return Err(AllocError);
         }
         for word in tx.words.iter() {
-            if let Written::Begin(number) = word {
-                if let Some(key) = self.taken_off(*number)? {
-                    self.to_front(key, *number)?;
+            match word {
+                Written::Begin(number) => self.bring_to_front(*number)?,
+                Written::End(number) => {
+                    if self.is_unput(*number) {
+                        count(&mut self.counts.ended_unput);
+                        self.bring_to_front(*number)?;
+                    }
                 }
             }
         }
+        Ok(())
+    }
+
+    /// Whether the version's put is by an Aborted one, or taken back.
+    fn is_unput(&self, number: VersionNo) -> bool {
+        match self.chains.get(number) {
+            Some(version) => match version.begin.read() {
+                Held::At(_) => false,
+                Held::Infinity => true,
+                Held::By(id) => self.table.state(id) == Some(TxState::Aborted),
+            },
+            None => false,
+        }
+    }
+
+    fn bring_to_front(&mut self, number: VersionNo) -> Result<(), AllocError> {
+        let Some(version) = self.chains.get(number) else {
+            count(&mut self.counts.strange);
+            return Ok(());
+        };
+        let key = version.row.key;
+        if !has(self.alloc, &self.index, key, number)? {
+            count(&mut self.counts.strange);
+            return Ok(());
+        }
+        if self.index.newest(key) != Some(number) {
+            count(&mut self.counts.moved);
+        }
+        self.index.bring_to_front(key, number);
         Ok(())
     }
 
@@ -213,21 +247,21 @@ impl Engine {
     }
 
     /// A check, the end or the withdrawal of a Preparing transaction.
-    fn lead_on(&mut self, tx: &mut Open, end: Stamp, draws: &mut Draws) {
-        if tx.flagged || draws.below(12) == 0 {
-            self.abort(tx.id);
-            return;
+    fn lead_on(&mut self, tx: &mut Open, end: Stamp, draws: &mut Draws) -> Result<(), AllocError> {
+        if (tx.flagged && draws.below(3) == 0) || draws.below(12) == 0 {
+            return self.abort(tx);
         }
         match tx.entries.at(tx.checked) {
             Some(entry) => match self.check(tx.id, end, entry) {
                 Check::Same => tx.checked = tx.checked.saturating_add(1),
                 Check::Differs(_) => {
                     count(&mut self.counts.failed);
-                    self.abort(tx.id);
+                    self.abort(tx)?;
                 }
             },
             None => self.settle(tx),
         }
+        Ok(())
     }
 
     pub fn check(&self, id: TxId, end: Stamp, entry: Entry) -> Check {
@@ -240,7 +274,10 @@ impl Engine {
         matches!(self.table.state(id), Some(TxState::Preparing(_)))
     }
 
-    fn settle(&mut self, tx: &Open) {
+    pub fn settle(&mut self, tx: &Open) {
+        if tx.flagged {
+            return;
+        }
         if tx.depends_on.iter().any(|on| self.is_preparing(*on)) {
             count(&mut self.counts.waits);
             return;
@@ -254,21 +291,29 @@ impl Engine {
         }
     }
 
-    fn abort(&mut self, id: TxId) {
-        match self.table.state(id) {
-            Some(TxState::Active) => self.table.abort(id),
-            Some(TxState::Preparing(_)) => self.table.abort(id),
+    /// Withdraws it, and brings the versions that it put to the front of their keys.
+    pub fn abort(&mut self, aborted: &Open) -> Result<(), AllocError> {
+        match self.table.state(aborted.id) {
+            Some(TxState::Active) => self.table.abort(aborted.id),
+            Some(TxState::Preparing(_)) => self.table.abort(aborted.id),
             _ => count(&mut self.counts.strange),
         }
         for tx in self.open.iter_mut() {
-            if tx.does_depend(id) {
+            if tx.does_depend(aborted.id) {
                 tx.flagged = true;
+                count(&mut self.counts.flagged);
             }
         }
+        for word in aborted.words.iter() {
+            if let Written::Begin(number) = word {
+                self.bring_to_front(*number)?;
+            }
+        }
+        Ok(())
     }
 
     /// Replaces one word, or lets the transaction leave.
-    fn finish(&mut self, tx: &mut Open, end: Option<Stamp>) {
+    pub fn finish(&mut self, tx: &mut Open, end: Option<Stamp>) {
         if !tx.words.is_empty() {
             let word = tx.words.remove(0);
             self.replace(tx.id, word, end);

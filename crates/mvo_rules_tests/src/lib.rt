@@ -12,4 +12,6 @@ mod open;
 #[cfg(test)]
 mod plain;
 #[cfg(test)]
+mod story;
+#[cfg(test)]
 mod tests;

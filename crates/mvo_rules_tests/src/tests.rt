@@ -7,10 +7,20 @@ use mvo_txn::TxState;
 use mvo_types::{RowKey, Stamp, TxId};
 use mvo_validate::{Check, Entries, Entry};
 use mvo_visible::Shown;
+use std::mem::swap;
 use std::process::Abort;
 use std::test::Fail;
 
-const STEPS: u64 = 4_000;
+const STEPS: u64 = 6_000;
+
+const SEEDS: [u64; 6] = [
+    1,
+    0x9e37_79b9_7f4a_7c15,
+    2_026,
+    77,
+    0xdead_beef,
+    123_456_789,
+];
 
 /// What a transaction is shown: what it wrote last itself, and else what the others show.
 fn wanted(engine: &Engine, tx: &Open, key: RowKey, counts: &mut Counts) -> Shown {
@@ -87,16 +97,24 @@ fn note_inserts(engine: &Engine, key: RowKey, counts: &mut Counts) {
     }
 }
 
-fn compare(rt: &impl Abort, engine: &Engine, draws: &mut Draws, counts: &mut Counts) {
-    // Until it is aborted, the changes of one that depends on an Aborted one may stand behind a
-    // later put that is settled. Then the versions are out of order, and nothing is promised.
-    if engine
-        .open
-        .iter()
-        .any(|tx| tx.flagged && engine.is_preparing(tx.id))
-    {
-        return count(&mut counts.unordered);
+/// Counts where one is Preparing that can only be aborted, and where many are Preparing.
+fn note_preparing(engine: &Engine, counts: &mut Counts) {
+    let mut preparing = 0u64;
+    for tx in engine.open.iter() {
+        if engine.is_preparing(tx.id) {
+            count(&mut preparing);
+            if tx.flagged {
+                count(&mut counts.doomed);
+            }
+        }
     }
+    if preparing > 2 {
+        count(&mut counts.crowded);
+    }
+}
+
+fn compare(rt: &impl Abort, engine: &Engine, draws: &mut Draws, counts: &mut Counts) {
+    note_preparing(engine, counts);
     let at = Stamp(draws.below(engine.table.clock().0.saturating_add(2)));
     for key in 0..4 {
         compare_shown(rt, engine, at, key_of(key), counts);
@@ -115,36 +133,49 @@ fn assert_met(rt: &impl Abort, counts: &Counts) {
         counts.own_deleted,
         counts.by_preparing,
     ] {
-        assert!(rt; met > 500, "{counts:?}");
+        assert!(rt; met > 1_500, "{counts:?}");
+    }
+    for met in [counts.crowded, counts.doomed] {
+        assert!(rt; met > 150, "{counts:?}");
     }
     for met in [counts.inserted_twice, counts.ranges] {
-        assert!(rt; met > 10, "{counts:?}");
+        assert!(rt; met > 50, "{counts:?}");
     }
-    assert!(rt; counts.unordered < 200, "{counts:?}");
 }
 
 fn assert_run(rt: &impl Abort, counts: &Counts) {
     assert_eq!(rt; counts.strange, 0);
-    for met in [counts.conflicts, counts.failed, counts.committed] {
+    for met in [
+        counts.conflicts,
+        counts.failed,
+        counts.committed,
+        counts.moved,
+    ] {
+        assert!(rt; met > 60, "{counts:?}");
+    }
+    for met in [counts.waits, counts.flagged] {
         assert!(rt; met > 20, "{counts:?}");
     }
-    assert!(rt; counts.waits > 0, "{counts:?}");
+    assert!(rt; counts.ended_unput > 0, "{counts:?}");
 }
 
 #[test]
 fn agrees_with_plain_walks(rt: HostRuntime) -> Result<(), Fail> {
     let alloc = rt.alloc();
-    for seed in [1, 0x9e37_79b9_7f4a_7c15, 2_026] {
+    let mut counts = Counts::new();
+    let mut run = Counts::new();
+    for seed in SEEDS {
         let mut draws = Draws(seed);
-        let mut counts = Counts::new();
         let mut engine = Engine::new(alloc, seed)?;
+        swap(&mut engine.counts, &mut run);
         for _step in 0..STEPS {
             engine.advance(&mut draws)?;
             compare(&rt, &engine, &mut draws, &mut counts);
         }
-        assert_met(&rt, &counts);
-        assert_run(&rt, &engine.counts);
+        swap(&mut engine.counts, &mut run);
     }
+    assert_met(&rt, &counts);
+    assert_run(&rt, &run);
     Ok(())
 }
 

@@ -1,10 +1,13 @@
 -- What a walk finds over more versions, and where it may stop.
 use Rattle.std.proofs.Common.{◌≡◌, ◌≢◌, ℕ, max, ◌<◌, ◌≤◌, Bool, true, false, not, ◌&&◌, ◌||◌, cond, eqb, ltb, List, [], ◌∷◌, ◌++◌, Option, None, Some, refl, sym, ap, ◌∙◌, inl, inr, append_assoc, append-nil, arith}
-use Rattle.std.proofs.lemmas.Bool.{cases_Bool, cond-true, cond-false, eqb-true, eq-eqb, eqb-false, ltb-true, lt-ltb, le-ltb, not-true, and_parts, or_parts}
+use Rattle.std.proofs.lemmas.Bool.{cases_Bool, cond-true, cond-false, eqb-true, eq-eqb, eqb-false, ltb-true, lt-ltb, le-ltb, leb-true, not-true, and_parts, or_parts}
 use Rattle.std.proofs.lemmas.Grind.{flat_map-append}
 use Rattle.std.specs.List.{AllByRecursion, list_any}
 use Rattle.std.specs.Option.{option_map, option_or}
 use Rattle.mvo_types.specs.declared.ids.Stamp.{Stamp}
+use Rattle.mvo_word.specs.declared.held.Held.{Held}
+use Rattle.mvo_word.specs.declared.held.Held.TheVariants.{At, By, Infinity}
+use Rattle.mvo_visible.specs.declared.walked.Walked.{Walked}
 use Rattle.mvo_chain.specs.declared.version.Version.{Version}
 use Rattle.mvo_chain.specs.declared.version.VersionNo.{VersionNo}
 use Rattle.mvo_chain.specs.Slots.{Slots, version_at}
@@ -15,7 +18,7 @@ use Rattle.mvo_visible.specs.Words.{States, seen_of, names}
 use Rattle.mvo_visible.specs.Versions.{Numbered, and_version, versions_by, is_own, is_own_newest, own_newest}
 use Rattle.mvo_visible.specs.Changes.{greater, is_at, changes_by, changes_of, greatest_below, first_with, owner_with, done_with, deciding, both, later, put_of, removal_of}
 use Rattle.mvo_visible.specs.Shown.{IsSettledBehind, HasFallingStamps, HasOwnInFront}
-use Rattle.mvo_visible.specs.Walked.{walked_over, walked_on, is_last_at, is_last}
+use Rattle.mvo_visible.specs.Walked.{walked_over, walked_on, is_from, is_last_at, is_last, is_later}
 use Rattle.mvo_visible.proofs.Decides.{option_or-none, option_or_assoc, deciding-append}
 
 -- ---- one version more
@@ -80,6 +83,45 @@ walked_more states b r vs e =
     ∙ ap (λ o. record { own = list_any (is_own r) vs || o; newest = option_or (own_newest r vs) (option_or (cond (is_own_newest r e) (Some e.0) None) None); change = later (deciding b (changes_of states vs)) (deciding b (changes_of states (e ∷ []))) }) (or_false (is_own r e))
     ∙ ap (λ n. record { own = list_any (is_own r) vs || is_own r e; newest = option_or (own_newest r vs) n; change = later (deciding b (changes_of states vs)) (deciding b (changes_of states (e ∷ []))) }) (option_or-none (cond (is_own_newest r e) (Some e.0) None))
     ∙ ap (λ cs. record { own = list_any (is_own r) vs || is_own r e; newest = option_or (own_newest r vs) (cond (is_own_newest r e) (Some e.0) None); change = later (deciding b (changes_of states vs)) (deciding b cs) }) (changes_one states e)
+
+-- a version whose words are from b on changes nothing
+pub walked_later : (states : States) (b r : ℕ) (w : Walked) (n : VersionNo) (v : Version) → is_later b v ≡ true → walked_on states b r w (n, v) ≡ w
+walked_later states b r w n v later_is =
+    let parts = and_parts (is_from b v.begin) (is_from b v.end) later_is in
+    let begins = parts.0 in
+    let ends = parts.1 in
+    ap (λ o. record { own = w.own || o; newest = option_or w.newest (cond (names r v.begin && not (names r v.end)) (Some n) None); change = later w.change (deciding b (changes_by states (n, v))) })
+    (ap (λ x. x || names r v.end) (not_by v.begin begins) ∙ not_by v.end ends)
+    ∙ ap (λ o. record { own = o; newest = option_or w.newest (cond (names r v.begin && not (names r v.end)) (Some n) None); change = later w.change (deciding b (changes_by states (n, v))) }) (or_false w.own)
+    ∙ ap (λ x. record { own = w.own; newest = option_or w.newest (cond (x && not (names r v.end)) (Some n) None); change = later w.change (deciding b (changes_by states (n, v))) }) (not_by v.begin begins)
+    ∙ ap (λ m. record { own = w.own; newest = m; change = later w.change (deciding b (changes_by states (n, v))) }) (option_or-none w.newest)
+    ∙ ap (λ d. record { own = w.own; newest = w.newest; change = later w.change d }) (none begins ends)
+    ∙ ap (λ d. record { own = w.own; newest = w.newest; change = d }) (later_none w.change)
+  where
+    not_by : (h : Held) → is_from b h ≡ true → names r h ≡ false
+    not_by (At s) e = refl
+    not_by (By t) e = cc
+    not_by Infinity e = refl
+
+    later_none : (c : Option Change) → later c None ≡ c
+    later_none None = refl
+    later_none (Some c) = refl
+
+    below_none : (h : Held) → is_from b h ≡ true → deciding b (removal_of (seen_of states h)) ≡ None
+    below_none (At s) e = ap (λ t. option_map (done_with (record { stamp = s; version = None; owner = None } ∷ [])) (cond t (Some s.0) None)) (le-ltb s.0 b (leb-true b s.0 e))
+    below_none (By t) e = cc
+    below_none Infinity e = refl
+
+    put_none : (h : Held) (q : Seen) → is_from b h ≡ true → deciding b (put_of n (seen_of states h) q) ≡ None
+    put_none (At s) q e = ap (λ t. option_map (done_with (put_of n (Settled s) q)) (cond t (Some s.0) None)) (le-ltb s.0 b (leb-true b s.0 e))
+    put_none (By t) q e = cc
+    put_none Infinity q e = refl
+
+    none : is_from b v.begin ≡ true → is_from b v.end ≡ true → deciding b (changes_by states (n, v)) ≡ None
+    none begins ends =
+        deciding-append b (put_of n (seen_of states v.begin) (seen_of states v.end)) (removal_of (seen_of states v.end))
+        ∙ ap (λ c. later c (deciding b (removal_of (seen_of states v.end)))) (put_none v.begin (seen_of states v.end) begins)
+        ∙ below_none v.end ends
 
 -- ---- where a walk may stop
 -- the version's put is settled below b, and stays

@@ -1,7 +1,9 @@
 -- What a walk over versions has found.
-use Rattle.std.specs.Prelude.{ℕ, ◌||◌, ◌&&◌, nat_lt, Bool, false, not, cond, List, None, Some}
+use Rattle.std.specs.Prelude.{ℕ, ◌||◌, ◌&&◌, nat_lt, nat_le, Bool, true, false, not, cond, List, None, Some}
 use Rattle.std.specs.Option.{option_or}
 use Rattle.std.specs.List.{list_any}
+use Rattle.mvo_word.specs.declared.held.Held.{Held}
+use Rattle.mvo_word.specs.declared.held.Held.TheVariants.{At, By, Infinity}
 use Rattle.mvo_chain.specs.declared.version.Version.{Version}
 use Rattle.mvo_visible.specs.declared.seen.Seen.{Seen}
 use Rattle.mvo_visible.specs.declared.seen.Seen.TheVariants.{Nothing, Settled, Speculative}
@@ -35,3 +37,13 @@ is_last_at b (Speculative s t) end' = false
 
 abbrev pub is_last : States → ℕ → Version → Bool
 is_last states b v = is_last_at b (seen_of states v.begin) (seen_of states v.end)
+
+-- whether the word is a timestamp of at least b, or infinity
+abbrev pub is_from : ℕ → Held → Bool
+is_from b (At s) = nat_le b s.0
+is_from b (By t) = false
+is_from b Infinity = true
+
+-- whether the version tells nothing below b, by both its words
+abbrev pub is_later : ℕ → Version → Bool
+is_later b v = is_from b v.begin && is_from b v.end

@@ -4,6 +4,7 @@
 
 mod change;
 mod conflict;
+mod laws;
 mod outcome;
 mod seen;
 mod visible;
@@ -11,6 +12,7 @@ mod walked;
 
 pub use change::Change;
 pub use conflict::ended_by;
+pub use laws::laws_of_order;
 pub use outcome::Shown;
 pub use seen::{Seen, names, seen_by_others};
 pub use visible::shown;

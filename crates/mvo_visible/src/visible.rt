@@ -7,7 +7,7 @@ ghost use Rattle.mvo_visible.specs.Walked.{walked_on};
 
 use crate::outcome::Shown;
 use crate::seen::{names, seen_by_others};
-use crate::walked::{Walked, change_below, is_last, later};
+use crate::walked::{Walked, change_below, is_last, is_later, later};
 use mvo_chain::{Chains, Version, VersionNo};
 use mvo_hash::HashIndex;
 use mvo_txn::TxnTable;
@@ -39,6 +39,10 @@ pub fn shown<P>(
     };
     for number in index.walk(key) {
         if let Some(version) = chains.get(number) {
+            // Most versions that a reader who began long ago walks over are later ones.
+            if is_later(version, at) {
+                continue;
+            }
             walked = on(walked, number, version, table, at, reader);
             if is_last(table, version, at) {
                 break;

@@ -1,6 +1,6 @@
 ghost use Rattle.std.specs.Prelude.{◌≡◌, ◌∷◌, [], nat_lt, cond};
 ghost use Rattle.mvo_visible.specs.Changes.{deciding, is_at, later, later_of, put_of, removal_of, unless_removed};
-ghost use Rattle.mvo_visible.specs.Walked.{is_last};
+ghost use Rattle.mvo_visible.specs.Walked.{is_from, is_last, is_later};
 ghost use Rattle.mvo_txn.specs.Txns.{state_of};
 
 use crate::change::Change;
@@ -8,6 +8,7 @@ use crate::seen::{Seen, seen_by_others};
 use mvo_chain::{Version, VersionNo};
 use mvo_txn::TxnTable;
 use mvo_types::Stamp;
+use mvo_word::{Held, Word};
 
 /// What a walk over versions of a key has found.
 #[derive(Clone, Copy, Debug)]
@@ -28,6 +29,24 @@ pub fn is_last<P>(table: &TxnTable<P>, version: &Version, at: Stamp) -> bool
         Seen::Nothing => false,
         Seen::Settled(stamp) => stamp.0 < at.0 && !seen_by_others(table, version.end).is_at(stamp),
         Seen::Speculative(_, _) => false,
+    }
+}
+
+/// Whether both words of the version are timestamps of at least `at`, or infinity. Then it tells
+/// nothing below `at` to anyone, whoever is in the table.
+pub fn is_later(version: &Version, at: Stamp) -> bool
+    ensures { result ≡ is_later at.0 version.now }
+{
+    is_from(version.begin, at) && is_from(version.end, at)
+}
+
+fn is_from(word: Word, at: Stamp) -> bool
+    ensures { result ≡ is_from at.0 word }
+{
+    match word.read() {
+        Held::At(stamp) => at.0 <= stamp.0,
+        Held::Infinity => true,
+        Held::By(_) => false,
     }
 }
 

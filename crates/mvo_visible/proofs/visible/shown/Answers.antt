@@ -6,8 +6,8 @@ use Rattle.mvo_visible.specs.declared.walked.Walked.{Walked}
 use Rattle.mvo_visible.specs.Versions.{versions_by}
 use Rattle.mvo_visible.specs.Shown.{own_or, HasFallingStamps, HasOwnInFront}
 use Rattle.mvo_visible.specs.Walked.{walked_over, walked_on}
-use Rattle.mvo_visible.proofs.Walks.{versions_more, versions_same, versions_at_stop, walked_more, walked_stop, falling_at, own_first}
-use Rattle.mvo_visible.proofs.visible.shown.Goals.{in-None, in-Some+in-Some-get+then-is_last}
+use Rattle.mvo_visible.proofs.Walks.{versions_more, versions_same, versions_at_stop, walked_later, walked_more, walked_stop, falling_at, own_first}
+use Rattle.mvo_visible.proofs.visible.shown.Goals.{in-None, in-Some+in-Some-get+else-is_later+then-is_last}
 use Rattle.mvo_visible.proofs.visible.shown.Goals as goal
 
 pub loop-number-init : goal.loop-number-init
@@ -24,6 +24,23 @@ loop-number-preserved-else-is_last g c =
     let v = c.in-Some-get.version.now in
     let there = ap option_copied (sym c.in-Some-get.is) ∙ c.get.ensures in (
       c.on-walked.ensures ∙ ap (λ w. walked_on states b r w (n, v)) c.loop-number.invariant.0
+          ∙ sym (walked_more states b r (versions_by slots ns) (n, v))
+          ∙ ap (walked_over states b r) (sym (versions_more slots ns n v there)),
+      c.loop-number.invariant.1 ∙ ap (λ it. ns ++ it) c.in-Some.ensures.steps ∙ sym (append_assoc ns (n ∷ []) c.next.new.self),
+    )
+
+pub loop-number-preserved-then-is_later : goal.loop-number-preserved-then-is_later
+loop-number-preserved-then-is_later g c =
+    let states = state_of c.args.table.now in
+    let b = c.args.at.0 in
+    let r = c.args.reader.0 in
+    let slots = c.args.chains.now in
+    let ns = c.loop-number.yielded in
+    let n = c.in-Some.number in
+    let v = c.in-Some-get.version.now in
+    let there = ap option_copied (sym c.in-Some-get.is) ∙ c.get.ensures in (
+      c.loop-number.invariant.0
+          ∙ sym (walked_later states b r (walked_over states b r (versions_by slots ns)) n v (sym c.is_later.ensures ∙ c.if-is_later.true))
           ∙ sym (walked_more states b r (versions_by slots ns) (n, v))
           ∙ ap (walked_over states b r) (sym (versions_more slots ns n v there)),
       c.loop-number.invariant.1 ∙ ap (λ it. ns ++ it) c.in-Some.ensures.steps ∙ sym (append_assoc ns (n ∷ []) c.next.new.self),
@@ -54,7 +71,7 @@ returns g c order =
       | in-None w ↦
           let every : all ≡ ns = c.loop-number.invariant.1 ∙ ap (λ it. ns ++ it) w.in-None.ensures.steps.0 ∙ append-nil ns in
           w.walked-is ∙ c.loop-number.invariant.0 ∙ ap (λ ms. walked_over states b r (versions_by slots ms)) (sym every)
-      | in-Some+in-Some-get+then-is_last w ↦
+      | in-Some+in-Some-get+else-is_later+then-is_last w ↦
           let n = w.in-Some.number in
           let v = w.in-Some-get.version.now in
           let there = ap option_copied (sym w.in-Some-get.is) ∙ w.get.ensures in

@@ -1,6 +1,5 @@
-use Rattle.std.proofs.Common.{◌≡◌, ℕ, ◌+◌, ◌*◌, ◌<◌, ◌≤◌, ◌^◌, ◌-◌, ◌++◌, List, Option, Some, take, ap, ◌∙◌, subst, arith, refl, replicate}
+use Rattle.std.proofs.Common.{◌≡◌, ℕ, ◌+◌, ◌*◌, ◌<◌, ◌^◌, Option, Some, subst, arith, refl, replicate}
 use Rattle.std.specs.Option.{SomeIff}
-use Rattle.mvo_hash.specs.declared.slot.Slot.{Slot}
 use Rattle.mvo_hash.specs.Slots.{empty_slot}
 use Rattle.mvo_hash.proofs.Uses.{new_heads, new_table, filled_up}
 use Rattle.mvo_hash.proofs.heads.Heads.with_room.Goals as goal
