@@ -1,0 +1,5 @@
+pub mod Words
+pub mod Versions
+pub mod Nodes
+pub mod Indexes
+pub mod WordLists

@@ -1,0 +1,84 @@
+-- What the table keeps of dependencies.
+use Rattle.std.specs.Prelude.{ℕ, ◌≡◌, ◌+◌, ◌-◌, ◌==◌, ◌&&◌, Bool, false, not, cond, List, map, Option, None, Some}
+use Rattle.std.specs.List.{AllByRecursion}
+use Rattle.mvo_theory.specs.State.{State, StampedTx, ActiveTx}
+use Rattle.mvo_theory.specs.Dependencies.{has_end, with_end}
+use Rattle.mvo_theory.specs.Sound.{how_many}
+
+-- of one transaction: how many it waits for, the first aborted one of those that it depends on, and
+-- who depends on it
+pub record Node : Type 0 where
+  pub waits : ℕ
+  pub flag : Option ℕ
+  pub dependents : List ℕ
+
+abbrev pub Nodes : Type 0
+Nodes = ℕ → Node
+
+-- how many of these ends are of one that isn't settled
+abbrev pub is_open_in : List ℕ → StampedTx → Bool
+is_open_in ds x = not x.settled && has_end ds x.end
+
+abbrev pub open_count : List ℕ → List StampedTx → ℕ
+open_count ds xs = how_many (is_open_in ds) xs
+
+-- the flag is the aborted dependency, and the counter is right where there is none
+pub record IsNode (stamped : List StampedTx) (ds : List ℕ) (aborted : Option ℕ)
+    (n : Node) : Type 0 where
+  pub flag : n.flag ≡ aborted
+  pub waits : aborted ≡ None → n.waits ≡ open_count ds stamped
+
+-- just those that depend on the one with this end
+pub record AreDependents (s : State) (dependents : List ℕ) (e : ℕ) : Type 0 where
+  pub active : AllByRecursion (λ r. has_end dependents r.id ≡ has_end r.depends_on e) s.active
+  pub preparing :
+      AllByRecursion
+      (λ y. y.settled ≡ false → has_end dependents y.id ≡ has_end y.depends_on e) s.stamped
+
+pub record HasNodes (s : State) (nodes : Nodes) : Type 0 where
+  pub active :
+      AllByRecursion
+      (λ r. IsNode s.stamped r.depends_on r.aborted_dependency (nodes r.id)) s.active
+  pub preparing :
+      AllByRecursion
+      (λ x. x.settled ≡ false
+      → IsNode s.stamped x.depends_on x.aborted_dependency (nodes x.id)) s.stamped
+  pub dependents :
+      AllByRecursion
+      (λ x. x.settled ≡ false → AreDependents s (nodes x.id).dependents x.end) s.stamped
+
+-- ---- what the code does
+-- a commit is reported: each dependent waits for one less
+abbrev pub nodes_after_commit : List ℕ → Nodes → Nodes
+nodes_after_commit ds nodes u = record (nodes u) {
+  waits = cond (has_end ds u) ((nodes u).waits - 1) (nodes u).waits;
+}
+
+-- an abort of t is reported: each dependent's flag is set, if none was
+abbrev pub or_flag : ℕ → Option ℕ → Option ℕ
+or_flag t None = Some t
+or_flag t (Some u) = Some u
+
+abbrev pub nodes_after_abort : ℕ → List ℕ → Nodes → Nodes
+nodes_after_abort t ds nodes u = record (nodes u) {
+  flag = cond (has_end ds u) (or_flag t (nodes u).flag) (nodes u).flag;
+}
+
+-- t depends on x from now on, unless it did
+abbrev pub after_register : ℕ → ℕ → Nodes → Nodes
+after_register t x nodes u = record {
+  waits =
+      cond ((u == t) && not (has_end (nodes x).dependents t))
+      ((nodes u).waits + 1) (nodes u).waits;
+  flag = (nodes u).flag;
+  dependents = cond (u == x) (with_end (nodes u).dependents t) (nodes u).dependents;
+}
+
+-- in the state: t depends on the one with the end e
+abbrev pub with_dependency : ℕ → ℕ → ActiveTx → ActiveTx
+with_dependency t e r = record r {
+  depends_on = cond (r.id == t) (with_end r.depends_on e) r.depends_on;
+}
+
+abbrev pub depended : State → ℕ → ℕ → State
+depended s t e = record s { active = map (with_dependency t e) s.active }
