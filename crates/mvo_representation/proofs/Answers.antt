@@ -106,34 +106,34 @@ claims_of s t op a mine more r c only (inl e) P own other = subst P (sym (ap (λ
 claims_of s t op a mine more r c only (inr n) P own other = subst P (sym (ap (λ b. cond b (claims_with s r (ended_key op a)) r.claims) (ne_eqb r.id t n))) (other n)
 
 -- of one version: its End names who claims it
-pub claims_told : (s : State) (t : ℕ) (op : Op) (a : AnswerData) (mine : ActiveTx) (more : List Claim) (k : RowKey) (o : ℕ) (w : Held) → ClaimsMore s t op a mine more → names t w ≡ has_claim (mine.claims ++ more) k o → AllByRecursion (λ r. (r.id ≡ t → ⊥) → IsClaimed k o (names r.id) r.claims w) s.active → AllByRecursion (λ r. IsClaimed k o (names r.id) r.claims w) (map (with_answer s t op a) s.active)
-claims_told s t op a mine more k o w c own others =
+pub claims_answered : (s : State) (t : ℕ) (op : Op) (a : AnswerData) (mine : ActiveTx) (more : List Claim) (k : RowKey) (o : ℕ) (w : Held) → ClaimsMore s t op a mine more → names t w ≡ has_claim (mine.claims ++ more) k o → AllByRecursion (λ r. (r.id ≡ t → ⊥) → IsClaimed k o (names r.id) r.claims w) s.active → AllByRecursion (λ r. IsClaimed k o (names r.id) r.claims w) (map (with_answer s t op a) s.active)
+claims_answered s t op a mine more k o w c own others =
     each_map (with_answer s t op a) (λ r. (r.id ≡ t → r ≡ mine) × ((r.id ≡ t → ⊥) → IsClaimed k o (names r.id) r.claims w)) (λ r. IsClaimed k o (names r.id) r.claims w)
     (λ r x. claims_of s t op a mine more r c x.0 (cases_eq r.id t) (λ cs. names r.id w ≡ has_claim cs k o) (λ e. ap (λ i. names i w) e ∙ own) x.1) s.active
     (each_both (λ r. r.id ≡ t → r ≡ mine) (λ r. (r.id ≡ t → ⊥) → IsClaimed k o (names r.id) r.claims w) (λ r. (r.id ≡ t → r ≡ mine) × ((r.id ≡ t → ⊥) → IsClaimed k o (names r.id) r.claims w)) (λ r x y. (x, y)) s.active c.only others)
 
-stamp_told : (s : State) (t : ℕ) (op : Op) (a : AnswerData) (n : ℕ) → IsKnownStamp s n → IsKnownStamp (after_operation s t op a) n
-stamp_told s t op a n g = record { drawn = g.drawn; apart = each_map (with_answer s t op a) (λ q. q.id ≢ n) (λ q. q.id ≢ n) (λ q i. i) s.active g.apart; settled = g.settled }
+stamp_answered : (s : State) (t : ℕ) (op : Op) (a : AnswerData) (n : ℕ) → IsKnownStamp s n → IsKnownStamp (after_operation s t op a) n
+stamp_answered s t op a n g = record { drawn = g.drawn; apart = each_map (with_answer s t op a) (λ q. q.id ≢ n) (λ q. q.id ≢ n) (λ q i. i) s.active g.apart; settled = g.settled }
 
-pub known_told : (s : State) (table : Phases) (t : ℕ) (op : Op) (a : AnswerData) (w : Held) → IsKnown s table w → IsKnown (after_operation s t op a) table w
-known_told s table t op a w k = known_next s (after_operation s t op a) table table (stamp_told s t op a) (λ u n. n) w k
+pub known_answered : (s : State) (table : Phases) (t : ℕ) (op : Op) (a : AnswerData) (w : Held) → IsKnown s table w → IsKnown (after_operation s t op a) table w
+known_answered s table t op a w k = known_next s (after_operation s t op a) table table (stamp_answered s t op a) (λ u n. n) w k
 
-pub inside_told : (s : State) (t : ℕ) (op : Op) (a : AnswerData) (v : Version) → AllByRecursion (IsInside v) s.active → AllByRecursion (IsInside v) (after_operation s t op a).active
-inside_told s t op a v h = each_map (with_answer s t op a) (IsInside v) (IsInside v) (λ r g. g) s.active h
+pub inside_answered : (s : State) (t : ℕ) (op : Op) (a : AnswerData) (v : Version) → AllByRecursion (IsInside v) s.active → AllByRecursion (IsInside v) (after_operation s t op a).active
+inside_answered s t op a v h = each_map (with_answer s t op a) (IsInside v) (IsInside v) (λ r g. g) s.active h
 
 -- a version that stays, of which it claims nothing more
-pub version_told : (s : State) (table : Phases) (t : ℕ) (op : Op) (a : AnswerData) (mine : ActiveTx) (more : List Claim) (v : Version) → ClaimsMore s t op a mine more → active_of t s.active ≡ Some mine → ((o : ℕ) → stamp_in (ends_of table) v.begin ≡ Some o → is_stamp o (stamp_in (ends_of table) v.end) ≡ false → has_claim more v.row.key o ≡ false) → IsVersion s table v → IsVersion (after_operation s t op a) table v
-version_told s table t op a mine more v c f free h = record {
-  known = (known_told s table t op a v.begin h.known.0, known_told s table t op a v.end h.known.1);
+pub version_answered : (s : State) (table : Phases) (t : ℕ) (op : Op) (a : AnswerData) (mine : ActiveTx) (more : List Claim) (v : Version) → ClaimsMore s t op a mine more → active_of t s.active ≡ Some mine → ((o : ℕ) → stamp_in (ends_of table) v.begin ≡ Some o → is_stamp o (stamp_in (ends_of table) v.end) ≡ false → has_claim more v.row.key o ≡ false) → IsVersion s table v → IsVersion (after_operation s t op a) table v
+version_answered s table t op a mine more v c f free h = record {
+  known = (known_answered s table t op a v.begin h.known.0, known_answered s table t op a v.end h.known.1);
   claims = λ o put stays. let g = h.claims o put stays in record {
-    active = claims_told s t op a mine more v.row.key o v.end c
+    active = claims_answered s t op a mine more v.row.key o v.end c
         (let w = active_holds (λ r. IsClaimed v.row.key o (names r.id) r.claims v.end) t s.active mine f g.active in
         ap (λ i. names i v.end) (sym w.1) ∙ w.0 ∙ sym (or_false (has_claim mine.claims v.row.key o) (has_claim more v.row.key o) (free o put stays)) ∙ sym (list_any-append (λ d. eq_by_cmp key_cmp v.row.key d.key && (d.origin == o)) mine.claims more))
         (each_weaker (λ r. IsClaimed v.row.key o (names r.id) r.claims v.end) (λ r. (r.id ≡ t → ⊥) → IsClaimed v.row.key o (names r.id) r.claims v.end) (λ r i _. i) s.active g.active);
     stamped = g.stamped;
   };
   forward = h.forward;
-  inside = inside_told s t op a v h.inside;
+  inside = inside_answered s t op a v h.inside;
 }
   where
     or_false : (b c : Bool) → c ≡ false → (b || c) ≡ b
@@ -154,7 +154,7 @@ kept_after_operation s table t op a mine more vs vs' h c same w n each =
       begun = each_map (with_answer s t op a) (λ r. s.start ≤ r.id) (λ r. s.start ≤ r.id) (λ r g. g) s.active h.begun;
       behind = each_map (with_answer s t op a) (λ r. AllByRecursion (λ x. x.end < r.id) s.past) (λ r. AllByRecursion (λ x. x.end < r.id) s.past) (λ r g. g) s.active h.behind;
       begun_stamped = h.begun_stamped;
-      committed = λ u e q. stamp_told s t op a e (h.committed u e q);
+      committed = λ u e q. stamp_answered s t op a e (h.committed u e q);
       drawn = each_map (with_answer s t op a) (λ r. (r.id ≡ t → r ≡ mine) × AreDrawn s.clock r.claims) (λ r. AreDrawn s.clock r.claims) (λ r x. claims_of s t op a mine more r c x.0 (cases_eq r.id t) (AreDrawn s.clock) (λ e. each_append (λ d. d.origin ≤ s.clock) mine.claims more (subst (λ (q : ActiveTx). AreDrawn s.clock q.claims) (x.0 e) x.1) c.drawn) (λ _. x.1)) s.active
           (each_both (λ r. r.id ≡ t → r ≡ mine) (λ r. AreDrawn s.clock r.claims) (λ r. (r.id ≡ t → r ≡ mine) × AreDrawn s.clock r.claims) (λ r x y. (x, y)) s.active c.only h.drawn);
       drawn_stamped = h.drawn_stamped;
@@ -173,7 +173,7 @@ kept_unwritten s table t op a mine vs num h f w e =
       touches = λ g p. sym (ap (λ y. is_touched g (names t) p vs || list_any p (rows_more g y (changed_by y (after_history mine.history (seen_by s.base s.stamped mine.id))))) w ∙ nothing g p);
     })
     (each_always (λ r. (r.id ≡ t → ⊥) → IsApartFrom r.id vs vs) (λ r _. record { net_effect = λ k. refl; touches = λ g p. refl }) s.active)
-    (each_weaker (IsVersion s table) (IsVersion (after_operation s t op a) table) (λ v i. version_told s table t op a mine [] v c f (λ o _ _. refl) i) vs (each_version s table vs h))
+    (each_weaker (IsVersion s table) (IsVersion (after_operation s t op a) table) (λ v i. version_answered s table t op a mine [] v c f (λ o _ _. refl) i) vs (each_version s table vs h))
   where
     or_nothing : (b : Bool) → (b || false) ≡ b
     or_nothing true = refl

@@ -23,7 +23,7 @@ use Rattle.mvo_representation.specs.Words.NetEffect.{Untouched, Removed, Puts, C
 use Rattle.mvo_representation.specs.Versions.{Say, origin_at_start, IsInside, HasItsClaims, IsForward, IsKnown, AreVersionsOf}
 use Rattle.mvo_representation.proofs.Effects.{net_effect-at, net_effect_without, effect_of_nothing, is_touched-at, part_none}
 use Rattle.mvo_representation.proofs.Version.{IsTop, top_is, none_top}
-use Rattle.mvo_representation.proofs.Conflict.{end_net_effect}
+use Rattle.mvo_representation.proofs.Conflict.{end_has_effect}
 use Rattle.mvo_representation.proofs.Kept.{standing_effect-at, each_at, IsVersion, each_version}
 use Rattle.mvo_types.specs.Write.Effect.{Put}
 
@@ -128,9 +128,9 @@ stamp_is : (o : Option ℕ) (m : ℕ) → is_stamp m o ≡ true → o ≡ Some m
 stamp_is None m g = absurd (false≢true g)
 stamp_is (Some n) m g = ap (λ x. Some x) (eqb-true n m g)
 
-pub after_effect : (ends : Ends) (a : ℕ) (k : RowKey) (vs : List Version) → leaves_row (net_effect (has_stamp ends a) k vs) ≡ true → PutAt ends a k vs
-after_effect ends a k [] e = absurd (false≢true e)
-after_effect ends a k (v ∷ vs) e = go (leaves_or (effect_of (has_stamp ends a) k v) (net_effect (has_stamp ends a) k vs) e) (λ g. after_effect ends a k vs g)
+pub put_at_stamp : (ends : Ends) (a : ℕ) (k : RowKey) (vs : List Version) → leaves_row (net_effect (has_stamp ends a) k vs) ≡ true → PutAt ends a k vs
+put_at_stamp ends a k [] e = absurd (false≢true e)
+put_at_stamp ends a k (v ∷ vs) e = go (leaves_or (effect_of (has_stamp ends a) k v) (net_effect (has_stamp ends a) k vs) e) (λ g. put_at_stamp ends a k vs g)
   where
     here : (q o c : Bool) → eq_by_cmp key_cmp k v.row.key ≡ q → has_stamp ends a v.begin ≡ o → has_stamp ends a v.end ≡ c → leaves_row (cond q (effect_by o c (content_of v.row)) Untouched) ≡ true → PutAt ends a k (v ∷ vs)
     here true true false i j l g = record { before = []; version = v; after = vs; is = refl; key = i; put = stamp_is (stamp_in ends v.begin) a j; stays = l }
@@ -260,7 +260,7 @@ kept_collected s table xs v ys e h is le = record {
             later j n (inl y) = n y
             later j n (inr (inr y)) = omega (arith, j, y)
             later j n (inr (inl y)) =
-                end_net_effect (has_stamp E e) xs v ys (ap (is_stamp e) end_is ∙ eq-eqb e e refl)
+                end_has_effect (has_stamp E e) xs v ys (ap (is_stamp e) end_is ∙ eq-eqb e e refl)
                 (ap (λ m. net_effect (has_stamp E e) m (xs ++ v ∷ ys)) (sym (tells_apart exact_keys k v.row.key c)) ∙ t.last e y (omega (arith, le)))
 
         puts : (c : Bool) → eq_by_cmp key_cmp k v.row.key ≡ c → (o : Bool) → has_stamp E a v.begin ≡ o → (z : Bool) → has_stamp E a v.end ≡ z → cond c (effect_by o z (content_of v.row)) Untouched ≡ Puts g → ⊥
@@ -272,7 +272,7 @@ kept_collected s table xs v ys e h is le = record {
 
     -- a put of another up to the start, which isn't the last, stood there
     nobody : (k : RowKey) (a : ℕ) → fin.get s.base k ≡ None → IsTop (λ m. net_effect (has_stamp E m) k (xs ++ ys)) (suc s.start) (a, net_effect (has_stamp E a) k (xs ++ ys)) → leaves_row (net_effect (has_stamp E a) k (xs ++ ys)) ≡ true → ⊥
-    nobody k a none t q = go (after_effect E a k (xs ++ ys) q)
+    nobody k a none t q = go (put_at_stamp E a k (xs ++ ys) q)
       where
         go : PutAt E a k (xs ++ ys) → ⊥
         go w = ended (stamp_in E w.version.end) refl
@@ -290,7 +290,7 @@ kept_collected s table xs v ys e h is le = record {
             behind : (c : ℕ) → stamp_in E w.version.end ≡ Some c → c < suc s.start → (a ≡ c) ⊎ ((a < c) ⊎ (c < a)) → ⊥
             behind c o lt (inl y) = true≢false (sym (ap (is_stamp a) o ∙ eq-eqb c a (sym y)) ∙ w.stays)
             behind c o lt (inr (inl y)) =
-                end_net_effect (has_stamp E c) w.before w.version w.after (ap (is_stamp c) o ∙ eq-eqb c c refl)
+                end_has_effect (has_stamp E c) w.before w.version w.after (ap (is_stamp c) o ∙ eq-eqb c c refl)
                 (ap (net_effect (has_stamp E c) w.version.row.key) (sym w.is) ∙ ap (λ j. net_effect (has_stamp E c) j (xs ++ ys)) (sym (tells_apart exact_keys k w.version.row.key w.key)) ∙ t.last c y lt)
             behind c o lt (inr (inr y)) =
                 let f : a ≤ c = each_at (IsForward E) w.before w.version w.after (subst (AllByRecursion (IsForward E)) w.is (each_drop (IsForward E) xs v ys h.forward)) a c w.put o in

@@ -151,8 +151,8 @@ removed_some (Puts h) q = cc
 removed_some Clash q = cc
 
 -- who is named in the End has done something at the key
-pub end_net_effect : (n : Held → Bool) (xs : List Version) (v : Version) (ys : List Version) → n v.end ≡ true → net_effect n v.row.key (xs ++ v ∷ ys) ≡ Untouched → ⊥
-end_net_effect n xs v ys e q = removed_or (n v.begin) (effect_of_is refl)
+pub end_has_effect : (n : Held → Bool) (xs : List Version) (v : Version) (ys : List Version) → n v.end ≡ true → net_effect n v.row.key (xs ++ v ∷ ys) ≡ Untouched → ⊥
+end_has_effect n xs v ys e q = removed_or (n v.begin) (effect_of_is refl)
   where
     effect_of_is : net_effect n v.row.key (xs ++ v ∷ ys) ≡ net_effect n v.row.key (xs ++ v ∷ ys) → with_effect (effect_by (n v.begin) true (content_of v.row)) (net_effect n v.row.key (xs ++ ys)) ≡ Untouched
     effect_of_is _ =
@@ -188,12 +188,12 @@ end_behind s table xs v ys t r a e sd h f is q n = go (cases_order e t)
 
     go : (e ≡ t) ⊎ ((e < t) ⊎ (t < e)) → ⊥
     go (inl p) = apart p
-    go (inr (inr gt)) = end_net_effect (has_stamp (ends_of table) e) xs v ys has_end ((h.stamped e (let le = at.from in omega (arith, le, gt))).writes v.row.key ∙ ap (λ ts. as_net_effect (net_write v.row.key ts)) n)
+    go (inr (inr gt)) = end_has_effect (has_stamp (ends_of table) e) xs v ys has_end ((h.stamped e (let le = at.from in omega (arith, le, gt))).writes v.row.key ∙ ap (λ ts. as_net_effect (net_write v.row.key ts)) n)
     go (inr (inl lt)) = between (cases_order a e)
       where
         between : (a ≡ e) ⊎ ((a < e) ⊎ (e < a)) → ⊥
         between (inl p) = differs p
-        between (inr (inl l)) = end_net_effect (has_stamp (ends_of table) e) xs v ys has_end ((top_is (λ m. net_effect (has_stamp (ends_of table) m) v.row.key (xs ++ v ∷ ys)) t (a, is.last.0) is.last.1).last e l lt)
+        between (inr (inl l)) = end_has_effect (has_stamp (ends_of table) e) xs v ys has_end ((top_is (λ m. net_effect (has_stamp (ends_of table) m) v.row.key (xs ++ v ∷ ys)) t (a, is.last.0) is.last.1).last e l lt)
         between (inr (inr g)) = omega (arith, g, forward)
 
 -- (c) who claims the version that is shown, where the transaction hasn't written the key: its End tells
@@ -226,7 +226,7 @@ cause_right s table xs v ys t r a sd st h f unwritten is =
     mine : (u : ℕ) → v.end ≡ By (record { 0 = u }) → u ≡ t → ⊥
     mine u i e =
         let o = active_holds (λ (x : ActiveTx). Say (names x.id) x.history x.footprint (xs ++ v ∷ ys)) t s.active r f h.active in
-        end_net_effect (names r.id) xs v ys (ap (names r.id) i ∙ eq-eqb u r.id (e ∙ sym o.1)) (o.0.writes v.row.key ∙ ap as_net_effect unwritten)
+        end_has_effect (names r.id) xs v ys (ap (names r.id) i ∙ eq-eqb u r.id (e ∙ sym o.1)) (o.0.writes v.row.key ∙ ap as_net_effect unwritten)
 
     by : (u : ℕ) (p : Phase) → v.end ≡ By (record { 0 = u }) → table u ≡ p → or_cause (active_claim t v.row.key a s.active) (stamped_claim v.row.key a s.stamped) ≡ cause_of u p
     by u Active i q =

@@ -8,7 +8,7 @@ use Rattle.mvo_chain.specs.Slots.{Slots}
 use Rattle.mvo_visible.specs.Words.{names}
 use Rattle.mvo_representation.specs.Indexes.{all_versions}
 use Rattle.mvo_representation.specs.WordLists.{WordPlace, is_begin_of, is_end_of, HasWordList}
-use Rattle.mvo_representation.proofs.Quiet.{IsUnnamed}
+use Rattle.mvo_representation.specs.Steps.{IsUnnamed}
 
 pub each_live : (P : Version → Type 0) (slots : Slots) → ((n : ℕ) (v : Version) → slice_index_or slots n None ≡ Some v → P v) → AllByRecursion P (all_versions slots)
 each_live P [] h = tt
@@ -24,11 +24,11 @@ pub done_unnamed : (slots : Slots) (t : ℕ) → HasWordList slots t [] → IsUn
 done_unnamed slots t h = each_live (λ v. (names t v.begin ≡ false) × (names t v.end ≡ false)) slots (λ n v e. (unless (names t v.begin) (h.begins n v e), unless (names t v.end) (h.ends n v e)))
 
 -- the first word doesn't name it any more, and no other word of it was made
-pub record IsReplaced (slots slots' : Slots) (t : ℕ) (p : WordPlace) : Type 0 where
+pub record IsWordReplaced (slots slots' : Slots) (t : ℕ) (p : WordPlace) : Type 0 where
   pub begins : (n : ℕ) (v : Version) → slice_index_or slots' n None ≡ Some v → names t v.begin ≡ true → (is_begin_of n p ≡ false) × ((w : Version) × (slice_index_or slots n None ≡ Some w) × (names t w.begin ≡ true))
   pub ends : (n : ℕ) (v : Version) → slice_index_or slots' n None ≡ Some v → names t v.end ≡ true → (is_end_of n p ≡ false) × ((w : Version) × (slice_index_or slots n None ≡ Some w) × (names t w.end ≡ true))
 
-pub todo_next : (slots slots' : Slots) (t : ℕ) (p : WordPlace) (ps : List WordPlace) → IsReplaced slots slots' t p → HasWordList slots t (p ∷ ps) → HasWordList slots' t ps
+pub todo_next : (slots slots' : Slots) (t : ℕ) (p : WordPlace) (ps : List WordPlace) → IsWordReplaced slots slots' t p → HasWordList slots t (p ∷ ps) → HasWordList slots' t ps
 todo_next slots slots' t p ps r h = record {
   begins = λ n v e q. let w = r.begins n v e q in sym (ap (λ b. b || list_any (is_begin_of n) ps) w.0) ∙ h.begins n w.1.0 w.1.1 w.1.2;
   ends = λ n v e q. let w = r.ends n v e q in sym (ap (λ b. b || list_any (is_end_of n) ps) w.0) ∙ h.ends n w.1.0 w.1.1 w.1.2;

@@ -10,6 +10,7 @@ pub mod Kept
 pub mod Finish
 pub mod Quiet
 pub mod Ending
+pub mod Reworded
 pub mod Answers
 pub mod Own
 pub mod Writing
@@ -26,3 +27,4 @@ pub mod Walked
 pub mod Numbers
 pub mod Done
 pub mod Read
+pub mod Steps

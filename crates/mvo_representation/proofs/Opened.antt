@@ -94,8 +94,8 @@ standing_loaded mark None = refl
 standing_loaded mark (Some h) = refl
 
 -- (e) open: what ties versions to a state is met
-pub kept_opened : (rows : Map) (mark : ℕ) → AreVersionsOf (opened rows mark) nobody (loaded rows mark)
-kept_opened rows mark = record {
+pub versions_opened : (rows : Map) (mark : ℕ) → AreVersionsOf (opened rows mark) nobody (loaded rows mark)
+versions_opened rows mark = record {
   phases = λ t. refl;
   stamped = λ e gt. say_nothing (λ w. has_stamp (ends_of nobody) e w ≡ false) (has_stamp (ends_of nobody) e) (λ w q. q) (loaded rows mark) (each_weaker (at_mark mark) (λ v. (has_stamp (ends_of nobody) e v.begin ≡ false) × (has_stamp (ends_of nobody) e v.end ≡ false)) (λ v i. (ap (has_stamp (ends_of nobody) e) i.0 ∙ ne_eqb mark e (λ q. absurd (omega (arith, gt, q))), ap (has_stamp (ends_of nobody) e) i.1)) (loaded rows mark) each);
   active = tt;

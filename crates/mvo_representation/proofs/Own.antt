@@ -28,18 +28,12 @@ use Rattle.mvo_representation.specs.Words.{Phases, Ends, end_in, stamp_in, is_st
 use Rattle.mvo_visible.specs.Words.{names}
 use Rattle.mvo_representation.specs.Words.NetEffect.{Untouched, Removed, Puts, Clash}
 use Rattle.mvo_representation.specs.Words.Touch.{OnlyPut, PutOrEnded}
+use Rattle.mvo_representation.specs.Steps.{fresh, ended_by}
 use Rattle.mvo_representation.specs.Versions.{IsInside}
 use Rattle.mvo_representation.proofs.Effects.{with_nothing, with_comm, net_effect-append, net_effect-at, net_effect_without, effect_of_nothing, is_touched-at, part_none}
 use Rattle.mvo_representation.proofs.Kept.{IsSame, IsVersion, same_at, net_effect_like, is_touched_like}
 use Rattle.mvo_representation.proofs.Answers.{rows_more, Wrote, IsApartFrom}
 use Rattle.mvo_types.specs.Write.Effect.{Put, Delete as Gone}
-
--- a version that t puts, and one that it ends
-abbrev pub fresh : ℕ → RowData → Version
-fresh t r = added r (By (record { 0 = t }))
-
-abbrev pub ended_by : ℕ → Version → Version
-ended_by t v = record { row = v.row; begin = v.begin; end = By (record { 0 = t }) }
 
 -- nothing of t's own stands at the key
 abbrev pub IsFree : ℕ → RowKey → List Version → Type 0

@@ -21,6 +21,7 @@ use Rattle.mvo_word.specs.declared.held.Held.TheVariants.{At, By, Infinity}
 use Rattle.mvo_chain.specs.declared.version.Version.{Version}
 use Rattle.mvo_representation.specs.Words.{Phases, Ends, is_up_to, end_in, ends_of, stamp_in, is_stamp, has_stamp}
 use Rattle.mvo_visible.specs.Words.{names}
+use Rattle.mvo_representation.specs.Steps.{IsUnnamed}
 use Rattle.mvo_representation.specs.Versions.{history_at, rows_at, Say, IsKnownStamp, IsKnown, IsClaimed, HasClaims, HasItsClaims, IsForward, IsInside, AreDrawn, AreVersionsOf}
 use Rattle.mvo_representation.proofs.Facts.{IsDrawn, phase_preparing, phase_active, phase_absent, end_drawn, say_nothing}
 use Rattle.mvo_representation.proofs.Kept.{IsSame, IsVersion, each_version, kept_alike, standing_effect_same}
@@ -169,8 +170,8 @@ kept_after_commit s table table' vs t x sd sg h f ph =
 
 -- ---- a check
 -- (e) validate: an entry more is checked
-pub kept_checked : (s : State) (table : Phases) (vs : List Version) (e : ℕ) (b : Bool) → AreVersionsOf s table vs → ((u : ℕ) → table u ≡ phase_in (after_check s e b) u) → AreVersionsOf (after_check s e b) table vs
-kept_checked s table vs e b h ph =
+pub kept_after_check : (s : State) (table : Phases) (vs : List Version) (e : ℕ) (b : Bool) → AreVersionsOf s table vs → ((u : ℕ) → table u ≡ phase_in (after_check s e b) u) → AreVersionsOf (after_check s e b) table vs
+kept_after_check s table vs e b h ph =
     kept_alike s s.clock s.active (map (with_check e b) s.stamped) s.ended table table vs vs h ph
     (same_self s.start (ends_of table) vs)
     (λ n. history_at-map (with_check e b) n (λ y. (refl, refl)) s.stamped)
@@ -190,8 +191,8 @@ kept_checked s table vs e b h ph =
     stamp n g = record { drawn = g.drawn; apart = g.apart; settled = each_map (with_check e b) (λ y. y.settled ≡ false → y.end ≢ n) (λ y. y.settled ≡ false → y.end ≢ n) (λ y q. q) s.stamped g.settled }
 
 -- ---- the abort of an Active one
-stamp_dropped : (s : State) (t n : ℕ) → IsKnownStamp s n → IsKnownStamp (after_abort_of_active s t) n
-stamp_dropped s t n h = record {
+stamp_aborted : (s : State) (t n : ℕ) → IsKnownStamp s n → IsKnownStamp (after_abort_of_active s t) n
+stamp_aborted s t n h = record {
   drawn = h.drawn;
   apart = each_filter (λ r. not (r.id == t)) (λ r. r.id ≢ n) (λ r. r.id ≢ n) (λ r _ g. g) s.active h.apart;
   settled = h.settled;
@@ -204,7 +205,7 @@ kept_after_abort_of_active s table table' vs t r sg h f ph =
     (same_ends s.start (ends_of table) (ends_of table') vs path)
     (λ e. refl) (λ e. refl)
     (each_filter (λ q. not (q.id == t)) (λ q. Say (names q.id) q.history q.footprint vs) (λ q. Say (names q.id) q.history q.footprint vs) (λ q _ g. g) s.active h.active)
-    (each_weaker (IsVersion s table) (IsVersion (after_abort_of_active s t) table') (λ v i. version_next s (after_abort_of_active s t) table table' v path (stamp_dropped s t) (still_there s (after_abort_of_active s t) (Aborts t) table table' h.phases ph leads (λ q. gone q)) (claims v) (each_filter (λ q. not (q.id == t)) (IsInside v) (IsInside v) (λ q _ g. g) s.active i.inside) i) vs (each_version s table vs h))
+    (each_weaker (IsVersion s table) (IsVersion (after_abort_of_active s t) table') (λ v i. version_next s (after_abort_of_active s t) table table' v path (stamp_aborted s t) (still_there s (after_abort_of_active s t) (Aborts t) table table' h.phases ph leads (λ q. gone q)) (claims v) (each_filter (λ q. not (q.id == t)) (IsInside v) (IsInside v) (λ q _ g. g) s.active i.inside) i) vs (each_version s table vs h))
     (record {
       begun = each_filter (λ q. not (q.id == t)) (λ q. s.start ≤ q.id) (λ q. s.start ≤ q.id) (λ q _ g. g) s.active h.begun;
       behind = each_filter (λ q. not (q.id == t)) (λ q. AllByRecursion (λ x. x.end < q.id) s.past) (λ q. AllByRecursion (λ x. x.end < q.id) s.past) (λ q _ g. g) s.active h.behind;
@@ -231,7 +232,7 @@ kept_after_abort_of_active s table table' vs t r sg h f ph =
 
     by : (u e : ℕ) → table' u ≡ Committed e → (t ≡ u) ⊎ (t ≡ u → ⊥) → IsKnownStamp (after_abort_of_active s t) e
     by u e q (inl i) = absurd (other e (sym (own_led s (after_abort_of_active s t) (Aborts t) table table' h.phases ph leads) ∙ ap table' i ∙ q))
-    by u e q (inr n) = stamp_dropped s t e (h.committed u e (sym (other_stays s (after_abort_of_active s t) (Aborts t) table table' h.phases ph leads u n) ∙ q))
+    by u e q (inr n) = stamp_aborted s t e (h.committed u e (sym (other_stays s (after_abort_of_active s t) (Aborts t) table table' h.phases ph leads u n) ∙ q))
 
 -- ---- a begin
 stamp_began : (s : State) (t n : ℕ) → s.clock < t → IsKnownStamp s n → IsKnownStamp (after_begin s t) n
@@ -309,9 +310,6 @@ claims_turned s ends ends' v o c h a put stays =
 
 pub forward_turned : (ends ends' : Ends) (v : Version) → stamp_in ends' v.begin ≡ stamp_in ends v.begin → stamp_in ends' v.end ≡ stamp_in ends v.end → IsForward ends v → IsForward ends' v
 forward_turned ends ends' v o c h a e put is = h a e (sym o ∙ put) (sym c ∙ is)
-
-abbrev pub IsUnnamed : ℕ → List Version → Type 0
-IsUnnamed t vs = AllByRecursion (λ v. (names t v.begin ≡ false) × (names t v.end ≡ false)) vs
 
 same_other : (start : ℕ) (ends : Ends) (t : ℕ) (o : Option ℕ) (vs : List Version) → IsUnnamed t vs → IsSame start ends vs (with_end t o ends) vs
 same_other start ends t o vs n = record {

@@ -25,6 +25,7 @@ use Rattle.mvo_chain.specs.declared.version.Version.{Version}
 use Rattle.mvo_range.specs.declared.place.Place.{Place}
 use Rattle.mvo_range.specs.Place.{Map as Places}
 use Rattle.mvo_range.proofs.Places.{places_total}
+use Rattle.mvo_representation.specs.Steps.{IsOwnNewest}
 use Rattle.mvo_representation.specs.Words.{Phases, Ends, ends_of, stamp_in, is_stamp, has_stamp, NetEffect, with_effect, effect_by, effect_of, net_effect, as_net_effect, change_below, standing, IsShownAt, is_below, is_up_to, meets, is_met}
 use Rattle.mvo_visible.specs.Words.{names}
 use Rattle.mvo_representation.specs.Words.NetEffect.{Untouched, Removed, Puts, Clash}
@@ -33,7 +34,7 @@ use Rattle.mvo_representation.specs.Indexes.{place_of, is_at_place, HasPlaces}
 use Rattle.mvo_representation.proofs.Shown.{active_begins, behind_is, stands_below}
 use Rattle.mvo_representation.proofs.Version.{top_is, none_top}
 use Rattle.mvo_representation.proofs.Scanned.{OneOf, one_of, any_at}
-use Rattle.mvo_representation.proofs.Writing.{EndsOwn, writer}
+use Rattle.mvo_representation.proofs.Writing.{writer}
 use Rattle.mvo_types.specs.Write.Effect.{Put}
 
 -- ---- a put that stands is of a version
@@ -90,7 +91,7 @@ put_by n k h (v ∷ vs) e = go (puts_or (effect_of n k v) (net_effect n k vs) h 
 pub own_found : (s : State) (table : Phases) (vs : List Version) (t : ℕ) (mine : ActiveTx) (k : RowKey) (h : ContentData) → IsNumbered s → AreVersionsOf s table vs → active_of t s.active ≡ Some mine → net_write k mine.history ≡ Some (Put h) → PutBy (names t) k h vs
 own_found s table vs t mine k h num r f e = put_by (names t) k h vs (ap held_in ((writer s table t mine vs num r f).net_effect k ∙ ap as_net_effect e))
 
-pub own_ends : (t : ℕ) (k : RowKey) (h : ContentData) (vs : List Version) (w : PutBy (names t) k h vs) → EndsOwn t w.version
+pub own_ends : (t : ℕ) (k : RowKey) (h : ContentData) (vs : List Version) (w : PutBy (names t) k h vs) → IsOwnNewest t w.version
 own_ends t k h vs w = record { mine = w.put; kept = w.stays }
 
 -- where others leave a row below its begin, the version that is shown is there

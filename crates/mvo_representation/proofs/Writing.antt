@@ -41,8 +41,9 @@ use Rattle.mvo_representation.proofs.Shown.{active_begins, behind_is, stands_bel
 use Rattle.mvo_representation.proofs.Version.{IsShownRow, version_shown, put_there, top_is, clash_in, no_clash}
 use Rattle.mvo_representation.proofs.Conflict.{not_active}
 use Rattle.mvo_representation.proofs.Kept.{IsSame, same_trans, IsVersion, each_version, each_at, each_changed}
-use Rattle.mvo_representation.proofs.Answers.{IsOnly, only_mine, Wrote, IsApartFrom, ClaimsMore, claims_told, known_told, inside_told, version_told, kept_after_operation}
-use Rattle.mvo_representation.proofs.Own.{fresh, ended_by, IsFree, is_clash, own_id, not_absent, same_did, wrote_fresh, wrote_end_other, wrote_end_own, wrote_both, same_fresh, same_end, apart_fresh, apart_end, apart_both, version_fresh, free_after}
+use Rattle.mvo_representation.proofs.Answers.{IsOnly, only_mine, Wrote, IsApartFrom, ClaimsMore, claims_answered, known_answered, inside_answered, version_answered, kept_after_operation}
+use Rattle.mvo_representation.specs.Steps.{IsOwnNewest, fresh, ended_by}
+use Rattle.mvo_representation.proofs.Own.{IsFree, is_clash, own_id, not_absent, same_did, wrote_fresh, wrote_end_other, wrote_end_own, wrote_both, same_fresh, same_end, apart_fresh, apart_end, apart_both, version_fresh, free_after}
 use Rattle.mvo_types.specs.Write.Effect.{Put, Delete as Gone}
 
 none_end : (e : ℕ) → ◌≡◌ {A = Option ℕ} None (Some e) → ⊥
@@ -86,7 +87,7 @@ kept_insert s table t op a mine vs r num h f gone w e =
     (subst (λ (o : Option ContentData). Wrote t (Some (r.key, Put (content_of r))) (row_of r.key o ++ (r.key, content_of r) ∷ []) vs (vs ++ fresh t r ∷ [])) (sym gone) (wrote_fresh t r vs free)))
     (each_always (λ q. (q.id ≡ t → ⊥) → IsApartFrom q.id vs (vs ++ fresh t r ∷ [])) (λ q n. apart_fresh t q.id r vs n) s.active)
     (each_append (IsVersion (after_operation s t op a) table) vs (fresh t r ∷ [])
-    (each_weaker (IsVersion s table) (IsVersion (after_operation s t op a) table) (λ v i. version_told s table t op a mine [] v c f (λ o _ _. refl) i) vs (each_version s table vs h))
+    (each_weaker (IsVersion s table) (IsVersion (after_operation s t op a) table) (λ v i. version_answered s table t op a mine [] v c f (λ o _ _. refl) i) vs (each_version s table vs h))
     (version_fresh s table t op a r me.active, tt))
   where
     me : IsWriter s table t mine vs
@@ -187,11 +188,6 @@ pub record EndsOther (s : State) (table : Phases) (t : ℕ) (mine : ActiveTx) (v
   pub unwritten : net_write v.row.key mine.history ≡ None
   pub free : cause_in table v.end ≡ None
 
--- its own newest
-pub record EndsOwn (t : ℕ) (v : Version) : Type 0 where
-  pub mine : names t v.begin ≡ true
-  pub kept : names t v.end ≡ false
-
 pub record IsEnded (s : State) (table : Phases) (t : ℕ) (op : Op) (a : AnswerData) (mine : ActiveTx) (more : List Claim) (xs : List Version) (v : Version) (ys : List Version) : Type 0 where
   pub claimed : ClaimsMore s t op a mine more
   pub same : IsSame s.start (ends_of table) (xs ++ v ∷ ys) (ends_of table) (xs ++ ended_by t v ∷ ys)
@@ -212,7 +208,7 @@ ends_other s table t op a mine xs v ys o sd st num h f x e = record {
   apart = each_weaker (λ q. names q.id v.end ≡ false) (λ q. (q.id ≡ t → ⊥) → IsApartFrom q.id (xs ++ v ∷ ys) (xs ++ ended_by t v ∷ ys)) (λ q n d. apart_end t q.id xs v ys d n) s.active free.unnamed;
   versions = each_insert (IsVersion (after_operation s t op a) table) xs (ended_by t v) ys here
       (each_both (λ w. puts (effect_of (has_stamp (ends_of table) o) v.row.key w) ≡ false) (IsVersion s table) (IsVersion (after_operation s t op a) table)
-      (λ w n i. version_told s table t op a mine (claim_of s mine v ∷ []) w more f (λ b put stays. unclaimed w b n put stays) i) (xs ++ ys)
+      (λ w n i. version_answered s table t op a mine (claim_of s mine v ∷ []) w more f (λ b put stays. unclaimed w b n put stays) i) (xs ++ ys)
       alone (each_drop (IsVersion s table) xs v ys (each_version s table (xs ++ v ∷ ys) h)));
   row = get-after_history v.row.key mine.history (seen_by s.base s.stamped mine.id) ∙ ap (λ y. content_after_last y (fin.get (seen_by s.base s.stamped mine.id) v.row.key)) x.unwritten ∙ ap (λ i. fin.get (seen_by s.base s.stamped i) v.row.key) me.id ∙ shown.row;
 }
@@ -270,18 +266,18 @@ ends_other s table t op a mine xs v ys o sd st num h f x e = record {
 
     here : IsVersion (after_operation s t op a) table (ended_by t v)
     here = record {
-      known = (known_told s table t op a v.begin was.known.0, not_absent table t me.active);
+      known = (known_answered s table t op a v.begin was.known.0, not_absent table t me.active);
       claims = λ b put _.
           let at : o ≡ b = some_end o b (sym x.shown.put ∙ put) in
           let g = was.claims o x.shown.put x.shown.stays in
           subst (λ (m : ℕ). HasClaims (after_operation s t op a) (ends_of table) (ended_by t v) m) at (record {
-            active = claims_told s t op a mine (claim_of s mine v ∷ []) v.row.key o (By (record { 0 = t })) more
+            active = claims_answered s t op a mine (claim_of s mine v ∷ []) v.row.key o (By (record { 0 = t })) more
                 (own_id t ∙ sym (list_any-append (λ d. eq_by_cmp key_cmp v.row.key d.key && (d.origin == o)) mine.claims (claim_of s mine v ∷ []) ∙ last_true (has_claim mine.claims v.row.key o) (eq_by_cmp key_cmp v.row.key v.row.key) (eqb (origin s mine.id v.row.key) o) ((eq_by_cmp_equiv keys_total).refl v.row.key) (eq-eqb (origin s mine.id v.row.key) o is_origin)))
                 (each_both (λ q. names q.id v.end ≡ false) (λ q. IsClaimed v.row.key o (names q.id) q.claims v.end) (λ q. (q.id ≡ t → ⊥) → IsClaimed v.row.key o (names q.id) q.claims (By (record { 0 = t }))) (λ q n i d. ne_eqb t q.id (λ p. d (sym p)) ∙ sym n ∙ i) s.active free.unnamed g.active);
             stamped = each_weaker (λ y. IsClaimed v.row.key o (has_stamp (ends_of table) y.end) y.claims v.end) (λ y. IsClaimed v.row.key o (has_stamp (ends_of table) y.end) y.claims (By (record { 0 = t }))) (λ y i. ap (is_stamp y.end) (ap end_in me.active ∙ sym free.unseen) ∙ i) s.stamped g.stamped;
           });
       forward = λ b m _ is. absurd (none_end m (sym (ap end_in me.active) ∙ is));
-      inside = inside_told s t op a (ended_by t v) (each_weaker (λ q. names q.id v.begin ≡ false) (IsInside (ended_by t v)) (λ q n is. absurd (true≢false (sym is ∙ n))) s.active (stamped_unnamed s table (xs ++ v ∷ ys) v.begin o h x.shown.put));
+      inside = inside_answered s t op a (ended_by t v) (each_weaker (λ q. names q.id v.begin ≡ false) (IsInside (ended_by t v)) (λ q n is. absurd (true≢false (sym is ∙ n))) s.active (stamped_unnamed s table (xs ++ v ∷ ys) v.begin o h x.shown.put));
     }
       where
         last_true : (b c d : Bool) → c ≡ true → d ≡ true → (b || ((c && d) || false)) ≡ true
@@ -289,13 +285,13 @@ ends_other s table t op a mine xs v ys o sd st num h f x e = record {
         last_true false c d p q = ap (λ y. (y && d) || false) p ∙ ap (λ y. y || false) q
 
 -- ---- its own newest version
-pub ends_own : (s : State) (table : Phases) (t : ℕ) (op : Op) (a : AnswerData) (mine : ActiveTx) (xs : List Version) (v : Version) (ys : List Version) → IsNumbered s → AreVersionsOf s table (xs ++ v ∷ ys) → active_of t s.active ≡ Some mine → EndsOwn t v → ended_key op a ≡ Some v.row.key → IsEnded s table t op a mine [] xs v ys
+pub ends_own : (s : State) (table : Phases) (t : ℕ) (op : Op) (a : AnswerData) (mine : ActiveTx) (xs : List Version) (v : Version) (ys : List Version) → IsNumbered s → AreVersionsOf s table (xs ++ v ∷ ys) → active_of t s.active ≡ Some mine → IsOwnNewest t v → ended_key op a ≡ Some v.row.key → IsEnded s table t op a mine [] xs v ys
 ends_own s table t op a mine xs v ys num h f x e = record {
   claimed = more;
   same = same_end s.start (ends_of table) t xs v ys (ap end_in me.active) (ap (stamp_in (ends_of table)) never);
   wrote = wrote_end_own t xs v ys x.mine x.kept;
   apart = each_always (λ q. (q.id ≡ t → ⊥) → IsApartFrom q.id (xs ++ v ∷ ys) (xs ++ ended_by t v ∷ ys)) (λ q d. apart_end t q.id xs v ys d (ap (names q.id) never)) s.active;
-  versions = each_changed (IsVersion s table) (IsVersion (after_operation s t op a) table) (λ w i. version_told s table t op a mine [] w more f (λ b _ _. refl) i) xs v (ended_by t v) ys here (each_version s table (xs ++ v ∷ ys) h);
+  versions = each_changed (IsVersion s table) (IsVersion (after_operation s t op a) table) (λ w i. version_answered s table t op a mine [] w more f (λ b _ _. refl) i) xs v (ended_by t v) ys here (each_version s table (xs ++ v ∷ ys) h);
   row = get-after_history v.row.key mine.history (seen_by s.base s.stamped mine.id) ∙ ap (λ y. content_after_last y (fin.get (seen_by s.base s.stamped mine.id) v.row.key)) own_write;
 }
   where
@@ -386,10 +382,10 @@ ends_own s table t op a mine xs v ys num h f x e = record {
 
     here : IsVersion (after_operation s t op a) table (ended_by t v)
     here = record {
-      known = (known_told s table t op a v.begin was.known.0, not_absent table t me.active);
+      known = (known_answered s table t op a v.begin was.known.0, not_absent table t me.active);
       claims = λ b put _. absurd (none_end b (sym (named_none v.begin x.mine) ∙ put));
       forward = λ b m _ is. absurd (none_end m (sym (ap end_in me.active) ∙ is));
-      inside = inside_told s t op a (ended_by t v) (each_always (IsInside (ended_by t v)) (λ q is. inr (eq-eqb t q.id (named_same v.begin q.id x.mine is))) s.active);
+      inside = inside_answered s t op a (ended_by t v) (each_always (IsInside (ended_by t v)) (λ q is. inr (eq-eqb t q.id (named_same v.begin q.id x.mine is))) s.active);
     }
 
 -- ---- (e) delete, and update

@@ -3,3 +3,4 @@ pub mod Versions
 pub mod Nodes
 pub mod Indexes
 pub mod WordLists
+pub mod Steps

@@ -91,6 +91,11 @@ AreDrawn clock cs = AllByRecursion (λ c. c.origin ≤ clock) cs
 abbrev pub origin_at_start : State → RowKey → ℕ
 origin_at_start s k = end_or s.marks.opening (last_writer k (suc s.start) s.past)
 
+-- just these rows stand up to this timestamp
+abbrev pub HoldsRows : Ends → ℕ → Map → List Version → Type 0
+HoldsRows ends m rows vs = (k : RowKey)
+    → standing_effect ends m k vs ≡ as_net_effect (option_map (λ h. Put h) (fin.get rows k))
+
 pub record AreVersionsOf (s : State) (table : Phases) (vs : List Version) : Type 0 where
   pub phases : (t : ℕ) → table t ≡ phase_in s t
   -- a stamp above the start: the words with it say what the one with that end did
@@ -103,9 +108,7 @@ pub record AreVersionsOf (s : State) (table : Phases) (vs : List Version) : Type
       → standing (change_below (ends_of table) (suc s.start) k vs)
       ≡ option_map (λ h. (origin_at_start s k, Puts h)) (fin.get s.base k)
   -- just the rows at the start stand at the start
-  pub stood : (k : RowKey)
-      → standing_effect (ends_of table) s.start k vs
-      ≡ as_net_effect (option_map (λ h. Put h) (fin.get s.base k))
+  pub stood : HoldsRows (ends_of table) s.start s.base vs
   pub known : AreKnown s table vs
   pub claims : AllByRecursion (HasItsClaims s (ends_of table)) vs
   pub forward : AllByRecursion (IsForward (ends_of table)) vs
