@@ -28,3 +28,6 @@ pub mod Numbers
 pub mod Done
 pub mod Read
 pub mod Steps
+pub mod Seen
+pub mod Decided
+pub mod ShownTo

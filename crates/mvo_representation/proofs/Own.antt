@@ -24,7 +24,7 @@ use Rattle.mvo_word.specs.declared.held.Held.{Held}
 use Rattle.mvo_word.specs.declared.held.Held.TheVariants.{By}
 use Rattle.mvo_chain.specs.declared.version.Version.{Version}
 use Rattle.mvo_chain.specs.Slots.{added}
-use Rattle.mvo_representation.specs.Words.{Phases, Ends, end_in, stamp_in, is_stamp, has_stamp, NetEffect, with_effect, effect_by, effect_of, net_effect, Touch, is_touch, touches, is_touched, as_net_effect, standing_effect, standing_effect_of, is_up_to}
+use Rattle.mvo_representation.specs.Words.{Phases, Ends, end_in, stamp_in, is_stamp, has_stamp, NetEffect, with_effect, effect_by, effect_of, net_effect, Touch, is_touch, touches, is_touched, as_net_effect, standing_effect, standing_effect_of, is_up_to, is_clash}
 use Rattle.mvo_visible.specs.Words.{names}
 use Rattle.mvo_representation.specs.Words.NetEffect.{Untouched, Removed, Puts, Clash}
 use Rattle.mvo_representation.specs.Words.Touch.{OnlyPut, PutOrEnded}
@@ -136,13 +136,7 @@ gone_more true None f = refl
 gone_more true (Some Gone) f = refl
 gone_more true (Some (Put g)) f = absurd (some≢none g (f refl))
 
-abbrev pub is_clash : NetEffect → Bool
-is_clash Untouched = false
-is_clash Removed = false
-is_clash (Puts h) = false
-is_clash Clash = true
-
-not_clash : (w : Option Effect) → is_clash (as_net_effect w) ≡ false
+pub not_clash : (w : Option Effect) → is_clash (as_net_effect w) ≡ false
 not_clash None = refl
 not_clash (Some Gone) = refl
 not_clash (Some (Put h)) = refl

@@ -25,7 +25,7 @@ use Rattle.mvo_theory.proofs.Who.{active_holds}
 use Rattle.mvo_theory.proofs.Counts.{seen_counts}
 use Rattle.mvo_theory.proofs.Exact.{depends_only, depends_all}
 use Rattle.mvo_chain.specs.declared.version.Version.{Version}
-use Rattle.mvo_representation.specs.Words.{Phases, Ends, ends_of, stamp_in, is_stamp, has_stamp, NetEffect, with_effect, as_net_effect, touches, is_up_to, is_standing, standing_effect_of, standing_effect, is_below, meets, is_met}
+use Rattle.mvo_representation.specs.Words.{Phases, Ends, ends_of, stamp_in, is_stamp, has_stamp, NetEffect, with_effect, as_net_effect, touches, is_up_to, is_standing, standing_effect_of, standing_effect, is_below, meets, is_met, content_put, is_clash}
 use Rattle.mvo_representation.specs.Words.NetEffect.{Untouched, Removed, Puts, Clash}
 use Rattle.mvo_representation.specs.Words.Touch.{OnlyPut}
 use Rattle.mvo_representation.specs.Versions.{history_at, AreVersionsOf}
@@ -58,27 +58,15 @@ any_at f (x ∷ xs) v ys e = go (f x) (any_at f xs v ys e)
     go false g = g
 
 -- ---- what stands at the start
-abbrev held_in : NetEffect → Option ContentData
-held_in Untouched = None
-held_in Removed = None
-held_in (Puts h) = Some h
-held_in Clash = None
-
-abbrev clashes : NetEffect → Bool
-clashes Untouched = false
-clashes Removed = false
-clashes (Puts h) = false
-clashes Clash = true
-
-at_start : (m : Option ContentData) → held_in (as_net_effect (option_map (λ h. Put h) m)) ≡ m
+at_start : (m : Option ContentData) → content_put (as_net_effect (option_map (λ h. Put h) m)) ≡ m
 at_start None = refl
 at_start (Some h) = refl
 
-clear_start : (m : Option ContentData) → clashes (as_net_effect (option_map (λ h. Put h) m)) ≡ false
+clear_start : (m : Option ContentData) → is_clash (as_net_effect (option_map (λ h. Put h) m)) ≡ false
 clear_start None = refl
 clear_start (Some h) = refl
 
-put_held : (h : ContentData) (rest : NetEffect) → clashes (with_effect (Puts h) rest) ≡ false → held_in (with_effect (Puts h) rest) ≡ Some h
+put_held : (h : ContentData) (rest : NetEffect) → is_clash (with_effect (Puts h) rest) ≡ false → content_put (with_effect (Puts h) rest) ≡ Some h
 put_held h Untouched e = refl
 put_held h Removed e = refl
 put_held h (Puts g) e = absurd (true≢false e)
@@ -88,7 +76,7 @@ pub stands_base : (s : State) (table : Phases) (xs : List Version) (v : Version)
 stands_base s table xs v ys q h e =
     let at : with_effect (Puts (content_of v.row)) (standing_effect (ends_of table) s.start q (xs ++ ys)) ≡ as_net_effect (option_map (λ h. Put h) (fin.get s.base q)) =
     ap (λ d. with_effect d (standing_effect (ends_of table) s.start q (xs ++ ys))) (sym e) ∙ sym (standing_effect-at (ends_of table) s.start q xs v ys) ∙ h.stood q in
-    sym (at_start (fin.get s.base q)) ∙ ap held_in (sym at) ∙ put_held (content_of v.row) (standing_effect (ends_of table) s.start q (xs ++ ys)) (ap clashes at ∙ clear_start (fin.get s.base q))
+    sym (at_start (fin.get s.base q)) ∙ ap content_put (sym at) ∙ put_held (content_of v.row) (standing_effect (ends_of table) s.start q (xs ++ ys)) (ap is_clash at ∙ clear_start (fin.get s.base q))
 
 -- a version that stands there
 stands_with : Ends → ℕ → RowKey → Version → Bool
@@ -137,14 +125,14 @@ some_held : (g h : ContentData) → ◌≡◌ {A = Option ContentData} (Some g) 
 some_held g h q = cc
 
 nothing_puts : (h : ContentData) → Untouched ≡ Puts h → ⊥
-nothing_puts h q = none_held h (ap held_in q)
+nothing_puts h q = none_held h (ap content_put q)
 
 pub stands_as : (ends : Ends) (start : ℕ) (q : RowKey) (h : ContentData) (vs : List Version) → standing_effect ends start q vs ≡ Puts h → StandsAs ends start q h vs
 stands_as ends start q h [] e = absurd (nothing_puts h e)
 stands_as ends start q h (v ∷ vs) e = go (puts_or (standing_effect_of ends start q v) (standing_effect ends start q vs) h e) (λ g. stands_as ends start q h vs g)
   where
     here : (b : Bool) → (eq_by_cmp key_cmp q v.row.key && is_standing ends start v) ≡ b → cond b (Puts (content_of v.row)) Untouched ≡ Puts h → StandsAs ends start q h (v ∷ vs)
-    here true f g = record { before = []; version = v; after = vs; is = refl; passes = f; row = some_held (content_of v.row) h (ap held_in g) }
+    here true f g = record { before = []; version = v; after = vs; is = refl; passes = f; row = some_held (content_of v.row) h (ap content_put g) }
     here false f g = absurd (nothing_puts h g)
 
     go : (standing_effect_of ends start q v ≡ Puts h) ⊎ (standing_effect ends start q vs ≡ Puts h) → (standing_effect ends start q vs ≡ Puts h → StandsAs ends start q h vs) → StandsAs ends start q h (v ∷ vs)

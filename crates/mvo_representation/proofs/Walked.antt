@@ -26,7 +26,7 @@ use Rattle.mvo_range.specs.declared.place.Place.{Place}
 use Rattle.mvo_range.specs.Place.{Map as Places}
 use Rattle.mvo_range.proofs.Places.{places_total}
 use Rattle.mvo_representation.specs.Steps.{IsOwnNewest}
-use Rattle.mvo_representation.specs.Words.{Phases, Ends, ends_of, stamp_in, is_stamp, has_stamp, NetEffect, with_effect, effect_by, effect_of, net_effect, as_net_effect, change_below, standing, IsShownAt, is_below, is_up_to, meets, is_met}
+use Rattle.mvo_representation.specs.Words.{Phases, Ends, ends_of, stamp_in, is_stamp, has_stamp, NetEffect, with_effect, effect_by, effect_of, net_effect, as_net_effect, change_below, standing, IsShownAt, is_below, is_up_to, meets, is_met, content_put}
 use Rattle.mvo_visible.specs.Words.{names}
 use Rattle.mvo_representation.specs.Words.NetEffect.{Untouched, Removed, Puts, Clash}
 use Rattle.mvo_representation.specs.Versions.{AreVersionsOf}
@@ -48,19 +48,13 @@ pub record PutBy (n : Held → Bool) (k : RowKey) (h : ContentData) (vs : List V
   pub stays : n version.end ≡ false
   pub row : content_of version.row ≡ h
 
-abbrev held_in : NetEffect → Option ContentData
-held_in Untouched = None
-held_in Removed = None
-held_in (Puts h) = Some h
-held_in Clash = None
-
 none_held : (h : ContentData) → ◌≡◌ {A = Option ContentData} None (Some h) → ⊥
 none_held h e = cc
 
 some_held : (g h : ContentData) → ◌≡◌ {A = Option ContentData} (Some g) (Some h) → g ≡ h
 some_held g h q = cc
 
-puts_or : (d e : NetEffect) (h : ContentData) → held_in (with_effect d e) ≡ Some h → (held_in d ≡ Some h) ⊎ (held_in e ≡ Some h)
+puts_or : (d e : NetEffect) (h : ContentData) → content_put (with_effect d e) ≡ Some h → (content_put d ≡ Some h) ⊎ (content_put e ≡ Some h)
 puts_or Untouched e h q = inr q
 puts_or Removed Untouched h q = inl q
 puts_or Removed Removed h q = inl q
@@ -72,24 +66,24 @@ puts_or (Puts g) (Puts k) h q = absurd (none_held h q)
 puts_or (Puts g) Clash h q = inr q
 puts_or Clash e h q = inl q
 
-pub put_by : (n : Held → Bool) (k : RowKey) (h : ContentData) (vs : List Version) → held_in (net_effect n k vs) ≡ Some h → PutBy n k h vs
+pub put_by : (n : Held → Bool) (k : RowKey) (h : ContentData) (vs : List Version) → content_put (net_effect n k vs) ≡ Some h → PutBy n k h vs
 put_by n k h [] e = absurd (none_held h e)
 put_by n k h (v ∷ vs) e = go (puts_or (effect_of n k v) (net_effect n k vs) h e) (λ g. put_by n k h vs g)
   where
-    here : (q o c : Bool) → eq_by_cmp key_cmp k v.row.key ≡ q → n v.begin ≡ o → n v.end ≡ c → held_in (cond q (effect_by o c (content_of v.row)) Untouched) ≡ Some h → PutBy n k h (v ∷ vs)
+    here : (q o c : Bool) → eq_by_cmp key_cmp k v.row.key ≡ q → n v.begin ≡ o → n v.end ≡ c → content_put (cond q (effect_by o c (content_of v.row)) Untouched) ≡ Some h → PutBy n k h (v ∷ vs)
     here true true false i j l g = record { before = []; version = v; after = vs; is = refl; key = sym (tells_apart exact_keys k v.row.key i); put = j; stays = l; row = some_held (content_of v.row) h g }
     here true true true i j l g = absurd (none_held h g)
     here true false true i j l g = absurd (none_held h g)
     here true false false i j l g = absurd (none_held h g)
     here false o c i j l g = absurd (none_held h g)
 
-    go : (held_in (effect_of n k v) ≡ Some h) ⊎ (held_in (net_effect n k vs) ≡ Some h) → (held_in (net_effect n k vs) ≡ Some h → PutBy n k h vs) → PutBy n k h (v ∷ vs)
+    go : (content_put (effect_of n k v) ≡ Some h) ⊎ (content_put (net_effect n k vs) ≡ Some h) → (content_put (net_effect n k vs) ≡ Some h → PutBy n k h vs) → PutBy n k h (v ∷ vs)
     go (inl g) again = here (eq_by_cmp key_cmp k v.row.key) (n v.begin) (n v.end) refl refl refl g
     go (inr g) again = let w = again g in record { before = v ∷ w.before; version = w.version; after = w.after; is = ap (λ ws. v ∷ ws) w.is; key = w.key; put = w.put; stays = w.stays; row = w.row }
 
 -- where t wrote the key last by a put, its own newest version is there
 pub own_found : (s : State) (table : Phases) (vs : List Version) (t : ℕ) (mine : ActiveTx) (k : RowKey) (h : ContentData) → IsNumbered s → AreVersionsOf s table vs → active_of t s.active ≡ Some mine → net_write k mine.history ≡ Some (Put h) → PutBy (names t) k h vs
-own_found s table vs t mine k h num r f e = put_by (names t) k h vs (ap held_in ((writer s table t mine vs num r f).net_effect k ∙ ap as_net_effect e))
+own_found s table vs t mine k h num r f e = put_by (names t) k h vs (ap content_put ((writer s table t mine vs num r f).net_effect k ∙ ap as_net_effect e))
 
 pub own_ends : (t : ℕ) (k : RowKey) (h : ContentData) (vs : List Version) (w : PutBy (names t) k h vs) → IsOwnNewest t w.version
 own_ends t k h vs w = record { mine = w.put; kept = w.stays }
@@ -122,7 +116,7 @@ shown_found opening steps s table vs t mine k h kept r f e = go (change_below (e
 
     held : Option (ℕ × NetEffect) → Option ContentData
     held None = None
-    held (Some p) = held_in p.1
+    held (Some p) = content_put p.1
 
     clash : Option (ℕ × NetEffect) → Bool
     clash None = false
@@ -135,7 +129,7 @@ shown_found opening steps s table vs t mine k h kept r f e = go (change_below (e
     there a g i =
         let at : a ≡ origin s t k = ap stamp (sym (ap standing i)) ∙ ap stamp stands in
         let same : Some g ≡ Some h = ap held (sym (ap standing i)) ∙ ap held stands in
-        let w = put_by (has_stamp (ends_of table) a) k h vs (ap held_in ((top_is (λ m. net_effect (has_stamp (ends_of table) m) k vs) t (a, Puts g) i).is) ∙ same) in
+        let w = put_by (has_stamp (ends_of table) a) k h vs (ap content_put ((top_is (λ m. net_effect (has_stamp (ends_of table) m) k vs) t (a, Puts g) i).is) ∙ same) in
         subst (ShownThere (ends_of table) t k h vs) at (record {
           before = w.before;
           version = w.version;

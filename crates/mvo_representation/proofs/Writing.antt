@@ -31,7 +31,7 @@ use Rattle.mvo_theory.proofs.Who.{active_holds, id_of}
 use Rattle.mvo_word.specs.declared.held.Held.{Held}
 use Rattle.mvo_word.specs.declared.held.Held.TheVariants.{At, By, Infinity}
 use Rattle.mvo_chain.specs.declared.version.Version.{Version}
-use Rattle.mvo_representation.specs.Words.{Phases, Ends, end_in, ends_of, stamp_in, is_stamp, has_stamp, cause_of, cause_in, NetEffect, with_effect, effect_by, effect_of, net_effect, as_net_effect, standing, IsShownAt}
+use Rattle.mvo_representation.specs.Words.{Phases, Ends, end_in, ends_of, stamp_in, is_stamp, has_stamp, cause_of, cause_in, NetEffect, with_effect, effect_by, effect_of, net_effect, as_net_effect, standing, IsShownAt, is_clash}
 use Rattle.mvo_visible.specs.Words.{names}
 use Rattle.mvo_representation.specs.Words.NetEffect.{Untouched, Removed, Puts, Clash}
 use Rattle.mvo_representation.specs.Versions.{Say, IsKnown, IsClaimed, HasClaims, IsInside, AreVersionsOf}
@@ -43,7 +43,7 @@ use Rattle.mvo_representation.proofs.Conflict.{not_active}
 use Rattle.mvo_representation.proofs.Kept.{IsSame, same_trans, IsVersion, each_version, each_at, each_changed}
 use Rattle.mvo_representation.proofs.Answers.{IsOnly, only_mine, Wrote, IsApartFrom, ClaimsMore, claims_answered, known_answered, inside_answered, version_answered, kept_after_operation}
 use Rattle.mvo_representation.specs.Steps.{IsOwnNewest, fresh, ended_by}
-use Rattle.mvo_representation.proofs.Own.{IsFree, is_clash, own_id, not_absent, same_did, wrote_fresh, wrote_end_other, wrote_end_own, wrote_both, same_fresh, same_end, apart_fresh, apart_end, apart_both, version_fresh, free_after}
+use Rattle.mvo_representation.proofs.Own.{IsFree, own_id, not_absent, same_did, wrote_fresh, wrote_end_other, wrote_end_own, wrote_both, same_fresh, same_end, apart_fresh, apart_end, apart_both, version_fresh, free_after}
 use Rattle.mvo_types.specs.Write.Effect.{Put, Delete as Gone}
 
 none_end : (e : ℕ) → ◌≡◌ {A = Option ℕ} None (Some e) → ⊥

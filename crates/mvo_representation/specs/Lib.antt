@@ -4,3 +4,4 @@ pub mod Nodes
 pub mod Indexes
 pub mod WordLists
 pub mod Steps
+pub mod Table

@@ -61,7 +61,8 @@ pub record IsFreeToEnd (s : State) (table : Phases) (t : ℕ) (vs : List Version
   pub shown : IsShownAt (ends_of table) t v.row.key vs v stamp
   pub free : cause_in table v.end ≡ None
 
-pub data MayEnd (s : State) (table : Phases) (t : ℕ) (vs : List Version) (v : Version) : Type 0 where
+pub data MayEnd (s : State) (table : Phases) (t : ℕ) (vs : List Version)
+    (v : Version) : Type 0 where
   Own : IsOwnNewest t v → MayEnd s table t vs v
   Other : IsFreeToEnd s table t vs v → MayEnd s table t vs v
 

@@ -139,6 +139,19 @@ as_net_effect None = Untouched
 as_net_effect (Some Delete) = Removed
 as_net_effect (Some (Put h)) = Puts h
 
+-- the content that is put
+abbrev pub content_put : NetEffect → Option ContentData
+content_put Untouched = None
+content_put Removed = None
+content_put (Puts h) = Some h
+content_put Clash = None
+
+abbrev pub is_clash : NetEffect → Bool
+is_clash Untouched = false
+is_clash Removed = false
+is_clash (Puts h) = false
+is_clash Clash = true
+
 -- ---- the deciding change
 -- the change at s before those below, if something was done at s
 abbrev pub or_change_at : ℕ → NetEffect

@@ -1,0 +1,37 @@
+-- The transaction table as phases, and what the rules answer, as the state has it.
+use Rattle.std.specs.Prelude.{ℕ, Option, None, Some}
+use Rattle.std.specs.Option.{option_map}
+use Rattle.mvo_types.specs.declared.ids.TxId.{TxId}
+use Rattle.mvo_types.specs.RowData.{ContentData, content_of}
+use Rattle.mvo_model.specs.Trace.{Phase}
+use Rattle.mvo_model.specs.Trace.Phase.{Absent, Active, Preparing, Committed, Aborted}
+use Rattle.mvo_txn.specs.declared.state.TxState.{TxState}
+use Rattle.mvo_txn.specs.declared.state.TxState.TheVariants as state
+use Rattle.mvo_chain.specs.declared.version.VersionNo.{VersionNo}
+use Rattle.mvo_chain.specs.Slots.{Slots, version_at}
+use Rattle.mvo_visible.specs.Words.{States}
+use Rattle.mvo_representation.specs.Words.{Phases, open_end}
+
+-- one that isn't in the table is Absent
+abbrev pub phase_as : Option TxState → Phase
+phase_as None = Absent
+phase_as (Some state.Active) = Active
+phase_as (Some (state.Preparing e)) = Preparing e.0
+phase_as (Some (state.Committed e)) = Committed e.0
+phase_as (Some state.Aborted) = Aborted
+
+abbrev pub phases_of : States → Phases
+phases_of states t = phase_as (states t)
+
+-- the content of the version with the number
+abbrev pub content_at : Slots → VersionNo → Option ContentData
+content_at slots n = option_map (λ v. content_of v.row) (version_at slots n)
+
+abbrev pub content_shown : Slots → Option VersionNo → Option ContentData
+content_shown slots None = None
+content_shown slots (Some n) = content_at slots n
+
+-- the end of the Preparing transaction that a reader depends on
+abbrev pub end_awaited : States → Option TxId → Option ℕ
+end_awaited states None = None
+end_awaited states (Some t) = open_end (phases_of states t.0)
