@@ -45,6 +45,14 @@ last_within f (suc b) n e = go (f b) e (λ g. last_within f b n g)
     go true g again = let q = some_end b n g in omega (arith, q)
     go false g again = let l = again g in omega (arith, l)
 
+pub last_holds : (f : ℕ → Bool) (b n : ℕ) → last_passing f b ≡ Some n → f n ≡ true
+last_holds f zero n e = absurd (none_end n e)
+last_holds f (suc b) n e = go (f b) refl e (λ g. last_holds f b n g)
+  where
+    go : (c : Bool) → f b ≡ c → cond c (Some b) (last_passing f b) ≡ Some n → (last_passing f b ≡ Some n → f n ≡ true) → f n ≡ true
+    go true q g again = ap f (sym (some_end b n g)) ∙ q
+    go false q g again = again g
+
 -- one number more
 one_more : (c : ℕ) (f : ℕ → Bool) (b : ℕ) → last_passing (λ s. (c == s) || f s) b ≡ cond (nat_lt c b) (Some (greater c (last_passing f b))) (last_passing f b)
 one_more c f zero = ap (λ d. cond d (Some c) None) (sym (le-ltb c 0 (omega arith)))

@@ -31,3 +31,4 @@ pub mod Steps
 pub mod Seen
 pub mod Decided
 pub mod ShownTo
+pub mod DependsOn

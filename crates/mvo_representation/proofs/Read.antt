@@ -24,7 +24,7 @@ written_depends s op r k e w =
     ap (λ (x : Entry). depend_on_all r.depends_on (unwritten r.history (keys_for x r.id s.base s.stamped)) r.id s.stamped) e
     ∙ ap (λ b. depend_on_all r.depends_on (cond (not b) (k ∷ []) []) r.id s.stamped) w
 
-key_depends : (s : State) (op : Op) (r : ActiveTx) (k : RowKey) → entry_of op ≡ Key k → net_write k r.history ≡ None → dependencies s op r ≡ depend_on r.depends_on (last_writer k r.id s.stamped)
+pub key_depends : (s : State) (op : Op) (r : ActiveTx) (k : RowKey) → entry_of op ≡ Key k → net_write k r.history ≡ None → dependencies s op r ≡ depend_on r.depends_on (last_writer k r.id s.stamped)
 key_depends s op r k e w =
     ap (λ (x : Entry). depend_on_all r.depends_on (unwritten r.history (keys_for x r.id s.base s.stamped)) r.id s.stamped) e
     ∙ ap (λ o. depend_on_all r.depends_on (cond (not (is_some o)) (k ∷ []) []) r.id s.stamped) w

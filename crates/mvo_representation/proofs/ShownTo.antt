@@ -184,10 +184,10 @@ clear_in s states vs t r k sd st h f = record {
 }
 
 -- what all versions say of a key, those of the key say
-keyed : (slots : Slots) (lists : Lists) (k : RowKey) → HasNumbers slots lists → (n : Held → Bool) → net_effect n k (all_versions slots) ≡ net_effect n k (versions_in (versions_at slots lists k))
+pub keyed : (slots : Slots) (lists : Lists) (k : RowKey) → HasNumbers slots lists → (n : Held → Bool) → net_effect n k (all_versions slots) ≡ net_effect n k (versions_in (versions_at slots lists k))
 keyed slots lists k h n = index_net_effect n k slots lists h ∙ ap (net_effect n k) (sym (versions_in_by slots (numbers_of lists k)))
 
-below_keyed : (states : States) (slots : Slots) (lists : Lists) (k : RowKey) (b : ℕ) → HasNumbers slots lists → change_below (ends_of (phases_of states)) b k (all_versions slots) ≡ change_below (ends_of (phases_of states)) b k (versions_in (versions_at slots lists k))
+pub below_keyed : (states : States) (slots : Slots) (lists : Lists) (k : RowKey) (b : ℕ) → HasNumbers slots lists → change_below (ends_of (phases_of states)) b k (all_versions slots) ≡ change_below (ends_of (phases_of states)) b k (versions_in (versions_at slots lists k))
 below_keyed states slots lists k b h = top_same (λ s. net_effect (has_stamp (ends_of (phases_of states)) s) k (all_versions slots)) (λ s. net_effect (has_stamp (ends_of (phases_of states)) s) k (versions_in (versions_at slots lists k))) b (λ s _. keyed slots lists k h (has_stamp (ends_of (phases_of states)) s))
 
 clear_keyed : (states : States) (slots : Slots) (lists : Lists) (t : ℕ) (k : RowKey) → HasNumbers slots lists → IsClear states t k (all_versions slots) → IsClear states t k (versions_in (versions_at slots lists k))
