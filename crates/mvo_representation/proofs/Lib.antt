@@ -32,3 +32,4 @@ pub mod Seen
 pub mod Decided
 pub mod ShownTo
 pub mod DependsOn
+pub mod CheckedBy

@@ -10,6 +10,9 @@ use Rattle.mvo_txn.specs.declared.state.TxState.TheVariants as state
 use Rattle.mvo_chain.specs.declared.version.VersionNo.{VersionNo}
 use Rattle.mvo_chain.specs.Slots.{Slots, version_at}
 use Rattle.mvo_visible.specs.Words.{States}
+use Rattle.mvo_theory.specs.Entries as theory
+use Rattle.mvo_validate.specs.declared.entry.Entry.{Entry}
+use Rattle.mvo_validate.specs.declared.entry.Entry.TheVariants.{Key, Range}
 use Rattle.mvo_representation.specs.Words.{Phases, open_end}
 
 -- one that isn't in the table is Absent
@@ -35,3 +38,8 @@ content_shown slots (Some n) = content_at slots n
 abbrev pub end_awaited : States → Option TxId → Option ℕ
 end_awaited states None = None
 end_awaited states (Some t) = open_end (phases_of states t.0)
+
+-- the entry as the state has it
+abbrev pub entry_as : Entry → theory.Entry
+entry_as (Key k) = theory.Entry.Key k
+entry_as (Range table lo hi) = theory.Entry.Range table lo hi

@@ -1,0 +1,195 @@
+-- What the check of an entry names by the rules is what it names in the state.
+use Rattle.std.proofs.Common.{◌≡◌, ℕ, ◌+◌, ◌<◌, ◌≤◌, suc, zero, Bool, true, false, cond, not, ◌||◌, List, [], ◌∷◌, ◌++◌, map, Option, None, Some, refl, sym, ap, ◌∙◌, subst, arith, ◌⊎◌, inl, inr}
+use Rattle.std.specs.Prelude.{◌==◌, ◌&&◌, nat_lt, nat_le, is_some, slice_index_or}
+use Rattle.std.specs.List.{AllByRecursion, list_any, filter, flat_map}
+use Rattle.std.specs.Option.{option_map}
+use Rattle.std.specs.FinMap as fin
+use Rattle.std.specs.Ordering.{eq_by_cmp}
+use Rattle.std.specs.Cmp.{eq_by_cmp_equiv}
+use Rattle.std.proofs.lemmas.Bool.{eq-eqb, eqb-true, le-ltb, ltb-false, true≢false, false≢true, and_parts, and_from}
+use Rattle.std.proofs.lemmas.List.Folds.{list_any-append}
+use Rattle.std.proofs.lemmas.Map.Views.{tells_apart}
+use Rattle.mvo_types.specs.declared.row.RowKey.{RowKey}
+use Rattle.mvo_types.specs.RowData.{content_of}
+use Rattle.mvo_types.specs.Keys.{key_cmp}
+use Rattle.mvo_types.proofs.Maps.{exact_keys, keys_total}
+use Rattle.mvo_theory.specs.Entries as theory
+use Rattle.mvo_theory.specs.Ranges.{shows}
+use Rattle.mvo_theory.specs.State.{State}
+use Rattle.mvo_theory.specs.Causes.{change_of}
+use Rattle.mvo_theory.specs.Sound.{IsSound, IsStarted, how_many}
+use Rattle.mvo_chain.specs.declared.version.Version.{Version}
+use Rattle.mvo_chain.specs.declared.version.VersionNo.{VersionNo}
+use Rattle.mvo_chain.specs.Slots.{Slots, version_at}
+use Rattle.mvo_hash.specs.Lists.{Lists, number, numbers_of}
+use Rattle.mvo_range.specs.declared.place.Place.{Place}
+use Rattle.mvo_range.specs.Place.{Map as Places, place_cmp, is_between}
+use Rattle.mvo_range.proofs.Places.{exact_places, places_total}
+use Rattle.mvo_visible.specs.declared.change.Change.{Change}
+use Rattle.mvo_visible.specs.Words.{States}
+use Rattle.mvo_visible.specs.Versions.{Numbered, and_version, versions_by, versions_at}
+use Rattle.mvo_visible.specs.Changes.{changes_of, greatest_below}
+use Rattle.mvo_validate.specs.declared.entry.Entry.{Entry}
+use Rattle.mvo_validate.specs.declared.entry.Entry.TheVariants.{Key, Range}
+use Rattle.mvo_validate.specs.Between.{is_above, stamp_between}
+use Rattle.mvo_validate.specs.Entries.{has_sort, versions_of_sort, key_at, versions_of_place, versions_in}
+use Rattle.mvo_representation.specs.Words.{ends_of, has_stamp, NetEffect, net_effect, change_below, if_above, last_passing, touch_below, stamp_above, is_touched, touches}
+use Rattle.mvo_representation.specs.Words.Touch.{PutOrEnded}
+use Rattle.mvo_representation.specs.Versions.{AreVersionsOf}
+use Rattle.mvo_representation.specs.Indexes.{all_versions, is_of_key, HasNumbers, place_of, is_at_place, HasPlaces}
+use Rattle.mvo_representation.specs.Table.{phases_of, entry_as}
+use Rattle.mvo_representation.proofs.Checked.{key_checked}
+use Rattle.mvo_representation.proofs.Between.{range_checked}
+use Rattle.mvo_representation.proofs.Decided.{is_stamped, last_same, last_within, greatest_is, changes_at, greatest_change, AreOfKey, last_of_versions} 
+use Rattle.mvo_representation.proofs.ShownTo.{AreThere, of_key, there, below_keyed}
+
+-- ---- between two timestamps
+none_from : (b : ℕ) (f : ℕ → Bool) (e : ℕ) → e ≤ b + 1 → last_passing (λ s. nat_lt b s && f s) e ≡ None
+none_from b f zero le = refl
+none_from b f (suc e) le = ap (λ c. cond (c && f e) (Some e) (last_passing (λ s. nat_lt b s && f s) e)) (le-ltb b e (omega (arith, le))) ∙ none_from b f e (omega (arith, le))
+
+above_is : (b : ℕ) (f : ℕ → Bool) (e : ℕ) → last_passing (λ s. nat_lt b s && f s) e ≡ stamp_above b (last_passing f e)
+above_is b f zero = refl
+above_is b f (suc e) = go (f e) (nat_lt b e) refl (above_is b f e)
+  where
+    go : (c d : Bool) → nat_lt b e ≡ d → last_passing (λ s. nat_lt b s && f s) e ≡ stamp_above b (last_passing f e) → cond (d && c) (Some e) (last_passing (λ s. nat_lt b s && f s) e) ≡ stamp_above b (cond c (Some e) (last_passing f e))
+    go true true q r = ap (λ x. cond x (Some e) None) (sym q)
+    go true false q r = none_from b f e (let l : e ≤ b = ltb-false b e q in omega (arith, l)) ∙ ap (λ x. cond x (Some e) None) (sym q)
+    go false true q r = r
+    go false false q r = r
+
+and_false : (a : Bool) → (a && false) ≡ false
+and_false true = refl
+and_false false = refl
+
+stamped_above : (b s : ℕ) (cs : List Change) → is_stamped s (filter (is_above b) cs) ≡ (nat_lt b s && is_stamped s cs)
+stamped_above b s [] = sym (and_false (nat_lt b s))
+stamped_above b s (c ∷ cs) = go (is_above b c) refl (stamped_above b s cs)
+  where
+    or_and : (a d r : Bool) → (d ≡ true → a ≡ true) → (d || (a && r)) ≡ (a && (d || r))
+    or_and true d r h = refl
+    or_and false true r h = absurd (false≢true (h refl))
+    or_and false false r h = refl
+
+    and_or : (a d r : Bool) → (d ≡ true → a ≡ false) → (a && r) ≡ (a && (d || r))
+    and_or false d r h = refl
+    and_or true true r h = absurd (true≢false (h refl))
+    and_or true false r h = refl
+
+    go : (d : Bool) → is_above b c ≡ d → is_stamped s (filter (is_above b) cs) ≡ (nat_lt b s && is_stamped s cs) → is_stamped s (cond d (c ∷ filter (is_above b) cs) (filter (is_above b) cs)) ≡ (nat_lt b s && ((c.stamp.0 == s) || is_stamped s cs))
+    go true q r = ap (λ x. (c.stamp.0 == s) || x) r ∙ or_and (nat_lt b s) (c.stamp.0 == s) (is_stamped s cs) (λ e. ap (nat_lt b) (sym (eqb-true c.stamp.0 s e)) ∙ q)
+    go false q r = r ∙ and_or (nat_lt b s) (c.stamp.0 == s) (is_stamped s cs) (λ e. ap (nat_lt b) (sym (eqb-true c.stamp.0 s e)) ∙ q)
+
+pub between_is : (b e : ℕ) (cs : List Change) → stamp_between b e cs ≡ stamp_above b (greatest_below e cs)
+between_is b e cs =
+    greatest_is e (filter (is_above b) cs)
+    ∙ last_same (λ s. is_stamped s (filter (is_above b) cs)) (λ s. nat_lt b s && is_stamped s cs) e (λ s. stamped_above b s cs)
+    ∙ above_is b (λ s. is_stamped s cs) e
+    ∙ ap (stamp_above b) (sym (greatest_is e cs))
+
+-- ---- a key
+all_pass : (vs : List Numbered) → filter (has_sort None) vs ≡ vs
+all_pass [] = refl
+all_pass (v ∷ vs) = ap (λ ws. v ∷ ws) (all_pass vs)
+
+above_change : (f : ℕ → NetEffect) (b : ℕ) (w : Option ℕ) → if_above b (option_map (λ s. (s, f s)) w) ≡ stamp_above b w
+above_change f b None = refl
+above_change f b (Some s) = refl
+
+pub key_check_is : (s : State) (states : States) (slots : Slots) (lists : Lists) (places : Places) (b e : ℕ) (k : RowKey) → IsSound s → IsStarted s → AreVersionsOf s (phases_of states) (all_versions slots) → HasNumbers slots lists → s.start ≤ b → b < e → stamp_between b e (changes_of states (versions_in slots lists places (Key k))) ≡ change_of s.stamped b e (theory.Entry.Key k)
+key_check_is s states slots lists places b e k sd st h ns le lt =
+    ap (λ vs. stamp_between b e (changes_of states vs)) (all_pass (versions_at slots lists k))
+    ∙ between_is b e (changes_of states (versions_at slots lists k))
+    ∙ sym (above_change (λ m. net_effect (has_stamp (ends_of (phases_of states)) m) k (map (λ v. v.1) (versions_at slots lists k))) b (greatest_below e (changes_of states (versions_at slots lists k))))
+    ∙ ap (if_above b) (sym (last_of_versions states e k (versions_at slots lists k) (of_key slots lists k ns)) ∙ sym (below_keyed states slots lists k e ns))
+    ∙ key_checked s (phases_of states) (all_versions slots) b e k sd st h le lt
+
+-- ---- lists and tests
+any_filter : {X : Type 0} (f p : X → Bool) (xs : List X) → list_any f (filter p xs) ≡ list_any (λ x. p x && f x) xs
+any_filter f p [] = refl
+any_filter f p (x ∷ xs) = go (p x) (any_filter f p xs)
+  where
+    go : (b : Bool) → list_any f (filter p xs) ≡ list_any (λ y. p y && f y) xs → list_any f (cond b (x ∷ filter p xs) (filter p xs)) ≡ ((b && f x) || list_any (λ y. p y && f y) xs)
+    go true r = ap (λ c. f x || c) r
+    go false r = r
+
+any_flat : {X Y : Type 0} (f : Y → Bool) (g : X → List Y) (xs : List X) → list_any f (flat_map g xs) ≡ list_any (λ x. list_any f (g x)) xs
+any_flat f g [] = refl
+any_flat f g (x ∷ xs) = list_any-append f (g x) (flat_map g xs) ∙ ap (λ c. list_any f (g x) || c) (any_flat f g xs)
+
+-- one that passes
+record Passing {X : Type 0} (P : X → Type 0) (f : X → Bool) : Type 0 where
+  pub it : X
+  pub is : P it
+  pub passes : f it ≡ true
+
+passing : {X : Type 0} (P : X → Type 0) (f : X → Bool) (xs : List X) → AllByRecursion P xs → list_any f xs ≡ true → Passing P f
+passing P f [] h e = absurd (false≢true e)
+passing P f (x ∷ xs) h e = go (f x) refl e (λ r. passing P f xs h.1 r)
+  where
+    go : (b : Bool) → f x ≡ b → (b || list_any f xs) ≡ true → (list_any f xs ≡ true → Passing P f) → Passing P f
+    go true q r again = record { it = x; is = h.0; passes = q }
+    go false q r again = again r
+
+iff : (a b : Bool) → (a ≡ true → b ≡ true) → (b ≡ true → a ≡ true) → a ≡ b
+iff true b f g = sym (f refl)
+iff false true f g = g refl
+iff false false f g = refl
+
+or_true : (a : Bool) → (a || true) ≡ true
+or_true true = refl
+or_true false = refl
+
+or_left : (a b : Bool) → a ≡ true → (a || b) ≡ true
+or_left true b e = refl
+or_left false b e = absurd (false≢true e)
+
+or_right : (a b : Bool) → b ≡ true → (a || b) ≡ true
+or_right a true e = or_true a
+or_right a false e = absurd (false≢true e)
+
+-- ---- versions by number
+none_version : (v : Version) → ◌≡◌ {A = Option Version} None (Some v) → ⊥
+none_version v q = cc
+
+some_version : (w v : Version) → ◌≡◌ {A = Option Version} (Some w) (Some v) → w ≡ v
+some_version w v q = cc
+
+any_slot : (f : Version → Bool) (slots : Slots) (n : ℕ) (v : Version) → slice_index_or slots n None ≡ Some v → f v ≡ true → list_any f (all_versions slots) ≡ true
+any_slot f [] zero v e q = absurd (none_version v e)
+any_slot f [] (suc n) v e q = absurd (none_version v e)
+any_slot f (None ∷ ss) zero v e q = absurd (none_version v e)
+any_slot f (Some w ∷ ss) zero v e q = or_left (f w) (list_any f (all_versions ss)) (ap f (some_version w v e) ∙ q)
+any_slot f (None ∷ ss) (suc n) v e q = any_slot f ss n v e q
+any_slot f (Some w ∷ ss) (suc n) v e q = or_right (f w) (list_any f (all_versions ss)) (any_slot f ss n v e q)
+
+record InSlot (slots : Slots) (f : Version → Bool) : Type 0 where
+  pub number : ℕ
+  pub version : Version
+  pub at : slice_index_or slots number None ≡ Some version
+  pub passes : f version ≡ true
+
+in_slot : (f : Version → Bool) (slots : Slots) → list_any f (all_versions slots) ≡ true → InSlot slots f
+in_slot f [] e = absurd (false≢true e)
+in_slot f (None ∷ ss) e = let w = in_slot f ss e in record { number = suc w.number; version = w.version; at = w.at; passes = w.passes }
+in_slot f (Some v ∷ ss) e = go (f v) refl e (λ r. in_slot f ss r)
+  where
+    go : (b : Bool) → f v ≡ b → (b || list_any f (all_versions ss)) ≡ true → (list_any f (all_versions ss) ≡ true → InSlot ss f) → InSlot (Some v ∷ ss) f
+    go true q r again = record { number = zero; version = v; at = refl; passes = q }
+    go false q r again = let w = again r in record { number = suc w.number; version = w.version; at = w.at; passes = w.passes }
+
+any_numbered : (f : Numbered → Bool) (slots : Slots) (n : ℕ) (v : Version) (ns : List ℕ) → slice_index_or slots n None ≡ Some v → f (number n, v) ≡ true → 1 ≤ how_many (λ i. i == n) ns → list_any f (versions_by slots (map number ns)) ≡ true
+any_numbered f slots n v [] e q le = absurd (omega (arith, le))
+any_numbered f slots n v (m ∷ ns) e q le = go (m == n) refl le (λ l. any_numbered f slots n v ns e q l)
+  where
+    here : m ≡ n → list_any f (and_version (number m) (slice_index_or slots m None) (versions_by slots (map number ns))) ≡ true
+    here i = subst (λ j. list_any f (and_version (number j) (slice_index_or slots j None) (versions_by slots (map number ns))) ≡ true) (sym i)
+        (ap (λ o. list_any f (and_version (number n) o (versions_by slots (map number ns)))) e ∙ or_left (f (number n, v)) (list_any f (versions_by slots (map number ns))) q)
+
+    more : (o : Option Version) → list_any f (versions_by slots (map number ns)) ≡ true → list_any f (and_version (number m) o (versions_by slots (map number ns))) ≡ true
+    more None r = r
+    more (Some w) r = or_right (f (number m, w)) (list_any f (versions_by slots (map number ns))) r
+
+    go : (b : Bool) → (m == n) ≡ b → 1 ≤ cond b 1 0 + how_many (λ i. i == n) ns → (1 ≤ how_many (λ i. i == n) ns → list_any f (versions_by slots (map number ns)) ≡ true) → list_any f (versions_by slots (map number (m ∷ ns))) ≡ true
+    go true i l again = here (eqb-true m n i)
+    go false i l again = more (slice_index_or slots m None) (again (omega (arith, l)))
