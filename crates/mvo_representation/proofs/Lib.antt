@@ -33,3 +33,4 @@ pub mod Decided
 pub mod ShownTo
 pub mod DependsOn
 pub mod CheckedBy
+pub mod RangeCheckedBy
