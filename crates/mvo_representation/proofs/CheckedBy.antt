@@ -40,7 +40,7 @@ use Rattle.mvo_representation.specs.Indexes.{all_versions, is_of_key, HasNumbers
 use Rattle.mvo_representation.specs.Table.{phases_of, entry_as}
 use Rattle.mvo_representation.proofs.Checked.{key_checked}
 use Rattle.mvo_representation.proofs.Between.{range_checked}
-use Rattle.mvo_representation.proofs.Decided.{is_stamped, last_same, last_within, greatest_is, changes_at, greatest_change, AreOfKey, last_of_versions} 
+use Rattle.mvo_representation.proofs.Decided.{is_stamped, last_same, last_within, greatest_is, changes_at, greatest_change, AreOfKey, last_of_versions}
 use Rattle.mvo_representation.proofs.ShownTo.{AreThere, of_key, there, below_keyed}
 
 -- ---- between two timestamps

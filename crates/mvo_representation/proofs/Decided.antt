@@ -122,9 +122,9 @@ stamped_by states s [] = refl
 stamped_by states s (e ∷ es) =
     list_any-append (λ c. c.stamp.0 == s) (changes_by states e) (changes_of states es)
     ∙ ap (λ b. b || is_stamped s (changes_of states es))
-      (list_any-append (λ c. c.stamp.0 == s) (put_of e.0 (seen_of states e.1.begin) (seen_of states e.1.end)) (removal_of (seen_of states e.1.end))
-      ∙ ap (λ b. b || is_stamped s (removal_of (seen_of states e.1.end))) (any_put s e.0 (seen_of states e.1.begin) (seen_of states e.1.end) ∙ seen_at states s e.1.begin)
-      ∙ ap (λ b. has_stamp (ends_of (phases_of states)) s e.1.begin || b) (any_removal s (seen_of states e.1.end) ∙ seen_at states s e.1.end))
+    (list_any-append (λ c. c.stamp.0 == s) (put_of e.0 (seen_of states e.1.begin) (seen_of states e.1.end)) (removal_of (seen_of states e.1.end))
+    ∙ ap (λ b. b || is_stamped s (removal_of (seen_of states e.1.end))) (any_put s e.0 (seen_of states e.1.begin) (seen_of states e.1.end) ∙ seen_at states s e.1.begin)
+    ∙ ap (λ b. has_stamp (ends_of (phases_of states)) s e.1.begin || b) (any_removal s (seen_of states e.1.end) ∙ seen_at states s e.1.end))
     ∙ ap (λ b. changes_at states s e || b) (stamped_by states s es)
 
 pub greatest_change : (states : States) (b : ℕ) (vs : List Numbered) → greatest_below b (changes_of states vs) ≡ last_passing (λ s. list_any (changes_at states s) vs) b
@@ -173,12 +173,12 @@ version_first states s [] = refl
 version_first states s (e ∷ es) =
     first_with-append (λ c. c.version) s (changes_by states e) (changes_of states es)
     ∙ ap (λ w. option_or w (version_with s (changes_of states es)))
-      (first_with-append (λ c. c.version) s (put_of e.0 (seen_of states e.1.begin) (seen_of states e.1.end)) (removal_of (seen_of states e.1.end))
-      ∙ ap (option_or (first_with (λ c. c.version) s (put_of e.0 (seen_of states e.1.begin) (seen_of states e.1.end)))) (version_removed s (seen_of states e.1.end))
-      ∙ option_or-none (first_with (λ c. c.version) s (put_of e.0 (seen_of states e.1.begin) (seen_of states e.1.end)))
-      ∙ version_put s e.0 (seen_of states e.1.begin) (seen_of states e.1.end)
-      ∙ ap (λ b. cond (b && not (is_at s (seen_of states e.1.end))) (Some e.0) None) (seen_at states s e.1.begin)
-      ∙ ap (λ b. cond (has_stamp (ends_of (phases_of states)) s e.1.begin && not b) (Some e.0) None) (seen_at states s e.1.end))
+    (first_with-append (λ c. c.version) s (put_of e.0 (seen_of states e.1.begin) (seen_of states e.1.end)) (removal_of (seen_of states e.1.end))
+    ∙ ap (option_or (first_with (λ c. c.version) s (put_of e.0 (seen_of states e.1.begin) (seen_of states e.1.end)))) (version_removed s (seen_of states e.1.end))
+    ∙ option_or-none (first_with (λ c. c.version) s (put_of e.0 (seen_of states e.1.begin) (seen_of states e.1.end)))
+    ∙ version_put s e.0 (seen_of states e.1.begin) (seen_of states e.1.end)
+    ∙ ap (λ b. cond (b && not (is_at s (seen_of states e.1.end))) (Some e.0) None) (seen_at states s e.1.begin)
+    ∙ ap (λ b. cond (has_stamp (ends_of (phases_of states)) s e.1.begin && not b) (Some e.0) None) (seen_at states s e.1.end))
     ∙ ap (option_or (cond (is_put_by (has_stamp (ends_of (phases_of states)) s) e) (Some e.0) None)) (version_first states s es)
     ∙ by (is_put_by (has_stamp (ends_of (phases_of states)) s) e)
   where
@@ -267,5 +267,5 @@ pub last_of_versions : (states : States) (b : ℕ) (k : RowKey) (vs : List Numbe
 last_of_versions states b k vs h =
     last_change_is (λ s. net_effect (has_stamp (ends_of (phases_of states)) s) k (versions_in vs)) b
     ∙ ap (option_map (λ s. (s, net_effect (has_stamp (ends_of (phases_of states)) s) k (versions_in vs))))
-      (last_same (λ s. is_change (net_effect (has_stamp (ends_of (phases_of states)) s) k (versions_in vs))) (λ s. list_any (changes_at states s) vs) b (λ s. change_any (has_stamp (ends_of (phases_of states)) s) k vs h)
-      ∙ sym (greatest_change states b vs))
+    (last_same (λ s. is_change (net_effect (has_stamp (ends_of (phases_of states)) s) k (versions_in vs))) (λ s. list_any (changes_at states s) vs) b (λ s. change_any (has_stamp (ends_of (phases_of states)) s) k vs h)
+    ∙ sym (greatest_change states b vs))

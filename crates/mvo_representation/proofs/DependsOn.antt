@@ -181,19 +181,19 @@ depends_is opening steps s states slots lists op r k kept h ns f en = by (list_a
     others n None e =
         key_depends s op r k en n
         ∙ ap (depend_on r.depends_on) (none_writer k (last_writer k r.id s.stamped) (last_change (λ m. net_effect (has_stamp (ends_of (phases_of states)) m) k (all_versions slots)) (suc s.start))
-          (sym (last_is s (phases_of states) (all_versions slots) r.id k kept.sound kept.started h (active_begins s (phases_of states) (all_versions slots) r.id r kept.sound h f))
-          ∙ below_keyed states slots lists k r.id ns
-          ∙ last_of_versions states r.id k (versions_at slots lists k) (of_key slots lists k ns)
-          ∙ ap (option_map (λ m. (m, net_effect (has_stamp (ends_of (phases_of states)) m) k (versions_in (versions_at slots lists k))))) e))
+        (sym (last_is s (phases_of states) (all_versions slots) r.id k kept.sound kept.started h (active_begins s (phases_of states) (all_versions slots) r.id r kept.sound h f))
+        ∙ below_keyed states slots lists k r.id ns
+        ∙ last_of_versions states r.id k (versions_at slots lists k) (of_key slots lists k ns)
+        ∙ ap (option_map (λ m. (m, net_effect (has_stamp (ends_of (phases_of states)) m) k (versions_in (versions_at slots lists k))))) e))
     others n (Some m) e =
         let known = each_numbered (λ v. IsKnown s (phases_of states) v.begin × IsKnown s (phases_of states) v.end) slots (map number (numbers_of lists k)) h.known in
         let there : list_any (changes_at states m) (versions_at slots lists k) ≡ true = last_holds (λ i. list_any (changes_at states i) (versions_at slots lists k)) r.id m (sym (greatest_change states r.id (versions_at slots lists k)) ∙ e) in
         let w = word_at s states (all_versions slots) h m (versions_at slots lists k) known there in
         read_depends opening steps s (phases_of states) (all_versions slots) op r k w.word (m, net_effect (has_stamp (ends_of (phases_of states)) m) k (versions_in (versions_at slots lists k))) kept h f en n w.known
-          (below_keyed states slots lists k r.id ns ∙ last_of_versions states r.id k (versions_at slots lists k) (of_key slots lists k ns) ∙ ap (option_map (λ i. (i, net_effect (has_stamp (ends_of (phases_of states)) i) k (versions_in (versions_at slots lists k))))) e)
-          w.stamp
+        (below_keyed states slots lists k r.id ns ∙ last_of_versions states r.id k (versions_at slots lists k) (of_key slots lists k ns) ∙ ap (option_map (λ i. (i, net_effect (has_stamp (ends_of (phases_of states)) i) k (versions_in (versions_at slots lists k))))) e)
+        w.stamp
         ∙ ap (with_open r.depends_on) (open_word s (phases_of states) (all_versions slots) h w.word w.known m w.stamp
-          ∙ sym ((tells_all s states (all_versions slots) h m (versions_at slots lists k) known).with' there))
+        ∙ sym ((tells_all s states (all_versions slots) h m (versions_at slots lists k) known).with' there))
 
     by : (b : Bool) → list_any (is_own r.id) (versions_at slots lists k) ≡ b → dependencies s op r ≡ with_open r.depends_on (end_awaited states (shown_to states r.id r.id (versions_at slots lists k)).depends_on)
     by true e =

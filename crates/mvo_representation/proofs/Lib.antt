@@ -34,3 +34,5 @@ pub mod ShownTo
 pub mod DependsOn
 pub mod CheckedBy
 pub mod RangeCheckedBy
+pub mod Slots
+pub mod MayEnd

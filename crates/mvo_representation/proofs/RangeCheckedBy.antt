@@ -41,7 +41,7 @@ use Rattle.mvo_representation.specs.Indexes.{all_versions, is_of_key, HasNumbers
 use Rattle.mvo_representation.specs.Table.{phases_of, entry_as}
 use Rattle.mvo_representation.proofs.Checked.{key_checked}
 use Rattle.mvo_representation.proofs.Between.{range_checked}
-use Rattle.mvo_representation.proofs.Decided.{is_stamped, last_same, last_within, greatest_is, changes_at, greatest_change, AreOfKey, last_of_versions} 
+use Rattle.mvo_representation.proofs.Decided.{is_stamped, last_same, last_within, greatest_is, changes_at, greatest_change, AreOfKey, last_of_versions}
 use Rattle.mvo_representation.proofs.ShownTo.{AreThere, of_key, there, below_keyed}
 use Rattle.mvo_representation.proofs.CheckedBy.{between_is, key_check_is}
 
@@ -186,7 +186,7 @@ module _ (states : States) (slots : Slots) (lists : Lists) (places : Places) (ns
       let a = and_parts (is_between tab lo hi p.it) (list_any (at_place p.it) (versions_at slots lists (key_at p.it.0))) p.passes in
       let t = and_parts (p.it.0.table == tab) (nat_le lo p.it.0.sort && nat_le p.it.0.sort hi) a.0 in
       let v = passing (λ v. (version_at slots v.0 ≡ Some v.1) × (eq_by_cmp key_cmp (key_at p.it.0) v.1.row.key ≡ true)) (at_place p.it) (versions_at slots lists (key_at p.it.0))
-          (each_both (λ v. version_at slots v.0 ≡ Some v.1) (λ v. eq_by_cmp key_cmp (key_at p.it.0) v.1.row.key ≡ true) (λ v. (version_at slots v.0 ≡ Some v.1) × (eq_by_cmp key_cmp (key_at p.it.0) v.1.row.key ≡ true)) (λ v x y. (x, y)) (versions_at slots lists (key_at p.it.0)) (there slots lists (key_at p.it.0)) (of_key slots lists (key_at p.it.0) ns)) a.1 in
+      (each_both (λ v. version_at slots v.0 ≡ Some v.1) (λ v. eq_by_cmp key_cmp (key_at p.it.0) v.1.row.key ≡ true) (λ v. (version_at slots v.0 ≡ Some v.1) × (eq_by_cmp key_cmp (key_at p.it.0) v.1.row.key ≡ true)) (λ v x y. (x, y)) (versions_at slots lists (key_at p.it.0)) (there slots lists (key_at p.it.0)) (of_key slots lists (key_at p.it.0) ns)) a.1 in
       let c = and_parts (has_sort (Some p.it.0.sort) v.it) (changes_at states m v.it) v.passes in
       let sort : v.it.1.row.sort ≡ p.it.0.sort = eqb-true v.it.1.row.sort p.it.0.sort c.0 in
       let key : key_at p.it.0 ≡ v.it.1.row.key = tells_apart exact_keys (key_at p.it.0) v.it.1.row.key v.is.1 in
@@ -214,8 +214,8 @@ pub range_check_is : (s : State) (states : States) (slots : Slots) (lists : List
 range_check_is s states slots lists places b e tab lo hi sd st h ns ps le lt =
     between_is b e (changes_of states (versions_in slots lists places (Range tab lo hi)))
     ∙ ap (stamp_above b)
-      (greatest_change states e (versions_in slots lists places (Range tab lo hi))
-      ∙ last_same (λ m. list_any (changes_at states m) (versions_in slots lists places (Range tab lo hi))) (λ m. is_touched PutOrEnded (has_stamp (ends_of (phases_of states)) m) (shows (theory.Entry.Range tab lo hi)) (all_versions slots)) e (λ m. looked_at states slots lists places ns ps tab lo hi m))
+    (greatest_change states e (versions_in slots lists places (Range tab lo hi))
+    ∙ last_same (λ m. list_any (changes_at states m) (versions_in slots lists places (Range tab lo hi))) (λ m. is_touched PutOrEnded (has_stamp (ends_of (phases_of states)) m) (shows (theory.Entry.Range tab lo hi)) (all_versions slots)) e (λ m. looked_at states slots lists places ns ps tab lo hi m))
     ∙ range_checked s (phases_of states) (all_versions slots) b e tab lo hi sd st h le lt
 
 -- what the check of an entry names is what the state names

@@ -56,9 +56,10 @@ one b = cond b 1 0
 
 listed : (slots : Slots) (k : RowKey) (ns : List ℕ) → ((m : ℕ) → 1 ≤ how_many (λ i. i == m) ns → is_of_key k (slice_index_or slots m None) ≡ true) → IsListed slots k ns
 listed slots k [] h = tt
-listed slots k (n ∷ ns) h =
-    (h n (let c : one (n == n) ≡ 1 = ap one (eq-eqb n n refl) in omega (arith, c)),
-     listed slots k ns (λ m le. h m (omega (arith, le))))
+listed slots k (n ∷ ns) h = (
+  h n (let c : one (n == n) ≡ 1 = ap one (eq-eqb n n refl) in omega (arith, c)),
+  listed slots k ns (λ m le. h m (omega (arith, le))),
+)
 
 one_is : (b : Bool) → 1 ≤ cond b 1 0 → b ≡ true
 one_is true l = refl
@@ -102,7 +103,7 @@ content_found slots n (e ∷ es) h = go (is_put_by n e) (content_found slots n e
     go false r = r
 
 -- ---- the rule
-own_newest_first : (t : ℕ) (vs : List Numbered) → own_newest t vs ≡ number_of (first_put (names t) vs)
+pub own_newest_first : (t : ℕ) (vs : List Numbered) → own_newest t vs ≡ number_of (first_put (names t) vs)
 own_newest_first t [] = refl
 own_newest_first t (e ∷ es) = ap (option_or (cond (is_put_by (names t) e) (Some e.0) None)) (own_newest_first t es) ∙ by (is_put_by (names t) e)
   where
