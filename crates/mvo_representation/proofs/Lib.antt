@@ -36,3 +36,4 @@ pub mod CheckedBy
 pub mod RangeCheckedBy
 pub mod Slots
 pub mod MayEnd
+pub mod NodeSteps

@@ -56,7 +56,7 @@ kept_commit s nodes t x sd f h = record {
 }
 
 -- ---- an abort
-gone_node : (xs : List StampedTx) (t e : ℕ) (ds : List ℕ) (doom : Option ℕ) (n : Node) (b : Bool) → b ≡ has_end ds e → IsNode xs ds doom n → IsNode (map (with_flag t e) (filter (not_at e) xs)) ds (aborted_dependency_after t e ds doom) (record n { flag = cond b (or_flag t n.flag) n.flag })
+gone_node : (xs : List StampedTx) (t e : ℕ) (ds : List ℕ) (doom : Option ℕ) (n : Node) (b : Bool) → b ≡ has_end ds e → IsNode xs ds doom n → IsNode (map (with_flag t e) (filter (not_at e) xs)) ds (aborted_dependency_after t e ds doom) (record n { waits = cond b (n.waits - 1) n.waits; flag = cond b (or_flag t n.flag) n.flag })
 gone_node xs t e ds doom n b q h = record { flag = flag doom h.flag; waits = waits doom h.waits }
   where
     flag : (d : Option ℕ) → n.flag ≡ d → cond b (or_flag t n.flag) n.flag ≡ aborted_dependency_after t e ds d
@@ -70,13 +70,13 @@ gone_node xs t e ds doom n b q h = record { flag = flag doom h.flag; waits = wai
     some_none : (u : ℕ) → ◌≡◌ {A = Option ℕ} (Some u) None → ⊥
     some_none u q = cc
 
-    waits : (d : Option ℕ) → (d ≡ None → n.waits ≡ open_count ds xs) → aborted_dependency_after t e ds d ≡ None → n.waits ≡ open_count ds (map (with_flag t e) (filter (not_at e) xs))
+    waits : (d : Option ℕ) → (d ≡ None → n.waits ≡ open_count ds xs) → aborted_dependency_after t e ds d ≡ None → cond b (n.waits - 1) n.waits ≡ open_count ds (map (with_flag t e) (filter (not_at e) xs))
     waits (Some u) w i = absurd (some_none u i)
     waits None w i = go (has_end ds e) refl i
       where
-        go : (c : Bool) → has_end ds e ≡ c → cond c (Some t) None ≡ None → n.waits ≡ open_count ds (map (with_flag t e) (filter (not_at e) xs))
+        go : (c : Bool) → has_end ds e ≡ c → cond c (Some t) None ≡ None → cond b (n.waits - 1) n.waits ≡ open_count ds (map (with_flag t e) (filter (not_at e) xs))
         go true j k = absurd (some_none t k)
-        go false j k = w refl ∙ sym (count_gone ds t e xs j)
+        go false j k = ap (λ c. cond c (n.waits - 1) n.waits) (q ∙ j) ∙ w refl ∙ sym (count_gone ds t e xs j)
 
 -- (e) report an abort
 pub kept_abort : (s : State) (nodes : Nodes) (t : ℕ) (x : StampedTx) → preparing_of t s.stamped ≡ Some x → HasNodes s nodes → HasNodes (after_abort_of_preparing s t x.end) (nodes_after_abort t (nodes t).dependents nodes)

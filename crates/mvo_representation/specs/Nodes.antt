@@ -1,5 +1,5 @@
 -- What the table keeps of dependencies.
-use Rattle.std.specs.Prelude.{ℕ, ◌≡◌, ◌+◌, ◌-◌, ◌==◌, ◌&&◌, Bool, false, not, cond, List, map, Option, None, Some}
+use Rattle.std.specs.Prelude.{if◌then◌else◌, ◌≤◌, [], ℕ, ◌≡◌, ◌+◌, ◌-◌, ◌==◌, ◌&&◌, Bool, false, not, cond, List, map, Option, None, Some}
 use Rattle.std.specs.List.{AllByRecursion}
 use Rattle.mvo_theory.specs.State.{State, StampedTx, ActiveTx}
 use Rattle.mvo_theory.specs.Dependencies.{has_end, with_end}
@@ -47,20 +47,36 @@ pub record HasNodes (s : State) (nodes : Nodes) : Type 0 where
       AllByRecursion
       (λ x. x.settled ≡ false → AreDependents s (nodes x.id).dependents x.end) s.stamped
 
+-- the dependents of a Preparing one were drawn, and an Active one has none
+pub record HasDrawnDependents (s : State) (nodes : Nodes) : Type 0 where
+  pub drawn :
+      AllByRecursion
+      (λ x. x.settled ≡ false
+      → AllByRecursion (λ d. d ≤ s.clock) (nodes x.id).dependents) s.stamped
+  pub none : AllByRecursion (λ r. (nodes r.id).dependents ≡ []) s.active
+
 -- ---- what the code does
+-- t begins
+abbrev pub no_node : Node
+no_node = record { waits = 0; flag = None; dependents = [] }
+
+abbrev pub nodes_after_begin : ℕ → Nodes → Nodes
+nodes_after_begin t nodes u = if u == t then no_node else nodes u
+
 -- a commit is reported: each dependent waits for one less
 abbrev pub nodes_after_commit : List ℕ → Nodes → Nodes
 nodes_after_commit ds nodes u = record (nodes u) {
   waits = cond (has_end ds u) ((nodes u).waits - 1) (nodes u).waits;
 }
 
--- an abort of t is reported: each dependent's flag is set, if none was
+-- an abort of t is reported: each dependent waits for one less, and its flag is set, if none was
 abbrev pub or_flag : ℕ → Option ℕ → Option ℕ
 or_flag t None = Some t
 or_flag t (Some u) = Some u
 
 abbrev pub nodes_after_abort : ℕ → List ℕ → Nodes → Nodes
 nodes_after_abort t ds nodes u = record (nodes u) {
+  waits = cond (has_end ds u) ((nodes u).waits - 1) (nodes u).waits;
   flag = cond (has_end ds u) (or_flag t (nodes u).flag) (nodes u).flag;
 }
 
