@@ -37,3 +37,4 @@ pub mod RangeCheckedBy
 pub mod Slots
 pub mod MayEnd
 pub mod NodeSteps
+pub mod NodesKept
