@@ -38,3 +38,4 @@ pub mod Slots
 pub mod MayEnd
 pub mod NodeSteps
 pub mod NodesKept
+pub mod NodesReported

@@ -9,7 +9,7 @@ use Rattle.mvo_theory.specs.Dependencies.{has_end}
 use Rattle.mvo_theory.specs.Sound.{IsSound, IsActive, IsPreparing, IsPlaced}
 use Rattle.mvo_theory.proofs.Each.{each_weaker, each_both, each_filter, each_append}
 use Rattle.mvo_theory.proofs.Who.{active_holds}
-use Rattle.mvo_representation.specs.Nodes.{Node, Nodes, open_count, IsNode, AreDependents, HasNodes, HasDrawnDependents, no_node, nodes_after_begin}
+use Rattle.mvo_representation.specs.Nodes.{NodeData, Nodes, open_count, IsNode, AreDependents, HasNodes, HasDrawnDependents, no_node, nodes_after_begin}
 use Rattle.mvo_representation.proofs.Waited.{one, count_pushed}
 
 -- ---- who isn't among them
@@ -53,7 +53,7 @@ module _ (s : State) (nodes : Nodes) (t : ℕ) (lt : s.clock < t) (sd : IsSound 
     preparing = each_both (IsPlaced s.stamped s.clock) (λ x. x.settled ≡ false → IsNode s.stamped x.depends_on x.aborted_dependency (nodes x.id)) (λ x. x.settled ≡ false → IsNode s.stamped x.depends_on x.aborted_dependency (nodes_after_begin t nodes x.id))
         (λ x p n o. subst (IsNode s.stamped x.depends_on x.aborted_dependency) (sym (old_node x.id (placed_low x p))) (n o)) s.stamped sd.placed h.preparing;
     dependents = each_both (IsPlaced s.stamped s.clock) (λ x. (x.settled ≡ false → AreDependents s (nodes x.id).dependents x.end) × (x.settled ≡ false → AllByRecursion (λ d. d ≤ s.clock) (nodes x.id).dependents)) (λ x. x.settled ≡ false → AreDependents (after_begin s t) (nodes_after_begin t nodes x.id).dependents x.end)
-        (λ x p w o. subst (λ (n : Node). AreDependents (after_begin s t) n.dependents x.end) (sym (old_node x.id (placed_low x p))) (record {
+        (λ x p w o. subst (λ (n : NodeData). AreDependents (after_begin s t) n.dependents x.end) (sym (old_node x.id (placed_low x p))) (record {
           active = each_append (λ r. has_end (nodes x.id).dependents r.id ≡ has_end r.depends_on x.end) s.active (new_active t ∷ []) (w.0 o).active (not_among (nodes x.id).dependents s.clock t (w.1 o) lt, tt);
           preparing = (w.0 o).preparing;
         })) s.stamped sd.placed
@@ -63,10 +63,10 @@ module _ (s : State) (nodes : Nodes) (t : ℕ) (lt : s.clock < t) (sd : IsSound 
   pub drawn_begun : HasDrawnDependents s nodes → HasDrawnDependents (after_begin s t) (nodes_after_begin t nodes)
   drawn_begun g = record {
     drawn = each_both (IsPlaced s.stamped s.clock) (λ x. x.settled ≡ false → AllByRecursion (λ d. d ≤ s.clock) (nodes x.id).dependents) (λ x. x.settled ≡ false → AllByRecursion (λ d. d ≤ t) (nodes_after_begin t nodes x.id).dependents)
-        (λ x p w o. subst (λ (n : Node). AllByRecursion (λ d. d ≤ t) n.dependents) (sym (old_node x.id (placed_low x p))) (each_weaker (λ d. d ≤ s.clock) (λ d. d ≤ t) (λ d le. omega (arith, le, lt)) (nodes x.id).dependents (w o))) s.stamped sd.placed g.drawn;
+        (λ x p w o. subst (λ (n : NodeData). AllByRecursion (λ d. d ≤ t) n.dependents) (sym (old_node x.id (placed_low x p))) (each_weaker (λ d. d ≤ s.clock) (λ d. d ≤ t) (λ d le. omega (arith, le, lt)) (nodes x.id).dependents (w o))) s.stamped sd.placed g.drawn;
     none = each_append (λ r. (nodes_after_begin t nodes r.id).dependents ≡ []) s.active (new_active t ∷ [])
-        (each_both (IsActive s.base s.stamped s.clock) (λ r. (nodes r.id).dependents ≡ []) (λ r. (nodes_after_begin t nodes r.id).dependents ≡ []) (λ r a n. ap (λ (m : Node). m.dependents) (old_node r.id a.drawn) ∙ n) s.active sd.active g.none)
-        (ap (λ (m : Node). m.dependents) new_node, tt);
+        (each_both (IsActive s.base s.stamped s.clock) (λ r. (nodes r.id).dependents ≡ []) (λ r. (nodes_after_begin t nodes r.id).dependents ≡ []) (λ r a n. ap (λ (m : NodeData). m.dependents) (old_node r.id a.drawn) ∙ n) s.active sd.active g.none)
+        (ap (λ (m : NodeData). m.dependents) new_node, tt);
   }
 
 -- ---- a precommit
@@ -80,7 +80,7 @@ module _ (s : State) (nodes : Nodes) (r : ActiveTx) (e : ℕ) (lt : s.clock < e)
   stamped_end : (x : StampedTx) → x.settled ≡ false → IsPlaced s.stamped s.clock x → (x.settled ≡ false → IsPreparing s.base s.stamped x) → has_end x.depends_on e ≡ false
   stamped_end x o p w = no_end x.depends_on x.id s.clock e (w o).below (let b = p.begun in let d = p.drawn in omega (arith, b, d)) lt
 
-  node_pushed : (ds : List ℕ) (o : Option ℕ) (n : Node) → has_end ds e ≡ false → IsNode s.stamped ds o n → IsNode (s.stamped ++ to_stamped e r ∷ []) ds o n
+  node_pushed : (ds : List ℕ) (o : Option ℕ) (n : NodeData) → has_end ds e ≡ false → IsNode s.stamped ds o n → IsNode (s.stamped ++ to_stamped e r ∷ []) ds o n
   node_pushed ds o n away h = record { flag = h.flag; waits = λ q. h.waits q ∙ sym (count_pushed ds s.stamped (to_stamped e r) away) }
 
   pub nodes_prepared : HasNodes s nodes → HasDrawnDependents s nodes → HasNodes (after_prepare s r e) nodes

@@ -8,7 +8,7 @@ use Rattle.mvo_theory.specs.Changes.{without, with_check, after_check, with_sett
 use Rattle.mvo_theory.specs.Dependencies.{has_end, with_end}
 use Rattle.mvo_theory.proofs.Each.{each_always, each_weaker, each_both, each_filter, each_map}
 use Rattle.mvo_theory.proofs.Trim.{IsTrim}
-use Rattle.mvo_representation.specs.Nodes.{Node, Nodes, is_open_in, open_count, IsNode, AreDependents, HasNodes, HasDrawnDependents, nodes_after_commit, nodes_after_abort, after_register, with_dependency, depended}
+use Rattle.mvo_representation.specs.Nodes.{NodeData, Nodes, is_open_in, open_count, IsNode, AreDependents, HasNodes, HasDrawnDependents, nodes_after_commit, nodes_after_abort, after_register, with_dependency, depended}
 use Rattle.mvo_representation.proofs.Waited.{one}
 
 -- ---- what others keep doesn't matter
@@ -20,14 +20,14 @@ nodes_elsewhere s marks ended nodes nodes' a p h = record {
   preparing = each_both (λ x. x.settled ≡ false → nodes' x.id ≡ nodes x.id) (λ x. x.settled ≡ false → IsNode s.stamped x.depends_on x.aborted_dependency (nodes x.id)) (λ x. x.settled ≡ false → IsNode s.stamped x.depends_on x.aborted_dependency (nodes' x.id))
       (λ x e n o. subst (IsNode s.stamped x.depends_on x.aborted_dependency) (sym (e o)) (n o)) s.stamped p h.preparing;
   dependents = each_both (λ x. x.settled ≡ false → nodes' x.id ≡ nodes x.id) (λ x. x.settled ≡ false → AreDependents s (nodes x.id).dependents x.end) (λ x. x.settled ≡ false → AreDependents (record s { marks = marks; ended = ended }) (nodes' x.id).dependents x.end)
-      (λ x e w o. subst (λ (n : Node). AreDependents (record s { marks = marks; ended = ended }) n.dependents x.end) (sym (e o)) (record { active = (w o).active; preparing = (w o).preparing })) s.stamped p h.dependents;
+      (λ x e w o. subst (λ (n : NodeData). AreDependents (record s { marks = marks; ended = ended }) n.dependents x.end) (sym (e o)) (record { active = (w o).active; preparing = (w o).preparing })) s.stamped p h.dependents;
 }
 
 pub drawn_elsewhere : (s : State) (marks : Marks) (ended : List EndedTx) (nodes nodes' : Nodes) → AllByRecursion (λ r. nodes' r.id ≡ nodes r.id) s.active → AllByRecursion (λ x. x.settled ≡ false → nodes' x.id ≡ nodes x.id) s.stamped → HasDrawnDependents s nodes → HasDrawnDependents (record s { marks = marks; ended = ended }) nodes'
 drawn_elsewhere s marks ended nodes nodes' a p g = record {
   drawn = each_both (λ x. x.settled ≡ false → nodes' x.id ≡ nodes x.id) (λ x. x.settled ≡ false → AllByRecursion (λ d. d ≤ s.clock) (nodes x.id).dependents) (λ x. x.settled ≡ false → AllByRecursion (λ d. d ≤ s.clock) (nodes' x.id).dependents)
-      (λ x e w o. subst (λ (n : Node). AllByRecursion (λ d. d ≤ s.clock) n.dependents) (sym (e o)) (w o)) s.stamped p g.drawn;
-  none = each_both (λ r. nodes' r.id ≡ nodes r.id) (λ r. (nodes r.id).dependents ≡ []) (λ r. (nodes' r.id).dependents ≡ []) (λ r e n. ap (λ (m : Node). m.dependents) e ∙ n) s.active a g.none;
+      (λ x e w o. subst (λ (n : NodeData). AllByRecursion (λ d. d ≤ s.clock) n.dependents) (sym (e o)) (w o)) s.stamped p g.drawn;
+  none = each_both (λ r. nodes' r.id ≡ nodes r.id) (λ r. (nodes r.id).dependents ≡ []) (λ r. (nodes' r.id).dependents ≡ []) (λ r e n. ap (λ (m : NodeData). m.dependents) e ∙ n) s.active a g.none;
 }
 
 -- ---- an Active one aborts: nobody depends on it
@@ -50,7 +50,7 @@ count_checked : (ds : List ℕ) (e : ℕ) (v : Bool) (xs : List StampedTx) → o
 count_checked ds e v [] = refl
 count_checked ds e v (x ∷ xs) = ap (λ n. one (is_open_in ds x) + n) (count_checked ds e v xs)
 
-node_checked : (ds : List ℕ) (o : Option ℕ) (n : Node) (e : ℕ) (v : Bool) (xs : List StampedTx) → IsNode xs ds o n → IsNode (map (with_check e v) xs) ds o n
+node_checked : (ds : List ℕ) (o : Option ℕ) (n : NodeData) (e : ℕ) (v : Bool) (xs : List StampedTx) → IsNode xs ds o n → IsNode (map (with_check e v) xs) ds o n
 node_checked ds o n e v xs h = record { flag = h.flag; waits = λ q. h.waits q ∙ sym (count_checked ds e v xs) }
 
 pub nodes_checked : (s : State) (nodes : Nodes) (e : ℕ) (v : Bool) → HasNodes s nodes → HasNodes (after_check s e v) nodes
@@ -81,7 +81,7 @@ count_trimmed ds m (x ∷ xs) h = go (is_to m x) refl x.settled refl (count_trim
     go true q true e r = let z : one (not x.settled && has_end ds x.end) ≡ 0 = ap (λ b. one (not b && has_end ds x.end)) e in omega (arith, r, z)
     go true q false e r = absurd (let lt = h.0 e in let le : x.end ≤ m = leb-true x.end m q in omega (arith, lt, le))
 
-node_trimmed : (ds : List ℕ) (o : Option ℕ) (n : Node) (m : ℕ) (xs : List StampedTx) → AllByRecursion (λ x. x.settled ≡ false → m < x.end) xs → IsNode xs ds o n → IsNode (filter (λ x. not (is_to m x)) xs) ds o n
+node_trimmed : (ds : List ℕ) (o : Option ℕ) (n : NodeData) (m : ℕ) (xs : List StampedTx) → AllByRecursion (λ x. x.settled ≡ false → m < x.end) xs → IsNode xs ds o n → IsNode (filter (λ x. not (is_to m x)) xs) ds o n
 node_trimmed ds o n m xs k h = record { flag = h.flag; waits = λ q. h.waits q ∙ sym (count_trimmed ds m xs k) }
 
 pub nodes_trimmed : (s : State) (nodes : Nodes) (m : ℕ) → IsTrim m s → HasNodes s nodes → HasNodes (after_trim s m) nodes
@@ -137,6 +137,6 @@ drawn_registered s nodes t x e le apart g = record {
       (each_both (λ r. r.id ≢ x) (λ r. (nodes r.id).dependents ≡ []) (λ r. (r.id ≢ x) × ((nodes r.id).dependents ≡ [])) (λ r a b. (a, b)) s.active apart g.none);
 }
   where
-    by : (n : Node) (b : Bool) → AllByRecursion (λ d. d ≤ s.clock) n.dependents → AllByRecursion (λ d. d ≤ s.clock) (cond b (with_end n.dependents t) n.dependents)
+    by : (n : NodeData) (b : Bool) → AllByRecursion (λ d. d ≤ s.clock) n.dependents → AllByRecursion (λ d. d ≤ s.clock) (cond b (with_end n.dependents t) n.dependents)
     by n true h = drawn_with n.dependents t s.clock le h
     by n false h = h

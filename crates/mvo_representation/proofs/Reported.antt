@@ -8,7 +8,7 @@ use Rattle.mvo_theory.specs.Dependencies.{has_end, with_end}
 use Rattle.mvo_theory.specs.Changes.{with_settled, after_commit, after_abort_of_preparing, with_flag, active_with_flag, not_at, aborted_dependency_after}
 use Rattle.mvo_theory.specs.Sound.{IsSound, IsRising}
 use Rattle.mvo_theory.proofs.Each.{each_both, each_map, each_filter}
-use Rattle.mvo_representation.specs.Nodes.{Node, Nodes, open_count, IsNode, AreDependents, HasNodes, nodes_after_commit, or_flag, nodes_after_abort, after_register, with_dependency, depended}
+use Rattle.mvo_representation.specs.Nodes.{NodeData, Nodes, open_count, IsNode, AreDependents, HasNodes, nodes_after_commit, or_flag, nodes_after_abort, after_register, with_dependency, depended}
 use Rattle.mvo_representation.proofs.Facts.{found_holds}
 use Rattle.mvo_representation.proofs.Open.{is_open, open_each}
 use Rattle.mvo_representation.proofs.Waited.{one, count_settled, count_gone, count_added, has_with}
@@ -26,7 +26,7 @@ its_open : (s : State) (t : ℕ) (x : StampedTx) → IsSound s → preparing_of 
 its_open s t x sd f = let w = found_holds (λ y. is_open y.end s.stamped ≡ not y.settled) t s.stamped x f (open_each s.stamped sd.rising) in w.0 ∙ ap not w.2
 
 -- ---- a commit
-settled_node : (xs : List StampedTx) (e : ℕ) (ds : List ℕ) (doom : Option ℕ) (n : Node) (b : Bool) → IsRising xs → is_open e xs ≡ true → b ≡ has_end ds e → IsNode xs ds doom n → IsNode (map (with_settled e) xs) ds doom (record n { waits = cond b (n.waits - 1) n.waits })
+settled_node : (xs : List StampedTx) (e : ℕ) (ds : List ℕ) (doom : Option ℕ) (n : NodeData) (b : Bool) → IsRising xs → is_open e xs ≡ true → b ≡ has_end ds e → IsNode xs ds doom n → IsNode (map (with_settled e) xs) ds doom (record n { waits = cond b (n.waits - 1) n.waits })
 settled_node xs e ds doom n b r o q h = record { flag = h.flag; waits = λ d. go b refl (h.waits d) }
   where
     go : (c : Bool) → b ≡ c → n.waits ≡ open_count ds xs → cond b (n.waits - 1) n.waits ≡ open_count ds (map (with_settled e) xs)
@@ -56,7 +56,7 @@ kept_commit s nodes t x sd f h = record {
 }
 
 -- ---- an abort
-gone_node : (xs : List StampedTx) (t e : ℕ) (ds : List ℕ) (doom : Option ℕ) (n : Node) (b : Bool) → b ≡ has_end ds e → IsNode xs ds doom n → IsNode (map (with_flag t e) (filter (not_at e) xs)) ds (aborted_dependency_after t e ds doom) (record n { waits = cond b (n.waits - 1) n.waits; flag = cond b (or_flag t n.flag) n.flag })
+gone_node : (xs : List StampedTx) (t e : ℕ) (ds : List ℕ) (doom : Option ℕ) (n : NodeData) (b : Bool) → b ≡ has_end ds e → IsNode xs ds doom n → IsNode (map (with_flag t e) (filter (not_at e) xs)) ds (aborted_dependency_after t e ds doom) (record n { waits = cond b (n.waits - 1) n.waits; flag = cond b (or_flag t n.flag) n.flag })
 gone_node xs t e ds doom n b q h = record { flag = flag doom h.flag; waits = waits doom h.waits }
   where
     flag : (d : Option ℕ) → n.flag ≡ d → cond b (or_flag t n.flag) n.flag ≡ aborted_dependency_after t e ds d
@@ -128,7 +128,7 @@ listed_other : (t : ℕ) (deps : List ℕ) (u : ℕ) (b : Bool) → (u ≡ t →
 listed_other t deps u true n = has_with deps t u ∙ ap (λ x. x || has_end deps u) (ne_eqb t u (λ e. n (sym e)))
 listed_other t deps u false n = refl
 
-added_node : (xs : List StampedTx) (t e : ℕ) (deps : List ℕ) (r : ActiveTx) (n : Node) → IsRising xs → is_open e xs ≡ true → has_end deps r.id ≡ has_end r.depends_on e → IsNode xs r.depends_on r.aborted_dependency n → IsNode xs (cond (r.id == t) (with_end r.depends_on e) r.depends_on) r.aborted_dependency (record n { waits = cond ((r.id == t) && not (has_end deps t)) (n.waits + 1) n.waits })
+added_node : (xs : List StampedTx) (t e : ℕ) (deps : List ℕ) (r : ActiveTx) (n : NodeData) → IsRising xs → is_open e xs ≡ true → has_end deps r.id ≡ has_end r.depends_on e → IsNode xs r.depends_on r.aborted_dependency n → IsNode xs (cond (r.id == t) (with_end r.depends_on e) r.depends_on) r.aborted_dependency (record n { waits = cond ((r.id == t) && not (has_end deps t)) (n.waits + 1) n.waits })
 added_node xs t e deps r n ri o q h = record { flag = h.flag; waits = λ d. go (r.id == t) refl (h.waits d) }
   where
     plus : (c : Bool) → cond c (n.waits + 1) n.waits ≡ n.waits + one c

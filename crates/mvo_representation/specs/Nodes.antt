@@ -4,16 +4,33 @@ use Rattle.std.specs.List.{AllByRecursion}
 use Rattle.mvo_theory.specs.State.{State, StampedTx, ActiveTx}
 use Rattle.mvo_theory.specs.Dependencies.{has_end, with_end}
 use Rattle.mvo_theory.specs.Sound.{how_many}
+use Rattle.mvo_types.specs.declared.ids.TxId.{TxId}
+use Rattle.mvo_txn.specs.Txns.{Txns}
+use Rattle.mvo_deps.specs.declared.node.Node.{Node}
+use Rattle.mvo_deps.specs.Data.{DependencyData}
+use Rattle.mvo_deps.specs.Nodes.{data_of}
+use Rattle.std.specs.Option.{option_map}
 
 -- of one transaction: how many it waits for, the first aborted one of those that it depends on, and
 -- who depends on it
-pub record Node : Type 0 where
+pub record NodeData : Type 0 where
   pub waits : ℕ
   pub flag : Option ℕ
   pub dependents : List ℕ
 
 abbrev pub Nodes : Type 0
-Nodes = ℕ → Node
+Nodes = ℕ → NodeData
+
+-- those of a table, by what it keeps of each
+abbrev pub node_as : DependencyData → NodeData
+node_as d = record {
+  waits = d.unsettled;
+  flag = option_map (λ t. t.0) d.aborted;
+  dependents = map (λ t. t.0) d.dependents;
+}
+
+abbrev pub nodes_of : {P : Type 0} → Txns (Node P) → Nodes
+nodes_of t u = node_as (data_of t (record { 0 = u }))
 
 -- how many of these ends are of one that isn't settled
 abbrev pub is_open_in : List ℕ → StampedTx → Bool
@@ -24,7 +41,7 @@ open_count ds xs = how_many (is_open_in ds) xs
 
 -- the flag is the aborted dependency, and the counter is right where there is none
 pub record IsNode (stamped : List StampedTx) (ds : List ℕ) (aborted : Option ℕ)
-    (n : Node) : Type 0 where
+    (n : NodeData) : Type 0 where
   pub flag : n.flag ≡ aborted
   pub waits : aborted ≡ None → n.waits ≡ open_count ds stamped
 
@@ -57,7 +74,7 @@ pub record HasDrawnDependents (s : State) (nodes : Nodes) : Type 0 where
 
 -- ---- what the code does
 -- t begins
-abbrev pub no_node : Node
+abbrev pub no_node : NodeData
 no_node = record { waits = 0; flag = None; dependents = [] }
 
 abbrev pub nodes_after_begin : ℕ → Nodes → Nodes
