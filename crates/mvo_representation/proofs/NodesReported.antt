@@ -1,7 +1,7 @@
 -- What the table keeps after a commit or an abort was reported is right.
 use Rattle.std.proofs.Common.{◌≡◌, ◌≢◌, ℕ, ◌-◌, Bool, true, false, cond, eqb, not, ◌||◌, List, [], ◌∷◌, map, Option, None, Some, refl, sym, ap, ◌∙◌, subst}
 use Rattle.std.specs.Prelude.{◌==◌, ◌&&◌, is_some}
-use Rattle.std.specs.List.{AllByRecursion, list_any}
+use Rattle.std.specs.List.{AllByRecursion, list_any, filter}
 use Rattle.std.specs.Option.{option_map}
 use Rattle.std.specs.FinMap as fin
 use Rattle.std.proofs.lemmas.Bool.{eqb-true, eq-eqb, ne_eqb, true≢false, false≢true}
@@ -9,19 +9,20 @@ use Rattle.mvo_types.specs.declared.ids.TxId.{TxId}
 use Rattle.mvo_model.specs.Trace.{Phase}
 use Rattle.mvo_model.specs.Trace.Phase.{Active, Preparing, Committed, Aborted}
 use Rattle.mvo_theory.specs.State.{State, StampedTx, ActiveTx, EndedTx, active_of, preparing_of, ended_of}
-use Rattle.mvo_theory.specs.Changes.{after_commit as committed, after_abort_of_preparing}
+use Rattle.mvo_theory.specs.Changes.{after_commit as committed, after_abort_of_preparing, active_with_flag, with_flag, not_at}
 use Rattle.mvo_theory.specs.Dependencies.{has_end}
 use Rattle.mvo_theory.specs.Phases.{ended_as, phase_by, phase_in}
 use Rattle.mvo_theory.specs.Sound.{IsSound, IsSingle}
-use Rattle.mvo_theory.proofs.Each.{each_weaker}
+use Rattle.mvo_theory.proofs.Each.{each_weaker, each_both, each_map, each_filter}
 use Rattle.mvo_theory.proofs.Phases.{leads_after_commit, leads_after_abort_of_preparing}
 use Rattle.mvo_txn.specs.declared.seat.Seat.{Seat}
-use Rattle.mvo_txn.specs.Txns.{Txns, kept_of}
+use Rattle.mvo_txn.specs.Txns.{Txns, kept_of, state_of}
 use Rattle.mvo_deps.specs.declared.node.Node.{Node}
 use Rattle.mvo_deps.specs.Data.{DependencyData, no_dependencies, is_among, after_commit, first_of, after_abort, without_dependents}
 use Rattle.mvo_deps.specs.Nodes.{data_in, data_of, after_change, changed_if, with_data, IsEachChanged, IsReported}
 use Rattle.mvo_deps.proofs.Changes.{get_changed}
 use Rattle.mvo_representation.specs.Nodes.{NodeData, Nodes, node_as, nodes_of, HasNodes, HasDrawnDependents, nodes_after_commit, or_flag, nodes_after_abort}
+use Rattle.mvo_representation.specs.Table.{phase_as, phases_of}
 use Rattle.mvo_representation.proofs.Facts.{phase_preparing}
 use Rattle.mvo_representation.proofs.NodesKept.{nodes_elsewhere, drawn_elsewhere, drawn_committed, drawn_reported}
 use Rattle.mvo_representation.proofs.Reported.{kept_commit, kept_abort}
@@ -69,6 +70,40 @@ nowhere s t e = go (active_of t s.active) refl (preparing_of t s.stamped) refl e
     go (Some r) p b q f = absurd (true≢false f)
     go None p (Some x) q f = absurd (true≢false f)
     go None p None q f = record { active = active_none t s.active p; preparing = preparing_none t s.stamped q }
+
+-- one that is Active or Preparing is found there
+active_there : (rs : List ActiveTx) → AllByRecursion (λ r. is_some (active_of r.id rs) ≡ true) rs
+active_there [] = tt
+active_there (q ∷ rs) = (ap (λ b. is_some (cond b (Some q) (active_of q.id rs))) (eq-eqb q.id q.id refl), each_weaker (λ r. is_some (active_of r.id rs) ≡ true) (λ r. is_some (cond (q.id == r.id) (Some q) (active_of r.id rs)) ≡ true) (λ r e. go (q.id == r.id) r e) rs (active_there rs))
+  where
+    go : (b : Bool) (r : ActiveTx) → is_some (active_of r.id rs) ≡ true → is_some (cond b (Some q) (active_of r.id rs)) ≡ true
+    go true r e = refl
+    go false r e = e
+
+preparing_there : (xs : List StampedTx) → AllByRecursion (λ x. x.settled ≡ false → is_some (preparing_of x.id xs) ≡ true) xs
+preparing_there [] = tt
+preparing_there (y ∷ xs) =
+    ((λ o. ap (λ b. is_some (cond (b && not y.settled) (Some y) (preparing_of y.id xs))) (eq-eqb y.id y.id refl) ∙ ap (λ b. is_some (cond (not b) (Some y) (preparing_of y.id xs))) o),
+     each_weaker (λ x. x.settled ≡ false → is_some (preparing_of x.id xs) ≡ true) (λ x. x.settled ≡ false → is_some (cond ((y.id == x.id) && not y.settled) (Some y) (preparing_of x.id xs)) ≡ true) (λ x e o. go ((y.id == x.id) && not y.settled) x (e o)) xs (preparing_there xs))
+  where
+    go : (b : Bool) (x : StampedTx) → is_some (preparing_of x.id xs) ≡ true → is_some (cond b (Some y) (preparing_of x.id xs)) ≡ true
+    go true x e = refl
+    go false x e = e
+
+open_active : (s : State) (t : ℕ) → is_some (active_of t s.active) ≡ true → is_open_phase (phase_in s t) ≡ true
+open_active s t e = go (active_of t s.active) e
+  where
+    go : (a : Option ActiveTx) → is_some a ≡ true → is_open_phase (phase_by a (preparing_of t s.stamped) (ended_of t s.ended)) ≡ true
+    go None e = absurd (false≢true e)
+    go (Some r) e = refl
+
+open_preparing : (s : State) (t : ℕ) → is_some (preparing_of t s.stamped) ≡ true → is_open_phase (phase_in s t) ≡ true
+open_preparing s t e = go (active_of t s.active) (preparing_of t s.stamped) e
+  where
+    go : (a : Option ActiveTx) (b : Option StampedTx) → is_some b ≡ true → is_open_phase (phase_by a b (ended_of t s.ended)) ≡ true
+    go a None e = absurd (false≢true e)
+    go (Some r) (Some x) e = refl
+    go None (Some x) e = refl
 
 -- ---- what is kept of each
 among_is : (u : TxId) (ids : List TxId) → is_among u ids ≡ has_end (map (λ t. t.0) ids) u.0
@@ -128,3 +163,24 @@ module _ {P : Type 0} where
     where
       gone : IsNowhere (committed s t x.end) t
       gone = nowhere (committed s t x.end) t (ap is_open_phase (leads_after_commit s t x f sd sg).own)
+
+  -- who is in the table
+  seated : (s : State) (old : Txns (Node P)) (u : ℕ) → phases_of (state_of old) u ≡ phase_in s u → is_open_phase (phase_in s u) ≡ true → is_some (fin.get old.seats u) ≡ true
+  seated s old u p o = go (fin.get old.seats u) refl
+    where
+      go : (w : Option (Seat (Node P))) → fin.get old.seats u ≡ w → is_some w ≡ true
+      go (Some seat) e = refl
+      go None e = absurd (false≢true (sym (ap (λ x. is_open_phase (phase_as (option_map (λ seat. seat.state) x))) e) ∙ ap is_open_phase p ∙ o))
+
+  pub abort_reported : (s : State) (old new : Txns (Node P)) (t : ℕ) (x : StampedTx) → IsSound s → IsSingle s → preparing_of t s.stamped ≡ Some x → ((u : ℕ) → phases_of (state_of old) u ≡ phase_in s u) → HasNodes s (nodes_of old) → IsReported (after_abort (record { 0 = t })) old new (record { 0 = t }) → HasNodes (after_abort_of_preparing s t x.end) (nodes_of new)
+  abort_reported s old new t x sd sg f ph h r =
+      nodes_elsewhere (after_abort_of_preparing s t x.end) (after_abort_of_preparing s t x.end).marks (after_abort_of_preparing s t x.end).ended (nodes_after_abort t (nodes_of old t).dependents (nodes_of old)) (nodes_of new)
+      (each_both (λ q. q.id ≢ t) (λ q. is_some (fin.get old.seats q.id) ≡ true) (λ q. nodes_of new q.id ≡ nodes_after_abort t (nodes_of old t).dependents (nodes_of old) q.id) (λ q n i. abort_at old new (record { 0 = t }) q.id n i r) (after_abort_of_preparing s t x.end).active gone.active
+        (each_map (active_with_flag t x.end) (λ q. is_some (active_of q.id s.active) ≡ true) (λ q. is_some (fin.get old.seats q.id) ≡ true) (λ q e. seated s old q.id (ph q.id) (open_active s q.id e)) s.active (active_there s.active)))
+      (each_both (λ y. y.settled ≡ false → y.id ≢ t) (λ y. y.settled ≡ false → is_some (fin.get old.seats y.id) ≡ true) (λ y. y.settled ≡ false → nodes_of new y.id ≡ nodes_after_abort t (nodes_of old t).dependents (nodes_of old) y.id) (λ y n i o. abort_at old new (record { 0 = t }) y.id (n o) (i o) r) (after_abort_of_preparing s t x.end).stamped gone.preparing
+        (each_map (with_flag t x.end) (λ y. y.settled ≡ false → is_some (preparing_of y.id s.stamped) ≡ true) (λ y. y.settled ≡ false → is_some (fin.get old.seats y.id) ≡ true) (λ y e o. seated s old y.id (ph y.id) (open_preparing s y.id (e o))) (filter (not_at x.end) s.stamped)
+        (each_filter (not_at x.end) (λ y. y.settled ≡ false → is_some (preparing_of y.id s.stamped) ≡ true) (λ y. y.settled ≡ false → is_some (preparing_of y.id s.stamped) ≡ true) (λ y _ e. e) s.stamped (preparing_there s.stamped))))
+      (kept_abort s (nodes_of old) t x f h)
+    where
+      gone : IsNowhere (after_abort_of_preparing s t x.end) t
+      gone = nowhere (after_abort_of_preparing s t x.end) t (ap is_open_phase (leads_after_abort_of_preparing s t x f sd sg).own)
