@@ -1,47 +1,31 @@
 -- What the check of an entry names by the rules is what it names in the state.
-use Rattle.std.proofs.Common.{◌≡◌, ℕ, ◌+◌, ◌<◌, ◌≤◌, suc, zero, Bool, true, false, cond, not, ◌||◌, List, [], ◌∷◌, ◌++◌, map, Option, None, Some, refl, sym, ap, ◌∙◌, subst, arith, ◌⊎◌, inl, inr}
-use Rattle.std.specs.Prelude.{◌==◌, ◌&&◌, nat_lt, nat_le, is_some, slice_index_or}
-use Rattle.std.specs.List.{AllByRecursion, list_any, filter, flat_map}
+use Rattle.std.proofs.Common.{◌≡◌, ℕ, ◌+◌, ◌<◌, ◌≤◌, suc, zero, Bool, true, false, cond, ◌||◌, List, [], ◌∷◌, map, Option, None, Some, refl, sym, ap, ◌∙◌, arith}
+use Rattle.std.specs.Prelude.{◌==◌, ◌&&◌, nat_lt}
+use Rattle.std.specs.List.{filter}
 use Rattle.std.specs.Option.{option_map}
-use Rattle.std.specs.FinMap as fin
-use Rattle.std.specs.Ordering.{eq_by_cmp}
-use Rattle.std.specs.Cmp.{eq_by_cmp_equiv}
-use Rattle.std.proofs.lemmas.Bool.{eq-eqb, eqb-true, le-ltb, ltb-false, true≢false, false≢true, and_parts, and_from}
-use Rattle.std.proofs.lemmas.List.Folds.{list_any-append}
-use Rattle.std.proofs.lemmas.Map.Views.{tells_apart}
+use Rattle.std.proofs.lemmas.Bool.{eqb-true, le-ltb, ltb-false, true≢false, false≢true}
 use Rattle.mvo_types.specs.declared.row.RowKey.{RowKey}
-use Rattle.mvo_types.specs.RowData.{content_of}
-use Rattle.mvo_types.specs.Keys.{key_cmp}
-use Rattle.mvo_types.proofs.Maps.{exact_keys, keys_total}
 use Rattle.mvo_theory.specs.Entries as theory
-use Rattle.mvo_theory.specs.Ranges.{shows}
 use Rattle.mvo_theory.specs.State.{State}
 use Rattle.mvo_theory.specs.Causes.{change_of}
-use Rattle.mvo_theory.specs.Sound.{IsSound, IsStarted, how_many}
-use Rattle.mvo_chain.specs.declared.version.Version.{Version}
-use Rattle.mvo_chain.specs.declared.version.VersionNo.{VersionNo}
-use Rattle.mvo_chain.specs.Slots.{Slots, version_at}
-use Rattle.mvo_hash.specs.Lists.{Lists, number, numbers_of}
-use Rattle.mvo_range.specs.declared.place.Place.{Place}
-use Rattle.mvo_range.specs.Place.{Map as Places, place_cmp, is_between}
-use Rattle.mvo_range.proofs.Places.{exact_places, places_total}
+use Rattle.mvo_theory.specs.Sound.{IsSound, IsStarted}
+use Rattle.mvo_chain.specs.Slots.{Slots}
+use Rattle.mvo_hash.specs.Lists.{Lists}
+use Rattle.mvo_range.specs.Place.{Map as Places}
 use Rattle.mvo_visible.specs.declared.change.Change.{Change}
 use Rattle.mvo_visible.specs.Words.{States}
-use Rattle.mvo_visible.specs.Versions.{Numbered, and_version, versions_by, versions_at}
+use Rattle.mvo_visible.specs.Versions.{Numbered, versions_at}
 use Rattle.mvo_visible.specs.Changes.{changes_of, greatest_below}
-use Rattle.mvo_validate.specs.declared.entry.Entry.{Entry}
-use Rattle.mvo_validate.specs.declared.entry.Entry.TheVariants.{Key, Range}
+use Rattle.mvo_validate.specs.declared.entry.Entry.TheVariants.{Key}
 use Rattle.mvo_validate.specs.Between.{is_above, stamp_between}
-use Rattle.mvo_validate.specs.Entries.{has_sort, versions_of_sort, key_at, versions_of_place, versions_in}
-use Rattle.mvo_representation.specs.Words.{ends_of, has_stamp, NetEffect, net_effect, change_below, if_above, last_passing, touch_below, stamp_above, is_touched, touches}
-use Rattle.mvo_representation.specs.Words.Touch.{PutOrEnded}
+use Rattle.mvo_validate.specs.Entries.{has_sort, versions_in}
+use Rattle.mvo_representation.specs.Words.{ends_of, has_stamp, NetEffect, net_effect, if_above, last_passing, stamp_above}
 use Rattle.mvo_representation.specs.Versions.{AreVersionsOf}
-use Rattle.mvo_representation.specs.Indexes.{all_versions, is_of_key, HasNumbers, place_of, is_at_place, HasPlaces}
-use Rattle.mvo_representation.specs.Table.{phases_of, entry_as}
+use Rattle.mvo_representation.specs.Indexes.{all_versions, HasNumbers}
+use Rattle.mvo_representation.specs.Table.{phases_of}
 use Rattle.mvo_representation.proofs.Checked.{key_checked}
-use Rattle.mvo_representation.proofs.Between.{range_checked}
-use Rattle.mvo_representation.proofs.Decided.{is_stamped, last_same, last_within, greatest_is, changes_at, greatest_change, AreOfKey, last_of_versions}
-use Rattle.mvo_representation.proofs.ShownTo.{AreThere, of_key, there, below_keyed}
+use Rattle.mvo_representation.proofs.Decided.{is_stamped, last_same, greatest_is, last_of_versions}
+use Rattle.mvo_representation.proofs.ShownTo.{of_key, below_keyed}
 
 -- ---- between two timestamps
 none_from : (b : ℕ) (f : ℕ → Bool) (e : ℕ) → e ≤ b + 1 → last_passing (λ s. nat_lt b s && f s) e ≡ None

@@ -1,5 +1,5 @@
 -- The deciding change by the rules is the last change by words.
-use Rattle.std.proofs.Common.{◌≡◌, ◌≢◌, ℕ, ◌<◌, ◌≤◌, suc, zero, Bool, true, false, cond, not, ◌||◌, List, [], ◌∷◌, ◌++◌, map, Option, None, Some, refl, sym, ap, ◌∙◌, subst, arith, ◌⊎◌, inl, inr}
+use Rattle.std.proofs.Common.{◌≡◌, ℕ, ◌<◌, suc, zero, Bool, true, false, cond, not, ◌||◌, List, [], ◌∷◌, map, Option, None, Some, refl, sym, ap, ◌∙◌, arith, ◌⊎◌, inl, inr}
 use Rattle.std.specs.Prelude.{◌==◌, ◌&&◌, nat_lt, max}
 use Rattle.std.specs.List.{AllByRecursion, list_any}
 use Rattle.std.specs.Option.{option_map, option_or}
@@ -7,7 +7,6 @@ use Rattle.std.specs.Ordering.{eq_by_cmp}
 use Rattle.std.proofs.lemmas.Bool.{eq-eqb, eqb-true, ne_eqb, lt-ltb, le-ltb, cases_order, true≢false}
 use Rattle.std.proofs.lemmas.List.Folds.{list_any-append}
 use Rattle.mvo_types.specs.declared.row.RowKey.{RowKey}
-use Rattle.mvo_types.specs.declared.ids.TxId.{TxId}
 use Rattle.mvo_types.specs.declared.ids.Stamp.{Stamp}
 use Rattle.mvo_types.specs.RowData.{ContentData, content_of}
 use Rattle.mvo_types.specs.Keys.{key_cmp}
@@ -19,12 +18,12 @@ use Rattle.mvo_visible.specs.declared.seen.Seen.TheVariants.{Nothing, Settled, S
 use Rattle.mvo_visible.specs.declared.change.Change.{Change}
 use Rattle.mvo_visible.specs.Words.{States, seen_of}
 use Rattle.mvo_visible.specs.Versions.{Numbered}
-use Rattle.mvo_visible.specs.Changes.{is_at, put_of, removal_of, unless_removed, changes_by, changes_of, greater, greatest_below, first_with, version_with, owner_with}
+use Rattle.mvo_visible.specs.Changes.{is_at, put_of, removal_of, unless_removed, changes_by, changes_of, greater, greatest_below, first_with, version_with}
 use Rattle.mvo_visible.proofs.Decides.{first_with-append, option_or-none}
 use Rattle.mvo_representation.specs.Words.{ends_of, has_stamp, NetEffect, with_effect, effect_by, effect_of, net_effect, or_change_at, last_change, last_passing, change_below, content_put, is_clash}
 use Rattle.mvo_representation.specs.Words.NetEffect.{Untouched, Removed, Puts, Clash}
 use Rattle.mvo_representation.specs.Table.{phases_of}
-use Rattle.mvo_representation.proofs.Seen.{seen_at, owner_in}
+use Rattle.mvo_representation.proofs.Seen.{seen_at}
 
 -- ---- the greatest number that passes
 some_end : (a b : ℕ) → ◌≡◌ {A = Option ℕ} (Some a) (Some b) → a ≡ b

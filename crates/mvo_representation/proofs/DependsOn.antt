@@ -1,5 +1,5 @@
 -- On whom a transaction depends by the rules is on whom it depends in the state.
-use Rattle.std.proofs.Common.{◌≡◌, ℕ, ◌<◌, Bool, true, false, cond, not, ◌||◌, List, [], ◌∷◌, ◌++◌, map, Option, None, Some, refl, sym, ap, ◌∙◌, subst, arith}
+use Rattle.std.proofs.Common.{◌≡◌, ℕ, Bool, true, false, cond, ◌||◌, List, [], ◌∷◌, map, Option, None, Some, refl, sym, ap, ◌∙◌, subst}
 use Rattle.std.specs.Prelude.{◌==◌, is_some, slice_index_or, suc, zero}
 use Rattle.std.specs.List.{AllByRecursion, list_any}
 use Rattle.std.specs.Option.{option_map, option_or}
@@ -7,13 +7,12 @@ use Rattle.std.proofs.lemmas.Bool.{eqb-true, true≢false, false≢true}
 use Rattle.mvo_types.specs.declared.row.RowKey.{RowKey}
 use Rattle.mvo_types.specs.declared.op.Op.{Op}
 use Rattle.mvo_types.specs.declared.ids.TxId.{TxId}
-use Rattle.mvo_types.specs.declared.ids.Stamp.{Stamp}
 use Rattle.mvo_types.specs.Keys.{Map}
 use Rattle.mvo_types.specs.Write.{Effect}
 use Rattle.mvo_types.specs.Write.Effect.{Put, Delete as Gone}
 use Rattle.mvo_model.specs.History.{net_write}
 use Rattle.mvo_model.specs.Trace.{Step}
-use Rattle.mvo_theory.specs.Entries.{Entry, entry_of}
+use Rattle.mvo_theory.specs.Entries.{entry_of}
 use Rattle.mvo_theory.specs.Entries.Entry.{Key}
 use Rattle.mvo_theory.specs.State.{State, StampedTx, ActiveTx, active_of}
 use Rattle.mvo_theory.specs.Dependencies.{last_writer, depend_on, dependencies}
@@ -26,22 +25,21 @@ use Rattle.mvo_chain.specs.Slots.{Slots, version_at}
 use Rattle.mvo_hash.specs.Lists.{Lists, number, numbers_of}
 use Rattle.mvo_visible.specs.declared.seen.Seen.{Seen}
 use Rattle.mvo_visible.specs.declared.seen.Seen.TheVariants.{Nothing, Settled, Speculative}
-use Rattle.mvo_visible.specs.declared.change.Change.{Change}
 use Rattle.mvo_visible.specs.Words.{States, seen_of, names}
 use Rattle.mvo_visible.specs.Versions.{Numbered, and_version, versions_by, versions_at, is_own, own_newest}
 use Rattle.mvo_visible.specs.Changes.{is_at, put_of, removal_of, changes_by, changes_of, first_with, owner_with, greatest_below, done_with, deciding}
 use Rattle.mvo_visible.specs.Shown.{shown_by, own_or, shown_to}
 use Rattle.mvo_visible.proofs.Decides.{first_with-append, option_or-none}
-use Rattle.mvo_representation.specs.Words.{Phases, Ends, as_net_effect, last_change, ends_of, stamp_in, is_stamp, has_stamp, NetEffect, net_effect, change_below, open_in, with_open}
+use Rattle.mvo_representation.specs.Words.{as_net_effect, last_change, ends_of, stamp_in, is_stamp, has_stamp, NetEffect, net_effect, with_open}
 use Rattle.mvo_representation.specs.Versions.{Say, IsKnown, AreVersionsOf}
 use Rattle.mvo_representation.specs.Indexes.{all_versions, HasNumbers}
 use Rattle.mvo_representation.specs.Table.{phases_of, end_awaited}
 use Rattle.mvo_representation.proofs.LastChanges.{first_of, change_by}
-use Rattle.mvo_representation.proofs.Shown.{IsBegin, active_begins, deciding as last_is}
+use Rattle.mvo_representation.proofs.Shown.{active_begins, deciding as last_is}
 use Rattle.mvo_representation.proofs.Open.{is_open, open_word}
 use Rattle.mvo_representation.proofs.Read.{written_depends, key_depends, read_depends}
 use Rattle.mvo_representation.proofs.Seen.{seen_at, owner_in, seen_owner}
-use Rattle.mvo_representation.proofs.Decided.{changes_at, AreOfKey, versions_in, is_change, change_any, greatest_change, last_of_versions, last_holds}
+use Rattle.mvo_representation.proofs.Decided.{changes_at, versions_in, is_change, change_any, greatest_change, last_of_versions, last_holds}
 use Rattle.mvo_representation.proofs.ShownTo.{of_key, keyed, below_keyed}
 
 -- ---- the owner of a change

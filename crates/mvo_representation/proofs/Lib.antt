@@ -39,3 +39,4 @@ pub mod MayEnd
 pub mod NodeSteps
 pub mod NodesKept
 pub mod NodesReported
+pub mod Proved

@@ -1,13 +1,12 @@
 -- The version that the rules show is the one that a transaction may end, and its End tells the cause.
-use Rattle.std.proofs.Common.{◌≡◌, ℕ, Bool, true, false, cond, not, ◌||◌, List, [], ◌∷◌, ◌++◌, map, Option, None, Some, refl, sym, ap, ◌∙◌, subst, ◌⊎◌, inl, inr}
-use Rattle.std.specs.Prelude.{◌==◌, ◌&&◌, is_some, slice_index_or}
-use Rattle.std.specs.List.{AllByRecursion, list_any}
+use Rattle.std.proofs.Common.{◌≡◌, ℕ, Bool, true, false, cond, not, List, [], ◌∷◌, ◌++◌, Option, None, Some, refl, sym, ap, ◌∙◌, subst}
+use Rattle.std.specs.Prelude.{is_some}
+use Rattle.std.specs.List.{list_any}
 use Rattle.std.specs.Option.{option_map, option_or}
-use Rattle.std.specs.Ordering.{eq_by_cmp}
 use Rattle.std.proofs.lemmas.Bool.{eqb-true, true≢false, false≢true, and_parts, not-true}
 use Rattle.std.proofs.lemmas.Map.Views.{tells_apart}
 use Rattle.mvo_types.specs.declared.row.RowKey.{RowKey}
-use Rattle.mvo_types.specs.Keys.{Map, key_cmp}
+use Rattle.mvo_types.specs.Keys.{Map}
 use Rattle.mvo_types.proofs.Maps.{exact_keys}
 use Rattle.mvo_types.specs.Write.{Effect}
 use Rattle.mvo_types.specs.Write.Effect.{Put, Delete as Gone}
@@ -17,7 +16,6 @@ use Rattle.mvo_theory.specs.State.{State, ActiveTx, active_of, history_of_active
 use Rattle.mvo_theory.specs.Causes.{conflict}
 use Rattle.mvo_theory.specs.Calls.{IsKept}
 use Rattle.mvo_theory.proofs.Cases.{found_is}
-use Rattle.mvo_theory.proofs.Each.{each_both}
 use Rattle.mvo_theory.proofs.Who.{active_holds}
 use Rattle.mvo_word.specs.declared.held.Held.{Held}
 use Rattle.mvo_chain.specs.declared.version.Version.{Version}
@@ -27,14 +25,15 @@ use Rattle.mvo_hash.specs.Lists.{Lists}
 use Rattle.mvo_visible.specs.Words.{States, names}
 use Rattle.mvo_visible.specs.Causes as rule
 use Rattle.mvo_visible.specs.Versions.{Numbered, versions_at, is_own, own_newest}
-use Rattle.mvo_visible.specs.Changes.{changes_of, greatest_below, done_with, deciding, version_with}
+use Rattle.mvo_visible.specs.Changes.{changes_of, greatest_below, done_with, deciding}
 use Rattle.mvo_visible.specs.Shown.{shown_by, own_or, shown_to}
-use Rattle.mvo_representation.specs.Words.{ends_of, stamp_in, is_stamp, has_stamp, NetEffect, net_effect, as_net_effect, change_below, cause_in, IsShownAt}
+use Rattle.mvo_representation.specs.Words.{ends_of, stamp_in, is_stamp, has_stamp, net_effect, as_net_effect, change_below, IsShownAt}
 use Rattle.mvo_representation.specs.Versions.{Say, AreVersionsOf}
 use Rattle.mvo_representation.specs.Indexes.{all_versions, HasNumbers}
-use Rattle.mvo_representation.specs.Steps.{IsOwnNewest, IsFreeToEnd, MayEnd}
+use Rattle.mvo_representation.specs.Steps.{MayEnd}
 use Rattle.mvo_representation.specs.Steps.MayEnd.{Own, Other}
-use Rattle.mvo_representation.specs.Table.{phases_of}
+use Rattle.mvo_representation.specs.Table.{phases_of, IsShownAs, IsShown}
+use Rattle.mvo_representation.specs.Table.IsShownAs.{AsOwn, AsOthers}
 use Rattle.mvo_representation.specs.Words.NetEffect.{Untouched}
 use Rattle.mvo_representation.proofs.Conflict.{end_has_effect}
 use Rattle.mvo_representation.proofs.Seen.{cause_same}
@@ -75,17 +74,6 @@ is_first slots k n number (v ∷ vs) of th e = go (is_put_by n v) refl e (λ r. 
     go false p q again = again q
 
 -- ---- the version that is shown
--- it is its own newest one, or it is shown by others' words and the key isn't written
-pub data IsShownAs (s : State) (states : States) (t : ℕ) (vs : List Version) (v : Version) : Type 0 where
-  AsOwn : IsOwnNewest t v → IsShownAs s states t vs v
-  AsOthers : (stamp : ℕ) → net_write v.row.key (history_of_active t s.active) ≡ None → IsShownAt (ends_of (phases_of states)) t v.row.key vs v stamp → IsShownAs s states t vs v
-
-pub record IsShown (s : State) (states : States) (slots : Slots) (t : ℕ) (k : RowKey) (number : VersionNo) : Type 0 where
-  pub version : Version
-  pub at : version_at slots number ≡ Some version
-  pub key : version.row.key ≡ k
-  pub as' : IsShownAs s states t (all_versions slots) version
-
 stamp_some : (s : ℕ) (o : Option ℕ) → is_stamp s o ≡ true → o ≡ Some s
 stamp_some s None e = absurd (false≢true e)
 stamp_some s (Some n) e = ap Some (eqb-true n s e)

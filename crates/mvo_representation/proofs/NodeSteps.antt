@@ -1,10 +1,10 @@
 -- Counters, flags and dependents stay right where transactions begin, precommit, abort and leave.
-use Rattle.std.proofs.Common.{◌≡◌, ◌≢◌, ℕ, ◌+◌, ◌<◌, ◌≤◌, Bool, true, false, cond, not, ◌||◌, List, [], ◌∷◌, ◌++◌, map, Option, None, Some, refl, sym, ap, ◌∙◌, subst, arith}
+use Rattle.std.proofs.Common.{◌≡◌, ℕ, ◌+◌, ◌<◌, ◌≤◌, Bool, true, false, cond, not, ◌||◌, List, [], ◌∷◌, ◌++◌, Option, None, Some, refl, sym, ap, ◌∙◌, subst, arith}
 use Rattle.std.specs.Prelude.{◌==◌, ◌&&◌}
-use Rattle.std.specs.List.{AllByRecursion, filter}
+use Rattle.std.specs.List.{AllByRecursion}
 use Rattle.std.proofs.lemmas.Bool.{eq-eqb, ne_eqb}
 use Rattle.mvo_theory.specs.State.{State, StampedTx, ActiveTx, active_of}
-use Rattle.mvo_theory.specs.Changes.{new_active, after_begin, without, to_stamped, after_prepare, after_abort_of_active}
+use Rattle.mvo_theory.specs.Changes.{new_active, after_begin, to_stamped, after_prepare}
 use Rattle.mvo_theory.specs.Dependencies.{has_end}
 use Rattle.mvo_theory.specs.Sound.{IsSound, IsActive, IsPreparing, IsPlaced}
 use Rattle.mvo_theory.proofs.Each.{each_weaker, each_both, each_filter, each_append}
@@ -98,13 +98,15 @@ module _ (s : State) (nodes : Nodes) (r : ActiveTx) (e : ℕ) (lt : s.clock < e)
           active = each_filter (λ q. not (q.id == r.id)) (λ q. has_end (nodes x.id).dependents q.id ≡ has_end q.depends_on x.end) (λ q. has_end (nodes x.id).dependents q.id ≡ has_end q.depends_on x.end) (λ q _ k. k) s.active (w o).active;
           preparing = each_append (λ y. y.settled ≡ false → has_end (nodes x.id).dependents y.id ≡ has_end y.depends_on x.end) s.stamped (to_stamped e r ∷ []) (w o).preparing
               ((λ _. (active_holds (λ q. has_end (nodes x.id).dependents q.id ≡ has_end q.depends_on x.end) r.id s.active r f (w o).active).0), tt);
-        }) s.stamped h.dependents)
-        ((λ _. subst (λ ds. AreDependents (after_prepare s r e) ds e) (sym mine_none) (record {
-          active = each_filter (λ q. not (q.id == r.id)) (IsActive s.base s.stamped s.clock) (λ q. false ≡ has_end q.depends_on e) (λ q _ a. sym (active_end q a)) s.active sd.active;
-          preparing = each_append (λ y. y.settled ≡ false → false ≡ has_end y.depends_on e) s.stamped (to_stamped e r ∷ [])
-              (each_weaker (λ x. IsPlaced s.stamped s.clock x × (x.settled ≡ false → IsPreparing s.base s.stamped x)) (λ y. y.settled ≡ false → false ≡ has_end y.depends_on e) (λ x w o. sym (stamped_end x o w.0 w.1)) s.stamped placed)
-              ((λ _. sym (active_end r mine.0.0)), tt);
-        })), tt);
+        }) s.stamped h.dependents) (
+          (λ _. subst (λ ds. AreDependents (after_prepare s r e) ds e) (sym mine_none) (record {
+            active = each_filter (λ q. not (q.id == r.id)) (IsActive s.base s.stamped s.clock) (λ q. false ≡ has_end q.depends_on e) (λ q _ a. sym (active_end q a)) s.active sd.active;
+            preparing = each_append (λ y. y.settled ≡ false → false ≡ has_end y.depends_on e) s.stamped (to_stamped e r ∷ [])
+                (each_weaker (λ x. IsPlaced s.stamped s.clock x × (x.settled ≡ false → IsPreparing s.base s.stamped x)) (λ y. y.settled ≡ false → false ≡ has_end y.depends_on e) (λ x w o. sym (stamped_end x o w.0 w.1)) s.stamped placed)
+                ((λ _. sym (active_end r mine.0.0)), tt);
+          })),
+          tt,
+        );
   }
     where
       placed : AllByRecursion (λ x. IsPlaced s.stamped s.clock x × (x.settled ≡ false → IsPreparing s.base s.stamped x)) s.stamped

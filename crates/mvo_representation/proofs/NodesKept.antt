@@ -1,12 +1,12 @@
 -- Counters, flags and dependents stay right where others stay as they are; and who was drawn.
-use Rattle.std.proofs.Common.{◌≡◌, ◌≢◌, ℕ, ◌+◌, ◌<◌, ◌≤◌, Bool, true, false, cond, not, ◌||◌, List, [], ◌∷◌, ◌++◌, map, Option, None, Some, refl, sym, ap, ◌∙◌, subst, arith, ◌⊎◌, inl, inr}
+use Rattle.std.proofs.Common.{◌≡◌, ◌≢◌, ℕ, ◌+◌, ◌<◌, ◌≤◌, Bool, true, false, cond, not, ◌||◌, List, [], ◌∷◌, map, Option, refl, sym, ap, ◌∙◌, subst, arith}
 use Rattle.std.specs.Prelude.{◌==◌, ◌&&◌}
 use Rattle.std.specs.List.{AllByRecursion, filter}
-use Rattle.std.proofs.lemmas.Bool.{eq-eqb, eqb-true, ne_eqb, cases_eq, leb-true, true≢false}
-use Rattle.mvo_theory.specs.State.{State, StampedTx, ActiveTx, EndedTx, Marks, active_of, preparing_of}
-use Rattle.mvo_theory.specs.Changes.{without, with_check, after_check, with_settled, after_commit, with_flag, active_with_flag, not_at, after_abort_of_active, after_abort_of_preparing, is_to, after_trim}
+use Rattle.std.proofs.lemmas.Bool.{ne_eqb, leb-true, true≢false}
+use Rattle.mvo_theory.specs.State.{State, StampedTx, EndedTx, Marks}
+use Rattle.mvo_theory.specs.Changes.{with_check, after_check, with_settled, after_commit, with_flag, active_with_flag, not_at, after_abort_of_active, after_abort_of_preparing, is_to, after_trim}
 use Rattle.mvo_theory.specs.Dependencies.{has_end, with_end}
-use Rattle.mvo_theory.proofs.Each.{each_always, each_weaker, each_both, each_filter, each_map}
+use Rattle.mvo_theory.proofs.Each.{each_weaker, each_both, each_filter, each_map}
 use Rattle.mvo_theory.proofs.Trim.{IsTrim}
 use Rattle.mvo_representation.specs.Nodes.{NodeData, Nodes, is_open_in, open_count, IsNode, AreDependents, HasNodes, HasDrawnDependents, nodes_after_commit, nodes_after_abort, after_register, with_dependency, depended}
 use Rattle.mvo_representation.proofs.Waited.{one}

@@ -1,30 +1,29 @@
 -- What the table keeps after a commit or an abort was reported is right.
-use Rattle.std.proofs.Common.{◌≡◌, ◌≢◌, ℕ, ◌-◌, Bool, true, false, cond, eqb, not, ◌||◌, List, [], ◌∷◌, map, Option, None, Some, refl, sym, ap, ◌∙◌, subst}
+use Rattle.std.proofs.Common.{◌≡◌, ◌≢◌, ℕ, ◌-◌, Bool, true, false, cond, eqb, not, ◌||◌, List, [], ◌∷◌, map, Option, None, Some, refl, sym, ap, ◌∙◌}
 use Rattle.std.specs.Prelude.{◌==◌, ◌&&◌, is_some}
-use Rattle.std.specs.List.{AllByRecursion, list_any, filter}
+use Rattle.std.specs.List.{AllByRecursion, filter}
 use Rattle.std.specs.Option.{option_map}
 use Rattle.std.specs.FinMap as fin
-use Rattle.std.proofs.lemmas.Bool.{eqb-true, eq-eqb, ne_eqb, true≢false, false≢true}
+use Rattle.std.proofs.lemmas.Bool.{eq-eqb, ne_eqb, true≢false, false≢true}
 use Rattle.mvo_types.specs.declared.ids.TxId.{TxId}
 use Rattle.mvo_model.specs.Trace.{Phase}
-use Rattle.mvo_model.specs.Trace.Phase.{Active, Preparing, Committed, Aborted}
-use Rattle.mvo_theory.specs.State.{State, StampedTx, ActiveTx, EndedTx, active_of, preparing_of, ended_of}
+use Rattle.mvo_model.specs.Trace.Phase.{Active, Preparing}
+use Rattle.mvo_theory.specs.State.{State, StampedTx, ActiveTx, active_of, preparing_of, ended_of}
 use Rattle.mvo_theory.specs.Changes.{after_commit as committed, after_abort_of_preparing, active_with_flag, with_flag, not_at}
 use Rattle.mvo_theory.specs.Dependencies.{has_end}
-use Rattle.mvo_theory.specs.Phases.{ended_as, phase_by, phase_in}
+use Rattle.mvo_theory.specs.Phases.{phase_by, phase_in}
 use Rattle.mvo_theory.specs.Sound.{IsSound, IsSingle}
 use Rattle.mvo_theory.proofs.Each.{each_weaker, each_both, each_map, each_filter}
 use Rattle.mvo_theory.proofs.Phases.{leads_after_commit, leads_after_abort_of_preparing}
 use Rattle.mvo_txn.specs.declared.seat.Seat.{Seat}
-use Rattle.mvo_txn.specs.Txns.{Txns, kept_of, state_of}
+use Rattle.mvo_txn.specs.Txns.{Txns, state_of}
 use Rattle.mvo_deps.specs.declared.node.Node.{Node}
-use Rattle.mvo_deps.specs.Data.{DependencyData, no_dependencies, is_among, after_commit, first_of, after_abort, without_dependents}
-use Rattle.mvo_deps.specs.Nodes.{data_in, data_of, after_change, changed_if, with_data, IsEachChanged, IsReported}
+use Rattle.mvo_deps.specs.Data.{DependencyData, is_among, after_commit, first_of, after_abort, without_dependents}
+use Rattle.mvo_deps.specs.Nodes.{data_in, data_of, changed_if, with_data, IsReported}
 use Rattle.mvo_deps.proofs.Changes.{get_changed}
-use Rattle.mvo_representation.specs.Nodes.{NodeData, Nodes, node_as, nodes_of, HasNodes, HasDrawnDependents, nodes_after_commit, or_flag, nodes_after_abort}
+use Rattle.mvo_representation.specs.Nodes.{node_as, nodes_of, HasNodes, nodes_after_commit, or_flag, nodes_after_abort}
 use Rattle.mvo_representation.specs.Table.{phase_as, phases_of}
-use Rattle.mvo_representation.proofs.Facts.{phase_preparing}
-use Rattle.mvo_representation.proofs.NodesKept.{nodes_elsewhere, drawn_elsewhere, drawn_committed, drawn_reported}
+use Rattle.mvo_representation.proofs.NodesKept.{nodes_elsewhere}
 use Rattle.mvo_representation.proofs.Reported.{kept_commit, kept_abort}
 
 -- ---- one that is neither Active nor Preparing has no place there
@@ -82,9 +81,10 @@ active_there (q ∷ rs) = (ap (λ b. is_some (cond b (Some q) (active_of q.id rs
 
 preparing_there : (xs : List StampedTx) → AllByRecursion (λ x. x.settled ≡ false → is_some (preparing_of x.id xs) ≡ true) xs
 preparing_there [] = tt
-preparing_there (y ∷ xs) =
-    ((λ o. ap (λ b. is_some (cond (b && not y.settled) (Some y) (preparing_of y.id xs))) (eq-eqb y.id y.id refl) ∙ ap (λ b. is_some (cond (not b) (Some y) (preparing_of y.id xs))) o),
-     each_weaker (λ x. x.settled ≡ false → is_some (preparing_of x.id xs) ≡ true) (λ x. x.settled ≡ false → is_some (cond ((y.id == x.id) && not y.settled) (Some y) (preparing_of x.id xs)) ≡ true) (λ x e o. go ((y.id == x.id) && not y.settled) x (e o)) xs (preparing_there xs))
+preparing_there (y ∷ xs) = (
+  (λ o. ap (λ b. is_some (cond (b && not y.settled) (Some y) (preparing_of y.id xs))) (eq-eqb y.id y.id refl) ∙ ap (λ b. is_some (cond (not b) (Some y) (preparing_of y.id xs))) o),
+  each_weaker (λ x. x.settled ≡ false → is_some (preparing_of x.id xs) ≡ true) (λ x. x.settled ≡ false → is_some (cond ((y.id == x.id) && not y.settled) (Some y) (preparing_of x.id xs)) ≡ true) (λ x e o. go ((y.id == x.id) && not y.settled) x (e o)) xs (preparing_there xs),
+)
   where
     go : (b : Bool) (x : StampedTx) → is_some (preparing_of x.id xs) ≡ true → is_some (cond b (Some y) (preparing_of x.id xs)) ≡ true
     go true x e = refl
@@ -116,9 +116,9 @@ module _ {P : Type 0} where
   reported_at change old new on u ne r =
       r.each (record { 0 = u })
       ∙ ap (option_map (with_data (changed_if (is_among (record { 0 = u }) (data_of old on).dependents) change)))
-        (get_changed old on.0 without_dependents u
-        ∙ ap (λ b. option_map (with_data (changed_if b without_dependents)) (fin.get old.seats u)) (ne_eqb u on.0 ne)
-        ∙ same (fin.get old.seats u))
+      (get_changed old on.0 without_dependents u
+      ∙ ap (λ b. option_map (with_data (changed_if b without_dependents)) (fin.get old.seats u)) (ne_eqb u on.0 ne)
+      ∙ same (fin.get old.seats u))
     where
       same : (o : Option (Seat (Node P))) → option_map (with_data (changed_if false without_dependents)) o ≡ o
       same None = refl
@@ -176,10 +176,10 @@ module _ {P : Type 0} where
   abort_reported s old new t x sd sg f ph h r =
       nodes_elsewhere (after_abort_of_preparing s t x.end) (after_abort_of_preparing s t x.end).marks (after_abort_of_preparing s t x.end).ended (nodes_after_abort t (nodes_of old t).dependents (nodes_of old)) (nodes_of new)
       (each_both (λ q. q.id ≢ t) (λ q. is_some (fin.get old.seats q.id) ≡ true) (λ q. nodes_of new q.id ≡ nodes_after_abort t (nodes_of old t).dependents (nodes_of old) q.id) (λ q n i. abort_at old new (record { 0 = t }) q.id n i r) (after_abort_of_preparing s t x.end).active gone.active
-        (each_map (active_with_flag t x.end) (λ q. is_some (active_of q.id s.active) ≡ true) (λ q. is_some (fin.get old.seats q.id) ≡ true) (λ q e. seated s old q.id (ph q.id) (open_active s q.id e)) s.active (active_there s.active)))
+      (each_map (active_with_flag t x.end) (λ q. is_some (active_of q.id s.active) ≡ true) (λ q. is_some (fin.get old.seats q.id) ≡ true) (λ q e. seated s old q.id (ph q.id) (open_active s q.id e)) s.active (active_there s.active)))
       (each_both (λ y. y.settled ≡ false → y.id ≢ t) (λ y. y.settled ≡ false → is_some (fin.get old.seats y.id) ≡ true) (λ y. y.settled ≡ false → nodes_of new y.id ≡ nodes_after_abort t (nodes_of old t).dependents (nodes_of old) y.id) (λ y n i o. abort_at old new (record { 0 = t }) y.id (n o) (i o) r) (after_abort_of_preparing s t x.end).stamped gone.preparing
-        (each_map (with_flag t x.end) (λ y. y.settled ≡ false → is_some (preparing_of y.id s.stamped) ≡ true) (λ y. y.settled ≡ false → is_some (fin.get old.seats y.id) ≡ true) (λ y e o. seated s old y.id (ph y.id) (open_preparing s y.id (e o))) (filter (not_at x.end) s.stamped)
-        (each_filter (not_at x.end) (λ y. y.settled ≡ false → is_some (preparing_of y.id s.stamped) ≡ true) (λ y. y.settled ≡ false → is_some (preparing_of y.id s.stamped) ≡ true) (λ y _ e. e) s.stamped (preparing_there s.stamped))))
+      (each_map (with_flag t x.end) (λ y. y.settled ≡ false → is_some (preparing_of y.id s.stamped) ≡ true) (λ y. y.settled ≡ false → is_some (fin.get old.seats y.id) ≡ true) (λ y e o. seated s old y.id (ph y.id) (open_preparing s y.id (e o))) (filter (not_at x.end) s.stamped)
+      (each_filter (not_at x.end) (λ y. y.settled ≡ false → is_some (preparing_of y.id s.stamped) ≡ true) (λ y. y.settled ≡ false → is_some (preparing_of y.id s.stamped) ≡ true) (λ y _ e. e) s.stamped (preparing_there s.stamped))))
       (kept_abort s (nodes_of old) t x f h)
     where
       gone : IsNowhere (after_abort_of_preparing s t x.end) t

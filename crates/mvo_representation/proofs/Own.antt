@@ -23,7 +23,6 @@ use Rattle.mvo_theory.proofs.Each.{each_always}
 use Rattle.mvo_word.specs.declared.held.Held.{Held}
 use Rattle.mvo_word.specs.declared.held.Held.TheVariants.{By}
 use Rattle.mvo_chain.specs.declared.version.Version.{Version}
-use Rattle.mvo_chain.specs.Slots.{added}
 use Rattle.mvo_representation.specs.Words.{Phases, Ends, end_in, stamp_in, is_stamp, has_stamp, NetEffect, with_effect, effect_by, effect_of, net_effect, Touch, is_touch, touches, is_touched, as_net_effect, standing_effect, standing_effect_of, is_up_to, is_clash}
 use Rattle.mvo_visible.specs.Words.{names}
 use Rattle.mvo_representation.specs.Words.NetEffect.{Untouched, Removed, Puts, Clash}

@@ -1,7 +1,6 @@
 -- Other words left to the ended ones, and another closed mark: the versions stay those of the state.
 use Rattle.std.proofs.Common.{◌≡◌, ℕ, Bool, true, false, cond, List, [], ◌∷◌, Option, None, Some, map, refl, sym, ◌∙◌}
 use Rattle.std.specs.Prelude.{◌==◌}
-use Rattle.std.specs.List.{AllByRecursion}
 use Rattle.mvo_types.specs.declared.op.Op.{Op}
 use Rattle.mvo_types.specs.AnswerData.{AnswerData}
 use Rattle.mvo_theory.specs.State.{State, ActiveTx, StampedTx, EndedTx, Word, Claim, active_of, preparing_of, ended_of}
@@ -14,7 +13,7 @@ use Rattle.mvo_word.specs.declared.held.Held.{Held}
 use Rattle.mvo_word.specs.declared.held.Held.TheVariants.{At, By, Infinity}
 use Rattle.mvo_chain.specs.declared.version.Version.{Version}
 use Rattle.mvo_representation.specs.Words.{Phases, ends_of}
-use Rattle.mvo_representation.specs.Versions.{IsKnownStamp, IsKnown, HasItsClaims, IsForward, IsInside, AreVersionsOf}
+use Rattle.mvo_representation.specs.Versions.{IsKnownStamp, IsKnown, HasItsClaims, AreVersionsOf}
 
 -- ---- where each stands
 abbrev worded : (EndedTx → List Word) → EndedTx → EndedTx

@@ -1,9 +1,6 @@
 -- What a word says by the rules is what it says by the phases.
-use Rattle.std.proofs.Common.{◌≡◌, ℕ, Bool, true, false, cond, Option, None, Some, refl, sym, ap, ◌∙◌}
-use Rattle.std.specs.Prelude.{◌==◌}
-use Rattle.std.proofs.lemmas.Bool.{true≢false}
+use Rattle.std.proofs.Common.{◌≡◌, ℕ, Bool, false, cond, Option, None, Some, refl, ap, ◌∙◌}
 use Rattle.mvo_types.specs.declared.ids.TxId.{TxId}
-use Rattle.mvo_types.specs.declared.cause.Cause.{Cause}
 use Rattle.mvo_txn.specs.declared.state.TxState.{TxState}
 use Rattle.mvo_txn.specs.declared.state.TxState.TheVariants.{Active, Preparing, Committed, Aborted}
 use Rattle.mvo_word.specs.declared.held.Held.{Held}
@@ -13,7 +10,7 @@ use Rattle.mvo_visible.specs.declared.seen.Seen.TheVariants.{Nothing, Settled, S
 use Rattle.mvo_visible.specs.Words.{States, seen_in, seen_of, names}
 use Rattle.mvo_visible.specs.Changes.{is_at}
 use Rattle.mvo_visible.specs.Causes as rule
-use Rattle.mvo_representation.specs.Words.{Phases, ends_of, end_in, stamp_in, is_stamp, has_stamp, open_end, open_in, cause_of, cause_in}
+use Rattle.mvo_representation.specs.Words.{ends_of, end_in, is_stamp, has_stamp, open_end, open_in, cause_of, cause_in}
 use Rattle.mvo_representation.specs.Table.{phase_as, phases_of, end_awaited}
 
 -- ---- the stamp

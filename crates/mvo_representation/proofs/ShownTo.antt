@@ -1,15 +1,12 @@
 -- What a transaction is shown by the rules is what its snapshot has, and on whom it depends then.
-use Rattle.std.proofs.Common.{◌≡◌, ℕ, ◌+◌, ◌≤◌, suc, zero, Bool, true, false, cond, not, ◌||◌, List, [], ◌∷◌, map, Option, None, Some, refl, sym, ap, ◌∙◌, subst, arith, ◌⊎◌, inl, inr}
-use Rattle.std.specs.Prelude.{◌==◌, ◌&&◌, is_some, slice_index_or}
+use Rattle.std.proofs.Common.{◌≡◌, ℕ, ◌≤◌, Bool, true, false, cond, List, [], ◌∷◌, map, Option, None, Some, refl, sym, ap, ◌∙◌, subst, arith}
+use Rattle.std.specs.Prelude.{◌==◌, slice_index_or}
 use Rattle.std.specs.List.{AllByRecursion, list_any}
 use Rattle.std.specs.Option.{option_map, option_or}
 use Rattle.std.specs.FinMap as fin
-use Rattle.std.specs.Ordering.{eq_by_cmp}
-use Rattle.std.proofs.lemmas.Bool.{eq-eqb, true≢false, false≢true}
+use Rattle.std.proofs.lemmas.Bool.{eq-eqb, true≢false}
 use Rattle.mvo_types.specs.declared.row.RowKey.{RowKey}
-use Rattle.mvo_types.specs.declared.ids.TxId.{TxId}
-use Rattle.mvo_types.specs.RowData.{ContentData, content_of}
-use Rattle.mvo_types.specs.Keys.{Map, key_cmp}
+use Rattle.mvo_types.specs.RowData.{content_of}
 use Rattle.mvo_theory.specs.State.{State, ActiveTx, active_of, snapshot, seen_by}
 use Rattle.mvo_theory.specs.Claims.{origin}
 use Rattle.mvo_model.specs.History.{net_write}
@@ -20,17 +17,15 @@ use Rattle.mvo_chain.specs.declared.version.Version.{Version}
 use Rattle.mvo_chain.specs.declared.version.VersionNo.{VersionNo}
 use Rattle.mvo_chain.specs.Slots.{Slots, version_at}
 use Rattle.mvo_hash.specs.Lists.{Lists, number, numbers_of}
-use Rattle.mvo_visible.specs.declared.change.Change.{Change}
-use Rattle.mvo_visible.specs.declared.outcome.Shown.{Shown}
 use Rattle.mvo_visible.specs.Words.{States, names}
 use Rattle.mvo_visible.specs.Versions.{Numbered, and_version, versions_by, versions_at, is_own, own_newest}
-use Rattle.mvo_visible.specs.Changes.{changes_of, greatest_below, done_with, deciding, version_with}
+use Rattle.mvo_visible.specs.Changes.{changes_of, greatest_below, done_with, deciding}
 use Rattle.mvo_visible.specs.Shown.{shown_by, own_or, shown_to}
-use Rattle.mvo_representation.specs.Words.{ends_of, has_stamp, NetEffect, net_effect, change_below, standing, standing_after, row_in, shown_over, shown_row, content_put, is_clash}
+use Rattle.mvo_representation.specs.Words.{ends_of, has_stamp, NetEffect, net_effect, change_below, standing, row_in, shown_over, shown_row, content_put, is_clash}
 use Rattle.mvo_representation.specs.Words.NetEffect.{Untouched, Removed, Puts, Clash}
 use Rattle.mvo_representation.specs.Versions.{Say, AreVersionsOf}
 use Rattle.mvo_representation.specs.Indexes.{all_versions, and_found, versions_numbered, is_of_key, HasNumbers}
-use Rattle.mvo_representation.specs.Table.{phases_of, content_at, content_shown}
+use Rattle.mvo_representation.specs.Table.{phases_of, content_shown}
 use Rattle.mvo_representation.proofs.LastChanges.{top_same}
 use Rattle.mvo_representation.proofs.Shown.{active_begins, behind_is, stands_below, shown_right}
 use Rattle.mvo_representation.proofs.Version.{clash_in, no_clash}

@@ -12,7 +12,7 @@ use Rattle.mvo_types.specs.Keys.{Map}
 use Rattle.mvo_types.specs.AnswerData.AnswerData.{Inserted, Exists, Updated, Deleted, Absent as NotThere}
 use Rattle.mvo_model.specs.History.{net_write}
 use Rattle.mvo_model.specs.Trace.{Step}
-use Rattle.mvo_theory.specs.State.{State, ActiveTx, StampedTx, snapshot, active_of, history_of_active}
+use Rattle.mvo_theory.specs.State.{State, ActiveTx, StampedTx, snapshot, active_of}
 use Rattle.mvo_theory.specs.Changes.{after_answer, after_finish, after_termination, after_trim, after_close, with_words}
 use Rattle.mvo_theory.specs.Words.{is_done, words_left}
 use Rattle.mvo_theory.specs.Causes.{why_not_do, why_not_settle, why_not_finish, why_not_trim, awaited, is_failure}
@@ -29,13 +29,13 @@ use Rattle.mvo_theory.proofs.Who.{active_done, unended_done, unended_after_prepa
 use Rattle.mvo_chain.specs.declared.version.Version.{Version}
 use Rattle.mvo_representation.specs.Words.{Phases, ends_of}
 use Rattle.mvo_representation.specs.Versions.{HoldsRows, AreVersionsOf}
-use Rattle.mvo_representation.specs.Steps.{IsOneMore, IsOneChanged, fresh, ended_by, IsUnnamed, MayEnd, IsFreeToEnd, IsReplaced, IsRemoved, IsAfterAnswer, IsAfterCall}
+use Rattle.mvo_representation.specs.Steps.{IsOneMore, fresh, ended_by, IsUnnamed, MayEnd, IsFreeToEnd, IsReplaced, IsRemoved, IsAfterAnswer, IsAfterCall}
 use Rattle.mvo_representation.specs.Steps.MayEnd.{Own, Other}
 use Rattle.mvo_representation.proofs.Opened.{kept_moved}
 use Rattle.mvo_representation.proofs.Quiet.{kept_after_termination}
 use Rattle.mvo_representation.proofs.Cut.{kept_after_trim}
 use Rattle.mvo_representation.proofs.Writing.{EndsOther}
-use Rattle.mvo_representation.proofs.Reworded.{phase_with_words, kept_with_words, kept_after_close}
+use Rattle.mvo_representation.proofs.Reworded.{kept_with_words, kept_after_close}
 use Rattle.mvo_representation.proofs.Calls.{IsTable, kept_by_begin, kept_by_precommit, kept_by_validate, kept_by_settle, kept_by_abort, kept_by_read, kept_by_scan, kept_by_insert, kept_by_insert_exists, kept_by_update_absent, kept_by_delete_absent, kept_by_update_other, kept_by_update_own, kept_by_delete_other, kept_by_delete_own}
 
 -- the table is what the state says: so it may be left out

@@ -14,7 +14,7 @@ use Rattle.mvo_range.specs.declared.place.Place.{Place}
 use Rattle.mvo_range.specs.Place.{Map as Places, place_cmp}
 use Rattle.mvo_representation.specs.Words.{Phases}
 use Rattle.mvo_representation.specs.Versions.{AreVersionsOf}
-use Rattle.mvo_representation.specs.Nodes.{Nodes, HasNodes}
+use Rattle.mvo_representation.specs.Nodes.{Nodes, HasNodes, HasDrawnDependents}
 
 -- the versions, by number
 abbrev pub all_versions : Slots → List Version
@@ -59,5 +59,6 @@ pub record Represents (s : State) (table : Phases) (nodes : Nodes) (slots : Slot
     (places : Places) : Type 0 where
   pub versions : AreVersionsOf s table (all_versions slots)
   pub dependencies : HasNodes s nodes
+  pub drawn : HasDrawnDependents s nodes
   pub numbers : HasNumbers slots lists
   pub order : HasPlaces (all_versions slots) places

@@ -5,3 +5,4 @@ pub mod Indexes
 pub mod WordLists
 pub mod Steps
 pub mod Table
+pub mod Laws

@@ -4,7 +4,6 @@ use Rattle.std.specs.List.{AllByRecursion}
 use Rattle.mvo_theory.specs.State.{State, StampedTx, ActiveTx}
 use Rattle.mvo_theory.specs.Dependencies.{has_end, with_end}
 use Rattle.mvo_theory.specs.Sound.{how_many}
-use Rattle.mvo_types.specs.declared.ids.TxId.{TxId}
 use Rattle.mvo_txn.specs.Txns.{Txns}
 use Rattle.mvo_deps.specs.declared.node.Node.{Node}
 use Rattle.mvo_deps.specs.Data.{DependencyData}

@@ -1,5 +1,5 @@
 -- What each call does with the versions.
-use Rattle.std.specs.Prelude.{ℕ, ◌≡◌, Bool, true, false, List, ◌∷◌, ◌++◌, None}
+use Rattle.std.specs.Prelude.{ℕ, ◌≡◌, true, false, List, ◌∷◌, ◌++◌, None}
 use Rattle.std.specs.List.{AllByRecursion}
 use Rattle.mvo_types.specs.RowData.{RowData}
 use Rattle.mvo_types.specs.declared.op.Op.{Op}

@@ -1,7 +1,11 @@
 -- The transaction table as phases, and what the rules answer, as the state has it.
-use Rattle.std.specs.Prelude.{ℕ, Option, None, Some}
+use Rattle.std.specs.Prelude.{ℕ, ◌≡◌, List, Option, None, Some}
 use Rattle.std.specs.Option.{option_map}
 use Rattle.mvo_types.specs.declared.ids.TxId.{TxId}
+use Rattle.mvo_types.specs.declared.row.RowKey.{RowKey}
+use Rattle.mvo_model.specs.History.{net_write}
+use Rattle.mvo_theory.specs.State.{State, history_of_active}
+use Rattle.mvo_chain.specs.declared.version.Version.{Version}
 use Rattle.mvo_types.specs.RowData.{ContentData, content_of}
 use Rattle.mvo_model.specs.Trace.{Phase}
 use Rattle.mvo_model.specs.Trace.Phase.{Absent, Active, Preparing, Committed, Aborted}
@@ -13,7 +17,9 @@ use Rattle.mvo_visible.specs.Words.{States}
 use Rattle.mvo_theory.specs.Entries as theory
 use Rattle.mvo_validate.specs.declared.entry.Entry.{Entry}
 use Rattle.mvo_validate.specs.declared.entry.Entry.TheVariants.{Key, Range}
-use Rattle.mvo_representation.specs.Words.{Phases, open_end}
+use Rattle.mvo_representation.specs.Words.{Phases, ends_of, open_end, IsShownAt}
+use Rattle.mvo_representation.specs.Indexes.{all_versions}
+use Rattle.mvo_representation.specs.Steps.{IsOwnNewest}
 
 -- one that isn't in the table is Absent
 abbrev pub phase_as : Option TxState → Phase
@@ -43,3 +49,18 @@ end_awaited states (Some t) = open_end (phases_of states t.0)
 abbrev pub entry_as : Entry → theory.Entry
 entry_as (Key k) = theory.Entry.Key k
 entry_as (Range table lo hi) = theory.Entry.Range table lo hi
+
+-- ---- the version that is shown
+-- it is the transaction's own newest one, or it is shown by others' words and the key isn't written
+pub data IsShownAs (s : State) (states : States) (t : ℕ) (vs : List Version)
+    (v : Version) : Type 0 where
+  AsOwn : IsOwnNewest t v → IsShownAs s states t vs v
+  AsOthers : (stamp : ℕ) → net_write v.row.key (history_of_active t s.active) ≡ None
+      → IsShownAt (ends_of (phases_of states)) t v.row.key vs v stamp → IsShownAs s states t vs v
+
+pub record IsShown (s : State) (states : States) (slots : Slots) (t : ℕ) (k : RowKey)
+    (number : VersionNo) : Type 0 where
+  pub version : Version
+  pub at : version_at slots number ≡ Some version
+  pub key : version.row.key ≡ k
+  pub as' : IsShownAs s states t (all_versions slots) version
