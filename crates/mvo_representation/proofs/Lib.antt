@@ -39,4 +39,6 @@ pub mod MayEnd
 pub mod NodeSteps
 pub mod NodesKept
 pub mod NodesReported
+pub mod NodesAnswered
+pub mod WordSteps
 pub mod Proved
