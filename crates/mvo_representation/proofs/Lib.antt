@@ -40,5 +40,6 @@ pub mod NodeSteps
 pub mod NodesKept
 pub mod NodesReported
 pub mod NodesAnswered
+pub mod NodesRegistered
 pub mod WordSteps
 pub mod Proved

@@ -1,14 +1,14 @@
 -- Counters, flags and dependents stay right where others stay as they are; and who was drawn.
-use Rattle.std.proofs.Common.{◌≡◌, ◌≢◌, ℕ, ◌+◌, ◌<◌, ◌≤◌, Bool, true, false, cond, not, ◌||◌, List, [], ◌∷◌, map, Option, refl, sym, ap, ◌∙◌, subst, arith}
+use Rattle.std.proofs.Common.{◌≡◌, ◌≢◌, ℕ, ◌+◌, ◌<◌, ◌≤◌, Bool, true, false, cond, not, ◌||◌, List, [], ◌∷◌, ◌++◌, map, Option, refl, sym, ap, ◌∙◌, subst, arith}
 use Rattle.std.specs.Prelude.{◌==◌, ◌&&◌}
 use Rattle.std.specs.List.{AllByRecursion, filter}
 use Rattle.std.proofs.lemmas.Bool.{ne_eqb, leb-true, true≢false}
 use Rattle.mvo_theory.specs.State.{State, StampedTx, EndedTx, Marks}
 use Rattle.mvo_theory.specs.Changes.{with_check, after_check, with_settled, after_commit, with_flag, active_with_flag, not_at, after_abort_of_active, after_abort_of_preparing, is_to, after_trim}
 use Rattle.mvo_theory.specs.Dependencies.{has_end, with_end}
-use Rattle.mvo_theory.proofs.Each.{each_weaker, each_both, each_filter, each_map}
+use Rattle.mvo_theory.proofs.Each.{each_append, each_weaker, each_both, each_filter, each_map}
 use Rattle.mvo_theory.proofs.Trim.{IsTrim}
-use Rattle.mvo_representation.specs.Nodes.{NodeData, Nodes, is_open_in, open_count, IsNode, AreDependents, HasNodes, HasDrawnDependents, nodes_after_commit, nodes_after_abort, after_register, with_dependency, depended}
+use Rattle.mvo_representation.specs.Nodes.{with_listed, NodeData, Nodes, is_open_in, open_count, IsNode, AreDependents, HasNodes, HasDrawnDependents, nodes_after_commit, nodes_after_abort, after_register, with_dependency, depended}
 use Rattle.mvo_representation.proofs.Waited.{one}
 
 -- ---- what others keep doesn't matter
@@ -120,12 +120,12 @@ drawn_reported s nodes t e ds g = record {
   none = each_map (active_with_flag t e) (λ r. (nodes r.id).dependents ≡ []) (λ r. (nodes r.id).dependents ≡ []) (λ r n. n) s.active g.none;
 }
 
-drawn_with : (ds : List ℕ) (t c : ℕ) → t ≤ c → AllByRecursion (λ d. d ≤ c) ds → AllByRecursion (λ d. d ≤ c) (with_end ds t)
+drawn_with : (ds : List ℕ) (t c : ℕ) → t ≤ c → AllByRecursion (λ d. d ≤ c) ds → AllByRecursion (λ d. d ≤ c) (with_listed ds t)
 drawn_with ds t c le h = go (has_end ds t)
   where
-    go : (b : Bool) → AllByRecursion (λ d. d ≤ c) (cond b ds (t ∷ ds))
+    go : (b : Bool) → AllByRecursion (λ d. d ≤ c) (cond b ds (ds ++ t ∷ []))
     go true = h
-    go false = (le, h)
+    go false = each_append (λ d. d ≤ c) ds (t ∷ []) h (le, tt)
 
 -- t was drawn, and x isn't Active
 pub drawn_registered : (s : State) (nodes : Nodes) (t x e : ℕ) → t ≤ s.clock → AllByRecursion (λ r. r.id ≢ x) s.active → HasDrawnDependents s nodes → HasDrawnDependents (depended s t e) (after_register t x nodes)
@@ -133,10 +133,10 @@ drawn_registered s nodes t x e le apart g = record {
   drawn = each_weaker (λ y. y.settled ≡ false → AllByRecursion (λ d. d ≤ s.clock) (nodes y.id).dependents) (λ y. y.settled ≡ false → AllByRecursion (λ d. d ≤ s.clock) (after_register t x nodes y.id).dependents)
       (λ y w o. by (nodes y.id) (y.id == x) (w o)) s.stamped g.drawn;
   none = each_map (with_dependency t e) (λ r. (r.id ≢ x) × ((nodes r.id).dependents ≡ [])) (λ r. (after_register t x nodes r.id).dependents ≡ [])
-      (λ r w. ap (λ b. cond b (with_end (nodes r.id).dependents t) (nodes r.id).dependents) (ne_eqb r.id x w.0) ∙ w.1) s.active
+      (λ r w. ap (λ b. cond b (with_listed (nodes r.id).dependents t) (nodes r.id).dependents) (ne_eqb r.id x w.0) ∙ w.1) s.active
       (each_both (λ r. r.id ≢ x) (λ r. (nodes r.id).dependents ≡ []) (λ r. (r.id ≢ x) × ((nodes r.id).dependents ≡ [])) (λ r a b. (a, b)) s.active apart g.none);
 }
   where
-    by : (n : NodeData) (b : Bool) → AllByRecursion (λ d. d ≤ s.clock) n.dependents → AllByRecursion (λ d. d ≤ s.clock) (cond b (with_end n.dependents t) n.dependents)
+    by : (n : NodeData) (b : Bool) → AllByRecursion (λ d. d ≤ s.clock) n.dependents → AllByRecursion (λ d. d ≤ s.clock) (cond b (with_listed n.dependents t) n.dependents)
     by n true h = drawn_with n.dependents t s.clock le h
     by n false h = h

@@ -106,7 +106,7 @@ open_preparing s t e = go (active_of t s.active) (preparing_of t s.stamped) e
     go None (Some x) e = refl
 
 -- ---- what is kept of each
-among_is : (u : TxId) (ids : List TxId) → is_among u ids ≡ has_end (map (λ t. t.0) ids) u.0
+pub among_is : (u : TxId) (ids : List TxId) → is_among u ids ≡ has_end (map (λ t. t.0) ids) u.0
 among_is u [] = refl
 among_is u (t ∷ ts) = ap (λ b. eqb t.0 u.0 || b) (among_is u ts)
 

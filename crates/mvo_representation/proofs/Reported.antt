@@ -8,10 +8,10 @@ use Rattle.mvo_theory.specs.Dependencies.{has_end, with_end}
 use Rattle.mvo_theory.specs.Changes.{with_settled, after_commit, after_abort_of_preparing, with_flag, active_with_flag, not_at, aborted_dependency_after}
 use Rattle.mvo_theory.specs.Sound.{IsSound, IsRising}
 use Rattle.mvo_theory.proofs.Each.{each_both, each_map, each_filter}
-use Rattle.mvo_representation.specs.Nodes.{NodeData, Nodes, open_count, IsNode, AreDependents, HasNodes, nodes_after_commit, or_flag, nodes_after_abort, after_register, with_dependency, depended}
+use Rattle.mvo_representation.specs.Nodes.{with_listed, NodeData, Nodes, open_count, IsNode, AreDependents, HasNodes, nodes_after_commit, or_flag, nodes_after_abort, after_register, with_dependency, depended}
 use Rattle.mvo_representation.proofs.Facts.{found_holds}
 use Rattle.mvo_representation.proofs.Open.{is_open, open_each}
-use Rattle.mvo_representation.proofs.Waited.{one, count_settled, count_gone, count_added, has_with}
+use Rattle.mvo_representation.proofs.Waited.{has_listed, one, count_settled, count_gone, count_added, has_with}
 
 or_no : (a b : Bool) → (a || b) ≡ false → (a ≡ false) × (b ≡ false)
 or_no true b h = absurd (true≢false h)
@@ -112,8 +112,8 @@ swap_eq a b = go (cases_eq a b)
     go (inr n) = ne_eqb a b n ∙ sym (ne_eqb b a (λ e. n (sym e)))
 
 -- whether one is among the dependents afterwards
-listed_active : (t e end' : ℕ) (deps ds : List ℕ) (u : ℕ) (b : Bool) → b ≡ (end' == e) → has_end deps u ≡ has_end ds end' → has_end (cond b (with_end deps t) deps) u ≡ has_end (cond (u == t) (with_end ds e) ds) end'
-listed_active t e end' deps ds u true q h = has_with deps t u ∙ go (u == t) refl
+listed_active : (t e end' : ℕ) (deps ds : List ℕ) (u : ℕ) (b : Bool) → b ≡ (end' == e) → has_end deps u ≡ has_end ds end' → has_end (cond b (with_listed deps t) deps) u ≡ has_end (cond (u == t) (with_end ds e) ds) end'
+listed_active t e end' deps ds u true q h = has_listed deps t u ∙ go (u == t) refl
   where
     go : (c : Bool) → (u == t) ≡ c → ((t == u) || has_end deps u) ≡ has_end (cond c (with_end ds e) ds) end'
     go true i = ap (λ x. x || has_end deps u) (swap_eq t u ∙ i) ∙ sym (has_with ds e end' ∙ ap (λ x. x || has_end ds end') (swap_eq e end' ∙ sym q))
@@ -124,8 +124,8 @@ listed_active t e end' deps ds u false q h = h ∙ go (u == t)
     go true = sym (has_with ds e end' ∙ ap (λ x. x || has_end ds end') (swap_eq e end' ∙ sym q))
     go false = refl
 
-listed_other : (t : ℕ) (deps : List ℕ) (u : ℕ) (b : Bool) → (u ≡ t → ⊥) → has_end (cond b (with_end deps t) deps) u ≡ has_end deps u
-listed_other t deps u true n = has_with deps t u ∙ ap (λ x. x || has_end deps u) (ne_eqb t u (λ e. n (sym e)))
+listed_other : (t : ℕ) (deps : List ℕ) (u : ℕ) (b : Bool) → (u ≡ t → ⊥) → has_end (cond b (with_listed deps t) deps) u ≡ has_end deps u
+listed_other t deps u true n = has_listed deps t u ∙ ap (λ x. x || has_end deps u) (ne_eqb t u (λ e. n (sym e)))
 listed_other t deps u false n = refl
 
 added_node : (xs : List StampedTx) (t e : ℕ) (deps : List ℕ) (r : ActiveTx) (n : NodeData) → IsRising xs → is_open e xs ≡ true → has_end deps r.id ≡ has_end r.depends_on e → IsNode xs r.depends_on r.aborted_dependency n → IsNode xs (cond (r.id == t) (with_end r.depends_on e) r.depends_on) r.aborted_dependency (record n { waits = cond ((r.id == t) && not (has_end deps t)) (n.waits + 1) n.waits })

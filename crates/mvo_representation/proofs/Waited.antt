@@ -3,13 +3,14 @@ use Rattle.std.proofs.Common.{◌≡◌, ℕ, ◌+◌, ◌<◌, Bool, true, fals
 use Rattle.std.specs.Prelude.{◌==◌, ◌&&◌}
 use Rattle.std.specs.List.{AllByRecursion, filter}
 use Rattle.std.proofs.lemmas.Bool.{eq-eqb, eqb-true, ne_eqb, false≢true, true≢false}
+use Rattle.std.proofs.lemmas.List.Folds.{list_any-append}
 use Rattle.mvo_theory.specs.State.{StampedTx}
 use Rattle.mvo_theory.specs.Dependencies.{has_end, with_end}
 use Rattle.mvo_theory.specs.Changes.{with_settled, with_flag, not_at}
 use Rattle.mvo_theory.specs.Causes.{waiting_for}
 use Rattle.mvo_theory.specs.Sound.{IsRising}
 use Rattle.mvo_theory.proofs.Each.{each_weaker}
-use Rattle.mvo_representation.specs.Nodes.{is_open_in, open_count}
+use Rattle.mvo_representation.specs.Nodes.{with_listed, is_open_in, open_count}
 use Rattle.mvo_representation.proofs.Open.{is_open}
 
 -- ---- counts
@@ -157,3 +158,21 @@ count_added ds e (x ∷ xs) h o = go x.settled refl (x.end == e) refl o (λ g. c
     go false f false g i again = later g (again i)
     go true f false g i again = later g (again i)
     go true f true g i again = absurd (false≢true (sym (closed (eqb-true x.end e g)) ∙ i))
+
+-- one more, at the end
+pub has_listed : (ds : List ℕ) (e d : ℕ) → has_end (with_listed ds e) d ≡ ((e == d) || has_end ds d)
+has_listed ds e d = go (has_end ds e) refl
+  where
+    swap : (a b : Bool) → (a || (b || false)) ≡ (b || a)
+    swap true true = refl
+    swap true false = refl
+    swap false true = refl
+    swap false false = refl
+
+    there : has_end ds e ≡ true → (c : Bool) → (e == d) ≡ c → has_end ds d ≡ (c || has_end ds d)
+    there h true i = ap (has_end ds) (sym (eqb-true e d i)) ∙ h
+    there h false i = refl
+
+    go : (b : Bool) → has_end ds e ≡ b → has_end (cond b ds (ds ++ e ∷ [])) d ≡ ((e == d) || has_end ds d)
+    go true h = there h (e == d) refl
+    go false h = list_any-append (λ x. x == d) ds (e ∷ []) ∙ swap (has_end ds d) (e == d)

@@ -1,5 +1,5 @@
 -- What the table keeps of dependencies.
-use Rattle.std.specs.Prelude.{if◌then◌else◌, ◌≤◌, [], ℕ, ◌≡◌, ◌+◌, ◌-◌, ◌==◌, ◌&&◌, Bool, false, not, cond, List, map, Option, None, Some}
+use Rattle.std.specs.Prelude.{◌∷◌, ◌++◌, if◌then◌else◌, ◌≤◌, [], ℕ, ◌≡◌, ◌+◌, ◌-◌, ◌==◌, ◌&&◌, Bool, false, not, cond, List, map, Option, None, Some}
 use Rattle.std.specs.List.{AllByRecursion}
 use Rattle.mvo_theory.specs.State.{State, StampedTx, ActiveTx}
 use Rattle.mvo_theory.specs.Dependencies.{has_end, with_end}
@@ -96,6 +96,10 @@ nodes_after_abort t ds nodes u = record (nodes u) {
   flag = cond (has_end ds u) (or_flag t (nodes u).flag) (nodes u).flag;
 }
 
+-- one more of them, if it isn't among them
+abbrev pub with_listed : List ℕ → ℕ → List ℕ
+with_listed ds d = if has_end ds d then ds else ds ++ d ∷ []
+
 -- t depends on x from now on, unless it did
 abbrev pub after_register : ℕ → ℕ → Nodes → Nodes
 after_register t x nodes u = record {
@@ -103,7 +107,7 @@ after_register t x nodes u = record {
       cond ((u == t) && not (has_end (nodes x).dependents t))
       ((nodes u).waits + 1) (nodes u).waits;
   flag = (nodes u).flag;
-  dependents = cond (u == x) (with_end (nodes u).dependents t) (nodes u).dependents;
+  dependents = cond (u == x) (with_listed (nodes u).dependents t) (nodes u).dependents;
 }
 
 -- in the state: t depends on the one with the end e
