@@ -35,18 +35,18 @@ use Rattle.mvo_representation.proofs.Quiet.{known_next, same_self}
 abbrev pub IsOnly : ℕ → ActiveTx → List ActiveTx → Type 0
 IsOnly t mine rs = AllByRecursion (λ r. r.id ≡ t → r ≡ mine) rs
 
-some_running : (p q : ActiveTx) → ◌≡◌ {A = Option ActiveTx} (Some p) (Some q) → p ≡ q
-some_running p q e = cc
+some_active : (p q : ActiveTx) → ◌≡◌ {A = Option ActiveTx} (Some p) (Some q) → p ≡ q
+some_active p q e = cc
 
-none_running : (q : ActiveTx) → ◌≡◌ {A = Option ActiveTx} None (Some q) → ⊥
-none_running q e = cc
+none_active : (q : ActiveTx) → ◌≡◌ {A = Option ActiveTx} None (Some q) → ⊥
+none_active q e = cc
 
 pub only_mine : (t : ℕ) (mine : ActiveTx) (rs : List ActiveTx) → AreDistinct rs → active_of t rs ≡ Some mine → IsOnly t mine rs
 only_mine t mine [] d f = tt
 only_mine t mine (r ∷ rs) d f = go (r.id == t) refl f (λ g. only_mine t mine rs d.1 g)
   where
     go : (b : Bool) → (r.id == t) ≡ b → cond b (Some r) (active_of t rs) ≡ Some mine → (active_of t rs ≡ Some mine → IsOnly t mine rs) → (r.id ≡ t → r ≡ mine) × IsOnly t mine rs
-    go true q g again = ((λ _. some_running r mine g), each_weaker (λ x. x.id ≢ r.id) (λ x. x.id ≡ t → x ≡ mine) (λ x n i. absurd (n (i ∙ sym (eqb-true r.id t q)))) rs d.0)
+    go true q g again = ((λ _. some_active r mine g), each_weaker (λ x. x.id ≢ r.id) (λ x. x.id ≡ t → x ≡ mine) (λ x n i. absurd (n (i ∙ sym (eqb-true r.id t q)))) rs d.0)
     go false q g again = ((λ i. absurd (true≢false (sym (eq-eqb r.id t i) ∙ q))), again g)
 
 -- the rows that a write puts, or ends too
@@ -164,7 +164,7 @@ kept_after_operation s table t op a mine more vs vs' h c same w n each =
     phase u (inl e) = subst (λ (n : ℕ). phase_in (after_operation s t op a) n ≡ phase_in s n) e (leads_after_operation s t op a).own
     phase u (inr d) = (leads_after_operation s t op a).others u d
 
--- (e) an operation that writes nothing: a read, a scan, and the answers Exists and Absent
+-- an operation that writes nothing: a read, a scan, and the answers Exists and Absent
 pub kept_unwritten : (s : State) (table : Phases) (t : ℕ) (op : Op) (a : AnswerData) (mine : ActiveTx) (vs : List Version) → IsNumbered s → AreVersionsOf s table vs → active_of t s.active ≡ Some mine → write_of op a ≡ None → ended_key op a ≡ None → AreVersionsOf (after_operation s t op a) table vs
 kept_unwritten s table t op a mine vs num h f w e =
     kept_after_operation s table t op a mine [] vs vs h c (same_self s.start (ends_of table) vs)

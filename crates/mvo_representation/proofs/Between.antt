@@ -87,9 +87,9 @@ mark_step p e (x ∷ xs) h = go (cases_order x.end e) (mark_step p e xs h.1)
         ∙ ap (λ rs. or_first (last_mark p e (x ∷ xs)) (cond (list_any p rs) (Some e) None)) (sym (nobody (omega (arith, gt))))
         ∙ ap (λ c. or_first (last_mark p e (x ∷ xs)) (cond (list_any p (cond c x.footprint (rows_at e xs))) (Some e) None)) (sym (ne_eqb x.end e (λ q. absurd (omega (arith, gt, q)))))
 
-top_first : (b : Bool) (e : ℕ) (w : Option ℕ) → cond b (Some e) w ≡ or_first w (cond b (Some e) None)
-top_first true e w = refl
-top_first false e w = refl
+passing_first : (b : Bool) (e : ℕ) (w : Option ℕ) → cond b (Some e) w ≡ or_first w (cond b (Some e) None)
+passing_first true e w = refl
+passing_first false e w = refl
 
 above_start : (a b : ℕ) → a < b → (suc a ≡ b) ⊎ (suc a < b)
 above_start a b lt = go (cases_order (suc a) b)
@@ -99,9 +99,9 @@ above_start a b lt = go (cases_order (suc a) b)
     go (inr (inl l)) = inr l
     go (inr (inr g)) = absurd (omega (arith, lt, g))
 
-top_at_last : (f : ℕ → Bool) (p : Row → Bool) (xs : List StampedTx) (start e : ℕ) → ((m : ℕ) → start < m → f m ≡ list_any p (rows_at m xs)) → IsRising xs → AllByRecursion (λ u. start < u.end) xs → start < e → last_passing f e ≡ or_first (last_passing f (suc start)) (last_mark p e xs)
-top_at_last f p xs start zero h r a lt = absurd (omega (arith, lt))
-top_at_last f p xs start (suc e) h r a lt = go (above_start start (suc e) lt) (λ l. top_at_last f p xs start e h r a l)
+last_passing_last : (f : ℕ → Bool) (p : Row → Bool) (xs : List StampedTx) (start e : ℕ) → ((m : ℕ) → start < m → f m ≡ list_any p (rows_at m xs)) → IsRising xs → AllByRecursion (λ u. start < u.end) xs → start < e → last_passing f e ≡ or_first (last_passing f (suc start)) (last_mark p e xs)
+last_passing_last f p xs start zero h r a lt = absurd (omega (arith, lt))
+last_passing_last f p xs start (suc e) h r a lt = go (above_start start (suc e) lt) (λ l. last_passing_last f p xs start e h r a l)
   where
     go : (suc start ≡ suc e) ⊎ (suc start < suc e) → (start < e → last_passing f e ≡ or_first (last_passing f (suc start)) (last_mark p e xs)) → last_passing f (suc e) ≡ or_first (last_passing f (suc start)) (last_mark p (suc e) xs)
     go (inl q) again =
@@ -109,14 +109,14 @@ top_at_last f p xs start (suc e) h r a lt = go (above_start start (suc e) lt) (�
         ∙ ap (or_first (last_passing f (suc start))) (sym (ap (λ n. last_mark p n xs) (sym q) ∙ beyond_none p (suc start) xs (each_weaker (λ u. start < u.end) (λ u. suc start ≤ u.end) (λ u l. omega (arith, l)) xs a)))
     go (inr l) again =
         ap (λ b. cond b (Some e) (last_passing f e)) (h e (omega (arith, l)))
-        ∙ top_first (list_any p (rows_at e xs)) e (last_passing f e)
+        ∙ passing_first (list_any p (rows_at e xs)) e (last_passing f e)
         ∙ ap (λ w. or_first w (cond (list_any p (rows_at e xs)) (Some e) None)) (again (omega (arith, l)))
         ∙ sym (first_assoc (last_passing f (suc start)) (last_mark p e xs) (cond (list_any p (rows_at e xs)) (Some e) None))
         ∙ ap (or_first (last_passing f (suc start))) (sym (mark_step p e xs r))
 
-top_at_within : (f : ℕ → Bool) (b n : ℕ) → last_passing f b ≡ Some n → n < b
-top_at_within f zero n e = absurd (none_end n e)
-top_at_within f (suc b) n e = go (f b) e (λ g. top_at_within f b n g)
+last_passing_within : (f : ℕ → Bool) (b n : ℕ) → last_passing f b ≡ Some n → n < b
+last_passing_within f zero n e = absurd (none_end n e)
+last_passing_within f (suc b) n e = go (f b) e (λ g. last_passing_within f b n g)
   where
     go : (c : Bool) → cond c (Some b) (last_passing f b) ≡ Some n → (last_passing f b ≡ Some n → n < b) → n < suc b
     go true g again = let q = some_end b n g in omega (arith, q)
@@ -152,14 +152,14 @@ last_between p b e (x ∷ xs) h =
         ∙ later_wins n (nat_lt b n) refl (last_end_holds (λ m. x.end < m) (touches_below p e) xs n h.0 f)
         ∙ ap (λ w. stamp_above b (or_first (cond (touches_below p e x) (Some x.end) None) w)) (sym f)
 
--- (d) for a range: the greatest stamp between with which a row in it was put or ended
+-- for a range: the greatest stamp between with which a row in it was put or ended
 pub range_checked : (s : State) (table : Phases) (vs : List Version) (b e tab lo hi : ℕ) → IsSound s → IsStarted s → AreVersionsOf s table vs → s.start ≤ b → b < e → stamp_above b (touch_below (ends_of table) e (shows (Range tab lo hi)) vs) ≡ change_of s.stamped b e (Range tab lo hi)
 range_checked s table vs b e tab lo hi sd st h le lt =
-    ap (stamp_above b) (top_at_last (λ m. is_touched PutOrEnded (has_stamp (ends_of table) m) (shows (Range tab lo hi)) vs) (shows (Range tab lo hi)) s.stamped s.start e (λ m gt. (h.stamped m gt).touches PutOrEnded (shows (Range tab lo hi))) sd.rising st.later (omega arith))
+    ap (stamp_above b) (last_passing_last (λ m. is_touched PutOrEnded (has_stamp (ends_of table) m) (shows (Range tab lo hi)) vs) (shows (Range tab lo hi)) s.stamped s.start e (λ m gt. (h.stamped m gt).touches PutOrEnded (shows (Range tab lo hi))) sd.rising st.later (omega arith))
     ∙ go (last_mark (shows (Range tab lo hi)) e s.stamped) (last_passing (λ m. is_touched PutOrEnded (has_stamp (ends_of table) m) (shows (Range tab lo hi)) vs) (suc s.start)) refl
     ∙ sym (last_between (shows (Range tab lo hi)) b e s.stamped sd.rising)
   where
     go : (c t : Option ℕ) → last_passing (λ m. is_touched PutOrEnded (has_stamp (ends_of table) m) (shows (Range tab lo hi)) vs) (suc s.start) ≡ t → stamp_above b (or_first t c) ≡ stamp_above b c
     go (Some n) t f = refl
     go None None f = refl
-    go None (Some n) f = let l : n < suc s.start = top_at_within (λ m. is_touched PutOrEnded (has_stamp (ends_of table) m) (shows (Range tab lo hi)) vs) (suc s.start) n f in ap (λ c. cond c (Some n) None) (le-ltb b n (omega (arith, l, le)))
+    go None (Some n) f = let l : n < suc s.start = last_passing_within (λ m. is_touched PutOrEnded (has_stamp (ends_of table) m) (shows (Range tab lo hi)) vs) (suc s.start) n f in ap (λ c. cond c (Some n) None) (le-ltb b n (omega (arith, l, le)))

@@ -38,8 +38,8 @@ use Rattle.mvo_representation.proofs.Writing.{EndsOther, ends_other, ends_own, c
 abbrev pub IsTable : Phases → State → Type 0
 IsTable table s = (u : ℕ) → table u ≡ phase_in s u
 
-none_slot : (y : StampedTx) → ◌≡◌ {A = Option StampedTx} None (Some y) → ⊥
-none_slot y e = cc
+none_stamped : (y : StampedTx) → ◌≡◌ {A = Option StampedTx} None (Some y) → ⊥
+none_stamped y e = cc
 
 -- ---- begin, precommit, validate, settle, rollback
 pub kept_by_begin : (opening : Map) (steps : List Step) (s : State) (table table' : Phases) (vs : List Version) → IsKept opening steps s → AreVersionsOf s table vs → IsTable table' (after_begin s (s.clock + 1)) → AreVersionsOf (after_begin s (s.clock + 1)) table' vs
@@ -150,7 +150,7 @@ kept_by_delete_own opening steps s table xs v ys t mine k h f x =
     subst (λ (b : Bool). AreVersionsOf (after_operation s t (Delete v.row.key) (cond b Deleted NotThere)) table (xs ++ ended_by t v ∷ ys)) (sym (found opening steps s t mine v k f d.row))
     (kept_delete s table t (Delete v.row.key) Deleted mine [] xs v ys h d refl))
 
--- (c) the cause that the state names is the one that the End tells
+-- the cause that the state names is the one that the End tells
 pub conflict_right : (opening : Map) (steps : List Step) (s : State) (table : Phases) (xs : List Version) (v : Version) (ys : List Version) (t : ℕ) (mine : ActiveTx) (o : ℕ) → IsKept opening steps s → AreVersionsOf s table (xs ++ v ∷ ys) → active_of t s.active ≡ Some mine → net_write v.row.key mine.history ≡ None → IsShownAt (ends_of table) t v.row.key (xs ++ v ∷ ys) v o → conflict s t v.row.key ≡ cause_in table v.end
 conflict_right opening steps s table xs v ys t mine o k h f n x =
     ap (λ m. cond (fin.contains_key m v.row.key && not (is_some (net_write v.row.key (history_of_active t s.active)))) (claimed_by s t v.row.key) None) (seen_in opening steps s t mine k f)

@@ -16,7 +16,7 @@ use Rattle.mvo_representation.specs.Words.{Phases, ends_of, has_stamp, NetEffect
 use Rattle.mvo_representation.specs.Versions.{AreVersionsOf}
 use Rattle.mvo_representation.proofs.LastChanges.{change_by, change_of_last, first_of, last_holds}
 use Rattle.mvo_representation.proofs.Shown.{deciding}
-use Rattle.mvo_representation.proofs.Open.{top_within}
+use Rattle.mvo_representation.proofs.Open.{last_change_within}
 
 -- the last that changes the key between, by the last writer below the end
 last_changer : (k : RowKey) (b e : ℕ) (xs : List StampedTx) → IsRising xs → last_end (is_changer b e (Key k)) xs ≡ if_above b (change_of_last k e xs)
@@ -51,7 +51,7 @@ last_changer k b e (x ∷ xs) h =
         ∙ later_wins y (nat_lt b y.end) refl (last_holds (λ z. x.end < z.end) k e xs y (each_weaker (λ z. x.end < z.end) (λ z. is_writer k e z ≡ true → x.end < z.end) (λ z l _. l) xs h.0) f)
         ∙ ap (λ w. if_above b (option_map (change_by k) (or_later (cond (is_writer k e x) (Some x) None) w))) (sym f)
 
--- (d) for a key: the greatest stamp of a change between
+-- for a key: the greatest stamp of a change between
 pub key_checked : (s : State) (table : Phases) (vs : List Version) (b e : ℕ) (k : RowKey) → IsSound s → IsStarted s → AreVersionsOf s table vs → s.start ≤ b → b < e → if_above b (change_below (ends_of table) e k vs) ≡ change_of s.stamped b e (Key k)
 key_checked s table vs b e k sd st h le lt =
     ap (if_above b) (deciding s table vs e k sd st h (record { from = omega arith; free = λ q j. absurd (omega arith) }))
@@ -61,4 +61,4 @@ key_checked s table vs b e k sd st h le lt =
     go : (c t : Option (ℕ × NetEffect)) → last_change (λ e. net_effect (has_stamp (ends_of table) e) k vs) (suc s.start) ≡ t → if_above b (first_of c t) ≡ if_above b c
     go (Some p) t f = refl
     go None None f = refl
-    go None (Some p) f = let l : p.0 < suc s.start = top_within (λ e. net_effect (has_stamp (ends_of table) e) k vs) (suc s.start) p f in ap (λ c. cond c (Some p.0) None) (le-ltb b p.0 (omega (arith, l, le)))
+    go None (Some p) f = let l : p.0 < suc s.start = last_change_within (λ e. net_effect (has_stamp (ends_of table) e) k vs) (suc s.start) p f in ap (λ c. cond c (Some p.0) None) (le-ltb b p.0 (omega (arith, l, le)))

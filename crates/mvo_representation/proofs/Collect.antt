@@ -22,7 +22,7 @@ use Rattle.mvo_visible.specs.Words.{names}
 use Rattle.mvo_representation.specs.Words.NetEffect.{Untouched, Removed, Puts, Clash}
 use Rattle.mvo_representation.specs.Versions.{Say, origin_at_start, IsInside, HasItsClaims, IsForward, IsKnown, AreVersionsOf}
 use Rattle.mvo_representation.proofs.Effects.{net_effect-at, net_effect_without, effect_of_nothing, is_touched-at, part_none}
-use Rattle.mvo_representation.proofs.Version.{IsTop, top_is, none_top}
+use Rattle.mvo_representation.proofs.Version.{IsLastChange, last_change_is_one, no_change}
 use Rattle.mvo_representation.proofs.Conflict.{end_has_effect}
 use Rattle.mvo_representation.proofs.Kept.{standing_effect-at, each_at, IsVersion, each_version}
 use Rattle.mvo_types.specs.Write.Effect.{Put}
@@ -31,25 +31,25 @@ pub each_drop : {X : Type 0} (P : X → Type 0) (xs : List X) (v : X) (ys : List
 each_drop P [] v ys h = h.1
 each_drop P (x ∷ xs) v ys h = (h.0, each_drop P xs v ys h.1)
 
--- ---- the top, told by what it is
-pub top_known : (f : ℕ → NetEffect) (b : ℕ) (p : ℕ × NetEffect) → (p.1 ≡ Untouched → ⊥) → IsTop f b p → last_change f b ≡ Some p
-top_known f zero p n t = absurd (let l = t.within in omega (arith, l))
-top_known f (suc b) p n t = go (cases_order p.0 b) (λ u. top_known f b p n u)
+-- ---- the last change, by what it is
+pub last_known : (f : ℕ → NetEffect) (b : ℕ) (p : ℕ × NetEffect) → (p.1 ≡ Untouched → ⊥) → IsLastChange f b p → last_change f b ≡ Some p
+last_known f zero p n t = absurd (let l = t.within in omega (arith, l))
+last_known f (suc b) p n t = go (cases_order p.0 b) (λ u. last_known f b p n u)
   where
-    some_top : (d : NetEffect) → (d ≡ Untouched → ⊥) → or_change_at b d (last_change f b) ≡ Some (b, d)
-    some_top Untouched m = absurd (m refl)
-    some_top Removed m = refl
-    some_top (Puts h) m = refl
-    some_top Clash m = refl
+    some_last_change : (d : NetEffect) → (d ≡ Untouched → ⊥) → or_change_at b d (last_change f b) ≡ Some (b, d)
+    some_last_change Untouched m = absurd (m refl)
+    some_last_change Removed m = refl
+    some_last_change (Puts h) m = refl
+    some_last_change Clash m = refl
 
-    go : (p.0 ≡ b) ⊎ ((p.0 < b) ⊎ (b < p.0)) → (IsTop f b p → last_change f b ≡ Some p) → or_change_at b (f b) (last_change f b) ≡ Some p
+    go : (p.0 ≡ b) ⊎ ((p.0 < b) ⊎ (b < p.0)) → (IsLastChange f b p → last_change f b ≡ Some p) → or_change_at b (f b) (last_change f b) ≡ Some p
     go (inl e) again =
         let d : f b ≡ p.1 = ap f (sym e) ∙ t.is in
-        some_top (f b) (λ q. n (sym d ∙ q)) ∙ ap (λ m. Some (m, f b)) (sym e) ∙ ap (λ m. Some (p.0, m)) d
+        some_last_change (f b) (λ q. n (sym d ∙ q)) ∙ ap (λ m. Some (m, f b)) (sym e) ∙ ap (λ m. Some (p.0, m)) d
     go (inr (inl l)) again = ap (λ d. or_change_at b d (last_change f b)) (t.last b l (omega arith)) ∙ again (record { within = l; is = t.is; last = λ x lo hi. t.last x lo (omega (arith, hi)) })
     go (inr (inr g)) again = absurd (let l = t.within in omega (arith, l, g))
 
--- ---- deeds apart
+-- ---- effects apart
 nothing_rest : (d e : NetEffect) → with_effect d e ≡ Untouched → e ≡ Untouched
 nothing_rest Untouched e q = q
 nothing_rest Removed Untouched q = refl
@@ -80,7 +80,7 @@ removed_rest Removed h q = q
 removed_rest (Puts g) h q = q
 removed_rest Clash h q = q
 
--- a deed that leaves a row has a version that puts it
+-- an effect that leaves a row has a version that puts it
 abbrev leaves_row : NetEffect → Bool
 leaves_row Untouched = false
 leaves_row Removed = false
@@ -143,7 +143,7 @@ put_at_stamp ends a k (v ∷ vs) e = go (leaves_or (effect_of (has_stamp ends a)
     go (inl g) again = here (eq_by_cmp key_cmp k v.row.key) (has_stamp ends a v.begin) (has_stamp ends a v.end) refl refl refl g
     go (inr g) again = let w = again g in record { before = v ∷ w.before; version = w.version; after = w.after; is = ap (λ ws. v ∷ ws) w.is; key = w.key; put = w.put; stays = w.stays }
 
--- ---- (e) collect: a version whose End is a timestamp up to the start
+-- ---- collect: a version whose End is a timestamp up to the start
 pub kept_collected : (s : State) (table : Phases) (xs : List Version) (v : Version) (ys : List Version) (e : ℕ) → AreVersionsOf s table (xs ++ v ∷ ys) → v.end ≡ At (record { 0 = e }) → e ≤ s.start → AreVersionsOf s table (xs ++ ys)
 kept_collected s table xs v ys e h is le = record {
   phases = h.phases;
@@ -233,7 +233,7 @@ kept_collected s table xs v ys e h is le = record {
     split k a = net_effect-at (has_stamp E a) k xs v ys
 
     -- it isn't the last put
-    not_put : (k : RowKey) (a : ℕ) (h : ContentData) (d : NetEffect) → effect_of (has_stamp E a) k v ≡ d → IsTop (λ m. net_effect (has_stamp E m) k (xs ++ v ∷ ys)) (suc s.start) (a, Puts h) → with_effect d (net_effect (has_stamp E a) k (xs ++ ys)) ≡ Puts h → net_effect (has_stamp E a) k (xs ++ ys) ≡ Puts h
+    not_put : (k : RowKey) (a : ℕ) (h : ContentData) (d : NetEffect) → effect_of (has_stamp E a) k v ≡ d → IsLastChange (λ m. net_effect (has_stamp E m) k (xs ++ v ∷ ys)) (suc s.start) (a, Puts h) → with_effect d (net_effect (has_stamp E a) k (xs ++ ys)) ≡ Puts h → net_effect (has_stamp E a) k (xs ++ ys) ≡ Puts h
     not_put k a h Untouched i t q = q
     not_put k a h Removed i t q = removed_rest (net_effect (has_stamp E a) k (xs ++ ys)) h q
     not_put k a h Clash i t q = absurd (clash (eq_by_cmp key_cmp k v.row.key) (has_stamp E a v.begin) (has_stamp E a v.end) i)
@@ -249,7 +249,7 @@ kept_collected s table xs v ys e h is le = record {
         clash false o z q = cc
     not_put k a h (Puts g) i t q = absurd (puts (eq_by_cmp key_cmp k v.row.key) refl (has_stamp E a v.begin) refl (has_stamp E a v.end) refl i)
       where
-        -- it is put at a and ended behind it: a change behind the top
+        -- it is put at a and ended behind it: a change behind the last
         behind : eq_by_cmp key_cmp k v.row.key ≡ true → stamp_in E v.begin ≡ Some a → is_stamp a (stamp_in E v.end) ≡ false → ⊥
         behind c o z =
             let j : a ≤ e = was.forward a e o end_is in
@@ -271,7 +271,7 @@ kept_collected s table xs v ys e h is le = record {
         puts false c o' o z' z q = cc
 
     -- a put of another up to the start, which isn't the last, stood there
-    nobody : (k : RowKey) (a : ℕ) → fin.get s.base k ≡ None → IsTop (λ m. net_effect (has_stamp E m) k (xs ++ ys)) (suc s.start) (a, net_effect (has_stamp E a) k (xs ++ ys)) → leaves_row (net_effect (has_stamp E a) k (xs ++ ys)) ≡ true → ⊥
+    nobody : (k : RowKey) (a : ℕ) → fin.get s.base k ≡ None → IsLastChange (λ m. net_effect (has_stamp E m) k (xs ++ ys)) (suc s.start) (a, net_effect (has_stamp E a) k (xs ++ ys)) → leaves_row (net_effect (has_stamp E a) k (xs ++ ys)) ≡ true → ⊥
     nobody k a none t q = go (put_at_stamp E a k (xs ++ ys) q)
       where
         go : PutAt E a k (xs ++ ys) → ⊥
@@ -286,7 +286,7 @@ kept_collected s table xs v ys e h is le = record {
                 let one : standing_effect E s.start k (xs ++ ys) ≡ with_effect (Puts (content_of w.version.row)) (standing_effect E s.start k (w.before ++ w.after)) = ap (standing_effect E s.start k) w.is ∙ standing_effect-at E s.start k w.before w.version w.after ∙ ap (λ d. with_effect d (standing_effect E s.start k (w.before ++ w.after))) at in
                 false≢true (sym (ap leaves_row (sym one ∙ all)) ∙ leaves_put (content_of w.version.row) (standing_effect E s.start k (w.before ++ w.after)))
 
-            -- it is ended behind the top
+            -- it is ended behind the last change
             behind : (c : ℕ) → stamp_in E w.version.end ≡ Some c → c < suc s.start → (a ≡ c) ⊎ ((a < c) ⊎ (c < a)) → ⊥
             behind c o lt (inl y) = true≢false (sym (ap (is_stamp a) o ∙ eq-eqb c a (sym y)) ∙ w.stays)
             behind c o lt (inr (inl y)) =
@@ -304,10 +304,10 @@ kept_collected s table xs v ys e h is le = record {
                 by true q = behind c o (ltb-true c (suc s.start) q) (cases_order a c)
                 by false q = stands (ap (is_up_to s.start) o ∙ q)
 
-    same_top : (k : RowKey) (a : ℕ) (g : ContentData) → last_change (λ m. net_effect (has_stamp E m) k (xs ++ v ∷ ys)) (suc s.start) ≡ Some (a, Puts g) → last_change (λ m. net_effect (has_stamp E m) k (xs ++ ys)) (suc s.start) ≡ Some (a, Puts g)
-    same_top k a g q =
-        let t = top_is (λ m. net_effect (has_stamp E m) k (xs ++ v ∷ ys)) (suc s.start) (a, Puts g) q in
-        top_known (λ m. net_effect (has_stamp E m) k (xs ++ ys)) (suc s.start) (a, Puts g) (λ z. true≢false (ap leaves_row z)) (record {
+    same_last_change : (k : RowKey) (a : ℕ) (g : ContentData) → last_change (λ m. net_effect (has_stamp E m) k (xs ++ v ∷ ys)) (suc s.start) ≡ Some (a, Puts g) → last_change (λ m. net_effect (has_stamp E m) k (xs ++ ys)) (suc s.start) ≡ Some (a, Puts g)
+    same_last_change k a g q =
+        let t = last_change_is_one (λ m. net_effect (has_stamp E m) k (xs ++ v ∷ ys)) (suc s.start) (a, Puts g) q in
+        last_known (λ m. net_effect (has_stamp E m) k (xs ++ ys)) (suc s.start) (a, Puts g) (λ z. true≢false (ap leaves_row z)) (record {
           within = t.within;
           is = not_put k a g (effect_of (has_stamp E a) k v) refl t (sym (split k a) ∙ t.is);
           last = λ x lo hi. nothing_rest (effect_of (has_stamp E x) k v) (net_effect (has_stamp E x) k (xs ++ ys)) (sym (split k x) ∙ t.last x lo hi);
@@ -317,7 +317,7 @@ kept_collected s table xs v ys e h is le = record {
     opened k None q = none (last_change (λ a. net_effect (has_stamp E a) k (xs ++ ys)) (suc s.start)) refl ∙ ap (option_map (λ h. (origin_at_start s k, Puts h))) (sym q)
       where
         leaves : (p : ℕ × NetEffect) → last_change (λ a. net_effect (has_stamp E a) k (xs ++ ys)) (suc s.start) ≡ Some p → leaves_row p.1 ≡ true → ⊥
-        leaves p e l = let t = top_is (λ a. net_effect (has_stamp E a) k (xs ++ ys)) (suc s.start) p e in nobody k p.0 q (record { within = t.within; is = refl; last = t.last }) (ap leaves_row t.is ∙ l)
+        leaves p e l = let t = last_change_is_one (λ a. net_effect (has_stamp E a) k (xs ++ ys)) (suc s.start) p e in nobody k p.0 q (record { within = t.within; is = refl; last = t.last }) (ap leaves_row t.is ∙ l)
 
         none : (c : Option (ℕ × NetEffect)) → last_change (λ a. net_effect (has_stamp E a) k (xs ++ ys)) (suc s.start) ≡ c → standing (last_change (λ a. net_effect (has_stamp E a) k (xs ++ ys)) (suc s.start)) ≡ None
         none None e = ap standing e
@@ -331,7 +331,7 @@ kept_collected s table xs v ys e h is le = record {
         before = h.opened k ∙ ap (option_map (λ h. (origin_at_start s k, Puts h))) q
 
         gone : (c : Option (ℕ × NetEffect)) → last_change (λ a. net_effect (has_stamp E a) k (xs ++ v ∷ ys)) (suc s.start) ≡ c → standing c ≡ None → ⊥
-        gone c e n = none_top (origin_at_start s k, Puts g) (sym (ap standing e ∙ n) ∙ before)
+        gone c e n = no_change (origin_at_start s k, Puts g) (sym (ap standing e ∙ n) ∙ before)
 
         clash_of : Option (ℕ × NetEffect) → Bool
         clash_of None = false
@@ -345,4 +345,4 @@ kept_collected s table xs v ys e h is le = record {
         some (Some (a, Untouched)) e = absurd (gone (Some (a, Untouched)) e refl)
         some (Some (a, Removed)) e = absurd (gone (Some (a, Removed)) e refl)
         some (Some (a, Clash)) e = absurd (true≢false (sym (ap clash_of (ap standing e)) ∙ ap clash_of before))
-        some (Some (a, Puts i)) e = ap standing (same_top k a i e ∙ sym e) ∙ h.opened k
+        some (Some (a, Puts i)) e = ap standing (same_last_change k a i e ∙ sym e) ∙ h.opened k

@@ -28,7 +28,7 @@ use Rattle.mvo_representation.specs.Versions.{history_at, Say, IsKnown, IsClaime
 use Rattle.mvo_representation.proofs.Effects.{net_effect-at}
 use Rattle.mvo_representation.proofs.Facts.{stamp_drawn}
 use Rattle.mvo_representation.proofs.Shown.{IsBegin, active_begins, behind_is}
-use Rattle.mvo_representation.proofs.Version.{top_is, IsShownRow, version_shown}
+use Rattle.mvo_representation.proofs.Version.{last_change_is_one, IsShownRow, version_shown}
 use Rattle.mvo_theory.specs.State.Outcome.{Committed as WasCommitted, Aborted as WasAborted}
 
 none_end : (e : ℕ) → ◌≡◌ {A = Option ℕ} None (Some e) → ⊥
@@ -80,10 +80,10 @@ active_nobody t k a w (r ∷ rs) n h =
     no false = refl
 
 active_one : (t u : ℕ) (k : RowKey) (a : ℕ) (rs : List ActiveTx) (q : ActiveTx) → (u ≡ t → ⊥) → active_of u rs ≡ Some q → AllByRecursion (NamesIt k a (By (record { 0 = u }))) rs → active_claim t k a rs ≡ Some (cause.Active (record { 0 = u }))
-active_one t u k a [] q n f h = absurd (none_running q f)
+active_one t u k a [] q n f h = absurd (none_active q f)
   where
-    none_running : (q : ActiveTx) → ◌≡◌ {A = Option ActiveTx} None (Some q) → ⊥
-    none_running q g = cc
+    none_active : (q : ActiveTx) → ◌≡◌ {A = Option ActiveTx} None (Some q) → ⊥
+    none_active q g = cc
 active_one t u k a (r ∷ rs) q n f h = go (cases_eq r.id u) (λ g. active_one t u k a rs q n g h.1)
   where
     step : (b c : Bool) → not (r.id == t) ≡ b → has_claim r.claims k a ≡ c → active_claim t k a (r ∷ rs) ≡ cond (b && c) (Some (cause.Active (record { 0 = r.id }))) (active_claim t k a rs)
@@ -143,7 +143,7 @@ not_active s u n = none s.active (absent (active_of u s.active) refl)
 other : (p : Phase) → (p ≡ Active → ⊥) → p ≡ Active → ⊥
 other p n e = n e
 
--- ---- (c)
+-- ---- who claims the version that is shown
 removed_some : (d : NetEffect) → with_effect Removed d ≡ Untouched → ⊥
 removed_some Untouched q = cc
 removed_some Removed q = cc
@@ -164,7 +164,7 @@ end_has_effect n xs v ys e q = removed_or (n v.begin) (effect_of_is refl)
     removed_or true g = removed_some (net_effect n v.row.key (xs ++ ys)) g
     removed_or false g = removed_some (net_effect n v.row.key (xs ++ ys)) g
 
--- the End of a shown version has no stamp, or one behind the begin, whose owner stands in the end order
+-- the End of a shown version has no stamp, or one behind the begin, whose owner is stamped
 end_behind : (s : State) (table : Phases) (xs : List Version) (v : Version) (ys : List Version) (t : ℕ) (r : ActiveTx) (a e : ℕ) → IsSound s → AreVersionsOf s table (xs ++ v ∷ ys) → active_of t s.active ≡ Some r → IsShownAt (ends_of table) t v.row.key (xs ++ v ∷ ys) v a → stamp_in (ends_of table) v.end ≡ Some e → history_at e s.stamped ≡ [] → ⊥
 end_behind s table xs v ys t r a e sd h f is q n = go (cases_order e t)
   where
@@ -193,10 +193,10 @@ end_behind s table xs v ys t r a e sd h f is q n = go (cases_order e t)
       where
         between : (a ≡ e) ⊎ ((a < e) ⊎ (e < a)) → ⊥
         between (inl p) = differs p
-        between (inr (inl l)) = end_has_effect (has_stamp (ends_of table) e) xs v ys has_end ((top_is (λ m. net_effect (has_stamp (ends_of table) m) v.row.key (xs ++ v ∷ ys)) t (a, is.last.0) is.last.1).last e l lt)
+        between (inr (inl l)) = end_has_effect (has_stamp (ends_of table) e) xs v ys has_end ((last_change_is_one (λ m. net_effect (has_stamp (ends_of table) m) v.row.key (xs ++ v ∷ ys)) t (a, is.last.0) is.last.1).last e l lt)
         between (inr (inr g)) = omega (arith, g, forward)
 
--- (c) who claims the version that is shown, where the transaction hasn't written the key: its End tells
+-- who claims the version that is shown, where the transaction hasn't written the key: its End tells
 pub cause_right : (s : State) (table : Phases) (xs : List Version) (v : Version) (ys : List Version) (t : ℕ) (r : ActiveTx) (a : ℕ) → IsSound s → IsStarted s → AreVersionsOf s table (xs ++ v ∷ ys) → active_of t s.active ≡ Some r → net_write v.row.key r.history ≡ None → IsShownAt (ends_of table) t v.row.key (xs ++ v ∷ ys) v a → claimed_by s t v.row.key ≡ cause_in table v.end
 cause_right s table xs v ys t r a sd st h f unwritten is =
     ap (λ n. or_cause (active_claim t v.row.key n s.active) (stamped_claim v.row.key n s.stamped)) (sym row.origin)

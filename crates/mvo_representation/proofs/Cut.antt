@@ -42,7 +42,7 @@ rows_at-back m e (x ∷ xs) lt = go (is_to m x) refl (rows_at-back m e xs lt)
     go true q i = i ∙ sym (ap (λ c. cond c x.footprint (rows_at e xs)) (ne_eqb x.end e (λ g. let l : x.end ≤ m = leb-true x.end m q in absurd (omega (arith, l, lt, g)))))
     go false q i = ap (cond (x.end == e) x.footprint) i
 
--- (e) trim, given that just the rows at the new start stand there
+-- trim, given that just the rows at the new start stand there
 pub kept_after_trim : (s : State) (table : Phases) (vs : List Version) (m : ℕ) → IsSound s → IsStarted s → IsTrim m s → AreVersionsOf s table vs → ((u : ℕ) → table u ≡ phase_in (after_trim s m) u) → ((k : RowKey) → standing_effect (ends_of table) m k vs ≡ as_net_effect (option_map (λ h. Put h) (fin.get (after_trim s m).base k))) → AreVersionsOf (after_trim s m) table vs
 kept_after_trim s table vs m sd st tr h ph stood = record {
   phases = ph;

@@ -28,7 +28,7 @@ use Rattle.mvo_representation.specs.Words.{Phases, Ends, is_up_to, end_in, ends_
 use Rattle.mvo_visible.specs.Words.{names}
 use Rattle.mvo_representation.specs.Versions.{history_at, rows_at, rows_by, Say, IsKnownStamp, IsKnown, IsClaimed, HasClaims, HasItsClaims, IsForward, IsInside, AreDrawn, AreVersionsOf}
 use Rattle.mvo_representation.proofs.Effects.{net_effect_same, is_touched_same}
-use Rattle.mvo_representation.proofs.LastChanges.{top_same, history_at-none, rows_at-none}
+use Rattle.mvo_representation.proofs.LastChanges.{last_change_same, history_at-none, rows_at-none}
 use Rattle.mvo_representation.proofs.Facts.{found_holds, preparing_is, phase_preparing, phase_active, end_drawn, stamp_drawn, say_nothing, is_at-none}
 use Rattle.mvo_representation.proofs.Kept.{IsVersion, each_version, standing_effect_same}
 use Rattle.mvo_representation.proofs.Quiet.{with_end, ends_turn, other_stays, own_led, still_there, known_next, stamp_other, history_at-map, rows_at-map}
@@ -81,7 +81,7 @@ named_end ends t (At n) q = absurd (false≢true q)
 named_end ends t (By u) q = ap ends (eqb-true u.0 t q)
 named_end ends t Infinity q = absurd (false≢true q)
 
--- ---- what is told at an end, with one more at the end of the line
+-- ---- the history at an end, with one more at the end
 pub history_at-last : (e : ℕ) (xs : List StampedTx) (y : StampedTx) → AllByRecursion (λ x. x.end ≢ e) xs → y.end ≡ e → history_at e (xs ++ y ∷ []) ≡ y.history
 history_at-last e [] y h i = ap (λ b. cond b y.history []) (eq-eqb y.end e i)
 history_at-last e (x ∷ xs) y h i = ap (λ b. cond b x.history (history_at e (xs ++ y ∷ []))) (ne_eqb x.end e h.0) ∙ history_at-last e xs y h.1 i
@@ -110,13 +110,13 @@ undrawn c e k (d ∷ ds) lt h =
     no true = refl
     no false = refl
 
--- ---- (e) precommit: an Active one gets its end
+-- ---- precommit: an Active one gets its end
 pub kept_after_prepare : (s : State) (table table' : Phases) (vs : List Version) (r : ActiveTx) (e : ℕ) → s.clock < e → IsSound s → IsSingle s → IsStarted s → AreVersionsOf s table vs → active_of r.id s.active ≡ Some r → ((u : ℕ) → table' u ≡ phase_in (after_prepare s r e) u) → AreVersionsOf (after_prepare s r e) table' vs
 kept_after_prepare s table table' vs r e lt sd sg st h f ph = record {
   phases = ph;
   stamped = λ m gt. subst (λ (x : Ends). Say (has_stamp x m) (history_at m (s.stamped ++ to_stamped e r ∷ [])) (rows_at m (s.stamped ++ to_stamped e r ∷ [])) vs) (sym path) (ended m gt (cases_eq e m));
   active = each_filter (λ q. not (q.id == r.id)) (λ q. Say (names q.id) q.history q.footprint vs) (λ q. Say (names q.id) q.history q.footprint vs) (λ q _ g. g) s.active h.active;
-  opened = λ k. ap standing (top_same (λ m. net_effect (has_stamp (ends_of table') m) k vs) (λ m. net_effect (has_stamp (ends_of table) m) k vs) (suc s.start) (λ m l. ap (λ x. net_effect (has_stamp x m) k vs) path ∙ other_net_effect (ends_of table) r.id (Some e) m k vs (ne_eqb e m (λ q. before m l q)) (ap (is_stamp m) no_end))) ∙ h.opened k;
+  opened = λ k. ap standing (last_change_same (λ m. net_effect (has_stamp (ends_of table') m) k vs) (λ m. net_effect (has_stamp (ends_of table) m) k vs) (suc s.start) (λ m l. ap (λ x. net_effect (has_stamp x m) k vs) path ∙ other_net_effect (ends_of table) r.id (Some e) m k vs (ne_eqb e m (λ q. before m l q)) (ap (is_stamp m) no_end))) ∙ h.opened k;
   stood = λ k. ap (λ x. standing_effect x s.start k vs) path ∙ sym (standing_effect_same (λ _. ⊤) (ends_of table) (with_end r.id (Some e) (ends_of table)) s.start k (λ w _. low_word (ends_of table) r.id s.start (Some e) (high s.start e start_lt) (ap (is_up_to s.start) no_end) w) vs (each_top vs)) ∙ h.stood k;
   known = each_weaker (λ v. IsKnown s table v.begin × IsKnown s table v.end) (λ v. IsKnown (after_prepare s r e) table' v.begin × IsKnown (after_prepare s r e) table' v.end) (λ v i. (known v.begin i.0, known v.end i.1)) vs h.known;
   claims = subst (λ (x : Ends). AllByRecursion (HasItsClaims (after_prepare s r e) x) vs) (sym path) (each_weaker (IsVersion s table) (HasItsClaims (after_prepare s r e) (with_end r.id (Some e) (ends_of table))) claims vs (each_version s table vs h));
@@ -283,13 +283,13 @@ alone_in s t x f k =
     subst (λ (n : ℕ). AllByRecursion (λ y. y.end ≡ x.end → y.id ≡ n) s.stamped) p.3
     (subst (AllByRecursion (λ y. y.end ≡ x.end → y.id ≡ x.id)) (sym p.2) (alone_at p.0 p.1 x (subst IsRising p.2 k.rising)))
 
--- (e) rollback, and a refusal that aborts, of a Preparing one: its words fall silent
+-- rollback, and a refusal that aborts, of a Preparing one: its words fall silent
 pub kept_after_abort_of_preparing : (s : State) (table table' : Phases) (vs : List Version) (t : ℕ) (x : StampedTx) → IsSound s → IsSingle s → IsStarted s → AreVersionsOf s table vs → preparing_of t s.stamped ≡ Some x → ((u : ℕ) → table' u ≡ phase_in (after_abort_of_preparing s t x.end) u) → AreVersionsOf (after_abort_of_preparing s t x.end) table' vs
 kept_after_abort_of_preparing s table table' vs t x sd sg st h f ph = record {
   phases = ph;
   stamped = λ m gt. subst (λ (n : Ends). Say (has_stamp n m) (history_at m (map (with_flag t x.end) (filter (not_at x.end) s.stamped))) (rows_at m (map (with_flag t x.end) (filter (not_at x.end) s.stamped))) vs) (sym path) (ended m gt (cases_eq x.end m));
   active = each_map (active_with_flag t x.end) (λ q. Say (names q.id) q.history q.footprint vs) (λ q. Say (names q.id) q.history q.footprint vs) (λ q g. g) s.active h.active;
-  opened = λ k. ap standing (top_same (λ m. net_effect (has_stamp (ends_of table') m) k vs) (λ m. net_effect (has_stamp (ends_of table) m) k vs) (suc s.start) (λ m l. ap (λ n. net_effect (has_stamp n m) k vs) path ∙ other_net_effect (ends_of table) t None m k vs refl (ap (is_stamp m) its_end ∙ ne_eqb x.end m (λ q. before m l q)))) ∙ h.opened k;
+  opened = λ k. ap standing (last_change_same (λ m. net_effect (has_stamp (ends_of table') m) k vs) (λ m. net_effect (has_stamp (ends_of table) m) k vs) (suc s.start) (λ m l. ap (λ n. net_effect (has_stamp n m) k vs) path ∙ other_net_effect (ends_of table) t None m k vs refl (ap (is_stamp m) its_end ∙ ne_eqb x.end m (λ q. before m l q)))) ∙ h.opened k;
   stood = λ k. ap (λ n. standing_effect n s.start k vs) path ∙ sym (standing_effect_same (λ _. ⊤) (ends_of table) (with_end t None (ends_of table)) s.start k (λ w _. low_word (ends_of table) t s.start None refl (ap (is_up_to s.start) its_end ∙ high s.start x.end start_lt) w) vs (each_top vs)) ∙ h.stood k;
   known = each_weaker (λ v. IsKnown s table v.begin × IsKnown s table v.end) (λ v. IsKnown (after_abort_of_preparing s t x.end) table' v.begin × IsKnown (after_abort_of_preparing s t x.end) table' v.end) (λ v i. (known v.begin i.0, known v.end i.1)) vs h.known;
   claims = subst (λ (n : Ends). AllByRecursion (HasItsClaims (after_abort_of_preparing s t x.end) n) vs) (sym path) (each_weaker (IsVersion s table) (HasItsClaims (after_abort_of_preparing s t x.end) (with_end t None (ends_of table))) claims vs (each_version s table vs h));

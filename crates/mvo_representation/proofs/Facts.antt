@@ -29,7 +29,7 @@ use Rattle.mvo_theory.specs.State.Outcome.{Committed as WasCommitted, Aborted as
 apart_phases : (e : ℕ) → Active ≡ Preparing e → ⊥
 apart_phases e q = cc
 
--- one that is Preparing stands in the end order, unsettled, with its end
+-- one that is Preparing is stamped and unsettled, with its end
 pub preparing_is : (s : State) (t e : ℕ) → phase_in s t ≡ Preparing e → (x : StampedTx) × (preparing_of t s.stamped ≡ Some x) × (x.end ≡ e)
 preparing_is s t e = go (active_of t s.active) (preparing_of t s.stamped) (ended_of t s.ended)
   where
@@ -49,7 +49,7 @@ preparing_is s t e = go (active_of t s.active) (preparing_of t s.stamped) (ended
     go None None (Some u) q = absurd (ended u.outcome q)
     go None None None q = absurd (absent q)
 
--- what holds of each in the end order holds of one that is found there
+-- what holds of each that is stamped holds of one that is found there
 pub found_holds : (P : StampedTx → Type 0) (t : ℕ) (xs : List StampedTx) (x : StampedTx) → preparing_of t xs ≡ Some x → AllByRecursion P xs → P x × (x.id ≡ t) × (x.settled ≡ false)
 found_holds P t xs x e h = let w = split_at t xs x e in ((each_back P w.0 (x ∷ w.1) (subst (AllByRecursion P) w.2 h)).0, w.3, w.4)
 

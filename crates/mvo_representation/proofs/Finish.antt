@@ -56,7 +56,7 @@ version_alike s table v w r o c inf kb ke h = record {
       stamped = each_weaker (λ x. IsClaimed v.row.key a (has_stamp (ends_of table) x.end) x.claims v.end) (λ x. IsClaimed w.row.key a (has_stamp (ends_of table) x.end) x.claims w.end) (λ x i. ap (is_stamp x.end) (sym c.stamp) ∙ i ∙ ap (λ y. has_claim x.claims y.key a) r) s.stamped g.stamped;
     }
 
--- (e) finish one word: the state stays
+-- finish one word: the state stays
 pub kept_word : (s : State) (table : Phases) (xs : List Version) (v w : Version) (ys : List Version) → AreVersionsOf s table (xs ++ v ∷ ys) → v.row ≡ w.row → IsAlike s table v.begin w.begin → IsAlike s table v.end w.end → (v.end ≡ Infinity → w.end ≡ Infinity) → IsKnown s table w.begin → IsKnown s table w.end → AreVersionsOf s table (xs ++ w ∷ ys)
 kept_word s table xs v w ys h r o c inf kb ke =
     kept_alike s s.clock s.active s.stamped s.ended table table (xs ++ v ∷ ys) (xs ++ w ∷ ys) h h.phases

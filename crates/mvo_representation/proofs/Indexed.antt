@@ -77,7 +77,7 @@ found_same slots m (i ∷ ns) h = go (cases_eq i m) (λ e. found_same slots m ns
         ap (λ x. and_found x (versions_numbered (emptied slots m) ns)) (emptied_other slots m i (λ e. d (sym e)))
         ∙ ap (and_found (slice_index_or slots i None)) (again (let c : one (i == m) ≡ 0 = ap one (ne_eqb i m d) in omega (arith, h, c)))
 
--- (b) the versions that the key index gives say all of the key
+-- the versions that the key index gives say all of the key
 pub found_net_effect : (n : Held → Bool) (k : RowKey) (slots : Slots) (ns : List ℕ) → ((m : ℕ) → how_many (λ i. i == m) ns ≡ one (is_of_key k (slice_index_or slots m None))) → net_effect n k (all_versions slots) ≡ net_effect n k (versions_numbered slots ns)
 found_net_effect n k slots [] h = versions_nothing n k slots (λ m. by (is_of_key k (slice_index_or slots m None)) refl (h m))
   where

@@ -19,7 +19,7 @@ use Rattle.mvo_visible.specs.Words.{names}
 use Rattle.mvo_representation.specs.Words.NetEffect.{Untouched, Puts}
 use Rattle.mvo_representation.specs.Versions.{history_at, rows_at, rows_by, Say, IsKnownStamp, IsKnown, AreKnown, HasItsClaims, IsForward, IsInside, AreDrawn, AreVersionsOf}
 use Rattle.mvo_representation.proofs.Effects.{with_assoc, with_comm, net_effect-at, is_touched-at}
-use Rattle.mvo_representation.proofs.LastChanges.{top_same}
+use Rattle.mvo_representation.proofs.LastChanges.{last_change_same}
 
 -- ---- others see the same
 pub record IsSame (start : ℕ) (ends : Ends) (vs : List Version) (ends' : Ends) (vs' : List Version) : Type 0 where
@@ -78,7 +78,7 @@ kept_alike s clock active stamped ended table table' vs vs' h ph same ts rs act 
     touches = λ g p. same.touches g p e ∙ w.touches g p ∙ ap (λ x. list_any p (rows_by g x (rows_at e s.stamped))) (sym (ts e)) ∙ ap (λ x. list_any p (rows_by g (history_at e stamped) x)) (sym (rs e));
   };
   active = act;
-  opened = λ k. ap standing (top_same (λ e. net_effect (has_stamp (ends_of table') e) k vs') (λ e. net_effect (has_stamp (ends_of table) e) k vs) (suc s.start) (λ e _. same.net_effect k e)) ∙ h.opened k;
+  opened = λ k. ap standing (last_change_same (λ e. net_effect (has_stamp (ends_of table') e) k vs') (λ e. net_effect (has_stamp (ends_of table) e) k vs) (suc s.start) (λ e _. same.net_effect k e)) ∙ h.opened k;
   stood = λ k. same.standing_effect k ∙ h.stood k;
   known = each_weaker (IsVersion (now_with s clock active stamped ended) table') (λ v. IsKnown (now_with s clock active stamped ended) table' v.begin × IsKnown (now_with s clock active stamped ended) table' v.end) (λ v i. i.known) vs' each;
   claims = each_weaker (IsVersion (now_with s clock active stamped ended) table') (HasItsClaims (now_with s clock active stamped ended) (ends_of table')) (λ v i. i.claims) vs' each;

@@ -18,11 +18,11 @@ use Rattle.mvo_types.specs.Write.{Effect}
 use Rattle.mvo_types.specs.Write.Effect.{Put, Delete as Gone}
 
 -- ---- changes that agree below b
-pub top_same : (f g : ℕ → NetEffect) (b : ℕ) → ((s : ℕ) → s < b → f s ≡ g s) → last_change f b ≡ last_change g b
-top_same f g zero h = refl
-top_same f g (suc b) h =
+pub last_change_same : (f g : ℕ → NetEffect) (b : ℕ) → ((s : ℕ) → s < b → f s ≡ g s) → last_change f b ≡ last_change g b
+last_change_same f g zero h = refl
+last_change_same f g (suc b) h =
     ap (λ d. or_change_at b d (last_change f b)) (h b (omega arith))
-    ∙ ap (or_change_at b (g b)) (top_same f g b (λ s lt. h s (omega arith)))
+    ∙ ap (or_change_at b (g b)) (last_change_same f g b (λ s lt. h s (omega arith)))
 
 -- ---- the change of a writer
 abbrev pub change_by : RowKey → StampedTx → ℕ × NetEffect
@@ -59,11 +59,11 @@ mark b Removed = Some (b, Removed)
 mark b (Puts h) = Some (b, Puts h)
 mark b Clash = Some (b, Clash)
 
-pub top_of-mark : (b : ℕ) (d : NetEffect) (r : Option (ℕ × NetEffect)) → or_change_at b d r ≡ first_of (mark b d) r
-top_of-mark b Untouched r = refl
-top_of-mark b Removed r = refl
-top_of-mark b (Puts h) r = refl
-top_of-mark b Clash r = refl
+pub or_change_at-mark : (b : ℕ) (d : NetEffect) (r : Option (ℕ × NetEffect)) → or_change_at b d r ≡ first_of (mark b d) r
+or_change_at-mark b Untouched r = refl
+or_change_at-mark b Removed r = refl
+or_change_at-mark b (Puts h) r = refl
+or_change_at-mark b Clash r = refl
 
 first_assoc : (p q r : Option (ℕ × NetEffect)) → first_of (first_of p q) r ≡ first_of p (first_of q r)
 first_assoc None q r = refl
@@ -86,7 +86,7 @@ mark_of e None = refl
 mark_of e (Some Gone) = refl
 mark_of e (Some (Put h)) = refl
 
--- what one slot alone makes
+-- what one alone makes
 abbrev own_change : RowKey → ℕ → StampedTx → Option (ℕ × NetEffect)
 own_change k b x = option_map (change_by k) (cond (is_writer k b x) (Some x) None)
 
@@ -160,9 +160,9 @@ above_start a b lt = go (cases_order (suc a) b)
     go (inr (inl l)) = inr l
     go (inr (inr g)) = absurd (omega (arith, lt, g))
 
-pub top_last : (f : ℕ → NetEffect) (k : RowKey) (xs : List StampedTx) (start b : ℕ) → ((s : ℕ) → start < s → f s ≡ as_net_effect (net_write k (history_at s xs))) → IsRising xs → AllByRecursion (λ x. start < x.end) xs → start < b → last_change f b ≡ first_of (change_of_last k b xs) (last_change f (suc start))
-top_last f k xs start zero h r a lt = absurd (omega (arith, lt))
-top_last f k xs start (suc b) h r a lt = go (above_start start (suc b) lt) (λ l. top_last f k xs start b h r a l)
+pub last_change_last : (f : ℕ → NetEffect) (k : RowKey) (xs : List StampedTx) (start b : ℕ) → ((s : ℕ) → start < s → f s ≡ as_net_effect (net_write k (history_at s xs))) → IsRising xs → AllByRecursion (λ x. start < x.end) xs → start < b → last_change f b ≡ first_of (change_of_last k b xs) (last_change f (suc start))
+last_change_last f k xs start zero h r a lt = absurd (omega (arith, lt))
+last_change_last f k xs start (suc b) h r a lt = go (above_start start (suc b) lt) (λ l. last_change_last f k xs start b h r a l)
   where
     go : (suc start ≡ suc b) ⊎ (suc start < suc b) → (start < b → last_change f b ≡ first_of (change_of_last k b xs) (last_change f (suc start))) → last_change f (suc b) ≡ first_of (change_of_last k (suc b) xs) (last_change f (suc start))
     go (inl e) again =
@@ -170,7 +170,7 @@ top_last f k xs start (suc b) h r a lt = go (above_start start (suc b) lt) (λ l
         ∙ sym (ap (λ w. first_of (option_map (change_by k) w) (last_change f (suc start))) (ap (λ c. last_writer k c xs) (sym e) ∙ last_none_above k (suc start) xs (each_weaker (λ x. start < x.end) (λ x. suc start ≤ x.end) (λ x l. omega (arith, l)) xs a)))
     go (inr l) again =
         ap (λ d. or_change_at b d (last_change f b)) (h b (omega (arith, l)))
-        ∙ top_of-mark b (as_net_effect (net_write k (history_at b xs))) (last_change f b)
+        ∙ or_change_at-mark b (as_net_effect (net_write k (history_at b xs))) (last_change f b)
         ∙ ap (first_of (mark b (as_net_effect (net_write k (history_at b xs))))) (again (omega (arith, l)))
         ∙ sym (first_assoc (mark b (as_net_effect (net_write k (history_at b xs)))) (change_of_last k b xs) (last_change f (suc start)))
         ∙ ap (λ p. first_of p (last_change f (suc start))) (sym (last_step k b xs r))
@@ -187,21 +187,21 @@ none_or : (w : Option Effect) → is_some w ≡ false → w ≡ None
 none_or None e = refl
 none_or (Some h) e = absurd (true≢false e)
 
-none_slot : (y : StampedTx) → ◌≡◌ {A = Option StampedTx} None (Some y) → ⊥
-none_slot y e = cc
+none_stamped : (y : StampedTx) → ◌≡◌ {A = Option StampedTx} None (Some y) → ⊥
+none_stamped y e = cc
 
 some_slot : (x y : StampedTx) → ◌≡◌ {A = Option StampedTx} (Some x) (Some y) → x ≡ y
 some_slot x y e = cc
 
 -- what holds of each writer below b holds of the last
 pub last_holds : (P : StampedTx → Type 0) (k : RowKey) (b : ℕ) (xs : List StampedTx) (y : StampedTx) → AllByRecursion (λ x. is_writer k b x ≡ true → P x) xs → last_writer k b xs ≡ Some y → P y
-last_holds P k b [] y h e = absurd (none_slot y e)
+last_holds P k b [] y h e = absurd (none_stamped y e)
 last_holds P k b (x ∷ xs) y h e = go (is_writer k b x) refl (last_writer k b xs) refl e (λ z f. last_holds P k b xs z h.1 f)
   where
     go : (c : Bool) → is_writer k b x ≡ c → (w : Option StampedTx) → last_writer k b xs ≡ w → or_later (cond c (Some x) None) w ≡ Some y → ((z : StampedTx) → last_writer k b xs ≡ Some z → P z) → P y
     go c f (Some z) g i again = subst P (some_slot z y i) (again z g)
     go true f None g i again = subst P (some_slot x y i) (h.0 f)
-    go false f None g i again = absurd (none_slot y i)
+    go false f None g i again = absurd (none_stamped y i)
 
 writer_writes : (k : RowKey) (b : ℕ) (x : StampedTx) → is_writer k b x ≡ true → is_some (net_write k x.history) ≡ true
 writer_writes k b x e = (and_parts (nat_lt x.end b) (is_some (net_write k x.history)) e).1

@@ -76,7 +76,7 @@ open_word s table vs h (By t) is e q = go (table t.0) refl q
     go (Committed n) f g = sym (ap (λ b. cond b (Some e) None) (ap (λ m. is_open m s.stamped) (sym (some_end n e g)) ∙ closed_at n s.stamped (h.committed t.0 n f).settled))
     go (Preparing n) f g = ap (λ m. Some m) (some_end n e g) ∙ sym (ap (λ b. cond b (Some e) None) (ap (λ m. is_open m s.stamped) (sym (some_end n e g)) ∙ found_open s t.0 n (sym (h.phases t.0) ∙ f)))
 
--- of a slot in a line that rises
+-- of one in a list that rises
 open_beyond : (e : ℕ) (xs : List StampedTx) → AllByRecursion (λ x. e < x.end) xs → is_open e xs ≡ false
 open_beyond e xs h = closed_at e xs (each_weaker (λ x. e < x.end) (λ x. x.settled ≡ false → x.end ≢ e) (λ x lt f q. absurd (omega (arith, lt, q))) xs h)
 
@@ -102,12 +102,12 @@ abbrev pub stamp_of : Option (ℕ × NetEffect) → ℕ
 stamp_of None = 0
 stamp_of (Some r) = r.0
 
-pub top_within : (f : ℕ → NetEffect) (b : ℕ) (p : ℕ × NetEffect) → last_change f b ≡ Some p → p.0 < b
-top_within f zero p e = absurd (none_top p e)
+pub last_change_within : (f : ℕ → NetEffect) (b : ℕ) (p : ℕ × NetEffect) → last_change f b ≡ Some p → p.0 < b
+last_change_within f zero p e = absurd (no_change p e)
   where
-    none_top : (p : ℕ × NetEffect) → ◌≡◌ {A = Option (ℕ × NetEffect)} None (Some p) → ⊥
-    none_top p q = cc
-top_within f (suc b) p e = go (f b) e (λ g. top_within f b p g)
+    no_change : (p : ℕ × NetEffect) → ◌≡◌ {A = Option (ℕ × NetEffect)} None (Some p) → ⊥
+    no_change p q = cc
+last_change_within f (suc b) p e = go (f b) e (λ g. last_change_within f b p g)
   where
     here : (d : NetEffect) → Some (b, d) ≡ Some p → p.0 < suc b
     here d g = let q : b ≡ p.0 = ap stamp_of g in omega (arith, q)
@@ -118,7 +118,7 @@ top_within f (suc b) p e = go (f b) e (λ g. top_within f b p g)
     go (Puts h) g again = here (Puts h) g
     go Clash g again = here Clash g
 
--- (a) the dependency: where the deciding change has this stamp, a word with the stamp tells whom the state depends on
+-- the dependency: where the deciding change has this stamp, a word with the stamp tells whom the state depends on
 pub depends_right : (s : State) (table : Phases) (vs : List Version) (b : ℕ) (k : RowKey) (ds : List ℕ) → IsSound s → IsStarted s → AreVersionsOf s table vs → IsBegin s table vs b → (w : Held) → IsKnown s table w → (p : ℕ × NetEffect) → change_below (ends_of table) b k vs ≡ Some p → stamp_in (ends_of table) w ≡ Some p.0 → with_open ds (open_in table w) ≡ depend_on ds (last_writer k b s.stamped)
 depends_right s table vs b k ds sd st h at w is p c q =
     ap (with_open ds) (open_word s table vs h w is p.0 q) ∙ go (last_writer k b s.stamped) refl
@@ -138,7 +138,7 @@ depends_right s table vs b k ds sd st h at w is p c q =
 
     go : (v : Option StampedTx) → last_writer k b s.stamped ≡ v → with_open ds (cond (is_open p.0 s.stamped) (Some p.0) None) ≡ depend_on ds (last_writer k b s.stamped)
     go None e =
-        let lt : p.0 < suc s.start = top_within (λ e. net_effect (has_stamp (ends_of table) e) k vs) (suc s.start) p (known None e) in
+        let lt : p.0 < suc s.start = last_change_within (λ e. net_effect (has_stamp (ends_of table) e) k vs) (suc s.start) p (known None e) in
         ap (λ o. with_open ds (cond o (Some p.0) None)) (open_beyond p.0 s.stamped (each_weaker (λ x. s.start < x.end) (λ x. p.0 < x.end) (λ x l. omega (arith, l, lt)) s.stamped st.later))
         ∙ ap (depend_on ds) (sym e)
     go (Some x) e =

@@ -85,22 +85,22 @@ standing_effect_sum : (ends : Ends) (start : ℕ) (k : RowKey) (vs : List Versio
 standing_effect_sum ends start k [] = refl
 standing_effect_sum ends start k (v ∷ vs) = ap (with_effect (standing_effect_of ends start k v)) (standing_effect_sum ends start k vs)
 
-top_nothing : (f : ℕ → NetEffect) (b : ℕ) → ((s : ℕ) → s < b → f s ≡ Untouched) → last_change f b ≡ None
-top_nothing f zero h = refl
-top_nothing f (suc b) h = ap (λ d. or_change_at b d (last_change f b)) (h b (omega arith)) ∙ top_nothing f b (λ s lt. h s (omega arith))
+no_last_change : (f : ℕ → NetEffect) (b : ℕ) → ((s : ℕ) → s < b → f s ≡ Untouched) → last_change f b ≡ None
+no_last_change f zero h = refl
+no_last_change f (suc b) h = ap (λ d. or_change_at b d (last_change f b)) (h b (omega arith)) ∙ no_last_change f b (λ s lt. h s (omega arith))
 
 standing_loaded : (mark : ℕ) (o : Option ContentData) → standing (or_change_at mark (as_net_effect (option_map (λ h. Put h) o)) None) ≡ option_map (λ h. (mark, Puts h)) o
 standing_loaded mark None = refl
 standing_loaded mark (Some h) = refl
 
--- (e) open: what ties versions to a state is met
+-- open: what ties versions to a state is met
 pub versions_opened : (rows : Map) (mark : ℕ) → AreVersionsOf (opened rows mark) nobody (loaded rows mark)
 versions_opened rows mark = record {
   phases = λ t. refl;
   stamped = λ e gt. say_nothing (λ w. has_stamp (ends_of nobody) e w ≡ false) (has_stamp (ends_of nobody) e) (λ w q. q) (loaded rows mark) (each_weaker (at_mark mark) (λ v. (has_stamp (ends_of nobody) e v.begin ≡ false) × (has_stamp (ends_of nobody) e v.end ≡ false)) (λ v i. (ap (has_stamp (ends_of nobody) e) i.0 ∙ ne_eqb mark e (λ q. absurd (omega (arith, gt, q))), ap (has_stamp (ends_of nobody) e) i.1)) (loaded rows mark) each);
   active = tt;
   opened = λ k.
-      ap (λ c. standing (or_change_at mark (net_effect (has_stamp (ends_of nobody) mark) k (loaded rows mark)) c)) (top_nothing (λ e. net_effect (has_stamp (ends_of nobody) e) k (loaded rows mark)) mark (λ e lt. net_effect_nothing (λ w. has_stamp (ends_of nobody) e w ≡ false) (has_stamp (ends_of nobody) e) k (λ w q. q) (loaded rows mark) (each_weaker (at_mark mark) (λ v. (has_stamp (ends_of nobody) e v.begin ≡ false) × (has_stamp (ends_of nobody) e v.end ≡ false)) (λ v i. (ap (has_stamp (ends_of nobody) e) i.0 ∙ ne_eqb mark e (λ q. absurd (omega (arith, lt, q))), ap (has_stamp (ends_of nobody) e) i.1)) (loaded rows mark) each)))
+      ap (λ c. standing (or_change_at mark (net_effect (has_stamp (ends_of nobody) mark) k (loaded rows mark)) c)) (no_last_change (λ e. net_effect (has_stamp (ends_of nobody) e) k (loaded rows mark)) mark (λ e lt. net_effect_nothing (λ w. has_stamp (ends_of nobody) e w ≡ false) (has_stamp (ends_of nobody) e) k (λ w q. q) (loaded rows mark) (each_weaker (at_mark mark) (λ v. (has_stamp (ends_of nobody) e v.begin ≡ false) × (has_stamp (ends_of nobody) e v.end ≡ false)) (λ v i. (ap (has_stamp (ends_of nobody) e) i.0 ∙ ne_eqb mark e (λ q. absurd (omega (arith, lt, q))), ap (has_stamp (ends_of nobody) e) i.1)) (loaded rows mark) each)))
       ∙ ap (λ d. standing (or_change_at mark d None)) (net_effect_sum (has_stamp (ends_of nobody) mark) k (loaded rows mark) ∙ loaded_sum mark k (effect_of (has_stamp (ends_of nobody) mark) k) (λ e. ap (λ b. cond (eq_by_cmp key_cmp k e.0) (effect_by b false e.1) Untouched) (eq-eqb mark mark refl)) (fin.entries rows) (fin.entries_sorted rows) ∙ ap (λ o. as_net_effect (option_map (λ h. Put h) o)) (sym (fin.get-entries rows k)))
       ∙ standing_loaded mark (fin.get rows k);
   stood = λ k. standing_effect_sum (ends_of nobody) mark k (loaded rows mark) ∙ loaded_sum mark k (standing_effect_of (ends_of nobody) mark k) (λ e. ap (λ b. cond (eq_by_cmp key_cmp k e.0 && (b && true)) (Puts e.1) Untouched) (lt-ltb mark (suc mark) (omega arith)) ∙ ap (λ b. cond b (Puts e.1) Untouched) (and_true (eq_by_cmp key_cmp k e.0))) (fin.entries rows) (fin.entries_sorted rows) ∙ ap (λ o. as_net_effect (option_map (λ h. Put h) o)) (sym (fin.get-entries rows k));
@@ -160,7 +160,7 @@ kept_moved s table xs v ys h =
     (each_moved (IsVersion s table) xs v ys (each_version s table ((xs ++ ys) ++ v ∷ []) h))
     (beside s table ((xs ++ ys) ++ v ∷ []) h)
 
--- ---- (e) collect: a version whose words are both infinity
+-- ---- collect: a version whose words are both infinity
 pub kept_taken : (s : State) (table : Phases) (xs : List Version) (v : Version) (ys : List Version) → AreVersionsOf s table (xs ++ v ∷ ys) → v.begin ≡ Infinity → v.end ≡ Infinity → AreVersionsOf s table (xs ++ ys)
 kept_taken s table xs v ys h o c =
     kept_alike s s.clock s.active s.stamped s.ended table table (xs ++ v ∷ ys) (xs ++ ys) h h.phases

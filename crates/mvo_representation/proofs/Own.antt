@@ -243,8 +243,8 @@ wrote_both t q h x y us vs ws a b = record {
 pub apart_both : (u : ℕ) (us vs ws : List Version) → IsApartFrom u us vs → IsApartFrom u vs ws → IsApartFrom u us ws
 apart_both u us vs ws a b = record { net_effect = λ k. b.net_effect k ∙ a.net_effect k; touches = λ g p. b.touches g p ∙ a.touches g p }
 
-pub same_did : (w x : Option Effect) → as_net_effect w ≡ as_net_effect x → content_after_last w None ≡ content_after_last x None
-same_did w x e = sym (row w) ∙ ap leave e ∙ row x
+pub same_effect : (w x : Option Effect) → as_net_effect w ≡ as_net_effect x → content_after_last w None ≡ content_after_last x None
+same_effect w x e = sym (row w) ∙ ap leave e ∙ row x
   where
     leave : NetEffect → Option ContentData
     leave Untouched = None
@@ -260,5 +260,5 @@ same_did w x e = sym (row w) ∙ ap leave e ∙ row x
 -- after an end nothing of its own stands at the key
 pub free_after : (t : ℕ) (q : RowKey) (rows : List Row) (us vs : List Version) (w : Option Effect) → net_effect (names t) q us ≡ as_net_effect w → Wrote t (Some (q, Gone)) rows us vs → IsFree t q vs
 free_after t q rows us vs w e a x f =
-    same_did x (later (write_at q (Some (q, Gone))) w) (sym f ∙ a.writes q w e)
+    same_effect x (later (write_at q (Some (q, Gone))) w) (sym f ∙ a.writes q w e)
     ∙ ap (λ b. content_after_last (later (cond b (Some Gone) None) w) None) ((eq_by_cmp_equiv keys_total).refl q)

@@ -87,7 +87,7 @@ version_next s s' table table' v same f g claims inside h = record {
   inside = inside;
 }
 
--- ---- what is told at an end, where each keeps its end
+-- ---- the history at an end, where each keeps its end
 pub history_at-map : (f : StampedTx → StampedTx) (e : ℕ) → ((x : StampedTx) → ((f x).end ≡ x.end) × ((f x).history ≡ x.history)) → (xs : List StampedTx) → history_at e (map f xs) ≡ history_at e xs
 history_at-map f e h [] = refl
 history_at-map f e h (x ∷ xs) =
@@ -128,7 +128,7 @@ claims_map s ends f us v a like h = record {
       (λ x g. ap (λ n. has_stamp ends n v.end) (like x).0 ∙ g ∙ ap (λ cs. has_claim cs v.row.key a) (sym (like x).1)) s.stamped h.stamped;
 }
 
--- (e) settle
+-- settle
 pub kept_after_commit : (s : State) (table table' : Phases) (vs : List Version) (t : ℕ) (x : StampedTx) → IsSound s → IsSingle s → AreVersionsOf s table vs → preparing_of t s.stamped ≡ Some x → ((u : ℕ) → table' u ≡ phase_in (after_commit s t x.end) u) → AreVersionsOf (after_commit s t x.end) table' vs
 kept_after_commit s table table' vs t x sd sg h f ph =
     kept_alike s s.clock s.active (map (with_settled x.end) s.stamped) (s.ended ++ committed_tx t x.end (words_now s t) ∷ []) table table' vs vs h ph
@@ -169,7 +169,7 @@ kept_after_commit s table table' vs t x sd sg h f ph =
     by u e q (inr n) = stamp_committed s t x.end e (h.committed u e (sym (other_stays s (after_commit s t x.end) (Commits t x.end) table table' h.phases ph leads u n) ∙ q))
 
 -- ---- a check
--- (e) validate: an entry more is checked
+-- validate: an entry more is checked
 pub kept_after_check : (s : State) (table : Phases) (vs : List Version) (e : ℕ) (b : Bool) → AreVersionsOf s table vs → ((u : ℕ) → table u ≡ phase_in (after_check s e b) u) → AreVersionsOf (after_check s e b) table vs
 kept_after_check s table vs e b h ph =
     kept_alike s s.clock s.active (map (with_check e b) s.stamped) s.ended table table vs vs h ph
@@ -198,7 +198,7 @@ stamp_aborted s t n h = record {
   settled = h.settled;
 }
 
--- (e) rollback, and a refusal that aborts, of an Active one: its words fall silent
+-- rollback, and a refusal that aborts, of an Active one: its words fall silent
 pub kept_after_abort_of_active : (s : State) (table table' : Phases) (vs : List Version) (t : ℕ) (r : ActiveTx) → IsSingle s → AreVersionsOf s table vs → active_of t s.active ≡ Some r → ((u : ℕ) → table' u ≡ phase_in (after_abort_of_active s t) u) → AreVersionsOf (after_abort_of_active s t) table' vs
 kept_after_abort_of_active s table table' vs t r sg h f ph =
     kept_alike s s.clock (without t s.active) s.stamped (s.ended ++ aborted_tx t (words_now s t) ∷ []) table table' vs vs h ph
@@ -248,7 +248,7 @@ unnamed s table t e (At n) k = refl
 unnamed s table t e (By u) k = ne_eqb u.0 t (λ q. k (ap table q ∙ e))
 unnamed s table t e Infinity k = refl
 
--- (e) begin
+-- begin
 pub kept_after_begin : (s : State) (table table' : Phases) (vs : List Version) (t : ℕ) → s.clock < t → IsSound s → IsSingle s → IsStarted s → AreVersionsOf s table vs → ((u : ℕ) → table' u ≡ phase_in (after_begin s t) u) → AreVersionsOf (after_begin s t) table' vs
 kept_after_begin s table table' vs t lt sd sg st h ph =
     kept_alike s t (s.active ++ new_active t ∷ []) s.stamped s.ended table table' vs vs h ph
@@ -318,7 +318,7 @@ same_other start ends t o vs n = record {
   standing_effect = λ k. standing_effect_same (λ w. names t w ≡ false) (with_end t o ends) ends start k (λ w q. ap (is_up_to start) (stamp_other ends t o w q)) vs n;
 }
 
--- (e) finish, after the last word: no word names the one that leaves
+-- finish, after the last word: no word names the one that leaves
 pub kept_after_termination : (s : State) (table table' : Phases) (vs : List Version) (t : ℕ) → IsSingle s → AreVersionsOf s table vs → is_ended_in s t ≡ true → IsUnnamed t vs → ((u : ℕ) → table' u ≡ phase_in (after_termination s t) u) → AreVersionsOf (after_termination s t) table' vs
 kept_after_termination s table table' vs t sg h o un ph =
     kept_alike s s.clock s.active s.stamped (without_ended t s.ended) table table' vs vs h ph

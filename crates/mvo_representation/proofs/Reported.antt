@@ -26,8 +26,8 @@ its_open : (s : State) (t : ℕ) (x : StampedTx) → IsSound s → preparing_of 
 its_open s t x sd f = let w = found_holds (λ y. is_open y.end s.stamped ≡ not y.settled) t s.stamped x f (open_each s.stamped sd.rising) in w.0 ∙ ap not w.2
 
 -- ---- a commit
-settled_node : (xs : List StampedTx) (e : ℕ) (ds : List ℕ) (doom : Option ℕ) (n : NodeData) (b : Bool) → IsRising xs → is_open e xs ≡ true → b ≡ has_end ds e → IsNode xs ds doom n → IsNode (map (with_settled e) xs) ds doom (record n { waits = cond b (n.waits - 1) n.waits })
-settled_node xs e ds doom n b r o q h = record { flag = h.flag; waits = λ d. go b refl (h.waits d) }
+settled_node : (xs : List StampedTx) (e : ℕ) (ds : List ℕ) (flag_was : Option ℕ) (n : NodeData) (b : Bool) → IsRising xs → is_open e xs ≡ true → b ≡ has_end ds e → IsNode xs ds flag_was n → IsNode (map (with_settled e) xs) ds flag_was (record n { waits = cond b (n.waits - 1) n.waits })
+settled_node xs e ds flag_was n b r o q h = record { flag = h.flag; waits = λ d. go b refl (h.waits d) }
   where
     go : (c : Bool) → b ≡ c → n.waits ≡ open_count ds xs → cond b (n.waits - 1) n.waits ≡ open_count ds (map (with_settled e) xs)
     go true i w =
@@ -41,7 +41,7 @@ settled_node xs e ds doom n b r o q h = record { flag = h.flag; waits = λ d. go
         let m : n.waits ≡ open_count ds (map (with_settled e) xs) = omega (arith, w, k, l) in
         ap (λ c. cond c (n.waits - 1) n.waits) i ∙ m
 
--- (e) report a commit
+-- report a commit
 pub kept_commit : (s : State) (nodes : Nodes) (t : ℕ) (x : StampedTx) → IsSound s → preparing_of t s.stamped ≡ Some x → HasNodes s nodes → HasNodes (after_commit s t x.end) (nodes_after_commit (nodes t).dependents nodes)
 kept_commit s nodes t x sd f h = record {
   active = each_both (λ r. has_end (nodes t).dependents r.id ≡ has_end r.depends_on x.end) (λ r. IsNode s.stamped r.depends_on r.aborted_dependency (nodes r.id)) (λ r. IsNode (map (with_settled x.end) s.stamped) r.depends_on r.aborted_dependency (nodes_after_commit (nodes t).dependents nodes r.id)) (λ r q g. settled_node s.stamped x.end r.depends_on r.aborted_dependency (nodes r.id) (has_end (nodes t).dependents r.id) sd.rising (its_open s t x sd f) q g) s.active (its_dependents s nodes t x h f).active h.active;
@@ -56,8 +56,8 @@ kept_commit s nodes t x sd f h = record {
 }
 
 -- ---- an abort
-gone_node : (xs : List StampedTx) (t e : ℕ) (ds : List ℕ) (doom : Option ℕ) (n : NodeData) (b : Bool) → b ≡ has_end ds e → IsNode xs ds doom n → IsNode (map (with_flag t e) (filter (not_at e) xs)) ds (aborted_dependency_after t e ds doom) (record n { waits = cond b (n.waits - 1) n.waits; flag = cond b (or_flag t n.flag) n.flag })
-gone_node xs t e ds doom n b q h = record { flag = flag doom h.flag; waits = waits doom h.waits }
+flagged_node : (xs : List StampedTx) (t e : ℕ) (ds : List ℕ) (flag_was : Option ℕ) (n : NodeData) (b : Bool) → b ≡ has_end ds e → IsNode xs ds flag_was n → IsNode (map (with_flag t e) (filter (not_at e) xs)) ds (aborted_dependency_after t e ds flag_was) (record n { waits = cond b (n.waits - 1) n.waits; flag = cond b (or_flag t n.flag) n.flag })
+flagged_node xs t e ds flag_was n b q h = record { flag = flag flag_was h.flag; waits = waits flag_was h.waits }
   where
     flag : (d : Option ℕ) → n.flag ≡ d → cond b (or_flag t n.flag) n.flag ≡ aborted_dependency_after t e ds d
     flag None i = ap (λ f. cond b (or_flag t f) f) i ∙ ap (λ c. cond c (Some t) None) q
@@ -78,14 +78,14 @@ gone_node xs t e ds doom n b q h = record { flag = flag doom h.flag; waits = wai
         go true j k = absurd (some_none t k)
         go false j k = ap (λ c. cond c (n.waits - 1) n.waits) (q ∙ j) ∙ w refl ∙ sym (count_gone ds t e xs j)
 
--- (e) report an abort
+-- report an abort
 pub kept_abort : (s : State) (nodes : Nodes) (t : ℕ) (x : StampedTx) → preparing_of t s.stamped ≡ Some x → HasNodes s nodes → HasNodes (after_abort_of_preparing s t x.end) (nodes_after_abort t (nodes t).dependents nodes)
 kept_abort s nodes t x f h = record {
   active = each_map (active_with_flag t x.end) (λ r. (has_end (nodes t).dependents r.id ≡ has_end r.depends_on x.end) × IsNode s.stamped r.depends_on r.aborted_dependency (nodes r.id)) (λ r. IsNode (map (with_flag t x.end) (filter (not_at x.end) s.stamped)) r.depends_on r.aborted_dependency (nodes_after_abort t (nodes t).dependents nodes r.id))
-      (λ r g. gone_node s.stamped t x.end r.depends_on r.aborted_dependency (nodes r.id) (has_end (nodes t).dependents r.id) g.0 g.1) s.active
+      (λ r g. flagged_node s.stamped t x.end r.depends_on r.aborted_dependency (nodes r.id) (has_end (nodes t).dependents r.id) g.0 g.1) s.active
       (each_both (λ r. has_end (nodes t).dependents r.id ≡ has_end r.depends_on x.end) (λ r. IsNode s.stamped r.depends_on r.aborted_dependency (nodes r.id)) (λ r. (has_end (nodes t).dependents r.id ≡ has_end r.depends_on x.end) × IsNode s.stamped r.depends_on r.aborted_dependency (nodes r.id)) (λ r a b. (a, b)) s.active (its_dependents s nodes t x h f).active h.active);
   preparing = each_map (with_flag t x.end) (λ y. (y.settled ≡ false → has_end (nodes t).dependents y.id ≡ has_end y.depends_on x.end) × (y.settled ≡ false → IsNode s.stamped y.depends_on y.aborted_dependency (nodes y.id))) (λ y. y.settled ≡ false → IsNode (map (with_flag t x.end) (filter (not_at x.end) s.stamped)) y.depends_on y.aborted_dependency (nodes_after_abort t (nodes t).dependents nodes y.id))
-      (λ y g e. gone_node s.stamped t x.end y.depends_on y.aborted_dependency (nodes y.id) (has_end (nodes t).dependents y.id) (g.0 e) (g.1 e)) (filter (not_at x.end) s.stamped)
+      (λ y g e. flagged_node s.stamped t x.end y.depends_on y.aborted_dependency (nodes y.id) (has_end (nodes t).dependents y.id) (g.0 e) (g.1 e)) (filter (not_at x.end) s.stamped)
       (each_filter (not_at x.end) (λ y. (y.settled ≡ false → has_end (nodes t).dependents y.id ≡ has_end y.depends_on x.end) × (y.settled ≡ false → IsNode s.stamped y.depends_on y.aborted_dependency (nodes y.id))) (λ y. (y.settled ≡ false → has_end (nodes t).dependents y.id ≡ has_end y.depends_on x.end) × (y.settled ≡ false → IsNode s.stamped y.depends_on y.aborted_dependency (nodes y.id))) (λ y _ g. g) s.stamped
       (each_both (λ y. y.settled ≡ false → has_end (nodes t).dependents y.id ≡ has_end y.depends_on x.end) (λ y. y.settled ≡ false → IsNode s.stamped y.depends_on y.aborted_dependency (nodes y.id)) (λ y. (y.settled ≡ false → has_end (nodes t).dependents y.id ≡ has_end y.depends_on x.end) × (y.settled ≡ false → IsNode s.stamped y.depends_on y.aborted_dependency (nodes y.id))) (λ y a b. (a, b)) s.stamped (its_dependents s nodes t x h f).preparing h.preparing));
   dependents = each_map (with_flag t x.end) (λ y. y.settled ≡ false → AreDependents s (nodes y.id).dependents y.end) (λ y. y.settled ≡ false → AreDependents (after_abort_of_preparing s t x.end) (nodes y.id).dependents y.end)
@@ -143,7 +143,7 @@ added_node xs t e deps r n ri o q h = record { flag = h.flag; waits = λ d. go (
         omega (arith, k, l, m, w)
     go false i w = w
 
--- (e) add a dependency
+-- add a dependency
 pub kept_registered : (s : State) (nodes : Nodes) (t x e : ℕ) → IsSound s → IsNew s t x e → AreDependents s (nodes x).dependents e → HasNodes s nodes → HasNodes (depended s t e) (after_register t x nodes)
 kept_registered s nodes t x e sd new deps h = record {
   active = each_map (with_dependency t e) (λ r. (has_end (nodes x).dependents r.id ≡ has_end r.depends_on e) × IsNode s.stamped r.depends_on r.aborted_dependency (nodes r.id)) (λ r. IsNode s.stamped r.depends_on r.aborted_dependency (after_register t x nodes r.id))

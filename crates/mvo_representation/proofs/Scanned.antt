@@ -174,7 +174,7 @@ putter p b (x ∷ xs) P h e = go (nat_lt x.end b && list_any p (puts x.history))
     go true f g again = let w = and_parts (nat_lt x.end b) (list_any p (puts x.history)) f in record { slot = x; below = ltb-true x.end b w.0; put = w.1; holds = h.0 }
     go false f g again = let w = again g in record { slot = w.slot; below = w.below; put = w.put; holds = w.holds }
 
--- ---- (b) the keys that are met count, and those that count are met
+-- ---- the keys that are met count, and those that count are met
 or_left : (a b : Bool) → a ≡ true → (a || b) ≡ true
 or_left a b e = ap (λ c. c || b) e
 
@@ -300,7 +300,7 @@ counts_met s table vs t r tab lo hi q sd st h f e = go (or_cases (is_some (pass 
     go (inl g) = by_base (fin.get s.base q) refl g
     go (inr g) = by_put (putter (is_row_of (shows (Range tab lo hi)) q) t s.stamped (λ x. (s.start < x.end) × (history_at x.end s.stamped ≡ x.history)) (each_both (λ x. s.start < x.end) (λ x. history_at x.end s.stamped ≡ x.history) (λ x. (s.start < x.end) × (history_at x.end s.stamped ≡ x.history)) (λ x a b. (a, b)) s.stamped st.later (history_in s.stamped sd.rising)) g)
 
--- (b) a row of the scan is of a key that t wrote, or that is met
+-- a row of the scan is of a key that t wrote, or that is met
 pub scanned_met : (s : State) (table : Phases) (vs : List Version) (t : ℕ) (r : ActiveTx) (tab lo hi : ℕ) (q : RowKey) → IsSound s → IsStarted s → AreVersionsOf s table vs → active_of t s.active ≡ Some r → is_some (pass (shows (Range tab lo hi)) q (fin.get (after_history r.history (seen_by s.base s.stamped t)) q)) ≡ true → (is_some (net_write q r.history) ≡ true) ⊎ (is_met (ends_of table) s.start t (is_row_of (shows (Range tab lo hi)) q) vs ≡ true)
 scanned_met s table vs t r tab lo hi q sd st h f e = go (net_write q r.history) refl
   where
@@ -309,7 +309,7 @@ scanned_met s table vs t r tab lo hi q sd st h f e = go (net_write q r.history) 
     go None g = inr (counts_met s table vs t r tab lo hi q sd st h f
         (seen_counts (Range tab lo hi) q t s.base s.stamped (ap (λ o. is_some (pass (shows (Range tab lo hi)) q o)) (sym (get-after_history q r.history (seen_by s.base s.stamped t) ∙ ap (λ w. content_after_last w (fin.get (seen_by s.base s.stamped t) q)) g)) ∙ e)))
 
--- (b) what a scan depends on: the Preparing last writers of the keys that are met and that t hasn't written
+-- what a scan depends on: the Preparing last writers of the keys that are met and that t hasn't written
 pub record IsMetOpen (s : State) (table : Phases) (vs : List Version) (tab lo hi : ℕ) (r : ActiveTx) (d : ℕ) : Type 0 where
   pub key : RowKey
   pub met : is_met (ends_of table) s.start r.id (is_row_of (shows (Range tab lo hi)) key) vs ≡ true

@@ -21,7 +21,7 @@ use Rattle.mvo_representation.specs.Words.{Phases, ends_of, has_stamp, NetEffect
 use Rattle.mvo_visible.specs.Words.{names}
 use Rattle.mvo_representation.specs.Words.NetEffect.{Untouched, Removed, Puts, Clash}
 use Rattle.mvo_representation.specs.Versions.{Say, origin_at_start, AreVersionsOf}
-use Rattle.mvo_representation.proofs.LastChanges.{change_by, change_of_last, first_of, top_last, history_below_last, write_by, last_writes, last_none_above}
+use Rattle.mvo_representation.proofs.LastChanges.{change_by, change_of_last, first_of, last_change_last, history_below_last, write_by, last_writes, last_none_above}
 use Rattle.mvo_representation.proofs.Facts.{unstamped}
 use Rattle.mvo_types.specs.Write.Effect.{Put, Delete as Gone}
 
@@ -46,15 +46,15 @@ deciding s table vs b k sd st h at = go (cases_order s.start b)
     f : ℕ → NetEffect
     f e = net_effect (has_stamp (ends_of table) e) k vs
 
-    top_suc : (d : NetEffect) → d ≡ Untouched → or_change_at s.start d (last_change f s.start) ≡ last_change f s.start
-    top_suc d e = ap (λ x. or_change_at s.start x (last_change f s.start)) e
+    last_change_suc : (d : NetEffect) → d ≡ Untouched → or_change_at s.start d (last_change f s.start) ≡ last_change f s.start
+    last_change_suc d e = ap (λ x. or_change_at s.start x (last_change f s.start)) e
 
     go : (s.start ≡ b) ⊎ ((s.start < b) ⊎ (b < s.start)) → last_change (λ e. net_effect (has_stamp (ends_of table) e) k vs) b ≡ first_of (change_of_last k b s.stamped) (last_change (λ e. net_effect (has_stamp (ends_of table) e) k vs) (suc s.start))
     go (inl e) =
         subst (λ (n : ℕ). last_change (λ e. net_effect (has_stamp (ends_of table) e) k vs) n ≡ first_of (change_of_last k n s.stamped) (last_change (λ e. net_effect (has_stamp (ends_of table) e) k vs) (suc s.start))) e
         (sym (ap (λ d. or_change_at s.start d (last_change (λ e. net_effect (has_stamp (ends_of table) e) k vs) s.start)) (ap (λ n. net_effect (has_stamp (ends_of table) n) k vs) e ∙ at.free e k))
         ∙ sym (ap (λ w. first_of (option_map (change_by k) w) (last_change (λ e. net_effect (has_stamp (ends_of table) e) k vs) (suc s.start))) (last_none_above k s.start s.stamped (each_weaker (λ x. s.start < x.end) (λ x. s.start ≤ x.end) (λ x lt. omega (arith, lt)) s.stamped st.later))))
-    go (inr (inl lt)) = top_last (λ e. net_effect (has_stamp (ends_of table) e) k vs) k s.stamped s.start b (λ e gt. (h.stamped e gt).writes k) sd.rising st.later lt
+    go (inr (inl lt)) = last_change_last (λ e. net_effect (has_stamp (ends_of table) e) k vs) k s.stamped s.start b (λ e gt. (h.stamped e gt).writes k) sd.rising st.later lt
     go (inr (inr gt)) = absurd (omega (arith, gt, at.from))
 
 -- ---- the origin
@@ -129,17 +129,17 @@ pub row_of_standing : (c : Option (ℕ × NetEffect)) (o : ℕ) (m : Option Cont
 row_of_standing c o m e = sym (row_standing c) ∙ ap row_in e ∙ row_put o m
 
 history_found : (t : ℕ) (rs : List ActiveTx) (r : ActiveTx) → active_of t rs ≡ Some r → history_of_active t rs ≡ r.history
-history_found t [] r e = absurd (none_running r e)
+history_found t [] r e = absurd (none_active r e)
   where
-    none_running : (q : ActiveTx) → ◌≡◌ {A = Option ActiveTx} None (Some q) → ⊥
-    none_running q g = cc
+    none_active : (q : ActiveTx) → ◌≡◌ {A = Option ActiveTx} None (Some q) → ⊥
+    none_active q g = cc
 history_found t (q ∷ qs) r e = go (q.id == t) e (λ f. history_found t qs r f)
   where
-    some_running : (p q : ActiveTx) → ◌≡◌ {A = Option ActiveTx} (Some p) (Some q) → p ≡ q
-    some_running p q g = cc
+    some_active : (p q : ActiveTx) → ◌≡◌ {A = Option ActiveTx} (Some p) (Some q) → p ≡ q
+    some_active p q g = cc
 
     go : (b : Bool) → cond b (Some q) (active_of t qs) ≡ Some r → (active_of t qs ≡ Some r → history_of_active t qs ≡ r.history) → cond b q.history (history_of_active t qs) ≡ r.history
-    go true g k = ap (λ (p : ActiveTx). p.history) (some_running q r g)
+    go true g k = ap (λ (p : ActiveTx). p.history) (some_active q r g)
     go false g k = k g
 
 shown_did : (w : Option Effect) (c : Option (ℕ × NetEffect)) → shown_over (as_net_effect w) c ≡ content_after_last w (row_in c)
@@ -147,7 +147,7 @@ shown_did None c = refl
 shown_did (Some Gone) c = refl
 shown_did (Some (Put h)) c = refl
 
--- (a) what an Active one is shown at a key is the row of its snapshot
+-- what an Active one is shown at a key is the row of its snapshot
 pub shown_right : (s : State) (table : Phases) (vs : List Version) (t : ℕ) (r : ActiveTx) (k : RowKey) → IsSound s → IsStarted s → AreVersionsOf s table vs → active_of t s.active ≡ Some r → shown_row (ends_of table) t k vs ≡ fin.get (snapshot s t) k
 shown_right s table vs t r k sd st h f =
     ap (λ d. shown_over d (change_below (ends_of table) t k vs)) own

@@ -26,7 +26,7 @@ use Rattle.mvo_representation.specs.Words.NetEffect.{Untouched, Removed, Puts, C
 use Rattle.mvo_representation.specs.Versions.{Say, AreVersionsOf}
 use Rattle.mvo_representation.specs.Indexes.{all_versions, and_found, versions_numbered, is_of_key, HasNumbers}
 use Rattle.mvo_representation.specs.Table.{phases_of, content_shown}
-use Rattle.mvo_representation.proofs.LastChanges.{top_same}
+use Rattle.mvo_representation.proofs.LastChanges.{last_change_same}
 use Rattle.mvo_representation.proofs.Shown.{active_begins, behind_is, stands_below, shown_right}
 use Rattle.mvo_representation.proofs.Version.{clash_in, no_clash}
 use Rattle.mvo_representation.proofs.Own.{not_clash}
@@ -184,7 +184,7 @@ pub keyed : (slots : Slots) (lists : Lists) (k : RowKey) → HasNumbers slots li
 keyed slots lists k h n = index_net_effect n k slots lists h ∙ ap (net_effect n k) (sym (versions_in_by slots (numbers_of lists k)))
 
 pub below_keyed : (states : States) (slots : Slots) (lists : Lists) (k : RowKey) (b : ℕ) → HasNumbers slots lists → change_below (ends_of (phases_of states)) b k (all_versions slots) ≡ change_below (ends_of (phases_of states)) b k (versions_in (versions_at slots lists k))
-below_keyed states slots lists k b h = top_same (λ s. net_effect (has_stamp (ends_of (phases_of states)) s) k (all_versions slots)) (λ s. net_effect (has_stamp (ends_of (phases_of states)) s) k (versions_in (versions_at slots lists k))) b (λ s _. keyed slots lists k h (has_stamp (ends_of (phases_of states)) s))
+below_keyed states slots lists k b h = last_change_same (λ s. net_effect (has_stamp (ends_of (phases_of states)) s) k (all_versions slots)) (λ s. net_effect (has_stamp (ends_of (phases_of states)) s) k (versions_in (versions_at slots lists k))) b (λ s _. keyed slots lists k h (has_stamp (ends_of (phases_of states)) s))
 
 clear_keyed : (states : States) (slots : Slots) (lists : Lists) (t : ℕ) (k : RowKey) → HasNumbers slots lists → IsClear states t k (all_versions slots) → IsClear states t k (versions_in (versions_at slots lists k))
 clear_keyed states slots lists t k h c = record {

@@ -22,35 +22,35 @@ use Rattle.mvo_representation.proofs.Shown.{IsBegin, stands_below}
 use Rattle.mvo_representation.proofs.Open.{stamp_of}
 
 -- ---- the greatest change
-pub record IsTop (f : ℕ → NetEffect) (b : ℕ) (p : ℕ × NetEffect) : Type 0 where
+pub record IsLastChange (f : ℕ → NetEffect) (b : ℕ) (p : ℕ × NetEffect) : Type 0 where
   pub within : p.0 < b
   pub is : f p.0 ≡ p.1
   pub last : (x : ℕ) → p.0 < x → x < b → f x ≡ Untouched
 
-pub none_top : (p : ℕ × NetEffect) → ◌≡◌ {A = Option (ℕ × NetEffect)} None (Some p) → ⊥
-none_top p q = cc
+pub no_change : (p : ℕ × NetEffect) → ◌≡◌ {A = Option (ℕ × NetEffect)} None (Some p) → ⊥
+no_change p q = cc
 
-abbrev pub effect_of_in : Option (ℕ × NetEffect) → NetEffect
-effect_of_in None = Untouched
-effect_of_in (Some p) = p.1
+abbrev pub effect_in : Option (ℕ × NetEffect) → NetEffect
+effect_in None = Untouched
+effect_in (Some p) = p.1
 
-pub top_is : (f : ℕ → NetEffect) (b : ℕ) (p : ℕ × NetEffect) → last_change f b ≡ Some p → IsTop f b p
-top_is f zero p e = absurd (none_top p e)
-top_is f (suc b) p e = go (f b) refl e (λ g. top_is f b p g)
+pub last_change_is_one : (f : ℕ → NetEffect) (b : ℕ) (p : ℕ × NetEffect) → last_change f b ≡ Some p → IsLastChange f b p
+last_change_is_one f zero p e = absurd (no_change p e)
+last_change_is_one f (suc b) p e = go (f b) refl e (λ g. last_change_is_one f b p g)
   where
-    here : (d : NetEffect) → f b ≡ d → Some (b, d) ≡ Some p → IsTop f (suc b) p
+    here : (d : NetEffect) → f b ≡ d → Some (b, d) ≡ Some p → IsLastChange f (suc b) p
     here d h g = let q : b ≡ p.0 = ap stamp_of g in record {
       within = omega (arith, q);
-      is = ap f (sym q) ∙ h ∙ ap effect_of_in g;
+      is = ap f (sym q) ∙ h ∙ ap effect_in g;
       last = λ x l u. absurd (omega (arith, q, l, u));
     }
 
-    more : f b ≡ Untouched → (x : ℕ) → IsTop f b p → p.0 < x → x < suc b → (x ≡ b) ⊎ ((x < b) ⊎ (b < x)) → f x ≡ Untouched
+    more : f b ≡ Untouched → (x : ℕ) → IsLastChange f b p → p.0 < x → x < suc b → (x ≡ b) ⊎ ((x < b) ⊎ (b < x)) → f x ≡ Untouched
     more h x t l u (inl q) = ap f q ∙ h
     more h x t l u (inr (inl lt)) = t.last x l lt
     more h x t l u (inr (inr gt)) = absurd (omega (arith, gt, u))
 
-    go : (d : NetEffect) → f b ≡ d → or_change_at b d (last_change f b) ≡ Some p → (last_change f b ≡ Some p → IsTop f b p) → IsTop f (suc b) p
+    go : (d : NetEffect) → f b ≡ d → or_change_at b d (last_change f b) ≡ Some p → (last_change f b ≡ Some p → IsLastChange f b p) → IsLastChange f (suc b) p
     go Untouched h g again = let t = again g in record { within = let l = t.within in omega (arith, l); is = t.is; last = λ x l u. more h x t l u (cases_order x b) }
     go Removed h g again = here Removed h g
     go (Puts r) h g again = here (Puts r) h g
@@ -80,7 +80,7 @@ put_stands : (a o : ℕ) (h : ContentData) (rest : NetEffect) (m : Option Conten
 put_stands a o h rest m e = go rest e
   where
     plain : (m : Option ContentData) → ◌≡◌ {A = Option (ℕ × NetEffect)} (Some (a, Puts h)) (option_map (λ h. (o, Puts h)) m) → (m ≡ Some h) × (a ≡ o)
-    plain None q = absurd (none_top (a, Puts h) (sym q))
+    plain None q = absurd (no_change (a, Puts h) (sym q))
     plain (Some g) q = (sym (ap row_in q), ap stamp_of q)
 
     go : (r : NetEffect) → standing (Some (a, with_effect (Puts h) r)) ≡ option_map (λ h. (o, Puts h)) m → (m ≡ Some h) × (a ≡ o)
@@ -96,7 +96,7 @@ pub record IsShownRow (s : State) (b : ℕ) (k : RowKey) (v : Version) (a : ℕ)
 -- the version that is found is the row that is seen, and it begins at the key's origin
 pub version_shown : (s : State) (table : Phases) (xs : List Version) (v : Version) (ys : List Version) (b : ℕ) (k : RowKey) (a : ℕ) → IsSound s → IsStarted s → AreVersionsOf s table (xs ++ v ∷ ys) → IsBegin s table (xs ++ v ∷ ys) b → AllByRecursion (λ x. x.end < b) s.past → IsShownAt (ends_of table) b k (xs ++ v ∷ ys) v a → IsShownRow s b k v a
 version_shown s table xs v ys b k a sd st h at below is =
-    let t = top_is (λ e. net_effect (has_stamp (ends_of table) e) k (xs ++ v ∷ ys)) b (a, is.last.0) is.last.1 in
+    let t = last_change_is_one (λ e. net_effect (has_stamp (ends_of table) e) k (xs ++ v ∷ ys)) b (a, is.last.0) is.last.1 in
     let d : is.last.0 ≡ with_effect (Puts (content_of v.row)) (net_effect (has_stamp (ends_of table) a) k (xs ++ ys)) =
     sym t.is ∙ net_effect-at (has_stamp (ends_of table) a) k xs v ys ∙ ap (λ e. with_effect e (net_effect (has_stamp (ends_of table) a) k (xs ++ ys))) (put_there (ends_of table) k v a is.key is.put is.stays) in
     let w = put_stands a (origin s b k) (content_of v.row) (net_effect (has_stamp (ends_of table) a) k (xs ++ ys)) (fin.get (seen_by s.base s.stamped b) k)

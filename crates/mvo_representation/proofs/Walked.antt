@@ -32,7 +32,7 @@ use Rattle.mvo_representation.specs.Words.NetEffect.{Untouched, Removed, Puts, C
 use Rattle.mvo_representation.specs.Versions.{AreVersionsOf}
 use Rattle.mvo_representation.specs.Indexes.{place_of, is_at_place, HasPlaces}
 use Rattle.mvo_representation.proofs.Shown.{active_begins, behind_is, stands_below}
-use Rattle.mvo_representation.proofs.Version.{top_is, none_top}
+use Rattle.mvo_representation.proofs.Version.{last_change_is_one, no_change}
 use Rattle.mvo_representation.proofs.Scanned.{OneOf, one_of, any_at}
 use Rattle.mvo_representation.proofs.Writing.{writer}
 use Rattle.mvo_types.specs.Write.Effect.{Put}
@@ -108,7 +108,7 @@ shown_found opening steps s table vs t mine k h kept r f e = go (change_below (e
     stands = stands_below s table vs t k kept.sound kept.started r (active_begins s table vs t mine kept.sound r f) (behind_is s table vs t mine r f) ∙ ap (option_map (λ x. (origin s t k, Puts x))) e
 
     no_row : (c : Option (ℕ × NetEffect)) → change_below (ends_of table) t k vs ≡ c → standing c ≡ None → ⊥
-    no_row c i n = none_top (origin s t k, Puts h) (sym (ap standing i ∙ n) ∙ stands)
+    no_row c i n = no_change (origin s t k, Puts h) (sym (ap standing i ∙ n) ∙ stands)
 
     stamp : Option (ℕ × NetEffect) → ℕ
     stamp None = 0
@@ -129,7 +129,7 @@ shown_found opening steps s table vs t mine k h kept r f e = go (change_below (e
     there a g i =
         let at : a ≡ origin s t k = ap stamp (sym (ap standing i)) ∙ ap stamp stands in
         let same : Some g ≡ Some h = ap held (sym (ap standing i)) ∙ ap held stands in
-        let w = put_by (has_stamp (ends_of table) a) k h vs (ap content_put ((top_is (λ m. net_effect (has_stamp (ends_of table) m) k vs) t (a, Puts g) i).is) ∙ same) in
+        let w = put_by (has_stamp (ends_of table) a) k h vs (ap content_put ((last_change_is_one (λ m. net_effect (has_stamp (ends_of table) m) k vs) t (a, Puts g) i).is) ∙ same) in
         subst (ShownThere (ends_of table) t k h vs) at (record {
           before = w.before;
           version = w.version;
@@ -146,7 +146,7 @@ shown_found opening steps s table vs t mine k h kept r f e = go (change_below (e
     go (Some (a, Puts g)) i = there a g i
     go (Some (a, Clash)) i = absurd (true≢false (ap clash (sym (ap standing i)) ∙ ap clash stands))
 
--- ---- (b) a scan meets each such version at its place in the ordered index
+-- ---- a scan meets each such version at its place in the ordered index
 pub record IsPlacedIn (places : Places) (tab lo hi : ℕ) (q : RowKey) : Type 0 where
   pub place : Place
   pub there : is_some (fin.get places place) ≡ true

@@ -38,12 +38,12 @@ use Rattle.mvo_representation.specs.Versions.{Say, IsKnown, IsClaimed, HasClaims
 use Rattle.mvo_representation.proofs.Effects.{net_effect-at}
 use Rattle.mvo_representation.proofs.Facts.{phase_active, stamp_drawn}
 use Rattle.mvo_representation.proofs.Shown.{active_begins, behind_is, stands_below}
-use Rattle.mvo_representation.proofs.Version.{IsShownRow, version_shown, put_there, top_is, clash_in, no_clash}
+use Rattle.mvo_representation.proofs.Version.{IsShownRow, version_shown, put_there, last_change_is_one, clash_in, no_clash}
 use Rattle.mvo_representation.proofs.Conflict.{not_active}
 use Rattle.mvo_representation.proofs.Kept.{IsSame, same_trans, IsVersion, each_version, each_at, each_changed}
 use Rattle.mvo_representation.proofs.Answers.{IsOnly, only_mine, Wrote, IsApartFrom, ClaimsMore, claims_answered, known_answered, inside_answered, version_answered, kept_after_operation}
 use Rattle.mvo_representation.specs.Steps.{IsOwnNewest, fresh, ended_by}
-use Rattle.mvo_representation.proofs.Own.{IsFree, own_id, not_absent, same_did, wrote_fresh, wrote_end_other, wrote_end_own, wrote_both, same_fresh, same_end, apart_fresh, apart_end, apart_both, version_fresh, free_after}
+use Rattle.mvo_representation.proofs.Own.{IsFree, own_id, not_absent, same_effect, wrote_fresh, wrote_end_other, wrote_end_own, wrote_both, same_fresh, same_end, apart_fresh, apart_end, apart_both, version_fresh, free_after}
 use Rattle.mvo_types.specs.Write.Effect.{Put, Delete as Gone}
 
 none_end : (e : ℕ) → ◌≡◌ {A = Option ℕ} None (Some e) → ⊥
@@ -74,7 +74,7 @@ empty_more (d ∷ ds) = ap (λ x. d ∷ x) (empty_more ds)
 no_more : (s : State) (t : ℕ) (op : Op) (a : AnswerData) (mine : ActiveTx) → IsOnly t mine s.active → claims_with s mine (ended_key op a) ≡ mine.claims → ClaimsMore s t op a mine []
 no_more s t op a mine only e = record { only = only; is = e ∙ empty_more mine.claims; drawn = tt }
 
--- ---- (e) insert, where nothing is shown
+-- ---- insert, where nothing is shown
 free_key : (w : Option Effect) (m : Option ContentData) → content_after_last w m ≡ None → content_after_last w None ≡ None
 free_key None m e = refl
 free_key (Some x) m e = e
@@ -97,7 +97,7 @@ kept_insert s table t op a mine vs r num h f gone w e =
     c = no_more s t op a mine me.only (ap (claims_with s mine) e)
 
     free : IsFree t r.key vs
-    free x q = same_did x (net_write r.key mine.history) (sym q ∙ me.net_effect r.key) ∙ free_key (net_write r.key mine.history) (fin.get (seen_by s.base s.stamped mine.id) r.key) (sym (get-after_history r.key mine.history (seen_by s.base s.stamped mine.id)) ∙ gone)
+    free x q = same_effect x (net_write r.key mine.history) (sym q ∙ me.net_effect r.key) ∙ free_key (net_write r.key mine.history) (fin.get (seen_by s.base s.stamped mine.id) r.key) (sym (get-after_history r.key mine.history (seen_by s.base s.stamped mine.id)) ∙ gone)
 
 -- ---- the End may be claimed
 pub record IsClaimable (s : State) (ends : Ends) (w : Held) : Type 0 where
@@ -204,7 +204,7 @@ pub ends_other : (s : State) (table : Phases) (t : ℕ) (op : Op) (a : AnswerDat
 ends_other s table t op a mine xs v ys o sd st num h f x e = record {
   claimed = more;
   same = same_end s.start (ends_of table) t xs v ys (ap end_in me.active) free.unseen;
-  wrote = wrote_end_other t xs v ys (mine_of v.begin (stamped_unnamed s table (xs ++ v ∷ ys) v.begin o h x.shown.put)) (mine_of v.end free.unnamed) (λ w q. same_did w (net_write v.row.key mine.history) (sym q ∙ me.net_effect v.row.key) ∙ ap (λ y. content_after_last y None) x.unwritten);
+  wrote = wrote_end_other t xs v ys (mine_of v.begin (stamped_unnamed s table (xs ++ v ∷ ys) v.begin o h x.shown.put)) (mine_of v.end free.unnamed) (λ w q. same_effect w (net_write v.row.key mine.history) (sym q ∙ me.net_effect v.row.key) ∙ ap (λ y. content_after_last y None) x.unwritten);
   apart = each_weaker (λ q. names q.id v.end ≡ false) (λ q. (q.id ≡ t → ⊥) → IsApartFrom q.id (xs ++ v ∷ ys) (xs ++ ended_by t v ∷ ys)) (λ q n d. apart_end t q.id xs v ys d n) s.active free.unnamed;
   versions = each_insert (IsVersion (after_operation s t op a) table) xs (ended_by t v) ys here
       (each_both (λ w. puts (effect_of (has_stamp (ends_of table) o) v.row.key w) ≡ false) (IsVersion s table) (IsVersion (after_operation s t op a) table)
@@ -240,7 +240,7 @@ ends_other s table t op a mine xs v ys o sd st num h f x e = record {
 
     clear : is_clash (net_effect (has_stamp (ends_of table) o) v.row.key (xs ++ v ∷ ys)) ≡ false
     clear =
-        let t' = top_is (λ m. net_effect (has_stamp (ends_of table) m) v.row.key (xs ++ v ∷ ys)) t (o, x.shown.last.0) x.shown.last.1 in
+        let t' = last_change_is_one (λ m. net_effect (has_stamp (ends_of table) m) v.row.key (xs ++ v ∷ ys)) t (o, x.shown.last.0) x.shown.last.1 in
         ap is_clash t'.is
         ∙ sym (clash_standing o x.shown.last.0)
         ∙ ap (λ c. clash_in (standing c)) (sym x.shown.last.1)
@@ -388,7 +388,7 @@ ends_own s table t op a mine xs v ys num h f x e = record {
       inside = inside_answered s t op a (ended_by t v) (each_always (IsInside (ended_by t v)) (λ q is. inr (eq-eqb t q.id (named_same v.begin q.id x.mine is))) s.active);
     }
 
--- ---- (e) delete, and update
+-- ---- delete, and update
 pub kept_delete : (s : State) (table : Phases) (t : ℕ) (op : Op) (a : AnswerData) (mine : ActiveTx) (more : List Claim) (xs : List Version) (v : Version) (ys : List Version) → AreVersionsOf s table (xs ++ v ∷ ys) → IsEnded s table t op a mine more xs v ys → write_of op a ≡ Some (v.row.key, Gone) → AreVersionsOf (after_operation s t op a) table (xs ++ ended_by t v ∷ ys)
 kept_delete s table t op a mine more xs v ys h d w =
     kept_after_operation s table t op a mine more (xs ++ v ∷ ys) (xs ++ ended_by t v ∷ ys) h d.claimed d.same
