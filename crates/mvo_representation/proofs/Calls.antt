@@ -23,7 +23,7 @@ use Rattle.mvo_theory.proofs.Phases.{IsUnended}
 use Rattle.mvo_theory.proofs.Kept.{sees}
 use Rattle.mvo_theory.proofs.Who.{active_holds, id_of, active_after_prepare, preparing_settled}
 use Rattle.mvo_chain.specs.declared.version.Version.{Version}
-use Rattle.mvo_representation.specs.Words.{Phases, ends_of, cause_in, IsShownAt}
+use Rattle.mvo_representation.specs.Words.{Phases, ends_of, cause_at_end, IsShownAt}
 use Rattle.mvo_representation.specs.Versions.{AreVersionsOf}
 use Rattle.mvo_representation.proofs.Shown.{active_begins, behind_is}
 use Rattle.mvo_representation.proofs.Version.{IsShownRow, version_shown}
@@ -151,7 +151,7 @@ kept_by_delete_own opening steps s table xs v ys t mine k h f x =
     (kept_delete s table t (Delete v.row.key) Deleted mine [] xs v ys h d refl))
 
 -- the cause that the state names is the one that the End tells
-pub conflict_right : (opening : Map) (steps : List Step) (s : State) (table : Phases) (xs : List Version) (v : Version) (ys : List Version) (t : ℕ) (mine : ActiveTx) (o : ℕ) → IsKept opening steps s → AreVersionsOf s table (xs ++ v ∷ ys) → active_of t s.active ≡ Some mine → net_write v.row.key mine.history ≡ None → IsShownAt (ends_of table) t v.row.key (xs ++ v ∷ ys) v o → conflict s t v.row.key ≡ cause_in table v.end
+pub conflict_right : (opening : Map) (steps : List Step) (s : State) (table : Phases) (xs : List Version) (v : Version) (ys : List Version) (t : ℕ) (mine : ActiveTx) (o : ℕ) → IsKept opening steps s → AreVersionsOf s table (xs ++ v ∷ ys) → active_of t s.active ≡ Some mine → net_write v.row.key mine.history ≡ None → IsShownAt (ends_of table) t v.row.key (xs ++ v ∷ ys) v o → conflict s t v.row.key ≡ cause_at_end table v.end
 conflict_right opening steps s table xs v ys t mine o k h f n x =
     ap (λ m. cond (fin.contains_key m v.row.key && not (is_some (net_write v.row.key (history_of_active t s.active)))) (claimed_by s t v.row.key) None) (seen_in opening steps s t mine k f)
     ∙ ap (λ ts. cond (fin.contains_key (after_history mine.history (seen_by s.base s.stamped mine.id)) v.row.key && not (is_some (net_write v.row.key ts))) (claimed_by s t v.row.key) None) (found_is t s.active mine f).1

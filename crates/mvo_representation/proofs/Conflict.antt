@@ -21,7 +21,7 @@ use Rattle.mvo_theory.proofs.Who.{active_holds}
 use Rattle.mvo_word.specs.declared.held.Held.{Held}
 use Rattle.mvo_word.specs.declared.held.Held.TheVariants.{At, By, Infinity}
 use Rattle.mvo_chain.specs.declared.version.Version.{Version}
-use Rattle.mvo_representation.specs.Words.{Phases, Ends, end_in, ends_of, stamp_in, is_stamp, has_stamp, cause_of, cause_in, NetEffect, with_effect, effect_by, as_net_effect, net_effect, IsShownAt}
+use Rattle.mvo_representation.specs.Words.{Phases, Ends, end_in, ends_of, stamp_in, is_stamp, has_stamp, cause_of_phase, cause_at_end, NetEffect, with_effect, effect_by, as_net_effect, net_effect, IsShownAt}
 use Rattle.mvo_visible.specs.Words.{names}
 use Rattle.mvo_representation.specs.Words.NetEffect.{Untouched, Removed, Puts, Clash}
 use Rattle.mvo_representation.specs.Versions.{history_at, Say, IsKnown, IsClaimed, HasClaims, HasItsClaims, IsForward, AreVersionsOf}
@@ -197,7 +197,7 @@ end_behind s table xs v ys t r a e sd h f is q n = go (cases_order e t)
         between (inr (inr g)) = omega (arith, g, forward)
 
 -- who claims the version that is shown, where the transaction hasn't written the key: its End tells
-pub cause_right : (s : State) (table : Phases) (xs : List Version) (v : Version) (ys : List Version) (t : ℕ) (r : ActiveTx) (a : ℕ) → IsSound s → IsStarted s → AreVersionsOf s table (xs ++ v ∷ ys) → active_of t s.active ≡ Some r → net_write v.row.key r.history ≡ None → IsShownAt (ends_of table) t v.row.key (xs ++ v ∷ ys) v a → claimed_by s t v.row.key ≡ cause_in table v.end
+pub cause_right : (s : State) (table : Phases) (xs : List Version) (v : Version) (ys : List Version) (t : ℕ) (r : ActiveTx) (a : ℕ) → IsSound s → IsStarted s → AreVersionsOf s table (xs ++ v ∷ ys) → active_of t s.active ≡ Some r → net_write v.row.key r.history ≡ None → IsShownAt (ends_of table) t v.row.key (xs ++ v ∷ ys) v a → claimed_by s t v.row.key ≡ cause_at_end table v.end
 cause_right s table xs v ys t r a sd st h f unwritten is =
     ap (λ n. or_cause (active_claim t v.row.key n s.active) (stamped_claim v.row.key n s.stamped)) (sym row.origin)
     ∙ go v.end refl
@@ -228,7 +228,7 @@ cause_right s table xs v ys t r a sd st h f unwritten is =
         let o = active_holds (λ (x : ActiveTx). Say (names x.id) x.history x.footprint (xs ++ v ∷ ys)) t s.active r f h.active in
         end_has_effect (names r.id) xs v ys (ap (names r.id) i ∙ eq-eqb u r.id (e ∙ sym o.1)) (o.0.writes v.row.key ∙ ap as_net_effect unwritten)
 
-    by : (u : ℕ) (p : Phase) → v.end ≡ By (record { 0 = u }) → table u ≡ p → or_cause (active_claim t v.row.key a s.active) (stamped_claim v.row.key a s.stamped) ≡ cause_of u p
+    by : (u : ℕ) (p : Phase) → v.end ≡ By (record { 0 = u }) → table u ≡ p → or_cause (active_claim t v.row.key a s.active) (stamped_claim v.row.key a s.stamped) ≡ cause_of_phase u p
     by u Active i q =
         let w = active_found s u (sym (h.phases u) ∙ q) in
         ap (λ c. or_cause c (stamped_claim v.row.key a s.stamped)) (active_one t u v.row.key a s.active w.0 (mine u i) w.1 (named (By (record { 0 = u })) i))
@@ -245,7 +245,7 @@ cause_right s table xs v ys t r a sd st h f unwritten is =
         ap (λ c. or_cause c (stamped_claim v.row.key a s.stamped)) (none (By (record { 0 = u })) i (not_active s u (λ g. other (Committed e) (λ g. cc) (sym (sym (h.phases u) ∙ q) ∙ g))))
         ∙ behind (By (record { 0 = u })) i e (ap end_in q)
 
-    go : (w : Held) → v.end ≡ w → or_cause (active_claim t v.row.key a s.active) (stamped_claim v.row.key a s.stamped) ≡ cause_in table w
+    go : (w : Held) → v.end ≡ w → or_cause (active_claim t v.row.key a s.active) (stamped_claim v.row.key a s.stamped) ≡ cause_at_end table w
     go Infinity i =
         ap (λ c. or_cause c (stamped_claim v.row.key a s.stamped)) (none Infinity i (unnamed s Infinity (λ x. refl)))
         ∙ stamped_nobody v.row.key a (ends_of table) Infinity s.stamped refl (ended Infinity i)

@@ -189,8 +189,8 @@ version_first states s (e ∷ es) =
 abbrev pub AreOfKey : RowKey → List Numbered → Type 0
 AreOfKey k vs = AllByRecursion (λ e. eq_by_cmp key_cmp k e.1.row.key ≡ true) vs
 
-abbrev pub versions_in : List Numbered → List Version
-versions_in vs = map (λ e. e.1) vs
+abbrev pub unnumbered : List Numbered → List Version
+unnumbered vs = map (λ e. e.1) vs
 
 abbrev pub is_change : NetEffect → Bool
 is_change Untouched = false
@@ -206,11 +206,11 @@ effect_here : (n : Held → Bool) (k : RowKey) (v : Version) → eq_by_cmp key_c
 effect_here n k v e = ap (λ b. cond b (effect_by (n v.begin) (n v.end) (content_of v.row)) Untouched) e
 
 -- something was done where some word passes
-pub change_any : (n : Held → Bool) (k : RowKey) (vs : List Numbered) → AreOfKey k vs → is_change (net_effect n k (versions_in vs)) ≡ list_any (λ e. n e.1.begin || n e.1.end) vs
+pub change_any : (n : Held → Bool) (k : RowKey) (vs : List Numbered) → AreOfKey k vs → is_change (net_effect n k (unnumbered vs)) ≡ list_any (λ e. n e.1.begin || n e.1.end) vs
 change_any n k [] h = refl
 change_any n k (e ∷ es) h =
-    ap (λ d. is_change (with_effect d (net_effect n k (versions_in es)))) (effect_here n k e.1 h.0)
-    ∙ go (n e.1.begin) (n e.1.end) (net_effect n k (versions_in es))
+    ap (λ d. is_change (with_effect d (net_effect n k (unnumbered es)))) (effect_here n k e.1 h.0)
+    ∙ go (n e.1.begin) (n e.1.end) (net_effect n k (unnumbered es))
     ∙ ap (λ b. (n e.1.begin || n e.1.end) || b) (change_any n k es h.1)
   where
     go : (b c : Bool) (d : NetEffect) → is_change (with_effect (effect_by b c (content_of e.1.row)) d) ≡ ((b || c) || is_change d)
@@ -229,11 +229,11 @@ change_any n k (e ∷ es) h =
     go false false d = refl
 
 -- what is put is the content of the first version that is put and stays
-pub content_first : (n : Held → Bool) (k : RowKey) (vs : List Numbered) → AreOfKey k vs → is_clash (net_effect n k (versions_in vs)) ≡ false → content_put (net_effect n k (versions_in vs)) ≡ content_of_first (first_put n vs)
+pub content_first : (n : Held → Bool) (k : RowKey) (vs : List Numbered) → AreOfKey k vs → is_clash (net_effect n k (unnumbered vs)) ≡ false → content_put (net_effect n k (unnumbered vs)) ≡ content_of_first (first_put n vs)
 content_first n k [] h c = refl
 content_first n k (e ∷ es) h c =
-    ap (λ d. content_put (with_effect d (net_effect n k (versions_in es)))) (effect_here n k e.1 h.0)
-    ∙ go (n e.1.begin) (n e.1.end) (net_effect n k (versions_in es)) (sym (ap (λ d. is_clash (with_effect d (net_effect n k (versions_in es)))) (effect_here n k e.1 h.0)) ∙ c) (λ q. content_first n k es h.1 q)
+    ap (λ d. content_put (with_effect d (net_effect n k (unnumbered es)))) (effect_here n k e.1 h.0)
+    ∙ go (n e.1.begin) (n e.1.end) (net_effect n k (unnumbered es)) (sym (ap (λ d. is_clash (with_effect d (net_effect n k (unnumbered es)))) (effect_here n k e.1 h.0)) ∙ c) (λ q. content_first n k es h.1 q)
   where
     go : (b c : Bool) (d : NetEffect) → is_clash (with_effect (effect_by b c (content_of e.1.row)) d) ≡ false → (is_clash d ≡ false → content_put d ≡ content_of_first (first_put n es)) → content_put (with_effect (effect_by b c (content_of e.1.row)) d) ≡ content_of_first (option_or (cond (b && not c) (Some e) None) (first_put n es))
     go true true Untouched q r = r refl
@@ -262,9 +262,9 @@ last_change_is f (suc b) = go (f b) refl (last_change_is f b)
     go Clash e r = ap (λ d. or_change_at b d (last_change f b)) e ∙ ap (λ d. Some (b, d)) (sym e) ∙ ap (λ d. option_map (λ s. (s, f s)) (cond (is_change d) (Some b) (last_passing (λ s. is_change (f s)) b))) (sym e)
 
 -- the deciding change of the versions of a key, by its stamp
-pub last_of_versions : (states : States) (b : ℕ) (k : RowKey) (vs : List Numbered) → AreOfKey k vs → change_below (ends_of (phases_of states)) b k (versions_in vs) ≡ option_map (λ s. (s, net_effect (has_stamp (ends_of (phases_of states)) s) k (versions_in vs))) (greatest_below b (changes_of states vs))
+pub last_of_versions : (states : States) (b : ℕ) (k : RowKey) (vs : List Numbered) → AreOfKey k vs → change_below (ends_of (phases_of states)) b k (unnumbered vs) ≡ option_map (λ s. (s, net_effect (has_stamp (ends_of (phases_of states)) s) k (unnumbered vs))) (greatest_below b (changes_of states vs))
 last_of_versions states b k vs h =
-    last_change_is (λ s. net_effect (has_stamp (ends_of (phases_of states)) s) k (versions_in vs)) b
-    ∙ ap (option_map (λ s. (s, net_effect (has_stamp (ends_of (phases_of states)) s) k (versions_in vs))))
-    (last_same (λ s. is_change (net_effect (has_stamp (ends_of (phases_of states)) s) k (versions_in vs))) (λ s. list_any (changes_at states s) vs) b (λ s. change_any (has_stamp (ends_of (phases_of states)) s) k vs h)
+    last_change_is (λ s. net_effect (has_stamp (ends_of (phases_of states)) s) k (unnumbered vs)) b
+    ∙ ap (option_map (λ s. (s, net_effect (has_stamp (ends_of (phases_of states)) s) k (unnumbered vs))))
+    (last_same (λ s. is_change (net_effect (has_stamp (ends_of (phases_of states)) s) k (unnumbered vs))) (λ s. list_any (changes_at states s) vs) b (λ s. change_any (has_stamp (ends_of (phases_of states)) s) k vs h)
     ∙ sym (greatest_change states b vs))

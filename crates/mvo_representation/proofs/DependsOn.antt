@@ -39,7 +39,7 @@ use Rattle.mvo_representation.proofs.Shown.{active_begins, deciding as last_is}
 use Rattle.mvo_representation.proofs.Open.{is_open, open_word}
 use Rattle.mvo_representation.proofs.Read.{written_depends, key_depends, read_depends}
 use Rattle.mvo_representation.proofs.Seen.{seen_at, owner_in, seen_owner}
-use Rattle.mvo_representation.proofs.Decided.{changes_at, versions_in, is_change, change_any, greatest_change, last_of_versions, last_holds}
+use Rattle.mvo_representation.proofs.Decided.{changes_at, unnumbered, is_change, change_any, greatest_change, last_of_versions, last_holds}
 use Rattle.mvo_representation.proofs.ShownTo.{of_key, keyed, below_keyed}
 
 -- ---- the owner of a change
@@ -182,13 +182,13 @@ depends_is opening steps s states slots lists op r k kept h ns f en = by (list_a
         (sym (last_is s (phases_of states) (all_versions slots) r.id k kept.sound kept.started h (active_begins s (phases_of states) (all_versions slots) r.id r kept.sound h f))
         ∙ below_keyed states slots lists k r.id ns
         ∙ last_of_versions states r.id k (versions_at slots lists k) (of_key slots lists k ns)
-        ∙ ap (option_map (λ m. (m, net_effect (has_stamp (ends_of (phases_of states)) m) k (versions_in (versions_at slots lists k))))) e))
+        ∙ ap (option_map (λ m. (m, net_effect (has_stamp (ends_of (phases_of states)) m) k (unnumbered (versions_at slots lists k))))) e))
     others n (Some m) e =
         let known = each_numbered (λ v. IsKnown s (phases_of states) v.begin × IsKnown s (phases_of states) v.end) slots (map number (numbers_of lists k)) h.known in
         let there : list_any (changes_at states m) (versions_at slots lists k) ≡ true = last_holds (λ i. list_any (changes_at states i) (versions_at slots lists k)) r.id m (sym (greatest_change states r.id (versions_at slots lists k)) ∙ e) in
         let w = word_at s states (all_versions slots) h m (versions_at slots lists k) known there in
-        read_depends opening steps s (phases_of states) (all_versions slots) op r k w.word (m, net_effect (has_stamp (ends_of (phases_of states)) m) k (versions_in (versions_at slots lists k))) kept h f en n w.known
-        (below_keyed states slots lists k r.id ns ∙ last_of_versions states r.id k (versions_at slots lists k) (of_key slots lists k ns) ∙ ap (option_map (λ i. (i, net_effect (has_stamp (ends_of (phases_of states)) i) k (versions_in (versions_at slots lists k))))) e)
+        read_depends opening steps s (phases_of states) (all_versions slots) op r k w.word (m, net_effect (has_stamp (ends_of (phases_of states)) m) k (unnumbered (versions_at slots lists k))) kept h f en n w.known
+        (below_keyed states slots lists k r.id ns ∙ last_of_versions states r.id k (versions_at slots lists k) (of_key slots lists k ns) ∙ ap (option_map (λ i. (i, net_effect (has_stamp (ends_of (phases_of states)) i) k (unnumbered (versions_at slots lists k))))) e)
         w.stamp
         ∙ ap (with_open r.depends_on) (open_word s (phases_of states) (all_versions slots) h w.word w.known m w.stamp
         ∙ sym ((tells_all s states (all_versions slots) h m (versions_at slots lists k) known).with' there))

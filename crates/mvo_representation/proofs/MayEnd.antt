@@ -39,7 +39,7 @@ use Rattle.mvo_representation.proofs.Conflict.{end_has_effect}
 use Rattle.mvo_representation.proofs.Seen.{cause_same}
 use Rattle.mvo_representation.proofs.Calls.{conflict_right}
 use Rattle.mvo_representation.proofs.Slots.{slot_emptied}
-use Rattle.mvo_representation.proofs.Decided.{is_put_by, first_put, number_of, version_first, AreOfKey, versions_in, is_change, change_any, last_of_versions}
+use Rattle.mvo_representation.proofs.Decided.{is_put_by, first_put, number_of, version_first, AreOfKey, unnumbered, is_change, change_any, last_of_versions}
 use Rattle.mvo_representation.proofs.ShownTo.{AreThere, of_key, there, keyed, below_keyed, own_newest_first}
 
 -- ---- the first that is put
@@ -112,11 +112,11 @@ shown_as s states slots lists t r k number h ns f e = go (list_any (is_own t) (v
                 put = stamp_some m (stamp_in (ends_of (phases_of states)) w.version.begin) w.put;
                 stays = w.kept;
                 last = (
-                  net_effect (has_stamp (ends_of (phases_of states)) m) k (versions_in (versions_at slots lists k)),
+                  net_effect (has_stamp (ends_of (phases_of states)) m) k (unnumbered (versions_at slots lists k)),
                   ap (λ j. change_below (ends_of (phases_of states)) t j (all_versions slots)) w.key
                       ∙ below_keyed states slots lists k t ns
                       ∙ last_of_versions states t k (versions_at slots lists k) (of_key slots lists k ns)
-                      ∙ ap (option_map (λ i. (i, net_effect (has_stamp (ends_of (phases_of states)) i) k (versions_in (versions_at slots lists k))))) g,
+                      ∙ ap (option_map (λ i. (i, net_effect (has_stamp (ends_of (phases_of states)) i) k (unnumbered (versions_at slots lists k))))) g,
                 );
               });
         }

@@ -10,7 +10,7 @@ use Rattle.mvo_theory.specs.Changes.{with_answer, after_operation}
 use Rattle.mvo_theory.specs.Dependencies.{has_end, with_end, dependencies}
 use Rattle.mvo_theory.specs.Sound.{IsNumbered}
 use Rattle.mvo_theory.proofs.Each.{each_weaker, each_both, each_map}
-use Rattle.mvo_representation.specs.Nodes.{NodeData, Nodes, IsNode, AreDependents, HasNodes, HasDrawnDependents, with_dependency, depended}
+use Rattle.mvo_representation.specs.Nodes.{NodeData, Nodes, IsNode, AreDependents, HasNodes, HasDrawnDependents, active_with_dependency, after_dependency}
 use Rattle.mvo_representation.proofs.Answers.{IsOnly, only_mine}
 
 -- what holds of each of a mapped list
@@ -58,10 +58,10 @@ nodes_answered s nodes t op a mine num f d h =
     go r o false e = refl
 
 -- ---- on one more
-pub nodes_answered_more : (s : State) (nodes : Nodes) (t e : ℕ) (op : Op) (a : AnswerData) (mine : ActiveTx) → IsNumbered s → active_of t s.active ≡ Some mine → dependencies s op mine ≡ with_end mine.depends_on e → HasNodes (depended s t e) nodes → HasNodes (after_operation s t op a) nodes
+pub nodes_answered_more : (s : State) (nodes : Nodes) (t e : ℕ) (op : Op) (a : AnswerData) (mine : ActiveTx) → IsNumbered s → active_of t s.active ≡ Some mine → dependencies s op mine ≡ with_end mine.depends_on e → HasNodes (after_dependency s t e) nodes → HasNodes (after_operation s t op a) nodes
 nodes_answered_more s nodes t e op a mine num f d h =
-    nodes_alike s nodes t op a (with_dependency t e) (λ r. refl) (λ r. refl)
-    (each_weaker (λ r. r.id ≡ t → r ≡ mine) (λ r. (with_dependency t e r).depends_on ≡ (with_answer s t op a r).depends_on) (λ r o. go r o (r.id == t) refl) s.active (only_mine t mine s.active num.distinct f))
+    nodes_alike s nodes t op a (active_with_dependency t e) (λ r. refl) (λ r. refl)
+    (each_weaker (λ r. r.id ≡ t → r ≡ mine) (λ r. (active_with_dependency t e r).depends_on ≡ (with_answer s t op a r).depends_on) (λ r o. go r o (r.id == t) refl) s.active (only_mine t mine s.active num.distinct f))
     h
   where
     go : (r : ActiveTx) → (r.id ≡ t → r ≡ mine) → (b : Bool) → (r.id == t) ≡ b → cond b (with_end r.depends_on e) r.depends_on ≡ cond b (dependencies s op r) r.depends_on

@@ -8,7 +8,7 @@ use Rattle.mvo_theory.specs.Changes.{with_check, after_check, with_settled, afte
 use Rattle.mvo_theory.specs.Dependencies.{has_end, with_end}
 use Rattle.mvo_theory.proofs.Each.{each_append, each_weaker, each_both, each_filter, each_map}
 use Rattle.mvo_theory.proofs.Trim.{IsTrim}
-use Rattle.mvo_representation.specs.Nodes.{with_listed, NodeData, Nodes, is_open_in, open_count, IsNode, AreDependents, HasNodes, HasDrawnDependents, nodes_after_commit, nodes_after_abort, after_register, with_dependency, depended}
+use Rattle.mvo_representation.specs.Nodes.{with_listed, NodeData, Nodes, is_open_in, open_count, IsNode, AreDependents, HasNodes, HasDrawnDependents, nodes_after_commit, nodes_after_abort, nodes_after_register, active_with_dependency, after_dependency}
 use Rattle.mvo_representation.proofs.Waited.{one}
 
 -- ---- what others keep doesn't matter
@@ -128,11 +128,11 @@ drawn_with ds t c le h = go (has_end ds t)
     go false = each_append (λ d. d ≤ c) ds (t ∷ []) h (le, tt)
 
 -- t was drawn, and x isn't Active
-pub drawn_registered : (s : State) (nodes : Nodes) (t x e : ℕ) → t ≤ s.clock → AllByRecursion (λ r. r.id ≢ x) s.active → HasDrawnDependents s nodes → HasDrawnDependents (depended s t e) (after_register t x nodes)
+pub drawn_registered : (s : State) (nodes : Nodes) (t x e : ℕ) → t ≤ s.clock → AllByRecursion (λ r. r.id ≢ x) s.active → HasDrawnDependents s nodes → HasDrawnDependents (after_dependency s t e) (nodes_after_register t x nodes)
 drawn_registered s nodes t x e le apart g = record {
-  drawn = each_weaker (λ y. y.settled ≡ false → AllByRecursion (λ d. d ≤ s.clock) (nodes y.id).dependents) (λ y. y.settled ≡ false → AllByRecursion (λ d. d ≤ s.clock) (after_register t x nodes y.id).dependents)
+  drawn = each_weaker (λ y. y.settled ≡ false → AllByRecursion (λ d. d ≤ s.clock) (nodes y.id).dependents) (λ y. y.settled ≡ false → AllByRecursion (λ d. d ≤ s.clock) (nodes_after_register t x nodes y.id).dependents)
       (λ y w o. by (nodes y.id) (y.id == x) (w o)) s.stamped g.drawn;
-  none = each_map (with_dependency t e) (λ r. (r.id ≢ x) × ((nodes r.id).dependents ≡ [])) (λ r. (after_register t x nodes r.id).dependents ≡ [])
+  none = each_map (active_with_dependency t e) (λ r. (r.id ≢ x) × ((nodes r.id).dependents ≡ [])) (λ r. (nodes_after_register t x nodes r.id).dependents ≡ [])
       (λ r w. ap (λ b. cond b (with_listed (nodes r.id).dependents t) (nodes r.id).dependents) (ne_eqb r.id x w.0) ∙ w.1) s.active
       (each_both (λ r. r.id ≢ x) (λ r. (nodes r.id).dependents ≡ []) (λ r. (r.id ≢ x) × ((nodes r.id).dependents ≡ [])) (λ r a b. (a, b)) s.active apart g.none);
 }

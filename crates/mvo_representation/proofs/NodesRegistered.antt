@@ -14,7 +14,7 @@ use Rattle.mvo_deps.specs.declared.node.Node.{Node}
 use Rattle.mvo_deps.specs.Data.{DependencyData, is_among, with_dependency, with_dependent}
 use Rattle.mvo_deps.specs.Nodes.{data_in, data_of, after_change, changed_if, with_data, after_register as after_registration}
 use Rattle.mvo_deps.proofs.Changes.{get_changed}
-use Rattle.mvo_representation.specs.Nodes.{NodeData, Nodes, node_as, nodes_of, with_listed, AreDependents, HasNodes, after_register, depended}
+use Rattle.mvo_representation.specs.Nodes.{NodeData, Nodes, node_as, nodes_of, with_listed, AreDependents, HasNodes, nodes_after_register, after_dependency}
 use Rattle.mvo_representation.proofs.NodesReported.{among_is}
 use Rattle.mvo_representation.proofs.Reported.{IsNew, kept_registered}
 
@@ -30,14 +30,14 @@ module _ {P : Type 0} where
     pub other : is_some (fin.get old.seats on.0) ≡ true
     pub mutual' : is_among on (data_of old tx).on ≡ true → is_among tx (data_of old on).dependents ≡ true
 
-  registered_is : (old : Txns (Node P)) (tx on : TxId) → MayRegister old tx on → (u : ℕ) → nodes_of (after_registration old tx on) u ≡ after_register tx.0 on.0 (nodes_of old) u
+  registered_is : (old : Txns (Node P)) (tx on : TxId) → MayRegister old tx on → (u : ℕ) → nodes_of (after_registration old tx on) u ≡ nodes_after_register tx.0 on.0 (nodes_of old) u
   registered_is old tx on m u = go (is_among on (data_of old tx).on) refl (is_among tx (data_of old on).dependents) refl
     where
       listed : (b : Bool) → is_among tx (data_of old on).dependents ≡ b → has_end (nodes_of old on.0).dependents tx.0 ≡ b
       listed b e = sym (among_is tx (data_of old on).dependents) ∙ e
 
       -- it stood there already
-      old_node : has_end (nodes_of old on.0).dependents tx.0 ≡ true → nodes_of old u ≡ after_register tx.0 on.0 (nodes_of old) u
+      old_node : has_end (nodes_of old on.0).dependents tx.0 ≡ true → nodes_of old u ≡ nodes_after_register tx.0 on.0 (nodes_of old) u
       old_node h = stays (u == tx.0) (u == on.0) refl
         where
           stays : (b c : Bool) → (u == on.0) ≡ c → nodes_of old u ≡ record { waits = cond (b && not (has_end (nodes_of old on.0).dependents tx.0)) ((nodes_of old u).waits + 1) (nodes_of old u).waits; flag = (nodes_of old u).flag; dependents = cond c (with_listed (nodes_of old u).dependents tx.0) (nodes_of old u).dependents }
@@ -59,7 +59,7 @@ module _ {P : Type 0} where
           get_changed (after_change old on.0 (with_dependent tx)) tx.0 (with_dependency on) u
           ∙ ap (option_map (with_data (changed_if (eqb u tx.0) (with_dependency on)))) (get_changed old on.0 (with_dependent tx) u)
 
-      new_node : has_end (nodes_of old on.0).dependents tx.0 ≡ false → nodes_of (after_change (after_change old on.0 (with_dependent tx)) tx.0 (with_dependency on)) u ≡ after_register tx.0 on.0 (nodes_of old) u
+      new_node : has_end (nodes_of old on.0).dependents tx.0 ≡ false → nodes_of (after_change (after_change old on.0 (with_dependent tx)) tx.0 (with_dependency on)) u ≡ nodes_after_register tx.0 on.0 (nodes_of old) u
       new_node h = ap (λ o. node_as (data_in (option_map (λ s. s.kept) o))) seat ∙ by (fin.get old.seats u) refl (u == tx.0) refl (u == on.0) refl
         where
           by : (o : Option (Seat (Node P))) → fin.get old.seats u ≡ o → (b : Bool) → (u == tx.0) ≡ b → (c : Bool) → (u == on.0) ≡ c →
@@ -77,13 +77,13 @@ module _ {P : Type 0} where
               ap (λ ns. record { waits = s.kept.dependencies.unsettled; flag = option_map (λ (t : TxId). t.0) s.kept.dependencies.aborted; dependents = ns })
               (ids_behind s.kept.dependencies.dependents tx ∙ ap (λ x. cond x (map (λ (t : TxId). t.0) s.kept.dependencies.dependents) (map (λ (t : TxId). t.0) s.kept.dependencies.dependents ++ tx.0 ∷ [])) (sym k))
 
-      go : (a : Bool) → is_among on (data_of old tx).on ≡ a → (b : Bool) → is_among tx (data_of old on).dependents ≡ b → nodes_of (cond a old (cond b old (after_change (after_change old on.0 (with_dependent tx)) tx.0 (with_dependency on)))) u ≡ after_register tx.0 on.0 (nodes_of old) u
+      go : (a : Bool) → is_among on (data_of old tx).on ≡ a → (b : Bool) → is_among tx (data_of old on).dependents ≡ b → nodes_of (cond a old (cond b old (after_change (after_change old on.0 (with_dependent tx)) tx.0 (with_dependency on)))) u ≡ nodes_after_register tx.0 on.0 (nodes_of old) u
       go true i b j = old_node (listed true (m.mutual' i))
       go false i true j = old_node (listed true j)
       go false i false j = new_node (listed false j)
 
   -- one dependency more
-  pub dependency_registered : (s : State) (old : Txns (Node P)) (t x e : ℕ) → IsSound s → IsNew s t x e → AreDependents s (nodes_of old x).dependents e → MayRegister old (record { 0 = t }) (record { 0 = x }) → HasNodes s (nodes_of old) → HasNodes (depended s t e) (nodes_of (after_registration old (record { 0 = t }) (record { 0 = x })))
+  pub dependency_registered : (s : State) (old : Txns (Node P)) (t x e : ℕ) → IsSound s → IsNew s t x e → AreDependents s (nodes_of old x).dependents e → MayRegister old (record { 0 = t }) (record { 0 = x }) → HasNodes s (nodes_of old) → HasNodes (after_dependency s t e) (nodes_of (after_registration old (record { 0 = t }) (record { 0 = x })))
   dependency_registered s old t x e sd new deps m h =
-      let same : after_register t x (nodes_of old) ≡ nodes_of (after_registration old (record { 0 = t }) (record { 0 = x })) = λ i u. sym (registered_is old (record { 0 = t }) (record { 0 = x }) m u) i in
-      subst (HasNodes (depended s t e)) same (kept_registered s (nodes_of old) t x e sd new deps h)
+      let same : nodes_after_register t x (nodes_of old) ≡ nodes_of (after_registration old (record { 0 = t }) (record { 0 = x })) = λ i u. sym (registered_is old (record { 0 = t }) (record { 0 = x }) m u) i in
+      subst (HasNodes (after_dependency s t e)) same (kept_registered s (nodes_of old) t x e sd new deps h)

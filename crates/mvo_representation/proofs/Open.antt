@@ -16,7 +16,7 @@ use Rattle.mvo_theory.specs.Phases.{phase_in}
 use Rattle.mvo_word.specs.declared.held.Held.{Held}
 use Rattle.mvo_word.specs.declared.held.Held.TheVariants.{At, By, Infinity}
 use Rattle.mvo_chain.specs.declared.version.Version.{Version}
-use Rattle.mvo_representation.specs.Words.{Phases, end_in, ends_of, stamp_in, has_stamp, open_end, open_in, with_open, NetEffect, net_effect, last_change, or_change_at, change_below}
+use Rattle.mvo_representation.specs.Words.{Phases, end_in, ends_of, stamp_in, has_stamp, open_end_in, open_in, with_open, NetEffect, net_effect, last_change, or_change_at, change_below}
 use Rattle.mvo_representation.specs.Words.NetEffect.{Untouched, Removed, Puts, Clash}
 use Rattle.mvo_representation.specs.Versions.{IsKnown, AreVersionsOf}
 use Rattle.mvo_representation.proofs.LastChanges.{change_by, first_of, last_holds}
@@ -69,7 +69,7 @@ open_word s table vs h Infinity is e q = absurd (none_end e q)
 open_word s table vs h (At n) is e q = sym (ap (λ b. cond b (Some e) None) (ap (λ m. is_open m s.stamped) (sym (some_end n.0 e q)) ∙ closed_at n.0 s.stamped is.settled))
 open_word s table vs h (By t) is e q = go (table t.0) refl q
   where
-    go : (p : Phase) → table t.0 ≡ p → end_in p ≡ Some e → open_end p ≡ cond (is_open e s.stamped) (Some e) None
+    go : (p : Phase) → table t.0 ≡ p → end_in p ≡ Some e → open_end_in p ≡ cond (is_open e s.stamped) (Some e) None
     go Absent f g = absurd (none_end e g)
     go Active f g = absurd (none_end e g)
     go Aborted f g = absurd (none_end e g)

@@ -8,7 +8,7 @@ use Rattle.mvo_theory.specs.Dependencies.{has_end, with_end}
 use Rattle.mvo_theory.specs.Changes.{with_settled, after_commit, after_abort_of_preparing, with_flag, active_with_flag, not_at, aborted_dependency_after}
 use Rattle.mvo_theory.specs.Sound.{IsSound, IsRising}
 use Rattle.mvo_theory.proofs.Each.{each_both, each_map, each_filter}
-use Rattle.mvo_representation.specs.Nodes.{with_listed, NodeData, Nodes, open_count, IsNode, AreDependents, HasNodes, nodes_after_commit, or_flag, nodes_after_abort, after_register, with_dependency, depended}
+use Rattle.mvo_representation.specs.Nodes.{with_listed, NodeData, Nodes, open_count, IsNode, AreDependents, HasNodes, nodes_after_commit, or_flag, nodes_after_abort, nodes_after_register, active_with_dependency, after_dependency}
 use Rattle.mvo_representation.proofs.Facts.{found_holds}
 use Rattle.mvo_representation.proofs.Open.{is_open, open_each}
 use Rattle.mvo_representation.proofs.Waited.{has_listed, one, count_settled, count_gone, count_added, has_with}
@@ -144,16 +144,16 @@ added_node xs t e deps r n ri o q h = record { flag = h.flag; waits = λ d. go (
     go false i w = w
 
 -- add a dependency
-pub kept_registered : (s : State) (nodes : Nodes) (t x e : ℕ) → IsSound s → IsNew s t x e → AreDependents s (nodes x).dependents e → HasNodes s nodes → HasNodes (depended s t e) (after_register t x nodes)
+pub kept_registered : (s : State) (nodes : Nodes) (t x e : ℕ) → IsSound s → IsNew s t x e → AreDependents s (nodes x).dependents e → HasNodes s nodes → HasNodes (after_dependency s t e) (nodes_after_register t x nodes)
 kept_registered s nodes t x e sd new deps h = record {
-  active = each_map (with_dependency t e) (λ r. (has_end (nodes x).dependents r.id ≡ has_end r.depends_on e) × IsNode s.stamped r.depends_on r.aborted_dependency (nodes r.id)) (λ r. IsNode s.stamped r.depends_on r.aborted_dependency (after_register t x nodes r.id))
+  active = each_map (active_with_dependency t e) (λ r. (has_end (nodes x).dependents r.id ≡ has_end r.depends_on e) × IsNode s.stamped r.depends_on r.aborted_dependency (nodes r.id)) (λ r. IsNode s.stamped r.depends_on r.aborted_dependency (nodes_after_register t x nodes r.id))
       (λ r g. let n = added_node s.stamped t e (nodes x).dependents r (nodes r.id) sd.rising new.there g.0 g.1 in record { flag = n.flag; waits = n.waits }) s.active
       (each_both (λ r. has_end (nodes x).dependents r.id ≡ has_end r.depends_on e) (λ r. IsNode s.stamped r.depends_on r.aborted_dependency (nodes r.id)) (λ r. (has_end (nodes x).dependents r.id ≡ has_end r.depends_on e) × IsNode s.stamped r.depends_on r.aborted_dependency (nodes r.id)) (λ r a b. (a, b)) s.active deps.active h.active);
-  preparing = each_both (λ y. y.settled ≡ false → y.id ≢ t) (λ y. y.settled ≡ false → IsNode s.stamped y.depends_on y.aborted_dependency (nodes y.id)) (λ y. y.settled ≡ false → IsNode s.stamped y.depends_on y.aborted_dependency (after_register t x nodes y.id))
+  preparing = each_both (λ y. y.settled ≡ false → y.id ≢ t) (λ y. y.settled ≡ false → IsNode s.stamped y.depends_on y.aborted_dependency (nodes y.id)) (λ y. y.settled ≡ false → IsNode s.stamped y.depends_on y.aborted_dependency (nodes_after_register t x nodes y.id))
       (λ y n g o. let w = g o in record { flag = w.flag; waits = λ d. ap (λ c. cond (c && not (has_end (nodes x).dependents t)) ((nodes y.id).waits + 1) (nodes y.id).waits) (ne_eqb y.id t (n o)) ∙ w.waits d }) s.stamped new.apart h.preparing;
-  dependents = each_both (λ y. y.settled ≡ false → (y.id == x) ≡ (y.end == e)) (λ y. y.settled ≡ false → AreDependents s (nodes y.id).dependents y.end) (λ y. y.settled ≡ false → AreDependents (depended s t e) (after_register t x nodes y.id).dependents y.end)
+  dependents = each_both (λ y. y.settled ≡ false → (y.id == x) ≡ (y.end == e)) (λ y. y.settled ≡ false → AreDependents s (nodes y.id).dependents y.end) (λ y. y.settled ≡ false → AreDependents (after_dependency s t e) (nodes_after_register t x nodes y.id).dependents y.end)
       (λ y a g o. let w = g o in record {
-        active = each_map (with_dependency t e) (λ r. has_end (nodes y.id).dependents r.id ≡ has_end r.depends_on y.end) (λ r. has_end (after_register t x nodes y.id).dependents r.id ≡ has_end r.depends_on y.end) (λ r k. listed_active t e y.end (nodes y.id).dependents r.depends_on r.id (y.id == x) (a o) k) s.active w.active;
-        preparing = each_both (λ z. z.settled ≡ false → z.id ≢ t) (λ z. z.settled ≡ false → has_end (nodes y.id).dependents z.id ≡ has_end z.depends_on y.end) (λ z. z.settled ≡ false → has_end (after_register t x nodes y.id).dependents z.id ≡ has_end z.depends_on y.end) (λ z n k p. listed_other t (nodes y.id).dependents z.id (y.id == x) (n p) ∙ k p) s.stamped new.apart w.preparing;
+        active = each_map (active_with_dependency t e) (λ r. has_end (nodes y.id).dependents r.id ≡ has_end r.depends_on y.end) (λ r. has_end (nodes_after_register t x nodes y.id).dependents r.id ≡ has_end r.depends_on y.end) (λ r k. listed_active t e y.end (nodes y.id).dependents r.depends_on r.id (y.id == x) (a o) k) s.active w.active;
+        preparing = each_both (λ z. z.settled ≡ false → z.id ≢ t) (λ z. z.settled ≡ false → has_end (nodes y.id).dependents z.id ≡ has_end z.depends_on y.end) (λ z. z.settled ≡ false → has_end (nodes_after_register t x nodes y.id).dependents z.id ≡ has_end z.depends_on y.end) (λ z n k p. listed_other t (nodes y.id).dependents z.id (y.id == x) (n p) ∙ k p) s.stamped new.apart w.preparing;
       }) s.stamped new.alone h.dependents;
 }

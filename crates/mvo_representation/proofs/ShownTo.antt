@@ -31,14 +31,14 @@ use Rattle.mvo_representation.proofs.Shown.{active_begins, behind_is, stands_bel
 use Rattle.mvo_representation.proofs.Version.{clash_in, no_clash}
 use Rattle.mvo_representation.proofs.Own.{not_clash}
 use Rattle.mvo_representation.proofs.Indexed.{index_net_effect}
-use Rattle.mvo_representation.proofs.Decided.{is_put_by, first_put, number_of, version_first, AreOfKey, versions_in, is_change, content_of_first, change_any, content_first, last_of_versions}
+use Rattle.mvo_representation.proofs.Decided.{is_put_by, first_put, number_of, version_first, AreOfKey, unnumbered, is_change, content_of_first, change_any, content_first, last_of_versions}
 
 -- ---- the versions of a key
-pub versions_in_by : (slots : Slots) (ns : List ℕ) → versions_in (versions_by slots (map number ns)) ≡ versions_numbered slots ns
+pub versions_in_by : (slots : Slots) (ns : List ℕ) → unnumbered (versions_by slots (map number ns)) ≡ versions_numbered slots ns
 versions_in_by slots [] = refl
 versions_in_by slots (n ∷ ns) = go (slice_index_or slots n None) ∙ ap (and_found (slice_index_or slots n None)) (versions_in_by slots ns)
   where
-    go : (o : Option Version) → versions_in (and_version (number n) o (versions_by slots (map number ns))) ≡ and_found o (versions_in (versions_by slots (map number ns)))
+    go : (o : Option Version) → unnumbered (and_version (number n) o (versions_by slots (map number ns))) ≡ and_found o (unnumbered (versions_by slots (map number ns)))
     go None = refl
     go (Some v) = refl
 
@@ -117,16 +117,16 @@ pub record IsClear (states : States) (t : ℕ) (k : RowKey) (vs : List Version) 
   pub own : is_clash (net_effect (names t) k vs) ≡ false
   pub others : (p : ℕ × NetEffect) → change_below (ends_of (phases_of states)) t k vs ≡ Some p → is_clash p.1 ≡ false
 
-others_row : (states : States) (slots : Slots) (t : ℕ) (k : RowKey) (vs : List Numbered) → AreOfKey k vs → AreThere slots vs → IsClear states t k (versions_in vs) → content_shown slots (shown_by (deciding t (changes_of states vs))).version ≡ row_in (change_below (ends_of (phases_of states)) t k (versions_in vs))
+others_row : (states : States) (slots : Slots) (t : ℕ) (k : RowKey) (vs : List Numbered) → AreOfKey k vs → AreThere slots vs → IsClear states t k (unnumbered vs) → content_shown slots (shown_by (deciding t (changes_of states vs))).version ≡ row_in (change_below (ends_of (phases_of states)) t k (unnumbered vs))
 others_row states slots t k vs of th clear = go (greatest_below t (changes_of states vs)) refl
   where
     effect_with : ℕ → NetEffect
-    effect_with s = net_effect (has_stamp (ends_of (phases_of states)) s) k (versions_in vs)
+    effect_with s = net_effect (has_stamp (ends_of (phases_of states)) s) k (unnumbered vs)
 
-    last : (w : Option ℕ) → greatest_below t (changes_of states vs) ≡ w → change_below (ends_of (phases_of states)) t k (versions_in vs) ≡ option_map (λ s. (s, effect_with s)) w
+    last : (w : Option ℕ) → greatest_below t (changes_of states vs) ≡ w → change_below (ends_of (phases_of states)) t k (unnumbered vs) ≡ option_map (λ s. (s, effect_with s)) w
     last w e = last_of_versions states t k vs of ∙ ap (option_map (λ s. (s, effect_with s))) e
 
-    go : (w : Option ℕ) → greatest_below t (changes_of states vs) ≡ w → content_shown slots (shown_by (deciding t (changes_of states vs))).version ≡ row_in (change_below (ends_of (phases_of states)) t k (versions_in vs))
+    go : (w : Option ℕ) → greatest_below t (changes_of states vs) ≡ w → content_shown slots (shown_by (deciding t (changes_of states vs))).version ≡ row_in (change_below (ends_of (phases_of states)) t k (unnumbered vs))
     go None e =
         ap (λ w. content_shown slots (shown_by (option_map (done_with (changes_of states vs)) w)).version) e
         ∙ sym (ap row_in (last None e))
@@ -137,13 +137,13 @@ others_row states slots t k vs of th clear = go (greatest_below t (changes_of st
         ∙ sym (content_first (has_stamp (ends_of (phases_of states)) s) k vs of (clear.others (s, effect_with s) (last (Some s) e)))
         ∙ sym (ap row_in (last (Some s) e) ∙ row_put s (effect_with s))
 
-pub rule_is : (states : States) (slots : Slots) (t : ℕ) (k : RowKey) (vs : List Numbered) → AreOfKey k vs → AreThere slots vs → IsClear states t k (versions_in vs) → content_shown slots (shown_to states t t vs).version ≡ shown_row (ends_of (phases_of states)) t k (versions_in vs)
-rule_is states slots t k vs of th clear = go (net_effect (names t) k (versions_in vs)) refl
+pub rule_is : (states : States) (slots : Slots) (t : ℕ) (k : RowKey) (vs : List Numbered) → AreOfKey k vs → AreThere slots vs → IsClear states t k (unnumbered vs) → content_shown slots (shown_to states t t vs).version ≡ shown_row (ends_of (phases_of states)) t k (unnumbered vs)
+rule_is states slots t k vs of th clear = go (net_effect (names t) k (unnumbered vs)) refl
   where
-    own : (d : NetEffect) → net_effect (names t) k (versions_in vs) ≡ d → list_any (is_own t) vs ≡ is_change d
+    own : (d : NetEffect) → net_effect (names t) k (unnumbered vs) ≡ d → list_any (is_own t) vs ≡ is_change d
     own d e = sym (change_any (names t) k vs of) ∙ ap is_change e
 
-    mine : (d : NetEffect) → net_effect (names t) k (versions_in vs) ≡ d → content_shown slots (own_newest t vs) ≡ content_put d
+    mine : (d : NetEffect) → net_effect (names t) k (unnumbered vs) ≡ d → content_shown slots (own_newest t vs) ≡ content_put d
     mine d e =
         ap (content_shown slots) (own_newest_first t vs) ∙ content_found slots (names t) vs th
         ∙ sym (content_first (names t) k vs of clear.own) ∙ ap content_put e
@@ -155,10 +155,10 @@ rule_is states slots t k vs of th clear = go (net_effect (names t) k (versions_i
         by true = refl
         by false = refl
 
-    over : (d : NetEffect) → net_effect (names t) k (versions_in vs) ≡ d → shown_row (ends_of (phases_of states)) t k (versions_in vs) ≡ shown_over d (change_below (ends_of (phases_of states)) t k (versions_in vs))
-    over d e = ap (λ x. shown_over x (change_below (ends_of (phases_of states)) t k (versions_in vs))) e
+    over : (d : NetEffect) → net_effect (names t) k (unnumbered vs) ≡ d → shown_row (ends_of (phases_of states)) t k (unnumbered vs) ≡ shown_over d (change_below (ends_of (phases_of states)) t k (unnumbered vs))
+    over d e = ap (λ x. shown_over x (change_below (ends_of (phases_of states)) t k (unnumbered vs))) e
 
-    go : (d : NetEffect) → net_effect (names t) k (versions_in vs) ≡ d → content_shown slots (shown_to states t t vs).version ≡ shown_row (ends_of (phases_of states)) t k (versions_in vs)
+    go : (d : NetEffect) → net_effect (names t) k (unnumbered vs) ≡ d → content_shown slots (shown_to states t t vs).version ≡ shown_row (ends_of (phases_of states)) t k (unnumbered vs)
     go Untouched e = shown false (own Untouched e) ∙ others_row states slots t k vs of th clear ∙ sym (over Untouched e)
     go Removed e = shown true (own Removed e) ∙ mine Removed e ∙ sym (over Removed e)
     go (Puts h) e = shown true (own (Puts h) e) ∙ mine (Puts h) e ∙ sym (over (Puts h) e)
@@ -180,13 +180,13 @@ clear_in s states vs t r k sd st h f = record {
 }
 
 -- what all versions say of a key, those of the key say
-pub keyed : (slots : Slots) (lists : Lists) (k : RowKey) → HasNumbers slots lists → (n : Held → Bool) → net_effect n k (all_versions slots) ≡ net_effect n k (versions_in (versions_at slots lists k))
+pub keyed : (slots : Slots) (lists : Lists) (k : RowKey) → HasNumbers slots lists → (n : Held → Bool) → net_effect n k (all_versions slots) ≡ net_effect n k (unnumbered (versions_at slots lists k))
 keyed slots lists k h n = index_net_effect n k slots lists h ∙ ap (net_effect n k) (sym (versions_in_by slots (numbers_of lists k)))
 
-pub below_keyed : (states : States) (slots : Slots) (lists : Lists) (k : RowKey) (b : ℕ) → HasNumbers slots lists → change_below (ends_of (phases_of states)) b k (all_versions slots) ≡ change_below (ends_of (phases_of states)) b k (versions_in (versions_at slots lists k))
-below_keyed states slots lists k b h = last_change_same (λ s. net_effect (has_stamp (ends_of (phases_of states)) s) k (all_versions slots)) (λ s. net_effect (has_stamp (ends_of (phases_of states)) s) k (versions_in (versions_at slots lists k))) b (λ s _. keyed slots lists k h (has_stamp (ends_of (phases_of states)) s))
+pub below_keyed : (states : States) (slots : Slots) (lists : Lists) (k : RowKey) (b : ℕ) → HasNumbers slots lists → change_below (ends_of (phases_of states)) b k (all_versions slots) ≡ change_below (ends_of (phases_of states)) b k (unnumbered (versions_at slots lists k))
+below_keyed states slots lists k b h = last_change_same (λ s. net_effect (has_stamp (ends_of (phases_of states)) s) k (all_versions slots)) (λ s. net_effect (has_stamp (ends_of (phases_of states)) s) k (unnumbered (versions_at slots lists k))) b (λ s _. keyed slots lists k h (has_stamp (ends_of (phases_of states)) s))
 
-clear_keyed : (states : States) (slots : Slots) (lists : Lists) (t : ℕ) (k : RowKey) → HasNumbers slots lists → IsClear states t k (all_versions slots) → IsClear states t k (versions_in (versions_at slots lists k))
+clear_keyed : (states : States) (slots : Slots) (lists : Lists) (t : ℕ) (k : RowKey) → HasNumbers slots lists → IsClear states t k (all_versions slots) → IsClear states t k (unnumbered (versions_at slots lists k))
 clear_keyed states slots lists t k h c = record {
   own = ap is_clash (sym (keyed slots lists k h (names t))) ∙ c.own;
   others = λ p e. c.others p (below_keyed states slots lists k t h ∙ e);
@@ -196,6 +196,6 @@ clear_keyed states slots lists t k h c = record {
 pub shown_is : (s : State) (states : States) (slots : Slots) (lists : Lists) (t : ℕ) (r : ActiveTx) (k : RowKey) → IsSound s → IsStarted s → AreVersionsOf s (phases_of states) (all_versions slots) → HasNumbers slots lists → active_of t s.active ≡ Some r → content_shown slots (shown_to states t t (versions_at slots lists k)).version ≡ fin.get (snapshot s t) k
 shown_is s states slots lists t r k sd st h ns f =
     rule_is states slots t k (versions_at slots lists k) (of_key slots lists k ns) (there slots lists k) (clear_keyed states slots lists t k ns (clear_in s states (all_versions slots) t r k sd st h f))
-    ∙ ap (λ d. shown_over d (change_below (ends_of (phases_of states)) t k (versions_in (versions_at slots lists k)))) (sym (keyed slots lists k ns (names t)))
+    ∙ ap (λ d. shown_over d (change_below (ends_of (phases_of states)) t k (unnumbered (versions_at slots lists k)))) (sym (keyed slots lists k ns (names t)))
     ∙ ap (shown_over (net_effect (names t) k (all_versions slots))) (sym (below_keyed states slots lists k t ns))
     ∙ shown_right s (phases_of states) (all_versions slots) t r k sd st h f

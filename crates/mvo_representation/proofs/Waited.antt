@@ -67,7 +67,7 @@ count_settled ds e (x ∷ xs) h o = go x.settled refl (x.end == e) refl o (λ g.
             none [] k = refl
             none (y ∷ ys) k = ap (λ b. (not y.settled && b) || is_open e ys) (ne_eqb y.end e (λ q. absurd (omega (arith, q, k.0)))) ∙ ap (λ b. b || is_open e ys) (and_false (not y.settled)) ∙ none ys k.1
 
--- one that goes, and isn't depended on
+-- one that goes, and isn't after_dependency on
 pub count_gone : (ds : List ℕ) (t e : ℕ) (xs : List StampedTx) → has_end ds e ≡ false → open_count ds (map (with_flag t e) (filter (not_at e) xs)) ≡ open_count ds xs
 count_gone ds t e [] n = refl
 count_gone ds t e (x ∷ xs) n = go (x.end == e) refl (count_gone ds t e xs n)
@@ -76,7 +76,7 @@ count_gone ds t e (x ∷ xs) n = go (x.end == e) refl (count_gone ds t e xs n)
     go true q i = let z : one (is_open_in ds x) ≡ 0 = ap (λ c. one (not x.settled && c)) (ap (has_end ds) (eqb-true x.end e q) ∙ n) ∙ ap one (and_false (not x.settled)) in omega (arith, i, z)
     go false q i = ap (λ m. one (is_open_in ds x) + m) i
 
--- one that comes, and isn't depended on
+-- one that comes, and isn't after_dependency on
 pub count_pushed : (ds : List ℕ) (xs : List StampedTx) (y : StampedTx) → has_end ds y.end ≡ false → open_count ds (xs ++ y ∷ []) ≡ open_count ds xs
 count_pushed ds [] y n = ap (λ c. one (not y.settled && c) + 0) n ∙ ap (λ c. one c + 0) (and_false (not y.settled))
 count_pushed ds (x ∷ xs) y n = ap (λ m. one (is_open_in ds x) + m) (count_pushed ds xs y n)

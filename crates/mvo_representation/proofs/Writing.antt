@@ -31,7 +31,7 @@ use Rattle.mvo_theory.proofs.Who.{active_holds, id_of}
 use Rattle.mvo_word.specs.declared.held.Held.{Held}
 use Rattle.mvo_word.specs.declared.held.Held.TheVariants.{At, By, Infinity}
 use Rattle.mvo_chain.specs.declared.version.Version.{Version}
-use Rattle.mvo_representation.specs.Words.{Phases, Ends, end_in, ends_of, stamp_in, is_stamp, has_stamp, cause_of, cause_in, NetEffect, with_effect, effect_by, effect_of, net_effect, as_net_effect, standing, IsShownAt, is_clash}
+use Rattle.mvo_representation.specs.Words.{Phases, Ends, end_in, ends_of, stamp_in, is_stamp, has_stamp, cause_of_phase, cause_at_end, NetEffect, with_effect, effect_by, effect_of, net_effect, as_net_effect, standing, IsShownAt, is_clash}
 use Rattle.mvo_visible.specs.Words.{names}
 use Rattle.mvo_representation.specs.Words.NetEffect.{Untouched, Removed, Puts, Clash}
 use Rattle.mvo_representation.specs.Versions.{Say, IsKnown, IsClaimed, HasClaims, IsInside, AreVersionsOf}
@@ -107,7 +107,7 @@ pub record IsClaimable (s : State) (ends : Ends) (w : Held) : Type 0 where
 none_cause : (c : Cause) → ◌≡◌ {A = Option Cause} (Some c) None → ⊥
 none_cause c e = cc
 
-pub claimable : (s : State) (table : Phases) (vs : List Version) (w : Held) → AreVersionsOf s table vs → IsKnown s table w → cause_in table w ≡ None → IsClaimable s (ends_of table) w
+pub claimable : (s : State) (table : Phases) (vs : List Version) (w : Held) → AreVersionsOf s table vs → IsKnown s table w → cause_at_end table w ≡ None → IsClaimable s (ends_of table) w
 claimable s table vs (At n) h k c = absurd (none_cause (cause.Stamped n) c)
 claimable s table vs Infinity h k c = record { unseen = refl; unnamed = each_always (λ r. names r.id Infinity ≡ false) (λ r. refl) s.active }
 claimable s table vs (By u) h k c = go (table u.0) refl c
@@ -115,7 +115,7 @@ claimable s table vs (By u) h k c = go (table u.0) refl c
     aborted : Aborted ≡ Active → ⊥
     aborted q = cc
 
-    go : (p : Phase) → table u.0 ≡ p → cause_of u.0 p ≡ None → IsClaimable s (ends_of table) (By u)
+    go : (p : Phase) → table u.0 ≡ p → cause_of_phase u.0 p ≡ None → IsClaimable s (ends_of table) (By u)
     go Absent q g = absurd (k q)
     go Active q g = absurd (none_cause (cause.Active (record { 0 = u.0 })) g)
     go (Preparing e) q g = absurd (none_cause (cause.Stamped (record { 0 = e })) g)
@@ -186,7 +186,7 @@ clash_standing o Clash = refl
 pub record EndsOther (s : State) (table : Phases) (t : ℕ) (mine : ActiveTx) (vs : List Version) (v : Version) (o : ℕ) : Type 0 where
   pub shown : IsShownAt (ends_of table) t v.row.key vs v o
   pub unwritten : net_write v.row.key mine.history ≡ None
-  pub free : cause_in table v.end ≡ None
+  pub free : cause_at_end table v.end ≡ None
 
 pub record IsEnded (s : State) (table : Phases) (t : ℕ) (op : Op) (a : AnswerData) (mine : ActiveTx) (more : List Claim) (xs : List Version) (v : Version) (ys : List Version) : Type 0 where
   pub claimed : ClaimsMore s t op a mine more

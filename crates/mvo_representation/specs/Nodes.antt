@@ -101,8 +101,8 @@ abbrev pub with_listed : List ℕ → ℕ → List ℕ
 with_listed ds d = if has_end ds d then ds else ds ++ d ∷ []
 
 -- t depends on x from now on, unless it did
-abbrev pub after_register : ℕ → ℕ → Nodes → Nodes
-after_register t x nodes u = record {
+abbrev pub nodes_after_register : ℕ → ℕ → Nodes → Nodes
+nodes_after_register t x nodes u = record {
   waits =
       cond ((u == t) && not (has_end (nodes x).dependents t))
       ((nodes u).waits + 1) (nodes u).waits;
@@ -111,10 +111,10 @@ after_register t x nodes u = record {
 }
 
 -- in the state: t depends on the one with the end e
-abbrev pub with_dependency : ℕ → ℕ → ActiveTx → ActiveTx
-with_dependency t e r = record r {
+abbrev pub active_with_dependency : ℕ → ℕ → ActiveTx → ActiveTx
+active_with_dependency t e r = record r {
   depends_on = cond (r.id == t) (with_end r.depends_on e) r.depends_on;
 }
 
-abbrev pub depended : State → ℕ → ℕ → State
-depended s t e = record s { active = map (with_dependency t e) s.active }
+abbrev pub after_dependency : State → ℕ → ℕ → State
+after_dependency s t e = record s { active = map (active_with_dependency t e) s.active }

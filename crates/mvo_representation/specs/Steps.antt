@@ -17,7 +17,7 @@ use Rattle.mvo_word.specs.declared.held.Held.TheVariants.{By}
 use Rattle.mvo_chain.specs.declared.version.Version.{Version}
 use Rattle.mvo_chain.specs.Slots.{added}
 use Rattle.mvo_visible.specs.Words.{names}
-use Rattle.mvo_representation.specs.Words.{Phases, ends_of, cause_in, IsShownAt}
+use Rattle.mvo_representation.specs.Words.{Phases, ends_of, cause_at_end, IsShownAt}
 use Rattle.mvo_representation.specs.Versions.{HoldsRows}
 
 -- ---- one version
@@ -59,7 +59,7 @@ pub record IsFreeToEnd (s : State) (table : Phases) (t : ℕ) (vs : List Version
   pub unwritten : net_write v.row.key (history_of_active t s.active) ≡ None
   pub stamp : ℕ
   pub shown : IsShownAt (ends_of table) t v.row.key vs v stamp
-  pub free : cause_in table v.end ≡ None
+  pub free : cause_at_end table v.end ≡ None
 
 pub data MayEnd (s : State) (table : Phases) (t : ℕ) (vs : List Version)
     (v : Version) : Type 0 where

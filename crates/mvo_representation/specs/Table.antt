@@ -17,7 +17,7 @@ use Rattle.mvo_visible.specs.Words.{States}
 use Rattle.mvo_theory.specs.Entries as theory
 use Rattle.mvo_validate.specs.declared.entry.Entry.{Entry}
 use Rattle.mvo_validate.specs.declared.entry.Entry.TheVariants.{Key, Range}
-use Rattle.mvo_representation.specs.Words.{Phases, ends_of, open_end, IsShownAt}
+use Rattle.mvo_representation.specs.Words.{Phases, ends_of, open_end_in, IsShownAt}
 use Rattle.mvo_representation.specs.Indexes.{all_versions}
 use Rattle.mvo_representation.specs.Steps.{IsOwnNewest}
 
@@ -43,7 +43,7 @@ content_shown slots (Some n) = content_at slots n
 -- the end of the Preparing transaction that a reader depends on
 abbrev pub end_awaited : States → Option TxId → Option ℕ
 end_awaited states None = None
-end_awaited states (Some t) = open_end (phases_of states t.0)
+end_awaited states (Some t) = open_end_in (phases_of states t.0)
 
 -- the entry as the state has it
 abbrev pub entry_as : Entry → theory.Entry

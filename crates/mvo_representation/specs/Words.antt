@@ -52,30 +52,30 @@ abbrev pub has_stamp : Ends → ℕ → Held → Bool
 has_stamp ends s w = is_stamp s (stamp_in ends w)
 
 -- the end of the Preparing transaction that the word names, if it names one
-abbrev pub open_end : Phase → Option ℕ
-open_end Absent = None
-open_end Active = None
-open_end (Preparing e) = Some e
-open_end (Committed e) = None
-open_end Aborted = None
+abbrev pub open_end_in : Phase → Option ℕ
+open_end_in Absent = None
+open_end_in Active = None
+open_end_in (Preparing e) = Some e
+open_end_in (Committed e) = None
+open_end_in Aborted = None
 
 abbrev pub open_in : Phases → Held → Option ℕ
 open_in table (At s) = None
-open_in table (By t) = open_end (table t.0)
+open_in table (By t) = open_end_in (table t.0)
 open_in table Infinity = None
 
 -- whom an End word tells as the cause of a conflict: nobody, where another may end the version
-abbrev pub cause_of : ℕ → Phase → Option Cause
-cause_of t Absent = None
-cause_of t Active = Some (cause.Active (record { 0 = t }))
-cause_of t (Preparing e) = Some (cause.Stamped (record { 0 = e }))
-cause_of t (Committed e) = Some (cause.Stamped (record { 0 = e }))
-cause_of t Aborted = None
+abbrev pub cause_of_phase : ℕ → Phase → Option Cause
+cause_of_phase t Absent = None
+cause_of_phase t Active = Some (cause.Active (record { 0 = t }))
+cause_of_phase t (Preparing e) = Some (cause.Stamped (record { 0 = e }))
+cause_of_phase t (Committed e) = Some (cause.Stamped (record { 0 = e }))
+cause_of_phase t Aborted = None
 
-abbrev pub cause_in : Phases → Held → Option Cause
-cause_in table (At s) = Some (cause.Stamped s)
-cause_in table (By t) = cause_of t.0 (table t.0)
-cause_in table Infinity = None
+abbrev pub cause_at_end : Phases → Held → Option Cause
+cause_at_end table (At s) = Some (cause.Stamped s)
+cause_at_end table (By t) = cause_of_phase t.0 (table t.0)
+cause_at_end table Infinity = None
 
 -- ---- what words say of one owner: those that pass a test, as "has the stamp s" or "names t"
 -- what was done at a key. Two puts that both stand are a clash
@@ -98,7 +98,7 @@ with_effect (Puts h) (Puts g) = Clash
 with_effect (Puts h) Clash = Clash
 with_effect Clash d = Clash
 
--- what who put the version, or ended it, or both, did with it
+-- what one does by a version that it puts, or ends, or both
 abbrev pub effect_by : Bool → Bool → ContentData → NetEffect
 effect_by true true h = Removed
 effect_by true false h = Puts h
