@@ -28,8 +28,8 @@ pub record IsWordReplaced (slots slots' : Slots) (t : ℕ) (p : WordPlace) : Typ
   pub begins : (n : ℕ) (v : Version) → slice_index_or slots' n None ≡ Some v → names t v.begin ≡ true → (is_begin_of n p ≡ false) × ((w : Version) × (slice_index_or slots n None ≡ Some w) × (names t w.begin ≡ true))
   pub ends : (n : ℕ) (v : Version) → slice_index_or slots' n None ≡ Some v → names t v.end ≡ true → (is_end_of n p ≡ false) × ((w : Version) × (slice_index_or slots n None ≡ Some w) × (names t w.end ≡ true))
 
-pub todo_next : (slots slots' : Slots) (t : ℕ) (p : WordPlace) (ps : List WordPlace) → IsWordReplaced slots slots' t p → HasWordList slots t (p ∷ ps) → HasWordList slots' t ps
-todo_next slots slots' t p ps r h = record {
+pub list_next : (slots slots' : Slots) (t : ℕ) (p : WordPlace) (ps : List WordPlace) → IsWordReplaced slots slots' t p → HasWordList slots t (p ∷ ps) → HasWordList slots' t ps
+list_next slots slots' t p ps r h = record {
   begins = λ n v e q. let w = r.begins n v e q in sym (ap (λ b. b || list_any (is_begin_of n) ps) w.0) ∙ h.begins n w.1.0 w.1.1 w.1.2;
   ends = λ n v e q. let w = r.ends n v e q in sym (ap (λ b. b || list_any (is_end_of n) ps) w.0) ∙ h.ends n w.1.0 w.1.1 w.1.2;
 }

@@ -42,4 +42,5 @@ pub mod NodesReported
 pub mod NodesAnswered
 pub mod NodesRegistered
 pub mod WordSteps
+pub mod RowsPlaced
 pub mod Proved

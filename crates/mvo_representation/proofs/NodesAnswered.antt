@@ -1,17 +1,17 @@
 -- Counters, flags and dependents at an answer: what it depends on is all that they see of it.
-use Rattle.std.proofs.Common.{◌≡◌, ◌≢◌, ℕ, Bool, true, false, cond, List, [], ◌∷◌, map, Option, None, Some, refl, sym, ap, ◌∙◌, subst, ◌⊎◌, inl, inr}
+use Rattle.std.proofs.Common.{◌≡◌, ℕ, Bool, true, false, cond, List, [], ◌∷◌, map, Some, refl, sym, ap, ◌∙◌, subst}
 use Rattle.std.specs.Prelude.{◌==◌}
 use Rattle.std.specs.List.{AllByRecursion}
 use Rattle.std.proofs.lemmas.Bool.{eqb-true}
 use Rattle.mvo_types.specs.declared.op.Op.{Op}
 use Rattle.mvo_types.specs.AnswerData.{AnswerData}
-use Rattle.mvo_theory.specs.State.{State, StampedTx, ActiveTx, active_of}
+use Rattle.mvo_theory.specs.State.{State, ActiveTx, active_of}
 use Rattle.mvo_theory.specs.Changes.{with_answer, after_operation}
 use Rattle.mvo_theory.specs.Dependencies.{has_end, with_end, dependencies}
 use Rattle.mvo_theory.specs.Sound.{IsNumbered}
 use Rattle.mvo_theory.proofs.Each.{each_weaker, each_both, each_map}
-use Rattle.mvo_representation.specs.Nodes.{NodeData, Nodes, IsNode, AreDependents, HasNodes, HasDrawnDependents, active_with_dependency, after_dependency}
-use Rattle.mvo_representation.proofs.Answers.{IsOnly, only_mine}
+use Rattle.mvo_representation.specs.Nodes.{Nodes, IsNode, AreDependents, HasNodes, active_with_dependency, after_dependency}
+use Rattle.mvo_representation.proofs.Answers.{only_mine}
 
 -- what holds of each of a mapped list
 unmapped : (f : ActiveTx → ActiveTx) (P : ActiveTx → Type 0) (rs : List ActiveTx) → AllByRecursion P (map f rs) → AllByRecursion (λ r. P (f r)) rs

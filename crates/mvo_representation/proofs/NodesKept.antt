@@ -5,7 +5,7 @@ use Rattle.std.specs.List.{AllByRecursion, filter}
 use Rattle.std.proofs.lemmas.Bool.{ne_eqb, leb-true, true≢false}
 use Rattle.mvo_theory.specs.State.{State, StampedTx, EndedTx, Marks}
 use Rattle.mvo_theory.specs.Changes.{with_check, after_check, with_settled, after_commit, with_flag, active_with_flag, not_at, after_abort_of_active, after_abort_of_preparing, is_to, after_trim}
-use Rattle.mvo_theory.specs.Dependencies.{has_end, with_end}
+use Rattle.mvo_theory.specs.Dependencies.{has_end}
 use Rattle.mvo_theory.proofs.Each.{each_append, each_weaker, each_both, each_filter, each_map}
 use Rattle.mvo_theory.proofs.Trim.{IsTrim}
 use Rattle.mvo_representation.specs.Nodes.{with_listed, NodeData, Nodes, is_open_in, open_count, IsNode, AreDependents, HasNodes, HasDrawnDependents, nodes_after_commit, nodes_after_abort, nodes_after_register, active_with_dependency, after_dependency}

@@ -1,9 +1,9 @@
 -- What the table keeps after a dependency was registered is right.
-use Rattle.std.proofs.Common.{◌≡◌, ◌≢◌, ℕ, ◌+◌, Bool, true, false, cond, eqb, not, ◌||◌, List, [], ◌∷◌, ◌++◌, map, Option, None, Some, refl, sym, ap, ◌∙◌, subst}
+use Rattle.std.proofs.Common.{◌≡◌, ◌≢◌, ℕ, ◌+◌, Bool, true, false, cond, eqb, not, List, [], ◌∷◌, ◌++◌, map, Option, None, Some, refl, sym, ap, ◌∙◌, subst}
 use Rattle.std.specs.Prelude.{◌==◌, ◌&&◌, is_some}
 use Rattle.std.specs.Option.{option_map}
 use Rattle.std.specs.FinMap as fin
-use Rattle.std.proofs.lemmas.Bool.{eqb-true, true≢false, false≢true}
+use Rattle.std.proofs.lemmas.Bool.{eqb-true, false≢true}
 use Rattle.mvo_types.specs.declared.ids.TxId.{TxId}
 use Rattle.mvo_theory.specs.State.{State}
 use Rattle.mvo_theory.specs.Dependencies.{has_end}
@@ -11,10 +11,10 @@ use Rattle.mvo_theory.specs.Sound.{IsSound}
 use Rattle.mvo_txn.specs.declared.seat.Seat.{Seat}
 use Rattle.mvo_txn.specs.Txns.{Txns}
 use Rattle.mvo_deps.specs.declared.node.Node.{Node}
-use Rattle.mvo_deps.specs.Data.{DependencyData, is_among, with_dependency, with_dependent}
+use Rattle.mvo_deps.specs.Data.{is_among, with_dependency, with_dependent}
 use Rattle.mvo_deps.specs.Nodes.{data_in, data_of, after_change, changed_if, with_data, after_register as after_registration}
 use Rattle.mvo_deps.proofs.Changes.{get_changed}
-use Rattle.mvo_representation.specs.Nodes.{NodeData, Nodes, node_as, nodes_of, with_listed, AreDependents, HasNodes, nodes_after_register, after_dependency}
+use Rattle.mvo_representation.specs.Nodes.{NodeData, node_as, nodes_of, with_listed, AreDependents, HasNodes, nodes_after_register, after_dependency}
 use Rattle.mvo_representation.proofs.NodesReported.{among_is}
 use Rattle.mvo_representation.proofs.Reported.{IsNew, kept_registered}
 

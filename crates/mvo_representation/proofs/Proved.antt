@@ -1,11 +1,12 @@
 -- The laws, from the lemmas.
-use Rattle.mvo_representation.specs.Laws.{OpensSo, EachCallKeeps, ShowsSnapshot, DependsSo, ShownIsThere, FreeMayBeEnded, TellsCause, NamesChange}
+use Rattle.mvo_representation.specs.Laws.{OpensSo, EachCallKeeps, ShowsSnapshot, DependsSo, ShownIsThere, FreeMayBeEnded, TellsCause, NamesChange, RowsArePlaced, MeetsWhatCounts}
 use Rattle.mvo_representation.proofs.Opened.{versions_opened}
 use Rattle.mvo_representation.proofs.Steps.{versions_after_call}
 use Rattle.mvo_representation.proofs.ShownTo.{shown_is}
 use Rattle.mvo_representation.proofs.DependsOn.{depends_is}
 use Rattle.mvo_representation.proofs.MayEnd.{shown_as, may_end, cause_is}
 use Rattle.mvo_representation.proofs.RangeCheckedBy.{check_is}
+use Rattle.mvo_representation.proofs.RowsPlaced.{row_placed, met_is}
 
 pub opens_so : OpensSo
 opens_so rows mark = versions_opened rows mark
@@ -30,3 +31,9 @@ tells_cause opening steps s states slots lists places r number v stamp w f at n 
 
 pub names_change : NamesChange
 names_change opening steps s states slots lists places begin end' entry w le lt = check_is s states slots lists places begin end' entry w.kept.sound w.kept.started w.versions w.numbers w.order le lt
+
+pub rows_are_placed : RowsArePlaced
+rows_are_placed opening steps s states slots lists places r k h w f e = row_placed s states slots lists places r k h w.kept.sound w.kept.started w.versions w.numbers w.order f e
+
+pub meets_what_counts : MeetsWhatCounts
+meets_what_counts opening steps s states slots lists places r table lo hi q w f = met_is s states slots r table lo hi q w.kept.sound w.kept.started w.versions f

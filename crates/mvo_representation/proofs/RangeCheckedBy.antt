@@ -67,7 +67,7 @@ passing P f (x ∷ xs) h e = go (f x) refl e (λ r. passing P f xs h.1 r)
     go true q r again = record { it = x; is = h.0; passes = q }
     go false q r again = again r
 
-iff : (a b : Bool) → (a ≡ true → b ≡ true) → (b ≡ true → a ≡ true) → a ≡ b
+pub iff : (a b : Bool) → (a ≡ true → b ≡ true) → (b ≡ true → a ≡ true) → a ≡ b
 iff true b f g = sym (f refl)
 iff false true f g = g refl
 iff false false f g = refl
@@ -91,7 +91,7 @@ none_version v q = cc
 some_version : (w v : Version) → ◌≡◌ {A = Option Version} (Some w) (Some v) → w ≡ v
 some_version w v q = cc
 
-any_slot : (f : Version → Bool) (slots : Slots) (n : ℕ) (v : Version) → slice_index_or slots n None ≡ Some v → f v ≡ true → list_any f (all_versions slots) ≡ true
+pub any_slot : (f : Version → Bool) (slots : Slots) (n : ℕ) (v : Version) → slice_index_or slots n None ≡ Some v → f v ≡ true → list_any f (all_versions slots) ≡ true
 any_slot f [] zero v e q = absurd (none_version v e)
 any_slot f [] (suc n) v e q = absurd (none_version v e)
 any_slot f (None ∷ ss) zero v e q = absurd (none_version v e)

@@ -1,15 +1,17 @@
 -- The laws of the representation.
-use Rattle.std.specs.Prelude.{◌≡◌, ℕ, ◌<◌, ◌≤◌, List, None, Some}
+use Rattle.std.specs.Prelude.{is_some, true, ◌≡◌, ℕ, ◌<◌, ◌≤◌, List, None, Some}
 use Rattle.std.specs.FinMap as fin
 use Rattle.mvo_types.specs.declared.row.RowKey.{RowKey}
 use Rattle.mvo_types.specs.declared.op.Op.{Op}
+use Rattle.mvo_types.specs.RowData.{ContentData}
 use Rattle.mvo_types.specs.Keys.{Map}
 use Rattle.mvo_model.specs.History.{net_write}
 use Rattle.mvo_model.specs.Trace.{Step}
 use Rattle.mvo_theory.specs.Entries.{entry_of}
 use Rattle.mvo_theory.specs.Entries as theory
 use Rattle.mvo_theory.specs.State.{State, ActiveTx, opened, active_of, history_of_active, snapshot}
-use Rattle.mvo_theory.specs.Dependencies.{dependencies}
+use Rattle.mvo_theory.specs.Ranges.{shows, is_row_of}
+use Rattle.mvo_theory.specs.Dependencies.{dependencies, counts_for}
 use Rattle.mvo_theory.specs.Phases.{phase_in}
 use Rattle.mvo_theory.specs.Causes.{change_of, conflict}
 use Rattle.mvo_theory.specs.Calls.{Call, Result, IsKept, MayCome, after_call}
@@ -26,11 +28,11 @@ use Rattle.mvo_visible.specs.Shown.{shown_to}
 use Rattle.mvo_validate.specs.declared.entry.Entry.{Entry}
 use Rattle.mvo_validate.specs.Between.{stamp_between}
 use Rattle.mvo_validate.specs.Entries.{versions_in}
-use Rattle.mvo_representation.specs.Words.{ends_of, with_open, IsShownAt}
+use Rattle.mvo_representation.specs.Words.{ends_of, with_open, IsShownAt, is_met}
 use Rattle.mvo_representation.specs.Versions.{AreVersionsOf, loaded}
 use Rattle.mvo_representation.specs.Indexes.{all_versions, HasNumbers, HasPlaces}
 use Rattle.mvo_representation.specs.Steps.{MayEnd, IsAfterCall}
-use Rattle.mvo_representation.specs.Table.{phases_of, content_shown, end_awaited, entry_as, IsShown}
+use Rattle.mvo_representation.specs.Table.{phases_of, content_shown, place_with, end_awaited, entry_as, IsShown}
 
 -- What a core has stands for a state that its steps lead to.
 pub record StandsFor (opening : Map) (steps : List Step) (s : State) (states : States)
@@ -104,3 +106,20 @@ NamesChange = (opening : Map) (steps : List Step) (s : State) (states : States) 
     → StandsFor opening steps s states slots lists places → s.start ≤ begin → begin < end'
     → stamp_between begin end' (changes_of states (versions_in slots lists places entry))
     ≡ change_of s.stamped begin end' (entry_as entry)
+
+-- Each row of a snapshot has its place in the ordered index.
+abbrev pub RowsArePlaced : Type 0
+RowsArePlaced = (opening : Map) (steps : List Step) (s : State) (states : States) (slots : Slots)
+    (lists : Lists) (places : Places) (r : ActiveTx) (k : RowKey) (h : ContentData)
+    → StandsFor opening steps s states slots lists places → active_of r.id s.active ≡ Some r
+    → fin.get (snapshot s r.id) k ≡ Some h → is_some (fin.get places (place_with k h)) ≡ true
+
+-- A scan meets just the keys that count for it.
+abbrev pub MeetsWhatCounts : Type 0
+MeetsWhatCounts = (opening : Map) (steps : List Step) (s : State) (states : States)
+    (slots : Slots) (lists : Lists) (places : Places) (r : ActiveTx) (table lo hi : ℕ)
+    (q : RowKey)
+    → StandsFor opening steps s states slots lists places → active_of r.id s.active ≡ Some r
+    → is_met (ends_of (phases_of states)) s.start r.id
+    (is_row_of (shows (theory.Entry.Range table lo hi)) q) (all_versions slots)
+    ≡ counts_for (theory.Entry.Range table lo hi) q r.id s.base s.stamped

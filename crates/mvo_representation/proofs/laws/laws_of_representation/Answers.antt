@@ -1,4 +1,4 @@
-use Rattle.mvo_representation.proofs.Proved.{opens_so, each_call_keeps, shows_snapshot, depends_so, shown_is_there, free_may_be_ended, tells_cause, names_change}
+use Rattle.mvo_representation.proofs.Proved.{opens_so, each_call_keeps, shows_snapshot, depends_so, shown_is_there, free_may_be_ended, tells_cause, names_change, rows_are_placed, meets_what_counts}
 use Rattle.mvo_representation.proofs.laws.laws_of_representation.Goals as goal
 
 pub returns-clause-opens : goal.returns-clause-opens
@@ -24,3 +24,9 @@ returns-clause-tells c = tells_cause
 
 pub returns-clause-names : goal.returns-clause-names
 returns-clause-names c = names_change
+
+pub returns-clause-placed : goal.returns-clause-placed
+returns-clause-placed c = rows_are_placed
+
+pub returns-clause-meets : goal.returns-clause-meets
+returns-clause-meets c = meets_what_counts
