@@ -44,3 +44,4 @@ pub mod NodesRegistered
 pub mod WordSteps
 pub mod RowsPlaced
 pub mod Proved
+pub mod OutOfOrder
