@@ -1,0 +1,7 @@
+//! What the words of versions, the transaction table, the counters of dependencies and the two
+//! indexes stand for: the abstract state of the version core.
+#![tactic(auto)]
+
+mod laws;
+
+pub use laws::laws_of_representation;
