@@ -1,5 +1,6 @@
 pub mod Held
 pub mod Queues
+pub mod Few
 pub mod Stamps
 pub mod Tables
 pub mod Firsts

@@ -126,7 +126,7 @@ impl<P> TxnTable<P> {
             return Err(Refusal::ClockSpent);
         }
         let id = self.clock + 1;
-        self.begins.make_room(&self.seats)?;
+        self.begins.make_room(&self.seats);
         let seat = Seat {
             state: TxState::Active,
             kept,
@@ -137,20 +137,21 @@ impl<P> TxnTable<P> {
         Ok(TxId(id))
     }
 
-    /// Draws the end timestamp of an Active transaction, which is Preparing from then on.
+    /// Draws the end timestamp of an Active transaction, which is Preparing from then on. It is
+    /// refused where the clock is spent alone, and takes no memory.
     pub fn prepare(&mut self, id: TxId) -> Result<Stamp, Refusal>
         requires { state_of self.old id.0 ≡ Some TxState.Active }
         ensures end { IfOk result (λ end. end.0 ≡ self.new.clock) }
         ensures ok { OnOk result (self.new ≡ after_prepare self.old id.0) }
         ensures no_cause { OnOk result (spent_clock self.old.clock ≡ None) }
-        ensures refused { IfErr result (IsRefusal (spent_clock self.old.clock)) }
+        ensures refused { IfErr result (λ why. spent_clock self.old.clock ≡ Some why) }
         ensures err { OnErr result (self.new ≡ self.old) }
     {
         if self.clock >= MAX_STAMP {
             return Err(Refusal::ClockSpent);
         }
         let end = self.clock + 1;
-        self.open_ends.make_room(&self.seats)?;
+        self.open_ends.make_room(&self.seats);
         self.seats.set_state(id.0, TxState::Preparing(Stamp(end)));
         self.open_ends.push(end, id.0);
         self.clock = end;

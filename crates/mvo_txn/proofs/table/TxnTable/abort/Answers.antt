@@ -10,4 +10,4 @@ invariant_of-self g c =
     sound_closed c.self.inside.clock c.self.inside.seats c.set_state.new.self c.self.inside.begins c.self.inside.open_ends c.trim.new.self c.args.id.0
     before.0 Aborted
     (ap (λ t. state_of t c.args.id.0) c.self.view_is ∙ before.1) refl
-    c.set_state.ensures c.trim.ensures.kind c.trim.ensures.kept c.self.invariant
+    c.set_state.ensures c.trim.ensures.form c.trim.ensures.kept c.self.invariant
