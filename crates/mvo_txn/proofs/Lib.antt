@@ -1,4 +1,6 @@
 pub mod Held
+pub mod Chairs
+pub mod Seated
 pub mod Queues
 pub mod Few
 pub mod Stamps

@@ -55,7 +55,7 @@ impl<P> TxnTable<P> {
         let open_ends = Queue::new(alloc, Kind::OpenEnd, QUEUE_ROOM)?;
         Ok(TxnTable {
             clock: mark.0,
-            seats: Seats::new(alloc, MAX_UNFINISHED)?,
+            seats: Seats::new(alloc)?,
             begins,
             open_ends,
         })
