@@ -7,10 +7,10 @@ use Rattle.std.specs.FinMap.{get, insert, get-empty}
 use Rattle.std.specs.Ordering.{nat_cmp}
 use Rattle.mvo_types.specs.declared.ids.TxId.{TxId}
 use Rattle.mvo_txn.specs.declared.state.TxState.{TxState}
-use Rattle.mvo_txn.specs.declared.state.TxState.TheVariants.{Active, Preparing}
+use Rattle.mvo_txn.specs.declared.state.TxState.TheVariants.{Active, Preparing, Aborted}
 use Rattle.mvo_txn.specs.declared.seat.Seat.{Seat}
-use Rattle.mvo_txn.specs.Seats.{with_kept_at}
-use Rattle.mvo_txn.specs.Txns.{Txns, state_of, kept_of, IsEnded, after_begin, after_prepare, after_terminate, after_write, no_txns}
+use Rattle.mvo_txn.specs.Seats.{with_kept_at, with_state}
+use Rattle.mvo_txn.specs.Txns.{Txns, state_of, kept_of, IsEnded, after_begin, after_prepare, after_terminate, after_write, no_txns, after_change as after_state}
 use Rattle.mvo_txn.specs.Queue.{open_end}
 use Rattle.mvo_txn.proofs.Stamps.{get_inserted, get_beside, get_removed, get_left}
 use Rattle.mvo_txn.proofs.Tables.{ended_is_closed}
@@ -20,7 +20,7 @@ use Rattle.mvo_deps.specs.Nodes.{data_in, data_of}
 use Rattle.mvo_deps.specs.Graph.{is_preparing, preparing_count, first_among, IsAbortedOrGone, IsDependencyGraph}
 use Rattle.mvo_deps.proofs.Apart.{among_same}
 use Rattle.mvo_deps.proofs.Lists.{count_same, first_none}
-use Rattle.mvo_deps.proofs.Looks.{kept_restated, there_restated, state_restated, state_now}
+use Rattle.mvo_deps.proofs.Looks.{kept_restated, there_restated, state_restated}
 use Rattle.mvo_deps.proofs.Registered.{not_true}
 
 module _ {P : Type 0} where
@@ -144,12 +144,16 @@ module _ {P : Type 0} where
       ended_there None e = absurd e
       ended_there (Some s) e = refl
 
-  -- an Active one draws its end
-  pub kept_prepared : (t : Txns (Node P)) (id : TxId) (ab : List TxId) → state_of t id.0 ≡ Some Active → IsDependencyGraph t ab → IsDependencyGraph (after_prepare t id.0) ab
-  kept_prepared t id ab active h = record {
+  -- ---- an Active one comes to stand otherwise
+  -- the clock goes on, and the transaction stands so
+  abbrev restated_at : Txns (Node P) → ℕ → TxId → TxState → Txns (Node P)
+  restated_at t clock id now = record { clock = clock; seats = with_state t.seats id.0 now }
+
+  kept_active : (t : Txns (Node P)) (clock : ℕ) (id : TxId) (now : TxState) (ab : List TxId) → t.clock ≤ clock → state_of t id.0 ≡ Some Active → IsDependencyGraph t ab → IsDependencyGraph (restated_at t clock id now) ab
+  kept_active t clock id now ab later active h = record {
     counter = λ q.
         ap (λ d. d.unsettled) (data_is q) ∙ h.counter q
-        ∙ sym (ap (λ d. preparing_count (after_prepare t id.0) d.on) (data_is q) ∙ count_same (is_preparing t) (is_preparing (after_prepare t id.0)) (data_of t q).on (λ x e. prep_at x (not_listed q x e)));
+        ∙ sym (ap (λ d. preparing_count (restated_at t clock id now) d.on) (data_is q) ∙ count_same (is_preparing t) (is_preparing (restated_at t clock id now)) (data_of t q).on (λ x e. prep_at x (not_listed q x e)));
     flag = λ q. ap (λ d. d.aborted) (data_is q) ∙ h.flag q ∙ sym (ap (λ d. first_among ab d.on) (data_is q));
     on_once = λ q. subst (λ d. IsApart d.on) (sym (data_is q)) (h.on_once q);
     dependents_once = λ q. subst (λ d. IsApart d.dependents) (sym (data_is q)) (h.dependents_once q);
@@ -160,36 +164,30 @@ module _ {P : Type 0} where
         (λ ne. h.both_sides a b (sym (there_restated t.seats id.0 now a.0) ∙ there) (sym (prep_at b ne) ∙ e))
         (cases_eq b.0 id.0)
         ∙ sym (ap (λ d. is_among b d.on) (data_is a));
-    settled = λ q e. ⊎_elim
-        (λ is. absurd (false≢true (sym e ∙ ap (λ o. is_some (open_end o)) (state_now t.seats id.0 now Active q.0 is active))))
-        (λ ne. ap (λ d. d.dependents) (data_is q) ∙ h.settled q (sym (prep_at q ne) ∙ e))
-        (cases_eq q.0 id.0);
+    settled = λ q e. ap (λ d. d.dependents) (data_is q) ∙ ⊎_elim (λ is. h.settled q (closed q is)) (λ ne. h.settled q (sym (prep_at q ne) ∙ e)) (cases_eq q.0 id.0);
     stopped = λ a b e.
         let listed : is_among b (data_of t a).on ≡ true = sym (ap (λ d. is_among b d.on) (data_is a)) ∙ e in
         let s = h.stopped a b listed in
         record {
-          drawn = let le = s.drawn in omega (arith, le);
+          drawn = let le = s.drawn in omega (arith, le, later);
           stopped = λ g. s.stopped (sym (state_restated t.seats id.0 now b.0 (not_listed a b listed)) ∙ g);
         };
-    known = λ a b e. let le = h.known a b (sym (ap (λ d. is_among a d.dependents) (data_is b)) ∙ e) in omega (arith, le);
-    drawn = λ q there. let le = h.drawn q (sym (there_restated t.seats id.0 now q.0) ∙ there) in omega (arith, le);
+    known = λ a b e. let le = h.known a b (sym (ap (λ d. is_among a d.dependents) (data_is b)) ∙ e) in omega (arith, le, later);
+    drawn = λ q there. let le = h.drawn q (sym (there_restated t.seats id.0 now q.0) ∙ there) in omega (arith, le, later);
     fallen = λ q e.
         let w = h.fallen q e in
         record {
-          drawn = let le = w.drawn in omega (arith, le);
+          drawn = let le = w.drawn in omega (arith, le, later);
           fallen = ⊎_elim
               (λ is. absurd (subst IsAbortedOrGone (ap (state_of t) is ∙ active) w.fallen))
               (λ ne. subst IsAbortedOrGone (sym (state_restated t.seats id.0 now q.0 ne)) w.fallen)
               (cases_eq q.0 id.0);
         };
   } where
-    now : TxState
-    now = Preparing (record { 0 = t.clock + 1 })
-
-    data_is : (q : TxId) → data_of (after_prepare t id.0) q ≡ data_of t q
+    data_is : (q : TxId) → data_of (restated_at t clock id now) q ≡ data_of t q
     data_is q = ap data_in (kept_restated t.seats id.0 now q.0)
 
-    prep_at : (q : TxId) → q.0 ≢ id.0 → is_preparing (after_prepare t id.0) q ≡ is_preparing t q
+    prep_at : (q : TxId) → q.0 ≢ id.0 → is_preparing (restated_at t clock id now) q ≡ is_preparing t q
     prep_at q ne = ap (λ o. is_some (open_end o)) (state_restated t.seats id.0 now q.0 ne)
 
     not_listed : (q x : TxId) → is_among x (data_of t q).on ≡ true → x.0 ≢ id.0
@@ -197,6 +195,14 @@ module _ {P : Type 0} where
 
     closed : (q : TxId) → q.0 ≡ id.0 → is_preparing t q ≡ false
     closed q is = ap (λ o. is_some (open_end o)) (ap (state_of t) is ∙ active)
+
+  -- it draws its end
+  pub kept_prepared : (t : Txns (Node P)) (id : TxId) (ab : List TxId) → state_of t id.0 ≡ Some Active → IsDependencyGraph t ab → IsDependencyGraph (after_prepare t id.0) ab
+  kept_prepared t id ab active h = kept_active t (t.clock + 1) id (Preparing (record { 0 = t.clock + 1 })) ab (omega arith) active h
+
+  -- it is aborted, which nobody has to be told
+  pub kept_undone : (t : Txns (Node P)) (id : TxId) (ab : List TxId) → state_of t id.0 ≡ Some Active → IsDependencyGraph t ab → IsDependencyGraph (after_state t id.0 Aborted) ab
+  kept_undone t id ab active h = kept_active t t.clock id Aborted ab (omega arith) active h
 
   -- ---- what the caller keeps
   -- whom a table that looks the same tells of
