@@ -17,7 +17,8 @@ use mvo_types::{MAX_STAMP, MAX_UNFINISHED, Refusal, Stamp, TxId};
 use std::alloc::{AllocError, Global};
 use std::marker::Model;
 
-// Marks of those that no longer count take as much room at most as those that do.
+// Marks of those that no longer count are dropped where room is short. No more than may be
+// unfinished are left then, so that many more are pushed before room is short again.
 const QUEUE_ROOM: usize = 2 * MAX_UNFINISHED;
 
 /// The unfinished transactions by id, and the clock. Contracts see the clock and a finite map.
@@ -109,7 +110,7 @@ impl<P> TxnTable<P> {
     }
 
     /// Begins a transaction: draws its id, and keeps this of it. A refusal drops what was given. It
-    /// may take memory, where the places of those that left have to be made free again.
+    /// takes memory only where another unfinished transaction's id has the same rest by 4,096.
     pub fn begin(&mut self, kept: P) -> Result<TxId, Refusal>
     where
         P: Drop,
