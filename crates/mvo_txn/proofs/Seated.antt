@@ -1,5 +1,5 @@
 -- The map of the seats after a change of a slab of chairs.
-use Rattle.std.proofs.Common.{◌≡◌, ◌≢◌, ℕ, ◌+◌, ◌<◌, ◌≤◌, true, false, cond, eqb, Option, Some, None, IsSome, refl, sym, ap, subst, ◌∙◌, arith, ⊎_elim}
+use Rattle.std.proofs.Common.{◌≡◌, ℕ, ◌<◌, ◌≤◌, true, false, eqb, Option, Some, None, refl, sym, ap, subst, ◌∙◌, arith, ⊎_elim}
 use Rattle.std.proofs.lemmas.Bool.{cases_eq, eqb-true, false≢true}
 use Rattle.std.proofs.lemmas.Cmp.{nat_cmp_total}
 use Rattle.std.proofs.lemmas.Option.{none-some}
@@ -12,11 +12,11 @@ use Rattle.mvo_txn.specs.declared.chair.Chair.{Chair}
 use Rattle.mvo_txn.specs.declared.seat.Seat.{Seat}
 use Rattle.mvo_txn.specs.declared.directory.Directory.{Directory}
 use Rattle.mvo_txn.specs.Seats.{SeatMap}
-use Rattle.mvo_txn.specs.Directory.{is_of, Knows, KnowsAlike, Notes, Forgets, IsDirectory}
+use Rattle.mvo_txn.specs.Directory.{is_of, Knows, KnowsAlike, Notes, Forgets}
 use Rattle.mvo_txn.specs.Chairs.{seats_of, AreSeats}
 use Rattle.mvo_txn.proofs.Held.{get_held, one_put, one_gone}
 use Rattle.mvo_txn.proofs.Stamps.{get_removed, get_left}
-use Rattle.mvo_txn.proofs.Chairs.{not_true, chair_of, of_chair, look_at, look_none, look_put, look_gone, at_set, at_others, len_seats, directory_alike, directory_written, directory_put, directory_gone}
+use Rattle.mvo_txn.proofs.Chairs.{not_true, chair_of, look_at, look_none, look_put, look_gone, at_set, at_others, len_seats, directory_alike, directory_written, directory_put, directory_gone}
 
 module _ {P : Type 0} where
   -- the map of the chairs' seats

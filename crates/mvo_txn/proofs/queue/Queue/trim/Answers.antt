@@ -1,5 +1,4 @@
-use Rattle.std.proofs.Common.{sym, ap, ◌∙◌, false}
-use Rattle.std.specs.Option.{option_eq}
+use Rattle.std.proofs.Common.{sym, ap, ◌∙◌}
 use Rattle.mvo_txn.specs.Queue.{stamp_in, is_current}
 use Rattle.mvo_txn.proofs.Queues.{listing_popped}
 use Rattle.mvo_txn.proofs.queue.Queue.trim.Goals as goal

@@ -1,5 +1,5 @@
-use Rattle.std.proofs.Common.{◌≡◌, ℕ}
-use Rattle.std.specs.VecDeque.{deque_len, deque_capacity}
+use Rattle.std.proofs.Common.{ℕ}
+use Rattle.std.specs.VecDeque.{deque_len}
 use Rattle.mvo_txn.specs.Queue.{stamp_in, IsListing}
 use Rattle.mvo_txn.specs.Sound.{KeepsForm}
 use Rattle.mvo_txn.proofs.queue.Queue.trim.Given as goal

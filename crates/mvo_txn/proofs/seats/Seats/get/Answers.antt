@@ -1,5 +1,5 @@
 use Rattle.std.proofs.Common.{sym}
-use Rattle.mvo_txn.proofs.Seated.{got, got_none, not_empty}
+use Rattle.mvo_txn.proofs.Seated.{got, got_none}
 use Rattle.mvo_txn.proofs.seats.Seats.get.Goals as goal
 
 pub returns-in_default : goal.returns-in_default

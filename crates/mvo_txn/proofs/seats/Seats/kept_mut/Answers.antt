@@ -1,8 +1,8 @@
-use Rattle.std.proofs.Common.{◌≡◌, refl, sym, ap, subst, ◌∙◌, inl, inr, Some, None, IsSome}
+use Rattle.std.proofs.Common.{sym, ap, ◌∙◌, inl, inr}
 use Rattle.std.specs.Option.{option_map}
 use base.Fml.{GName}
 use Rattle.mvo_txn.specs.Seats.{with_kept_at}
-use Rattle.mvo_txn.proofs.Seated.{got, got_none, not_empty, written_seats, written_map}
+use Rattle.mvo_txn.proofs.Seated.{got, got_none, written_seats, written_map}
 use Rattle.mvo_txn.proofs.seats.Seats.kept_mut.Goals as goal
 
 pub invariant_of-self-lent : goal.invariant_of-self-lent

@@ -1,7 +1,7 @@
 use Rattle.std.proofs.Common.{sym, ap, subst, ◌∙◌, IsSome}
 use Rattle.std.proofs.lemmas.Bool.{false≢true}
 use Rattle.mvo_txn.specs.Seats.{with_state_at}
-use Rattle.mvo_txn.proofs.Seated.{got, got_none, not_empty, written_seats, written_map}
+use Rattle.mvo_txn.proofs.Seated.{got, got_none, written_seats, written_map}
 use Rattle.mvo_txn.proofs.seats.Seats.set_state.Goals as goal
 
 pub unreachable-requires : goal.unreachable-requires

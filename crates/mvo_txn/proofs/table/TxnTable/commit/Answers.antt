@@ -1,4 +1,4 @@
-use Rattle.std.proofs.Common.{Some, refl, sym, ap, subst, ◌∙◌}
+use Rattle.std.proofs.Common.{Some, refl, sym, ap, ◌∙◌}
 use Rattle.mvo_txn.specs.declared.state.TxState.TheVariants.{Preparing, Committed}
 use Rattle.mvo_txn.specs.Txns.{state_of}
 use Rattle.mvo_txn.proofs.Tables.{sound_closed}

@@ -1,4 +1,4 @@
-use Rattle.std.proofs.Common.{sym, ap, subst, ◌∙◌}
+use Rattle.std.proofs.Common.{ap, ◌∙◌}
 use Rattle.mvo_txn.specs.Queue.{open_end}
 use Rattle.mvo_txn.specs.Txns.{state_of}
 use Rattle.mvo_txn.proofs.Tables.{sound_left, ended_is_closed}
