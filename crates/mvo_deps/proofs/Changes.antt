@@ -1,20 +1,19 @@
 -- What a change of one transaction's dependencies leaves at each id.
-use Rattle.std.proofs.Common.{◌≡◌, ◌≢◌, ℕ, ◌+◌, ◌-◌, ◌<◌, Bool, true, false, cond, eqb, ◌||◌, List, [], ◌∷◌, ◌++◌, Option, Some, None, IsSome, refl, sym, ap, subst, ◌∙◌, arith, ◌⊎◌, inl, inr, ⊎_elim}
+use Rattle.std.proofs.Common.{◌≡◌, ℕ, Bool, true, false, eqb, ◌||◌, List, [], ◌∷◌, ◌++◌, Option, Some, None, refl, sym, ap, ◌∙◌, ⊎_elim}
 use Rattle.std.proofs.lemmas.Bool.{cases_eq, eqb-true, eq-eqb, false≢true, ne_eqb}
 use Rattle.std.proofs.lemmas.Cmp.{nat_cmp_total}
-use Rattle.std.proofs.lemmas.Option.{none-some}
 use Rattle.std.specs.Prelude.{Result, Ok, Err, OnErr}
 use Rattle.std.specs.Option.{option_map, unwrap_or}
 use Rattle.std.specs.Ordering.{nat_cmp}
 use Rattle.std.specs.FinMap.{FinMap, get, insert, same_map, nat_cmp-IsAntisymmetric}
 use Rattle.mvo_types.specs.declared.ids.TxId.{TxId}
 use Rattle.mvo_txn.specs.declared.seat.Seat.{Seat}
-use Rattle.mvo_txn.specs.Seats.{SeatMap, with_kept_at}
+use Rattle.mvo_txn.specs.Seats.{with_kept_at}
 use Rattle.mvo_txn.specs.Txns.{Txns, kept_of, after_write}
 use Rattle.mvo_txn.proofs.Stamps.{get_inserted, get_beside}
 use Rattle.mvo_deps.specs.declared.node.Node.{Node}
 use Rattle.mvo_deps.specs.Data.{DependencyData, is_among, IsApart, with_dependent, without_last_dependent}
-use Rattle.mvo_deps.specs.Nodes.{after_change, after_change_at, changed_if, with_data, data_of, IsEachChanged}
+use Rattle.mvo_deps.specs.Nodes.{after_change, after_change_at, changed_if, with_data, IsEachChanged}
 use Rattle.mvo_deps.proofs.Apart.{apart_last, among_same, among_behind, front_of}
 
 -- ---- a write that leaves what was there

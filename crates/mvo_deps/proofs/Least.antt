@@ -1,5 +1,5 @@
 -- The least end of the Preparing ones among the first of a list.
-use Rattle.std.proofs.Common.{◌≡◌, ℕ, ◌<◌, ◌≤◌, Bool, true, false, eqb, ◌||◌, List, [], ◌∷◌, ◌++◌, Option, Some, None, refl, sym, ap, subst, ◌∙◌, arith, ◌⊎◌, inl, inr, ⊎_elim}
+use Rattle.std.proofs.Common.{◌≡◌, ℕ, ◌<◌, ◌≤◌, Bool, true, false, eqb, ◌||◌, List, [], ◌∷◌, ◌++◌, Option, Some, None, refl, sym, ap, ◌∙◌, arith, ◌⊎◌, inl, inr, ⊎_elim}
 use Rattle.std.proofs.lemmas.Bool.{eqb-true, eq-eqb, false≢true}
 use Rattle.std.proofs.lemmas.Option.{none-some}
 use Rattle.std.specs.Prelude.{MatchOption}
@@ -9,7 +9,7 @@ use Rattle.mvo_txn.specs.Txns.{Txns, state_of}
 use Rattle.mvo_txn.specs.Queue.{open_end}
 use Rattle.mvo_txn.proofs.Queues.{same_some}
 use Rattle.mvo_deps.specs.Data.{is_among}
-use Rattle.mvo_deps.specs.Waiting.{IsOpen, IsLeastOpen, HasNoneOpen, IsLeast, StaysLeast}
+use Rattle.mvo_deps.specs.Waiting.{IsOpen, IsLeastOpen, HasNoneOpen, IsLeast}
 use Rattle.mvo_deps.specs.Waiting.IsLeast.{Nobody, Somebody}
 use Rattle.mvo_deps.proofs.Apart.{among_behind}
 

@@ -1,3 +1,9 @@
 pub mod Apart
 pub mod Changes
 pub mod Least
+pub mod Lists
+pub mod Looks
+pub mod Registered
+pub mod Reported
+pub mod Calls
+pub mod Counter

@@ -1,3 +1,4 @@
 pub mod Data
 pub mod Nodes
 pub mod Waiting
+pub mod Graph

@@ -2,6 +2,7 @@ ghost use Rattle.std.specs.Prelude.{◌≡◌, false, OnOk, OnErr};
 ghost use Rattle.mvo_deps.specs.Data.{is_among, with_dependency, with_dependent};
 ghost use Rattle.mvo_deps.specs.Data.{without_last_dependent};
 ghost use Rattle.mvo_deps.specs.Nodes.{data_of, after_change, after_register};
+ghost use Rattle.mvo_deps.specs.Graph.{KeepsGraph, Depends};
 
 use crate::node::Node;
 use mvo_txn::TxnTable;
@@ -16,6 +17,8 @@ use std::alloc::AllocError;
 pub fn register<P>(table: &mut TxnTable<Node<P>>, tx: TxId, on: TxId) -> Result<(), AllocError>
     ensures ok { OnOk result (table.new ≡ after_register table.old tx on) }
     ensures err { OnErr result (table.new ≡ table.old) }
+    ensures graph { KeepsGraph table.old table.new tx on }
+    ensures depends { OnOk result (Depends table.old table.new tx on) }
 {
     if depends_on(table, tx, on) {
         return Ok(());

@@ -1,6 +1,7 @@
 ghost use Rattle.std.specs.Prelude.{◌≡◌};
 ghost use Rattle.mvo_deps.specs.Data.{IsApart, after_commit, after_abort, noted};
 ghost use Rattle.mvo_deps.specs.Nodes.{after_change, IsEachChanged, IsReported};
+ghost use Rattle.mvo_deps.specs.Graph.{KeepsGraphAtCommit, KeepsGraphAtAbort};
 
 use crate::node::Node;
 use crate::outcome::Outcome;
@@ -11,7 +12,8 @@ use mvo_types::TxId;
 ///
 /// It takes no memory, and time by the number of those that it tells.
 pub fn report_commit<P>(table: &mut TxnTable<Node<P>>, on: TxId)
-    ensures { IsReported after_commit table.old table.new on }
+    ensures told { IsReported after_commit table.old table.new on }
+    ensures graph { KeepsGraphAtCommit table.old table.new on }
 {
     report(table, on, Outcome::Committed);
 }
@@ -21,7 +23,8 @@ pub fn report_commit<P>(table: &mut TxnTable<Node<P>>, on: TxId)
 ///
 /// It takes no memory, and time by the number of those that it tells.
 pub fn report_abort<P>(table: &mut TxnTable<Node<P>>, on: TxId)
-    ensures { IsReported (after_abort on) table.old table.new on }
+    ensures told { IsReported (after_abort on) table.old table.new on }
+    ensures graph { KeepsGraphAtAbort table.old table.new on }
 {
     report(table, on, Outcome::Aborted(on));
 }

@@ -3,6 +3,7 @@ ghost use Rattle.mvo_deps.specs.Nodes.{data_of};
 ghost use Rattle.std.specs.Option.{option_map};
 ghost use Rattle.mvo_txn.specs.Txns.{state_of};
 ghost use Rattle.mvo_txn.specs.Queue.{open_end};
+ghost use Rattle.mvo_deps.specs.Graph.{WaitsByCounter};
 ghost use Rattle.mvo_deps.specs.Waiting.{IsLeastOpen, HasNoneOpen, StaysLeast};
 
 use crate::node::Node;
@@ -13,8 +14,9 @@ use mvo_types::{Stamp, TxId};
 ///
 /// Takes time by the number of those that it depends on.
 pub fn waiting_for<P>(table: &TxnTable<Node<P>>, tx: TxId) -> Option<TxId>
-    ensures { MatchOption result (HasNoneOpen table.now (data_of table.now tx).on)
+    ensures least { MatchOption result (HasNoneOpen table.now (data_of table.now tx).on)
         (IsLeastOpen table.now (data_of table.now tx).on) }
+    ensures counter { WaitsByCounter table.now tx result }
 {
     match table.get(tx) {
         Some(seat) => least_open(table, seat.kept.dependencies.on()),

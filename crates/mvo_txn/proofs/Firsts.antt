@@ -1,5 +1,5 @@
 -- What the first of a queue tells of the table.
-use Rattle.std.proofs.Common.{◌≡◌, ℕ, ◌+◌, ◌-◌, ◌<◌, ◌≤◌, List, [], ◌∷◌, Option, Some, None, IsSome, refl, sym, ap, subst, ◌∙◌, arith, inl, inr}
+use Rattle.std.proofs.Common.{◌≡◌, ℕ, ◌+◌, ◌-◌, ◌<◌, ◌≤◌, List, [], ◌∷◌, Option, Some, None, IsSome, refl, sym, subst, ◌∙◌, arith, inl, inr}
 use Rattle.std.proofs.lemmas.Bool.{false≢true}
 use Rattle.std.proofs.lemmas.Option.{none-some}
 use Rattle.std.specs.Option.{option_map}
@@ -9,9 +9,9 @@ use Rattle.mvo_txn.specs.declared.mark.Mark.{Mark}
 use Rattle.mvo_txn.specs.declared.queue.Queue.{Queue}
 use Rattle.mvo_txn.specs.declared.seat.Seat.{Seat}
 use Rattle.mvo_txn.specs.Seats.{SeatMap}
-use Rattle.mvo_txn.specs.Queue.{stamp_in, first_stamp, IsRising, IsListed, IsCurrent, IsListing, IsQueue}
+use Rattle.mvo_txn.specs.Queue.{stamp_in, first_stamp, IsQueue}
 use Rattle.mvo_txn.specs.Sound.{IsQueueOf, IsSound}
-use Rattle.mvo_txn.specs.Txns.{Txns, HasBegin, HasOpenEnd, IsOldestBegin, IsLowWater, IsTable}
+use Rattle.mvo_txn.specs.Txns.{HasOpenEnd, IsOldestBegin, IsLowWater, IsTable}
 use Rattle.mvo_txn.proofs.Queues.{Stamps, same_some, listed_above, listed_below}
 use Rattle.mvo_txn.proofs.Stamps.{begin_is_id}
 

@@ -1,5 +1,5 @@
 -- A queue stays one while transactions come and go.
-use Rattle.std.proofs.Common.{◌≡◌, ◌≢◌, ℕ, ◌+◌, ◌<◌, ◌≤◌, Bool, true, false, cond, eqb, List, [], ◌∷◌, ◌++◌, slice_index_or, Option, Some, None, refl, sym, ap, subst, ◌∙◌, arith, ◌⊎◌, inl, inr, ⊎_elim}
+use Rattle.std.proofs.Common.{◌≡◌, ◌≢◌, ℕ, ◌+◌, ◌<◌, ◌≤◌, Bool, true, false, cond, eqb, List, [], ◌∷◌, ◌++◌, slice_index_or, Option, Some, None, refl, sym, ap, subst, ◌∙◌, arith, inl, inr, ⊎_elim}
 use Rattle.std.proofs.lemmas.Bool.{cases_eq, false≢true, eqb-true, eq-eqb}
 use Rattle.std.proofs.lemmas.Option.{none-some}
 use Rattle.std.specs.Option.{unwrap_or, option_eq, option_to_list}
@@ -29,7 +29,7 @@ rising_behind low high higher (n ∷ ms) m at lt r = (r.0, rising_behind (n.stam
 rising_rest : (low high : ℕ) (m : Mark) (ms : List Mark) → IsRising low high (m ∷ ms) → IsRising low high ms
 rising_rest low high m ms r = let at : low ≤ m.stamp = r.0 in rising_lower low (m.stamp + 1) high ms (omega arith) r.1
 
-rising_filtered : (p : Mark → Bool) (low high : ℕ) (ms : List Mark) → IsRising low high ms → IsRising low high (filter p ms)
+pub rising_filtered : (p : Mark → Bool) (low high : ℕ) (ms : List Mark) → IsRising low high ms → IsRising low high (filter p ms)
 rising_filtered p low high [] r = r
 rising_filtered p low high (m ∷ ms) r =
     elim (p m) as (λ b. IsRising low high (cond b (m ∷ filter p ms) (filter p ms))) [

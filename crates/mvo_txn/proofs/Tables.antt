@@ -1,8 +1,9 @@
 -- Each call keeps the queues those of the seats.
-use Rattle.std.proofs.Common.{◌≡◌, ◌≢◌, ℕ, ◌+◌, ◌<◌, ◌≤◌, Bool, true, false, cond, List, [], ◌∷◌, ◌++◌, Option, Some, None, IsSome, refl, sym, ap, subst, ◌∙◌, arith, ◌⊎◌, inl, inr, ⊎_elim}
+use Rattle.std.proofs.Common.{◌≡◌, ◌≢◌, ℕ, ◌+◌, ◌<◌, ◌≤◌, List, [], ◌∷◌, ◌++◌, Option, Some, None, refl, sym, ap, subst, ◌∙◌, arith, ⊎_elim}
 use Rattle.std.proofs.lemmas.Bool.{cases_eq}
 use Rattle.std.proofs.lemmas.Option.{none-some}
 use Rattle.std.specs.Option.{option_map}
+use Rattle.std.specs.VecDeque.{deque_capacity}
 use Rattle.std.specs.FinMap.{get, insert, remove, len, empty, get-empty, len-empty}
 use Rattle.std.specs.Ordering.{nat_cmp}
 use Rattle.mvo_types.specs.declared.limits.TheConstants.{MAX_STAMP, MAX_UNFINISHED}
@@ -15,10 +16,13 @@ use Rattle.mvo_txn.specs.declared.queue.Queue.{Queue}
 use Rattle.mvo_txn.specs.declared.seat.Seat.{Seat}
 use Rattle.mvo_txn.specs.Seats.{SeatMap, state_in, with_state, with_state_at, with_kept, with_kept_at}
 use Rattle.mvo_txn.specs.Queue.{stamp_in, open_end, IsListing, IsQueue}
-use Rattle.mvo_txn.specs.Sound.{IsQueueOf, IsSound}
+use Rattle.mvo_txn.specs.Sound.{IsQueueOf, IsSound, KeepsForm}
 use Rattle.mvo_txn.specs.Txns.{IsUnended, IsEnded}
 use Rattle.mvo_txn.proofs.Queues.{queue_same, queue_behind, listing_less, listed_below}
 use Rattle.mvo_txn.proofs.Stamps.{get_inserted, get_beside, get_removed, get_left, len_replaced, len_grown, len_left, same_begins, same_ends, same_beside}
+
+room_kept : (q r : Queue) → KeepsForm q r → MAX_UNFINISHED < deque_capacity q.marks → MAX_UNFINISHED < deque_capacity r.marks
+room_kept q r same room = let e = same.room in omega (arith, e, room)
 
 module _ {P : Type 0} where
   -- ---- one queue
@@ -28,15 +32,17 @@ module _ {P : Type 0} where
   abbrev pub Trims : Kind → SeatMap P → List Mark → List Mark → Type 0
   Trims kind m old new = (high : ℕ) → IsListing (stamp_in kind m) high old → IsQueue (stamp_in kind m) high new
 
-  pub queue_roomy : (kind : Kind) (clock : ℕ) (m : SeatMap P) (q r : Queue) → r.kind ≡ q.kind → Keeps q.kind m q.marks.items r.marks.items → IsQueueOf kind clock m q → IsQueueOf kind clock m r
+  pub queue_roomy : (kind : Kind) (clock : ℕ) (m : SeatMap P) (q r : Queue) → KeepsForm q r → Keeps q.kind m q.marks.items r.marks.items → IsQueueOf kind clock m q → IsQueueOf kind clock m r
   queue_roomy kind clock m q r same kept is = record {
-    kind_is = same ∙ is.kind_is;
+    kind_is = same.kind ∙ is.kind_is;
+    room = room_kept q r same is.room;
     queue = subst (λ k. IsQueue (stamp_in k m) (clock + 1) r.marks.items) is.kind_is (kept (clock + 1) (subst (λ k. IsQueue (stamp_in k m) (clock + 1) q.marks.items) (sym is.kind_is) is.queue));
   }
 
-  queue_trimmed : (kind : Kind) (clock : ℕ) (m n : SeatMap P) (q r : Queue) → r.kind ≡ q.kind → Trims q.kind n q.marks.items r.marks.items → ((id stamp : ℕ) → stamp_in kind n id ≡ Some stamp → stamp_in kind m id ≡ Some stamp) → IsQueueOf kind clock m q → IsQueueOf kind clock n r
+  queue_trimmed : (kind : Kind) (clock : ℕ) (m n : SeatMap P) (q r : Queue) → KeepsForm q r → Trims q.kind n q.marks.items r.marks.items → ((id stamp : ℕ) → stamp_in kind n id ≡ Some stamp → stamp_in kind m id ≡ Some stamp) → IsQueueOf kind clock m q → IsQueueOf kind clock n r
   queue_trimmed kind clock m n q r same trims less is = record {
-    kind_is = same ∙ is.kind_is;
+    kind_is = same.kind ∙ is.kind_is;
+    room = room_kept q r same is.room;
     queue = subst (λ k. Trims k n q.marks.items r.marks.items) is.kind_is trims (clock + 1)
         (listing_less (stamp_in kind m) (stamp_in kind n) (clock + 1) q.marks.items less is.queue.listing);
   }
@@ -44,21 +50,24 @@ module _ {P : Type 0} where
   queue_untouched : (kind : Kind) (clock later : ℕ) (m n : SeatMap P) (q : Queue) → clock ≤ later → ((id : ℕ) → stamp_in kind n id ≡ stamp_in kind m id) → IsQueueOf kind clock m q → IsQueueOf kind later n q
   queue_untouched kind clock later m n q le same is = record {
     kind_is = is.kind_is;
+    room = is.room;
     queue = queue_same (stamp_in kind m) (stamp_in kind n) (clock + 1) (later + 1) q.marks.items (omega arith) same is.queue;
   }
 
-  queue_pushed : (kind : Kind) (clock : ℕ) (m n : SeatMap P) (q r : Queue) (id : ℕ) → r.kind ≡ q.kind → r.marks.items ≡ q.marks.items ++ record { stamp = clock + 1; id = id } ∷ []
+  queue_pushed : (kind : Kind) (clock : ℕ) (m n : SeatMap P) (q r : Queue) (id : ℕ) → KeepsForm q r → r.marks.items ≡ q.marks.items ++ record { stamp = clock + 1; id = id } ∷ []
       → stamp_in kind m id ≡ None → stamp_in kind n id ≡ Some (clock + 1) → ((i : ℕ) → i ≢ id → get n i ≡ get m i) → IsQueueOf kind clock m q → IsQueueOf kind (clock + 1) n r
   queue_pushed kind clock m n q r id same items none now others is = record {
-    kind_is = same ∙ is.kind_is;
+    kind_is = same.kind ∙ is.kind_is;
+    room = room_kept q r same is.room;
     queue = subst (IsQueue (stamp_in kind n) (clock + 1 + 1)) (sym items)
         (queue_behind (stamp_in kind m) (stamp_in kind n) (clock + 1) (clock + 1 + 1) (record { stamp = clock + 1; id = id }) q.marks.items none now
         (λ i ne. same_beside kind m n i (others i ne)) (omega arith) (omega arith) is.queue);
   }
 
-  pub queue_of_none : (kind : Kind) (clock : ℕ) (q : Queue) → q.kind ≡ kind → q.marks.items ≡ [] → IsQueueOf kind clock (empty {X = Seat P} {R = nat_cmp}) q
-  queue_of_none kind clock q is none = record {
+  pub queue_of_none : (kind : Kind) (clock : ℕ) (q : Queue) → q.kind ≡ kind → q.marks.items ≡ [] → MAX_UNFINISHED < deque_capacity q.marks → IsQueueOf kind clock (empty {X = Seat P} {R = nat_cmp}) q
+  queue_of_none kind clock q is none room = record {
     kind_is = is;
+    room = room;
     queue = subst (IsQueue (stamp_in kind (empty {X = Seat P} {R = nat_cmp})) (clock + 1)) (sym none) (record {
       listing = record { rising = omega arith; complete = λ id stamp e. none-some stamp (sym (no_stamp kind id) ∙ e) };
       current = tt;
@@ -83,17 +92,17 @@ module _ {P : Type 0} where
   pub fresh : (m : SeatMap P) (clock : ℕ) (q : Queue) → IsQueueOf Begin clock m q → get m (clock + 1) ≡ None
   fresh m clock q is = fresh_at m clock q is (get m (clock + 1)) refl
 
-  pub sound_none : (clock : ℕ) (m : SeatMap P) (b e : Queue) → clock ≤ MAX_STAMP → m ≡ empty → b.kind ≡ Begin → b.marks.items ≡ [] → e.kind ≡ OpenEnd → e.marks.items ≡ [] → IsSound clock m b e
-  sound_none clock m b e le is b_is b_none e_is e_none =
+  pub sound_none : (clock : ℕ) (m : SeatMap P) (b e : Queue) → clock ≤ MAX_STAMP → m ≡ empty → b.kind ≡ Begin → b.marks.items ≡ [] → MAX_UNFINISHED < deque_capacity b.marks → e.kind ≡ OpenEnd → e.marks.items ≡ [] → MAX_UNFINISHED < deque_capacity e.marks → IsSound clock m b e
+  sound_none clock m b e le is b_is b_none b_room e_is e_none e_room =
       subst (λ m. IsSound clock m b e) (sym is) (record {
         stamped = le;
         few = let none = len-empty nat_cmp (Seat P) in omega (arith, none);
-        begins_are = queue_of_none Begin clock b b_is b_none;
-        open_ends_are = queue_of_none OpenEnd clock e e_is e_none;
+        begins_are = queue_of_none Begin clock b b_is b_none b_room;
+        open_ends_are = queue_of_none OpenEnd clock e e_is e_none e_room;
       })
 
   -- room is made in a queue
-  pub sound_roomy_begins : (clock : ℕ) (m : SeatMap P) (b b' e : Queue) → b'.kind ≡ b.kind → Keeps b.kind m b.marks.items b'.marks.items → IsSound clock m b e → IsSound clock m b' e
+  pub sound_roomy_begins : (clock : ℕ) (m : SeatMap P) (b b' e : Queue) → KeepsForm b b' → Keeps b.kind m b.marks.items b'.marks.items → IsSound clock m b e → IsSound clock m b' e
   sound_roomy_begins clock m b b' e same kept s = record {
     stamped = s.stamped;
     few = s.few;
@@ -101,7 +110,7 @@ module _ {P : Type 0} where
     open_ends_are = s.open_ends_are;
   }
 
-  pub sound_roomy_ends : (clock : ℕ) (m : SeatMap P) (b e e' : Queue) → e'.kind ≡ e.kind → Keeps e.kind m e.marks.items e'.marks.items → IsSound clock m b e → IsSound clock m b e'
+  pub sound_roomy_ends : (clock : ℕ) (m : SeatMap P) (b e e' : Queue) → KeepsForm e e' → Keeps e.kind m e.marks.items e'.marks.items → IsSound clock m b e → IsSound clock m b e'
   sound_roomy_ends clock m b e e' same kept s = record {
     stamped = s.stamped;
     few = s.few;
@@ -110,7 +119,7 @@ module _ {P : Type 0} where
   }
 
   pub sound_begun : (clock : ℕ) (m n : SeatMap P) (b b' e : Queue) (kept : P) → clock < MAX_STAMP → len m < MAX_UNFINISHED
-      → n ≡ insert m (clock + 1) (record { state = Active; kept = kept }) → b'.kind ≡ b.kind → b'.marks.items ≡ b.marks.items ++ record { stamp = clock + 1; id = clock + 1 } ∷ []
+      → n ≡ insert m (clock + 1) (record { state = Active; kept = kept }) → KeepsForm b b' → b'.marks.items ≡ b.marks.items ++ record { stamp = clock + 1; id = clock + 1 } ∷ []
       → IsSound clock m b e → IsSound (clock + 1) n b' e
   sound_begun clock m n b b' e kept lt few is same items s =
       let seat : Seat P = record { state = Active; kept = kept } in
@@ -124,7 +133,7 @@ module _ {P : Type 0} where
       })
 
   pub sound_prepared : (clock : ℕ) (m n : SeatMap P) (b e e' : Queue) (id : ℕ) → clock < MAX_STAMP → state_in m id ≡ Some Active
-      → n ≡ with_state m id (Preparing (record { 0 = clock + 1 })) → e'.kind ≡ e.kind → e'.marks.items ≡ e.marks.items ++ record { stamp = clock + 1; id = id } ∷ []
+      → n ≡ with_state m id (Preparing (record { 0 = clock + 1 })) → KeepsForm e e' → e'.marks.items ≡ e.marks.items ++ record { stamp = clock + 1; id = id } ∷ []
       → IsSound clock m b e → IsSound (clock + 1) n b e'
   sound_prepared clock m n b e e' id lt active is same items s =
       let old = seat_at (get m id) Active active in
@@ -144,7 +153,7 @@ module _ {P : Type 0} where
       (cases_eq i id)
 
   pub sound_closed : (clock : ℕ) (m n : SeatMap P) (b e e' : Queue) (id : ℕ) (before after : TxState) → state_in m id ≡ Some before → open_end (Some after) ≡ None
-      → n ≡ with_state m id after → e'.kind ≡ e.kind → Trims e.kind n e.marks.items e'.marks.items → IsSound clock m b e → IsSound clock n b e'
+      → n ≡ with_state m id after → KeepsForm e e' → Trims e.kind n e.marks.items e'.marks.items → IsSound clock m b e → IsSound clock n b e'
   sound_closed clock m n b e e' id before after was closed is same trims s =
       let old = seat_at (get m id) before was in
       let seat : Seat P = record { state = after; kept = old.0.kept } in
@@ -184,7 +193,7 @@ module _ {P : Type 0} where
       (λ ne. same_beside OpenEnd m (remove m id) i (get_left m id i ne))
       (cases_eq i id)
 
-  pub sound_left : (clock : ℕ) (m n : SeatMap P) (b b' e : Queue) (id : ℕ) → open_end (state_in m id) ≡ None → n ≡ remove m id → b'.kind ≡ b.kind
+  pub sound_left : (clock : ℕ) (m n : SeatMap P) (b b' e : Queue) (id : ℕ) → open_end (state_in m id) ≡ None → n ≡ remove m id → KeepsForm b b'
       → Trims b.kind n b.marks.items b'.marks.items → IsSound clock m b e → IsSound clock n b' e
   sound_left clock m n b b' e id closed is same trims s =
       subst (λ n. IsSound clock n b' e) (sym is) (record {

@@ -1,4 +1,6 @@
 pub mod Seats
+pub mod Directory
+pub mod Chairs
 pub mod Queue
 pub mod Txns
 pub mod Lends

@@ -4,6 +4,8 @@
 //! both.
 #![tactic(auto)]
 
+mod chair;
+mod directory;
 mod mark;
 mod queue;
 mod seat;

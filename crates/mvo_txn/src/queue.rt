@@ -1,7 +1,7 @@
-ghost use Rattle.std.specs.Prelude.{◌≡◌, ◌<◌, [], IfOk, OnOk};
+ghost use Rattle.std.specs.Prelude.{◌≡◌, ◌<◌, [], IfOk};
 ghost use Rattle.std.specs.VecDeque.{deque_len, deque_capacity};
 ghost use Rattle.mvo_txn.specs.Queue.{first_stamp, with_mark};
-ghost use Rattle.mvo_txn.specs.Sound.{KeepsQueue, TrimsQueue};
+ghost use Rattle.mvo_txn.specs.Sound.{KeepsForm, KeepsQueue, TrimsQueue, HasPlace};
 
 use crate::mark::{Kind, Mark};
 use crate::seats::Seats;
@@ -21,6 +21,7 @@ impl Queue {
     pub(crate) fn new(alloc: Global, kind: Kind, room: usize) -> Result<Queue, AllocError>
         ensures kind { IfOk result (λ q. q.kind ≡ kind) }
         ensures marks { IfOk result (λ q. q.marks.items ≡ []) }
+        ensures room { IfOk result (λ q. deque_capacity q.marks ≡ room) }
     {
         Ok(Queue {
             kind,
@@ -38,23 +39,23 @@ impl Queue {
         }
     }
 
-    /// Makes room for one more. Where room is short it drops those that no longer count.
-    pub(crate) fn make_room<P>(&mut self, seats: &Seats<P>) -> Result<(), AllocError>
-        ensures kind { self.new.kind ≡ self.old.kind }
+    /// Makes room for one more: where room is short it drops those that no longer count. It takes
+    /// no memory.
+    pub(crate) fn make_room<P>(&mut self, seats: &Seats<P>)
+        ensures form { KeepsForm self.old self.new }
         ensures kept { KeepsQueue seats.now self.old self.new }
-        ensures room { OnOk result (deque_len self.new.marks < deque_capacity self.new.marks) }
+        ensures place { HasPlace seats.now self.old self.new }
     {
         let kind = self.kind;
         if self.marks.len() >= self.marks.capacity() {
             self.marks.retain(|mark| kind.is_current(seats, *mark));
         }
-        self.marks.reserve(1)
     }
 
     /// Adds a transaction behind the others.
     pub(crate) fn push(&mut self, stamp: u64, id: u64)
         requires { deque_len self.old.marks < deque_capacity self.old.marks }
-        ensures kind { self.new.kind ≡ self.old.kind }
+        ensures form { KeepsForm self.old self.new }
         ensures marks { self.new.marks.items ≡ with_mark self.old.marks.items stamp id }
     {
         let _ = self.marks.push_back(Mark { stamp, id });
@@ -62,7 +63,7 @@ impl Queue {
 
     /// Drops from the front those that no longer count.
     pub(crate) fn trim<P>(&mut self, seats: &Seats<P>)
-        ensures kind { self.new.kind ≡ self.old.kind }
+        ensures form { KeepsForm self.old self.new }
         ensures kept { TrimsQueue seats.now self.old self.new }
     {
         while let Some(mark) = self.marks.front() {

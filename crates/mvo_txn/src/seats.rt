@@ -1,20 +1,25 @@
-ghost use Rattle.std.specs.Prelude.{◌≡◌, IfOk, OnErr, OnOk, IsSome, option_copied};
+ghost use Rattle.std.specs.Prelude.{◌≡◌, ◌<◌, None, IfOk, OnErr, OnOk, IsSome, option_copied};
 ghost use Rattle.std.specs.Option.{option_copied_mut};
 ghost use Rattle.std.specs.FinMap as map;
 ghost use Rattle.std.specs.Borrow.{sem};
+ghost use Rattle.mvo_types.specs.declared.limits.TheConstants.{MAX_UNFINISHED};
 ghost use Rattle.mvo_txn.specs.Lends.{LendsKeptOfSeats};
 ghost use Rattle.mvo_txn.specs.Seats.{kept_in, with_state};
 
+use crate::chair::Chair;
+use crate::directory::Directory;
 use crate::seat::Seat;
 use crate::state::TxState;
+use mvo_types::MAX_UNFINISHED;
+use slab::Slab;
 use std::alloc::{AllocError, Global};
-use std::collections::HashMap;
 use std::marker::Model;
 
-/// Seats by id. Contracts see a finite map.
+/// Seats by id: the seat that was given back last is taken first. Contracts see a finite map.
 #[derive(Drop)]
 pub(crate) struct Seats<P> {
-    held: HashMap<u64, Seat<P>>,
+    chairs: Slab<Chair<P>>,
+    directory: Directory,
 }
 
 impl<P> Model for Seats<P> {
@@ -25,16 +30,22 @@ impl<P> Model for Seats<P> {
 
     ghost coded = { coded_seats P.code };
 
-    ghost view = { λ s. map.from_entries s.held.entries };
+    ghost use Rattle.mvo_txn.specs.Chairs.{seats_of, AreSeats};
+
+    ghost view = { λ s. map.from_entries (seats_of s.chairs.slots) };
+
+    ghost invariant = { λ s. AreSeats s.directory s.chairs };
 }
 
 impl<P> Seats<P> {
-    /// No seats, and room for so many.
-    pub(crate) fn new(alloc: Global, room: usize) -> Result<Seats<P>, AllocError>
+    /// No seats, and room for as many as may be unfinished.
+    pub(crate) fn new(alloc: Global) -> Result<Seats<P>, AllocError>
         ensures { IfOk result (λ s. s ≡ map.empty) }
     {
+        let directory = Directory::new(alloc)?;
         Ok(Seats {
-            held: HashMap::with_capacity(alloc, room)?,
+            chairs: Slab::with_capacity(alloc, MAX_UNFINISHED)?,
+            directory,
         })
     }
 
@@ -42,14 +53,20 @@ impl<P> Seats<P> {
     pub(crate) fn len(&self) -> usize
         ensures { result ≡ map.len self.now }
     {
-        self.held.len()
+        self.chairs.len()
     }
 
     /// The seat of a transaction.
     pub(crate) fn get(&self, id: u64) -> Option<&Seat<P>>
         ensures { option_copied result ≡ map.get self.now id }
     {
-        self.held.get(&id)
+        let Some(number) = self.directory.find(&self.chairs, id) else {
+            return None;
+        };
+        match self.chairs.get(number) {
+            Some(chair) => Some(&chair.seat),
+            None => None,
+        }
     }
 
     /// What is kept of a transaction, for writing.
@@ -57,8 +74,11 @@ impl<P> Seats<P> {
         ensures* writes_back { sem 𝓛 (LendsKeptOfSeats P.row self.entry id result) }
         ensures value { option_copied_mut result ≡ kept_in self.old id }
     {
-        match self.held.get_mut(&id) {
-            Some(seat) => Some(&mut seat.kept),
+        let Some(number) = self.directory.find(&self.chairs, id) else {
+            return None;
+        };
+        match self.chairs.get_mut(number) {
+            Some(chair) => Some(&mut chair.seat.kept),
             None => None,
         }
     }
@@ -68,20 +88,27 @@ impl<P> Seats<P> {
         requires { IsSome (map.get self.old id) }
         ensures { self.new ≡ with_state self.old id state }
     {
-        match self.held.get_mut(&id) {
-            Some(seat) => seat.state = state,
+        let Some(number) = self.directory.find(&self.chairs, id) else {
+            unreachable!()
+        };
+        match self.chairs.get_mut(number) {
+            Some(chair) => chair.seat.state = state,
             None => unreachable!(),
         }
     }
 
-    /// Gives a transaction a seat.
+    /// Gives a new transaction a seat. It takes memory only to list an id whose place is another's.
     pub(crate) fn insert(&mut self, id: u64, seat: Seat<P>) -> Result<(), AllocError>
     where
         P: Drop,
+        requires new { map.get self.old id ≡ None }
+        requires room { map.len self.old < MAX_UNFINISHED }
         ensures ok { OnOk result (self.new ≡ map.insert self.old id seat) }
         ensures err { OnErr result (self.new ≡ self.old) }
     {
-        self.held.insert(id, seat)?;
+        let number = self.chairs.vacant_key();
+        self.directory.note(&self.chairs, id, number)?;
+        self.chairs.insert_reserved(Chair { id, seat });
         Ok(())
     }
 
@@ -90,6 +117,12 @@ impl<P> Seats<P> {
         ensures before { result ≡ map.get self.old id }
         ensures gone { self.new ≡ map.remove self.old id }
     {
-        self.held.remove(&id)
+        let Some(number) = self.directory.find(&self.chairs, id) else {
+            return None;
+        };
+        let chair = self.chairs.remove(number);
+        self.directory.forget(id);
+        let Chair { id: _, seat } = chair;
+        Some(seat)
     }
 }

@@ -17,7 +17,8 @@ use mvo_types::{MAX_STAMP, MAX_UNFINISHED, Refusal, Stamp, TxId};
 use std::alloc::{AllocError, Global};
 use std::marker::Model;
 
-// Marks of those that no longer count take as much room at most as those that do.
+// Marks of those that no longer count are dropped where room is short. No more than may be
+// unfinished are left then, so that many more are pushed before room is short again.
 const QUEUE_ROOM: usize = 2 * MAX_UNFINISHED;
 
 /// The unfinished transactions by id, and the clock. Contracts see the clock and a finite map.
@@ -55,7 +56,7 @@ impl<P> TxnTable<P> {
         let open_ends = Queue::new(alloc, Kind::OpenEnd, QUEUE_ROOM)?;
         Ok(TxnTable {
             clock: mark.0,
-            seats: Seats::new(alloc, MAX_UNFINISHED)?,
+            seats: Seats::new(alloc)?,
             begins,
             open_ends,
         })
@@ -109,7 +110,7 @@ impl<P> TxnTable<P> {
     }
 
     /// Begins a transaction: draws its id, and keeps this of it. A refusal drops what was given. It
-    /// may take memory, where the places of those that left have to be made free again.
+    /// takes memory only where another unfinished transaction's id has the same rest by 4,096.
     pub fn begin(&mut self, kept: P) -> Result<TxId, Refusal>
     where
         P: Drop,
@@ -126,7 +127,7 @@ impl<P> TxnTable<P> {
             return Err(Refusal::ClockSpent);
         }
         let id = self.clock + 1;
-        self.begins.make_room(&self.seats)?;
+        self.begins.make_room(&self.seats);
         let seat = Seat {
             state: TxState::Active,
             kept,
@@ -137,20 +138,21 @@ impl<P> TxnTable<P> {
         Ok(TxId(id))
     }
 
-    /// Draws the end timestamp of an Active transaction, which is Preparing from then on.
+    /// Draws the end timestamp of an Active transaction, which is Preparing from then on. It is
+    /// refused where the clock is spent alone, and takes no memory.
     pub fn prepare(&mut self, id: TxId) -> Result<Stamp, Refusal>
         requires { state_of self.old id.0 ≡ Some TxState.Active }
         ensures end { IfOk result (λ end. end.0 ≡ self.new.clock) }
         ensures ok { OnOk result (self.new ≡ after_prepare self.old id.0) }
         ensures no_cause { OnOk result (spent_clock self.old.clock ≡ None) }
-        ensures refused { IfErr result (IsRefusal (spent_clock self.old.clock)) }
+        ensures refused { IfErr result (λ why. spent_clock self.old.clock ≡ Some why) }
         ensures err { OnErr result (self.new ≡ self.old) }
     {
         if self.clock >= MAX_STAMP {
             return Err(Refusal::ClockSpent);
         }
         let end = self.clock + 1;
-        self.open_ends.make_room(&self.seats)?;
+        self.open_ends.make_room(&self.seats);
         self.seats.set_state(id.0, TxState::Preparing(Stamp(end)));
         self.open_ends.push(end, id.0);
         self.clock = end;

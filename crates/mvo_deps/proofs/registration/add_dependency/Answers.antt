@@ -1,5 +1,4 @@
 use Rattle.std.proofs.Common.{◌≡◌, sym, ap, ◌∙◌}
-use Rattle.std.specs.Prelude.{OnErr}
 use Rattle.mvo_txn.specs.Txns.{after_write}
 use Rattle.mvo_deps.proofs.Changes.{write_same, on_err}
 use Rattle.mvo_deps.proofs.registration.add_dependency.Goals as goal

@@ -1,8 +1,8 @@
-use Rattle.std.proofs.Common.{◌+◌, sym, ap, subst, ◌∙◌, take, drop, slice_index_or, ◌++◌, ◌∷◌, []}
+use Rattle.std.proofs.Common.{◌+◌, sym, subst, take, drop, slice_index_or, ◌++◌, ◌∷◌, []}
 use Rattle.std.proofs.lemmas.List.{take_more, take-append-drop}
 use Rattle.mvo_types.specs.declared.ids.TxId.{TxId}
 use Rattle.mvo_deps.specs.Data.{IsApart, noted}
-use Rattle.mvo_deps.specs.Nodes.{after_change, IsEachChanged}
+use Rattle.mvo_deps.specs.Nodes.{IsEachChanged}
 use Rattle.mvo_deps.proofs.Apart.{apart_front}
 use Rattle.mvo_deps.proofs.Changes.{each_more}
 use Rattle.mvo_deps.proofs.report.note_each.Goals as goal

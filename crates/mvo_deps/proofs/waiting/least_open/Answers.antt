@@ -1,4 +1,4 @@
-use Rattle.std.proofs.Common.{sym, ap, subst, ◌∙◌, take}
+use Rattle.std.proofs.Common.{sym, subst, take}
 use Rattle.std.proofs.lemmas.List.{take_more, take_all}
 use Rattle.mvo_deps.specs.Waiting.{IsLeast}
 use Rattle.mvo_deps.proofs.Least.{least_none, least_found}

@@ -1,4 +1,4 @@
-use Rattle.std.proofs.Common.{sym, ap, subst, ◌∙◌, false}
+use Rattle.std.proofs.Common.{sym, ap, subst, ◌∙◌}
 use Rattle.mvo_deps.specs.Data.{is_among, IsApart}
 use Rattle.mvo_deps.proofs.Apart.{apart_behind}
 use Rattle.mvo_deps.proofs.dependencies.Dependencies.add_dependent.Goals as goal

@@ -1,20 +1,19 @@
 use Rattle.std.proofs.Common.{arith, sym, subst}
 use Rattle.mvo_txn.specs.Sound.{IsSound}
-use Rattle.mvo_txn.proofs.Tables.{sound_roomy_begins, sound_begun}
+use Rattle.mvo_txn.proofs.Tables.{fresh, sound_roomy_begins, sound_begun}
 use Rattle.mvo_txn.proofs.table.TxnTable.begin.Goals as goal
 
 pub invariant_of-self : goal.invariant_of-self
 invariant_of-self g c =
-    sound_roomy_begins c.self.inside.clock c.self.inside.seats c.self.inside.begins c.make_room.new.self c.self.inside.open_ends c.make_room.ensures.kind c.make_room.ensures.kept c.self.invariant
-
-pub invariant_of-self-in_err-insert : goal.invariant_of-self-in_err-insert
-invariant_of-self-in_err-insert g c =
     subst (λ m. IsSound c.self.inside.clock m c.make_room.new.self c.self.inside.open_ends) (sym c.in_err-insert.ensures.err)
-    (sound_roomy_begins c.self.inside.clock c.self.inside.seats c.self.inside.begins c.make_room.new.self c.self.inside.open_ends c.make_room.ensures.kind c.make_room.ensures.kept c.self.invariant)
+    (sound_roomy_begins c.self.inside.clock c.self.inside.seats c.self.inside.begins c.make_room.new.self c.self.inside.open_ends c.make_room.ensures.form c.make_room.ensures.kept c.self.invariant)
 
 pub invariant_of-self-2 : goal.invariant_of-self-2
 invariant_of-self-2 g c =
     sound_begun c.self.inside.clock c.self.inside.seats c.insert.new.self c.make_room.new.self c.push.new.self c.self.inside.open_ends c.args.kept
     (omega arith) (omega (arith, c.len.ensures, c.if-len-ge-MAX_UNFINISHED.false))
-    c.in_ok-insert.ensures.ok c.push.ensures.kind c.push.ensures.marks
-    (sound_roomy_begins c.self.inside.clock c.self.inside.seats c.self.inside.begins c.make_room.new.self c.self.inside.open_ends c.make_room.ensures.kind c.make_room.ensures.kept c.self.invariant)
+    c.in_ok-insert.ensures.ok c.push.ensures.form c.push.ensures.marks
+    (sound_roomy_begins c.self.inside.clock c.self.inside.seats c.self.inside.begins c.make_room.new.self c.self.inside.open_ends c.make_room.ensures.form c.make_room.ensures.kept c.self.invariant)
+
+pub insert-requires-clause-new : goal.insert-requires-clause-new
+insert-requires-clause-new g c = fresh c.self.inside.seats c.self.inside.clock c.self.inside.begins c.self.invariant.begins_are

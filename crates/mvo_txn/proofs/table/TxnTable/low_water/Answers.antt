@@ -1,6 +1,6 @@
 use Rattle.std.proofs.Common.{◌-◌, subst}
 use Rattle.mvo_txn.specs.Txns.{IsLowWater}
-use Rattle.mvo_txn.proofs.Firsts.{low_some, low_none}
+use Rattle.mvo_txn.proofs.Firsts.{low_some}
 use Rattle.mvo_txn.proofs.table.TxnTable.low_water.Goals as goal
 
 pub returns-in-Some : goal.returns-in-Some

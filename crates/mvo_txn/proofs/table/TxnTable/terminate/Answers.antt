@@ -1,4 +1,4 @@
-use Rattle.std.proofs.Common.{sym, ap, subst, ◌∙◌}
+use Rattle.std.proofs.Common.{ap, ◌∙◌}
 use Rattle.mvo_txn.specs.Queue.{open_end}
 use Rattle.mvo_txn.specs.Txns.{state_of}
 use Rattle.mvo_txn.proofs.Tables.{sound_left, ended_is_closed}
@@ -8,4 +8,4 @@ pub invariant_of-self : goal.invariant_of-self
 invariant_of-self g c =
     sound_left c.self.inside.clock c.self.inside.seats c.remove.new.self c.self.inside.begins c.trim.new.self c.self.inside.open_ends c.args.id.0
     (ap (λ t. open_end (state_of t c.args.id.0)) c.self.view_is ∙ ended_is_closed (state_of c.args.self.now c.args.id.0) c.requires)
-    c.remove.ensures.gone c.trim.ensures.kind c.trim.ensures.kept c.self.invariant
+    c.remove.ensures.gone c.trim.ensures.form c.trim.ensures.kept c.self.invariant

@@ -1,0 +1,8 @@
+use crate::seat::Seat;
+
+/// A seat with the id of the transaction that has it.
+#[derive(Drop)]
+pub(crate) struct Chair<P> {
+    pub(crate) id: u64,
+    pub(crate) seat: Seat<P>,
+}
