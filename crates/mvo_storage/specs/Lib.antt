@@ -1,0 +1,5 @@
+pub mod StoreData
+pub mod Standing
+pub mod Causes
+pub mod Steps
+pub mod Files

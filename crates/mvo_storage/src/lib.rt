@@ -1,0 +1,20 @@
+//! A store of groups over many files: appends, rotations of the log, and installing manifests.
+#![tactic(auto)]
+
+mod appending;
+mod due;
+mod durable;
+mod fault;
+mod files;
+mod generation;
+mod installing;
+mod limits;
+mod rotating;
+mod rotation;
+mod store;
+
+pub use due::Due;
+pub use durable::Durable;
+pub use generation::Generation;
+pub use rotation::Rotation;
+pub use store::Store;
