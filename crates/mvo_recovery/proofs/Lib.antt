@@ -5,6 +5,7 @@ pub mod Grown
 pub mod Appended
 pub mod Installed
 pub mod Rotated
+pub mod Beside
 pub mod Begun
 pub mod Moments
 pub mod Proved

@@ -54,7 +54,8 @@ GroupCounts content may = (f : Format) (m : ManifestData) (x : Parts) →
 abbrev pub InstallKeeps : Image → (ℕ → List ℕ → Type 0) → Type 0
 InstallKeeps content may = (f : Format) (m next : ManifestData) (x y : Parts) →
     IsSettled f content may m x → IsNext m next → IsReady f content may next y → MakeUpSame x y →
-    (image : Image) → Touched (other_slot m) may (IsShutOrOpen f.version (other_slot m) next) image →
+    (image : Image) →
+    Touched (other_slot m) may (IsShutOrOpen f.version (other_slot m) next) image →
     GivesParts f x image
 
 -- the manifest of a rotation may be installed, and changes neither rows nor mark
