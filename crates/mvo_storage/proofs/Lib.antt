@@ -1,3 +1,6 @@
 pub mod Named
 pub mod Keeping
 pub mod Appended
+pub mod Rotations
+pub mod Allowed
+pub mod Installs
