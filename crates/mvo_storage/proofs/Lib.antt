@@ -4,3 +4,4 @@ pub mod Appended
 pub mod Rotations
 pub mod Allowed
 pub mod Installs
+pub mod Synced

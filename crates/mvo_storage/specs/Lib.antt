@@ -3,3 +3,4 @@ pub mod Standing
 pub mod Causes
 pub mod Steps
 pub mod Files
+pub mod Opening

@@ -12,6 +12,7 @@ mod limits;
 mod rotating;
 mod rotation;
 mod store;
+mod syncing;
 
 pub use due::Due;
 pub use durable::Durable;
