@@ -5,3 +5,4 @@ pub mod Rotations
 pub mod Allowed
 pub mod Installs
 pub mod Synced
+pub mod Opens

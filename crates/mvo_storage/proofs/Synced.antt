@@ -1,9 +1,9 @@
 -- Syncing one file after another.
-use Rattle.std.proofs.Common.{◌≡◌, ◌≢◌, inl, inr, ℕ, ◌+◌, ◌<◌, ◌≤◌, List, refl, sym, subst, ◌∙◌, arith}
+use Rattle.std.proofs.Common.{◌≡◌, inl, inr, ℕ, ◌+◌, refl, sym, subst, ◌∙◌, arith}
 use Rattle.std.proofs.lemmas.Bool.{cases_eq}
 use Rattle.mvo_disk.specs.declared.disk.Disk.{Ghosts}
-use Rattle.mvo_disk.specs.Disk.{Image, Only, AllOf, Settles, Elapses, LeavesOnly}
-use Rattle.mvo_disk.specs.Moments.{started, reads_on, runs_on}
+use Rattle.mvo_disk.specs.Disk.{Only, AllOf, Settles}
+use Rattle.mvo_disk.specs.Moments.{started, runs_on}
 use Rattle.mvo_storage.specs.Opening.{KeepsContent, LeavesAsBefore, HasSynced}
 use Rattle.mvo_storage.proofs.Keeping.{OnlyNow}
 

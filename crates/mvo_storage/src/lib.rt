@@ -9,6 +9,7 @@ mod files;
 mod generation;
 mod installing;
 mod limits;
+mod opening;
 mod rotating;
 mod rotation;
 mod store;
