@@ -3,3 +3,5 @@ pub mod Standing
 pub mod Causes
 pub mod Steps
 pub mod Files
+pub mod Formatting
+pub mod Reclaiming
