@@ -1,29 +1,40 @@
 -- A store in each of the steps of an append.
-use Rattle.std.proofs.Common.{◌≡◌, ◌≢◌, inl, inr, ℕ, ◌+◌, ◌<◌, ◌≤◌, ◌^◌, true, false, List, [], ◌∷◌, ◌++◌, length, Option, Some, None, refl, sym, ap, subst, ◌∙◌, arith, cond}
+use Rattle.std.proofs.Common.{◌≡◌, ◌≢◌, ℕ, ◌+◌, ◌<◌, true, false, List, [], ◌∷◌, ◌++◌, Option, Some, None, refl, sym, ap, subst, ◌∙◌, arith, cond}
+use Rattle.std.specs.List.{All}
+use Rattle.std.proofs.lemmas.List.Elements.{All-contains, All-push, All-nil, All-weaker}
 use Rattle.mvo_types.specs.Keys.{Map}
-use Rattle.mvo_types.specs.declared.limits.TheConstants.{MAX_SEGMENT_LEN}
 use Rattle.mvo_disk.specs.declared.disk.Disk.{Ghosts}
 use Rattle.mvo_disk.specs.Disk.{Image, Only, OthersStay, Touched, LeavesOnly}
 use Rattle.mvo_disk.specs.Moments.{weaker}
-use Rattle.mvo_group.specs.Data.{GroupData}
-use Rattle.mvo_group.specs.Rules.{IsGroup}
+use Rattle.mvo_types.specs.Write.{Write}
+use Rattle.mvo_group.specs.Data.{RecordData, GroupData}
+use Rattle.mvo_group.specs.Rules.{KeepsLimits, IsRecord, IsGroup}
 use Rattle.mvo_format.specs.declared.format.TheConstants.{FIRST_FORMAT}
 use Rattle.mvo_format.specs.declared.header.TheConstants.{VERSION}
 use Rattle.mvo_frame.specs.declared.segment.Segment.{Segment}
-use Rattle.mvo_frame.specs.Frames.{HasFrames, AreAllowed, mark_after}
-use Rattle.mvo_frame.specs.Standing.{HasGate, IsWritten, HasWithOrWithout, gate_of}
-use Rattle.mvo_manifest.specs.Data.{ManifestData}
-use Rattle.mvo_recovery.specs.Parts.{Parts, rows_of_parts, mark_of_parts, with_group, IsLastFile}
-use Rattle.mvo_recovery.specs.Settled.{IsSettled, IsUsed, other_slot, GivesWithOrWithout}
-use Rattle.mvo_recovery.proofs.Named.{last_used, last_once, slot_below, named_is_no_slot, last_named}
+use Rattle.mvo_frame.specs.Frames.{HasFrames, IsAllowed, AreAllowed, mark_after}
+use Rattle.mvo_frame.specs.Standing.{HasGate, IsWritten, HasWithOrWithout}
+use Rattle.mvo_manifest.specs.Data.{ManifestData, named}
+use Rattle.mvo_manifest.specs.Rules.{IsFile}
+use Rattle.mvo_recovery.specs.Parts.{Parts, rows_of_parts, with_group, IsLastFile}
+use Rattle.mvo_recovery.specs.Settled.{IsUsed, other_slot, GivesWithOrWithout}
+use Rattle.mvo_recovery.proofs.Named.{last_used, last_once, slot_below, named_is_no_slot, last_named, not_used}
+use Rattle.mvo_recovery.proofs.Rotated.{fresh_framed}
 use Rattle.mvo_recovery.proofs.Grown.{rows_with_group, mark_with_group}
-use Rattle.mvo_recovery.proofs.Appended.{within_body, within_gate, after_body, after_gate, only_stays}
+use Rattle.mvo_recovery.proofs.Appended.{within_body, within_gate, after_body, after_gate}
 use Rattle.mvo_storage.specs.StoreData.{StoreData, opening}
 use Rattle.mvo_storage.specs.declared.rotation.Rotation.{Rotation}
 use Rattle.mvo_storage.specs.declared.due.Due.{Due}
-use Rattle.mvo_storage.specs.declared.due.Due.TheVariants.{Close, Body, Open}
-use Rattle.mvo_storage.specs.Standing.{FollowsMark, HasBody, HasInstall, IsRotating, HasRotation, IsUp, GivesOr, HasSlots, after_taken}
+use Rattle.mvo_storage.specs.Standing.{FollowsMark, HasBody, HasInstall, HasRotation, IsUp, GivesOr, HasSlots, after_taken}
 use Rattle.mvo_storage.proofs.Keeping.{gives_or, parts_give, Leaves}
+
+-- what a group holds keeps the limits of the version
+pub is_allowed : (g : GroupData) → IsGroup g → AreAllowed FIRST_FORMAT (g ∷ [])
+is_allowed g is =
+    let limits : (w : Write) → KeepsLimits w → IsAllowed FIRST_FORMAT w = λ w l. record { table = l.table; size = l.size } in
+    let each : (r : RecordData) → IsRecord r → All (IsAllowed FIRST_FORMAT) r.writes = λ r k. All-weaker KeepsLimits (IsAllowed FIRST_FORMAT) limits r.writes k.each in
+    All-push (λ (h : GroupData). All (λ r. All (IsAllowed FIRST_FORMAT) r.writes) h.records) [] g (All-nil (λ (h : GroupData). All (λ r. All (IsAllowed FIRST_FORMAT) r.writes) h.records))
+    (All-weaker IsRecord (λ r. All (IsAllowed FIRST_FORMAT) r.writes) each g.records is.rules.each)
 
 -- ---- a rotation beside a step on another file
 
@@ -34,15 +45,14 @@ pub rotating_beside : (old new : Image) (may_old may_new : ℕ → List ℕ → 
     → IsUsed m file → file ≢ other_slot m → (x.last ≢ [] → y.last ≢ []) → HasRotation old may_old m x r → HasRotation new may_new m y r
 rotating_beside old new may_old may_new file m x y None rest used apart some has = tt
 rotating_beside old new may_old may_new file m x y (Some r) rest used apart some has =
-    let ne : r.fresh.file ≢ file = λ e. has.unused (subst (IsUsed m) (sym e) used) in
+    let ne : r.fresh.file ≢ file = λ e. not_used m r.fresh.file has.may_rotate.file.0 has.may_rotate.unnamed (subst (IsUsed m) (sym e) used) in
+    let stay : (n : ℕ) → n ≡ r.fresh.file → n ≢ file = λ n is e. ne (sym is ∙ e) in
     record {
       next = has.next;
-      is = has.is;
+      may_rotate = has.may_rotate;
       some = some has.some;
-      unused = has.unused;
-      fresh = rest.content r.fresh.file ne ∙ has.fresh;
+      fresh = fresh_framed FIRST_FORMAT old new may_old may_new r.fresh.file (record { content = λ n is. rest.content n (stay n is); images = λ n c is left. rest.images n c (stay n is) left }) has.fresh;
       gate = has.gate;
-      durable = only_stays FIRST_FORMAT old new may_old may_new file rest r.fresh.file ne has.durable;
       install = install_same r.due r.next (other_slot m) (old (other_slot m)) (new (other_slot m)) (rest.content (other_slot m) (λ e. apart (sym e))) has.install;
     }
 
@@ -61,6 +71,9 @@ module _ {D : Type 0} (d : Ghosts D) (s : StoreData D) (rows : Map) (up : IsUp d
 
   pub last_stands : HasGate VERSION up.parts.middle up.parts.last s.segment.gate (d.content s.disk file)
   last_stands = record { has = subst (λ n. HasFrames VERSION up.parts.middle up.parts.last (d.content s.disk n)) (sym here) up.settled.installed.parts.last.has; place = up.gate }
+
+  pub last_file : file < 1024
+  last_file = let is : IsFile file = All-contains IsFile (named s.manifest) file up.settled.installed.own.is.rules.files (last_named s.manifest up.last.0 file up.last.1) in omega (arith, is.1)
 
   pub last_durable : Only (d.content s.disk file) (d.may_leave s.disk file)
   last_durable = up.settled.durable file (last_used s.manifest file up.last)

@@ -1,5 +1,5 @@
 -- A store keeps its rows over a step.
-use Rattle.std.proofs.Common.{◌≡◌, inl, ℕ, ◌≤◌, true, false, Option, Some, None, refl, sym, subst}
+use Rattle.std.proofs.Common.{◌≡◌, inl, ℕ, ◌≤◌, true, false, Option, Some, None, sym, subst}
 use Rattle.mvo_types.specs.Keys.{Map}
 use Rattle.mvo_disk.specs.declared.disk.Disk.{Ghosts}
 use Rattle.mvo_disk.specs.Disk.{Image, AllOf, LeavesOnly}
@@ -7,11 +7,11 @@ use Rattle.mvo_disk.specs.Moments.{started, at_end}
 use Rattle.mvo_group.specs.Data.{GroupData}
 use Rattle.mvo_format.specs.declared.format.TheConstants.{FIRST_FORMAT}
 use Rattle.mvo_image.specs.Files.{GivesRows}
-use Rattle.mvo_recovery.specs.Parts.{rows_of_parts, mark_of_parts}
+use Rattle.mvo_recovery.specs.Parts.{rows_of_parts}
 use Rattle.mvo_recovery.specs.Settled.{GivesParts}
 use Rattle.mvo_recovery.proofs.Framed.{settled_gives}
 use Rattle.mvo_storage.specs.StoreData.{StoreData, opening}
-use Rattle.mvo_storage.specs.Standing.{IsUp, Gives, GivesOr, HasSlots, KeepsRows, LeavesRows, IsKeeping, Keeps}
+use Rattle.mvo_storage.specs.Standing.{IsUp, Gives, GivesOr, HasSlots, IsKeeping, Keeps}
 
 -- without the group that is being opened
 pub gives_or : (rows : Map) (mark : ℕ) (o : Option GroupData) (image : Image) → Gives rows mark image → GivesOr rows mark o image

@@ -59,6 +59,7 @@ some_free m rules all = go (is_named m MAX_FILE) refl
     every : is_named m MAX_FILE ≡ true → (t : ℕ) → (k : ℕ) → 2 ≤ k → k < 2 + 1022 → (d : ℕ) → k + d ≡ 1023 → is_named m k ≡ true
     every last t k ge lt zero e = subst (λ n. is_named m n ≡ true) (omega (arith, e)) last
     every last t k ge lt (suc d) e = all k ge (omega (arith, e))
+
     go : (t : Bool) → is_named m MAX_FILE ≡ t → is_named m MAX_FILE ≡ false
     go false is = is
     go true is =

@@ -1,5 +1,5 @@
 -- The refusals of each call of a store, in their order, each with its test.
-use Rattle.std.specs.Prelude.{ℕ, ◌+◌, ◌^◌, ◌==◌, nat_lt, nat_le, List, [], ◌∷◌, length, Bool, true}
+use Rattle.std.specs.Prelude.{ℕ, ◌+◌, ◌==◌, nat_lt, nat_le, List, [], ◌∷◌, length, Bool, true}
 use Rattle.std.specs.Prelude.{false, not, Option, Some, None, is_some, if◌then◌else◌}
 use Rattle.mvo_types.specs.declared.limits.TheConstants.{MAX_SEGMENT_LEN, MAX_SEGMENTS}
 use Rattle.mvo_types.specs.declared.refusal.Refusal.{Refusal}

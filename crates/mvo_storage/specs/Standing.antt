@@ -1,25 +1,22 @@
 -- How a store stands over its disk, and what a stop leaves of it.
-use Rattle.std.specs.Prelude.{◌≡◌, ◌≢◌, ◌⊎◌, ℕ, ◌<◌, ◌+◌, ◌^◌, true, false, List, [], ◌∷◌, ◌++◌}
-use Rattle.std.specs.Prelude.{Option, Some, None, Result, Ok, Err}
+use Rattle.std.specs.Prelude.{◌≡◌, ◌≢◌, ℕ, ◌<◌, ◌+◌, ◌^◌, true, false, List, [], ◌∷◌}
+use Rattle.std.specs.Prelude.{Option, Some, None}
 use Rattle.mvo_types.specs.Keys.{Map}
 use Rattle.mvo_types.specs.declared.limits.TheConstants.{MAX_SEGMENT_LEN}
 use Rattle.mvo_disk.specs.declared.disk.Disk.{Ghosts}
-use Rattle.mvo_disk.specs.Disk.{Image, Only, AllOf, LeavesOnly}
+use Rattle.mvo_disk.specs.Disk.{Image, AllOf, LeavesOnly}
 use Rattle.mvo_group.specs.Data.{GroupData}
 use Rattle.mvo_group.specs.Rules.{IsGroup}
 use Rattle.mvo_format.specs.declared.format.TheConstants.{FIRST_FORMAT}
 use Rattle.mvo_format.specs.declared.header.TheConstants.{VERSION, HEADER_LEN}
-use Rattle.mvo_format.specs.Found.{header}
-use Rattle.mvo_frame.specs.declared.magic.TheConstants.{MAGIC}
 use Rattle.mvo_frame.specs.Standing.{gate_of, IsWritten}
 use Rattle.mvo_manifest.specs.Data.{ManifestData}
-use Rattle.mvo_manifest.specs.Rules.{IsManifest}
 use Rattle.mvo_manifest.specs.Slots.{IsShut, IsStaged}
 use Rattle.mvo_image.specs.Files.{GivesRows}
 use Rattle.mvo_image.specs.Rows.{after_groups}
 use Rattle.mvo_recovery.specs.Parts.{Parts, rows_of_parts, mark_of_parts, IsLastFile}
-use Rattle.mvo_recovery.specs.Settled.{IsSettled, IsUsed, other_slot, GivesWithOrWithout}
-use Rattle.mvo_recovery.specs.Rotation.{rotated}
+use Rattle.mvo_recovery.specs.Settled.{IsSettled, other_slot, GivesWithOrWithout}
+use Rattle.mvo_recovery.specs.Rotation.{rotated, IsFresh, MayRotate}
 use Rattle.mvo_storage.specs.declared.due.Due.{Due}
 use Rattle.mvo_storage.specs.declared.due.Due.TheVariants.{Close, Body, Open}
 use Rattle.mvo_storage.specs.declared.rotation.Rotation.{Rotation}
@@ -45,16 +42,14 @@ HasInstall Close next slot bytes = Unit {0}
 HasInstall Body next slot bytes = IsShut bytes
 HasInstall Open next slot bytes = IsStaged VERSION slot next bytes
 
--- Its segment is fresh and durable, in a file that isn't used, and its manifest names it last.
+-- Its segment is fresh in a file that isn't used, and its manifest names it last.
 pub record IsRotating (content : Image) (may : ℕ → List ℕ → Type 0) (m : ManifestData) (x : Parts)
     (r : Rotation) : Type 0 where
   pub next : r.next ≡ rotated m r.fresh.file
-  pub is : IsManifest r.next
+  pub may_rotate : MayRotate m r.fresh.file
   pub some : x.last ≢ []
-  pub unused : IsUsed m r.fresh.file → ⊥
-  pub fresh : content r.fresh.file ≡ header MAGIC VERSION ++ 0 ∷ []
+  pub fresh : IsFresh FIRST_FORMAT content may r.fresh.file
   pub gate : r.fresh.gate ≡ HEADER_LEN
-  pub durable : Only (content r.fresh.file) (may r.fresh.file)
   pub install : HasInstall r.due r.next (other_slot m) (content (other_slot m))
 
 abbrev pub HasRotation : Image → (ℕ → List ℕ → Type 0) → ManifestData → Parts → Option Rotation
@@ -113,11 +108,6 @@ LeavesRows d rows s t =
 abbrev pub after_taken : Map → Option GroupData → Map
 after_taken rows None = rows
 after_taken rows (Some g) = after_groups rows (g ∷ [])
-
--- the rows after a step that opens its gate
-abbrev pub rows_after : {T E : Type 0} → Result T E → Map → Option GroupData → Map
-rows_after (Ok x) rows taken = after_taken rows taken
-rows_after (Err e) rows taken = rows
 
 -- A step from one store to the next that keeps the rows of the first, but for what it makes of
 -- them: it leaves them at any moment, and then stands so.

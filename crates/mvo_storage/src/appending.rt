@@ -1,7 +1,7 @@
 //! Appends a group to the last segment, in two steps.
 ghost use Rattle.std.specs.Prelude.{◌≡◌, true, false, None, OnOk, OnErr, IfOk, IfErr, IsErrOf};
 ghost use Rattle.mvo_storage.specs.StoreData.{StoreData};
-ghost use Rattle.mvo_storage.specs.Standing.{Keeps, IsKeeping, rows_after};
+ghost use Rattle.mvo_storage.specs.Standing.{Keeps, IsKeeping, after_taken};
 ghost use Rattle.mvo_storage.specs.Causes.{why_not_append_body, why_not_append_open};
 ghost use Rattle.mvo_storage.specs.Steps.{RefusedFor, LeftBy, IsMarkOf};
 
@@ -67,8 +67,9 @@ impl<D: Disk> Store<D> {
         ensures mark { IfOk result (λ durable. IsMarkOf self.old.pending durable) }
         ensures durable { IfOk result (λ durable. self.new.mark ≡ durable) }
         ensures err { IfErr result (λ e. LeftBy D.Disk e self.old self.new) }
-        ensures keeps { IsKeeping D.Disk (λ rows. rows_after result rows self.old.pending) self.old
-            self.new }
+        ensures keeps { OnOk result (IsKeeping D.Disk (λ rows. after_taken rows self.old.pending)
+            self.old self.new) }
+        ensures keeps_err { OnErr result (Keeps D.Disk self.old self.new) }
     {
         if self.down {
             return Err(Refusal::Down);

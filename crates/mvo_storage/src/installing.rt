@@ -8,11 +8,22 @@ ghost use Rattle.mvo_storage.specs.Steps.{RefusedFor, LeftBy, with_due, IsInstal
 use crate::due::Due;
 use crate::fault::is_fault;
 use crate::generation::Generation;
+use crate::rotation::Rotation;
 use crate::store::Store;
 use mvo_disk::Disk;
 use mvo_format::VERSION;
 use mvo_manifest::{close_slot, open_slot, write_slot};
 use mvo_types::Refusal;
+
+/// With another step of its install due.
+fn with_due(rotation: Option<Rotation>, due: Due) -> Option<Rotation>
+    ensures { result ≡ with_due due rotation }
+{
+    match rotation {
+        Some(Rotation { fresh, next, .. }) => Some(Rotation { fresh, next, due }),
+        None => None,
+    }
+}
 
 impl<D: Disk> Store<D> {
     /// Closes the gate of the slot that isn't the installed manifest's, and syncs. A gate that is
@@ -32,7 +43,7 @@ impl<D: Disk> Store<D> {
         if self.down {
             return Err(Refusal::Down);
         }
-        let Some(rotation) = &mut self.rotation else {
+        let Some(rotation) = &self.rotation else {
             return Err(Refusal::NothingToDo);
         };
         if rotation.due != Due::Close {
@@ -42,7 +53,7 @@ impl<D: Disk> Store<D> {
             self.down = true;
             return Err(Refusal::DiskFault);
         };
-        rotation.due = Due::Body;
+        self.rotation = with_due(self.rotation.take(), Due::Body);
         Ok(())
     }
 
@@ -61,7 +72,7 @@ impl<D: Disk> Store<D> {
         if self.down {
             return Err(Refusal::Down);
         }
-        let Some(rotation) = &mut self.rotation else {
+        let Some(rotation) = &self.rotation else {
             return Err(Refusal::NothingToDo);
         };
         if rotation.due != Due::Body {
@@ -69,7 +80,7 @@ impl<D: Disk> Store<D> {
         }
         match write_slot(self.alloc, &mut self.disk, VERSION, &rotation.next) {
             Ok(()) => {
-                rotation.due = Due::Open;
+                self.rotation = with_due(self.rotation.take(), Due::Open);
                 Ok(())
             }
             Err(refusal) => {

@@ -1,9 +1,8 @@
-use Rattle.std.proofs.Common.{◌≡◌, false, true, List, ℕ, Some, refl, sym, ap, subst, rules}
-use Rattle.mvo_types.specs.Keys.{Map}
+use Rattle.std.proofs.Common.{true, subst}
 use Rattle.mvo_format.specs.declared.header.TheConstants.{VERSION}
 use Rattle.mvo_storage.specs.StoreData.{StoreData}
 use Rattle.mvo_storage.specs.Standing.{IsUp}
-use Rattle.mvo_storage.proofs.Keeping.{same_keeps, fault_keeps, step_keeps}
+use Rattle.mvo_storage.proofs.Keeping.{fault_keeps, step_keeps}
 use Rattle.mvo_storage.proofs.Appended.{last_stands, last_durable, slots_stay, follows_last, body_leaves, body_up, left_same}
 use Rattle.mvo_storage.proofs.store.Store.append_body.Goals as goal
 
