@@ -13,7 +13,8 @@ use Rattle.mvo_manifest.specs.Data.{ManifestData, named}
 use Rattle.mvo_recovery.specs.Parts.{Parts}
 use Rattle.mvo_recovery.specs.Settled.{IsUsed, FilesStay, other_slot}
 use Rattle.mvo_recovery.proofs.Named.{last_used, not_used, slot_below}
-use Rattle.mvo_recovery.proofs.Framed.{within_unused, settled_framed, only_framed}
+use Rattle.mvo_recovery.proofs.Framed.{within_unused, settled_framed}
+use Rattle.mvo_recovery.proofs.Rotated.{fresh_framed}
 use Rattle.mvo_storage.specs.Files.{is_named}
 use Rattle.mvo_storage.specs.StoreData.{StoreData, opening}
 use Rattle.mvo_storage.specs.declared.rotation.Rotation.{Rotation}
@@ -41,14 +42,13 @@ module _ (old new : Image) (may_old may_new : ℕ → List ℕ → Type 0) (P : 
   rotating_kept m x None used fresh has = tt
   rotating_kept m x (Some r) used fresh has =
       let slot = other_slot m in
+      let kept : (n : ℕ) → n ≡ r.fresh.file → P n = λ n e. subst P (sym e) (fresh r.fresh.file refl) in
       record {
         next = has.next;
-        is = has.is;
+        may_rotate = has.may_rotate;
         some = has.some;
-        unused = has.unused;
-        fresh = stay.content r.fresh.file (fresh r.fresh.file refl) ∙ has.fresh;
+        fresh = fresh_framed FIRST_FORMAT old new may_old may_new r.fresh.file (record { content = λ n e. stay.content n (kept n e); images = λ n c e. stay.images n c (kept n e) }) has.fresh;
         gate = has.gate;
-        durable = only_framed old new may_old may_new P r.fresh.file (fresh r.fresh.file refl) stay has.durable;
         install = subst (λ (c : List ℕ). HasInstall r.due r.next slot c) (sym (stay.content slot (used slot (inl (slot_below (m.generation + 1)))))) has.install;
       }
 
