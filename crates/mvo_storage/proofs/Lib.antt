@@ -6,3 +6,5 @@ pub mod Allowed
 pub mod Installs
 pub mod Synced
 pub mod Opens
+pub mod Formatted
+pub mod Emptied

@@ -4,3 +4,5 @@ pub mod Causes
 pub mod Steps
 pub mod Files
 pub mod Opening
+pub mod Formatting
+pub mod Reclaiming
