@@ -1,0 +1,10 @@
+pub mod Named
+pub mod Keeping
+pub mod Appended
+pub mod Rotations
+pub mod Allowed
+pub mod Installs
+pub mod Synced
+pub mod Opens
+pub mod Formatted
+pub mod Emptied

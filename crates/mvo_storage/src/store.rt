@@ -1,0 +1,132 @@
+use crate::rotation::Rotation;
+use mvo_disk::Disk;
+use mvo_frame::Segment;
+use mvo_group::Group;
+use mvo_manifest::Manifest;
+use mvo_types::{Refusal, Stamp};
+use std::alloc::Global;
+use std::marker::Model;
+
+/// A store of groups over the files of a disk: the installed manifest names them.
+///
+/// Each image that a stop now may leave is well formed, and gives the rows up to a mark at least
+/// the store's. After DiskFault every step answers Down, until the disk is opened again.
+#[derive(Drop)]
+pub struct Store<D: Disk> {
+    pub(crate) alloc: Global,
+    pub(crate) disk: D,
+    /// The installed manifest.
+    pub(crate) manifest: Manifest,
+    /// The last segment.
+    pub(crate) segment: Segment,
+    /// The mark of the last group whose gate is open and synced.
+    pub(crate) mark: Stamp,
+    /// The group that is being appended.
+    pub(crate) pending: Option<Group>,
+    /// Whether its body stands behind the gate and is synced.
+    pub(crate) written: bool,
+    /// The rotation that runs.
+    pub(crate) rotation: Option<Rotation>,
+    /// Whether the disk met a fault.
+    pub(crate) down: bool,
+}
+
+impl<D: Disk> Model for Store<D> {
+    ghost use Rattle.std.specs.Prelude.{◌≡◌, false};
+    ghost use Rattle.mvo_types.specs.Keys.{Map};
+    ghost use Rattle.mvo_storage.specs.StoreData.{StoreData};
+    ghost use Rattle.mvo_storage.specs.Standing.{IsUp};
+
+    ghost Value = { StoreData D };
+
+    ghost view = { λ s. record {
+      disk = s.disk;
+      manifest = s.manifest;
+      segment = s.segment;
+      mark = s.mark.0;
+      pending = s.pending;
+      written = s.written;
+      rotation = s.rotation;
+      down = s.down;
+    } };
+
+    ghost invariant = { λ s. s.down ≡ false → (rows : Map) × IsUp D.Disk (record {
+      disk = s.disk;
+      manifest = s.manifest;
+      segment = s.segment;
+      mark = s.mark.0;
+      pending = s.pending;
+      written = s.written;
+      rotation = s.rotation;
+      down = s.down;
+    }) rows };
+}
+
+impl<D: Disk> Store<D> {
+    ghost use Rattle.std.specs.Prelude.{◌≡◌, None, Some, OnOk, OnErr};
+    ghost use Rattle.mvo_storage.specs.StoreData.{StoreData};
+    ghost use Rattle.mvo_storage.specs.Standing.{Keeps};
+    ghost use Rattle.mvo_storage.specs.Causes.{has_group, why_not_take};
+    ghost use Rattle.mvo_storage.specs.Steps.{GivenBackFor};
+
+    /// The disk, as it stands.
+    pub fn into_disk(self) -> D
+        ensures { result ≡ self.disk }
+    {
+        let Store { disk, .. } = self;
+        disk
+    }
+
+    /// The mark of the last group that is durable, or the one that the store opened at.
+    pub fn mark(&self) -> Stamp
+        ensures { result.0 ≡ self.now.mark }
+    {
+        self.mark
+    }
+
+    /// The installed manifest.
+    pub fn manifest(&self) -> &Manifest
+        ensures { result.now ≡ self.now.manifest }
+    {
+        &self.manifest
+    }
+
+    // Whether a group is being appended.
+    fn has_group(&self) -> bool
+        ensures { result ≡ has_group self.now }
+    {
+        self.pending.is_some()
+    }
+
+    /// The refusal that `take_group` would give.
+    pub fn can_take(&self) -> Option<Refusal>
+        ensures { result ≡ why_not_take self.now }
+    {
+        if self.down {
+            return Some(Refusal::Down);
+        }
+        if self.has_group() {
+            return Some(Refusal::Busy);
+        }
+        None
+    }
+
+    /// Takes a group to append. Its prev is the store's mark.
+    ///
+    /// Refused, the group comes back: Down, then Busy where a group is pending.
+    pub fn take_group(&mut self, group: Group) -> Result<(), (Refusal, Group)>
+        requires follows { why_not_take self.old ≡ None → group.prev ≡ self.old.mark }
+        ensures refused { GivenBackFor (why_not_take self.old) group result }
+        ensures ok { OnOk result (self.new ≡ record self.old { pending = Some group }) }
+        ensures err { OnErr result (self.new ≡ self.old) }
+        ensures keeps { Keeps D.Disk self.old self.new }
+    {
+        if let Some(refusal) = self.can_take() {
+            return Err((refusal, group));
+        }
+        // A look at a field: from then on the proof knows that the group keeps its rules.
+        let _ = group.mark();
+        self.pending = Some(group);
+        Ok(())
+    }
+}
