@@ -5,3 +5,4 @@ pub mod Joined
 pub mod Pairing
 pub mod Slices
 pub mod Log
+pub mod Giving

@@ -107,9 +107,6 @@ module _ (f : Format) (image : Image) (m : ManifestData) where
     abbrev Loads : Result (List Numbered) Refusal → Type 0
     Loads = LoadsAs f p (image p.data_file) (image p.delta_file)
 
-    pub first_files : HasFiles p
-    first_files = here.files.0
-
     pub refused_here : (e : Refusal) → IsOnly Loads (Err e) → IsOnly Whole (Err e)
     refused_here e only = here.leads (Err e) (pair_refused f image next p ps here.lives e only)
 
