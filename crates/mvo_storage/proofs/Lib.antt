@@ -6,3 +6,5 @@ pub mod Allowed
 pub mod Installs
 pub mod Formatted
 pub mod Emptied
+pub mod Synced
+pub mod Opens

@@ -5,3 +5,4 @@ pub mod Steps
 pub mod Files
 pub mod Formatting
 pub mod Reclaiming
+pub mod Opening

@@ -10,11 +10,13 @@ mod formatting;
 mod generation;
 mod installing;
 mod limits;
+mod opening;
 mod reclaimed;
 mod reclaiming;
 mod rotating;
 mod rotation;
 mod store;
+mod syncing;
 
 pub use due::Due;
 pub use durable::Durable;

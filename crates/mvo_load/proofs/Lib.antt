@@ -1,0 +1,7 @@
+pub mod Steps
+pub mod Unchanged
+pub mod Groups
+pub mod Joined
+pub mod Pairing
+pub mod Slices
+pub mod Log

@@ -1,0 +1,4 @@
+pub mod Loaded
+pub mod Leading
+pub mod Read
+pub mod Parts

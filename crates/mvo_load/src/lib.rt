@@ -1,0 +1,14 @@
+//! Finds out what a disk holds: the installed manifest, the rows, and where the log ends.
+#![tactic(auto)]
+
+mod loaded;
+mod loading;
+mod log_end;
+mod pairs;
+mod replay;
+mod segments;
+mod slots;
+mod stop;
+
+pub use loaded::Loaded;
+pub use loading::load;

@@ -1,0 +1,59 @@
+//! Finds out what a disk holds.
+ghost use Rattle.std.specs.Prelude.{◌≡◌, ◌<◌, ◌+◌, ◌^◌, IfOk};
+ghost use Rattle.mvo_disk.specs.Disk.{AllStay, AllOf, LeavesOnly};
+ghost use Rattle.mvo_pair.specs.Answers.{Tells};
+ghost use Rattle.mvo_pair.specs.Writing.{IsStop, CountsFaults};
+ghost use Rattle.mvo_image.specs.Files.{OpensAs};
+ghost use Rattle.mvo_load.specs.Loaded.{IsLoaded};
+
+use crate::loaded::Loaded;
+use crate::pairs::load_pairs;
+use crate::segments::load_segments;
+use crate::slots::read_manifest;
+use mvo_disk::Disk;
+use mvo_format::Format;
+use mvo_types::Refusal;
+use std::alloc::Global;
+
+/// What a disk holds of files of this version. Nothing changes, and no stop within it leaves
+/// anything new. Files are read one after another, and memory is taken in proportion to the bytes
+/// of one pair's files or of one segment, and to the rows.
+///
+/// Refused by the first rule that is broken, in this order: Corrupt with 0 or BadVersion by slot 0,
+/// Corrupt with 1 or BadVersion by slot 1, NotFormatted where no slot is open; of the pairs in
+/// their order Corrupt with the data file or BadVersion, Corrupt with the delta file or BadVersion,
+/// and Corrupt with the data file where a live record has the key of another of that pair or of one
+/// before; of the segments in their order Corrupt with the segment or BadVersion. OutOfMemory, for
+/// want of memory alone, and DiskFault, for a call of the device that failed, may stand in the
+/// place of any later answer.
+pub fn load<D: Disk>(alloc: Global, disk: &mut D, format: Format) -> Result<Loaded, Refusal>
+    requires room { D.fault_count disk.old + 1 < 2 ^ 64 }
+    ensures says { Tells IsStop (λ l. (l.rows, l.mark.0)) result
+        (OpensAs format (D.content disk.old)) }
+    ensures parts { IfOk result (λ l. IsLoaded format (D.content disk.old) l.manifest l.rows
+        l.mark.0 l.gate) }
+    ensures count { CountsFaults (D.fault_count disk.old) (D.fault_count disk.new) result }
+    ensures rest { AllStay (D.content disk.old) (D.content disk.new) (D.may_leave disk.old)
+        (D.may_leave disk.new) }
+    ensures any_moment { LeavesOnly D.moment D.left_since disk.old disk.new
+        (AllOf (D.may_leave disk.old)) }
+{
+    let manifest = match read_manifest(alloc, disk, format) {
+        Ok(manifest) => manifest,
+        Err(e) => return Err(e),
+    };
+    let mut rows = match load_pairs(alloc, disk, format, &manifest) {
+        Ok(rows) => rows,
+        Err(e) => return Err(e),
+    };
+    let end = match load_segments(alloc, disk, format, &manifest, &mut rows) {
+        Ok(end) => end,
+        Err(e) => return Err(e),
+    };
+    Ok(Loaded {
+        manifest,
+        rows,
+        mark: end.mark,
+        gate: end.gate,
+    })
+}

@@ -1,0 +1,62 @@
+//! Loads the live records of all pairs.
+ghost use Rattle.std.specs.Prelude.{◌≡◌, ◌<◌, ◌+◌, ◌^◌, List, [], Some, IfOk};
+ghost use Rattle.mvo_pair.specs.Data.{Numbered};
+ghost use Rattle.mvo_image.specs.Rows.{AreApart, rows_of};
+ghost use Rattle.mvo_image.specs.Opens.{Segments, OpensWith};
+ghost use Rattle.mvo_image.specs.Files.{SegmentSays};
+ghost use Rattle.mvo_load.specs.Leading.{LeadsOn};
+ghost use Rattle.mvo_load.specs.Parts.{Joins, HaveRows};
+ghost use Rattle.mvo_load.specs.Read.{HasRead};
+
+use mvo_disk::Disk;
+use mvo_format::Format;
+use mvo_manifest::Manifest;
+use mvo_pair::{Entry, Live, read_pair};
+use mvo_types::{Refusal, Rows};
+use std::alloc::{AllocError, Global};
+
+/// Puts the live records of a pair on the rows of those before. Whether no two of all have one key.
+fn join(rows: &mut Rows, live: Vec<Live>) -> Result<bool, AllocError>
+    ensures { IfOk result (λ apart. (before : List (List Numbered)) → AreApart before →
+        rows.old ≡ rows_of before → Joins before live.items apart rows.new) }
+{
+    let count = live.len();
+    let before = rows.len();
+    for one in live {
+        let Live { entry, .. } = one;
+        let Entry { row, .. } = entry;
+        rows.put(row)?;
+    }
+    // A key that stood there already makes no new place.
+    Ok(rows.len() - before == count)
+}
+
+/// The rows of the live records of a manifest's pairs, read one pair after another.
+pub fn load_pairs<D: Disk>(
+    alloc: Global,
+    disk: &mut D,
+    format: Format,
+    manifest: &Manifest,
+) -> Result<Rows, Refusal>
+    requires room { D.fault_count disk.old + 1 < 2 ^ 64 }
+    ensures live { IfOk result (HaveRows format (D.content disk.old) manifest.now.pairs) }
+    ensures leads { LeadsOn
+        (λ rows. Segments (SegmentSays format) (D.content disk.old) rows manifest.now.segments
+        manifest.now.checkpoint_mark [])
+        (OpensWith (SegmentSays format) format (D.content disk.old) (Some manifest.now)) result }
+    ensures read { HasRead D.Disk disk.old disk.new result }
+{
+    let mut rows = Rows::new(alloc);
+    let mut rest = manifest.pairs();
+    while let [pair, after @ ..] = rest {
+        let live = match read_pair(alloc, disk, format, *pair) {
+            Ok(live) => live,
+            Err(e) => return Err(e),
+        };
+        if !join(&mut rows, live)? {
+            return Err(Refusal::Corrupt(pair.data_file));
+        }
+        rest = after;
+    }
+    Ok(rows)
+}
