@@ -1,0 +1,5 @@
+//! The tests of a store over many files.
+#![tactic(auto)]
+
+#[cfg(test)]
+mod tests;
