@@ -35,14 +35,15 @@ abbrev pub IsAnswer : Image → Outcome → Type 0
 IsAnswer content out = IsOnly (OpensAs FIRST_FORMAT content) out
 
 -- nothing happened since the opening at this mark
-pub record HasBegun {D : Type 0} (d : Ghosts D) (old : D) (s : StoreData D) (mark : ℕ) : Type 0 where
-  pub mark_is : s.mark ≡ mark
-  pub pending : s.pending ≡ None
-  pub written : s.written ≡ false
-  pub rotation : s.rotation ≡ None
-  pub down : s.down ≡ false
-  pub few : d.fault_count old < MAX_FAULTS
-  pub count : d.fault_count s.disk ≡ d.fault_count old
+pub record HasBegun {D : Type 0} (d : Ghosts D) (old : D) (s : StoreData D) (mark : ℕ) : Type 0
+  where
+    pub mark_is : s.mark ≡ mark
+    pub pending : s.pending ≡ None
+    pub written : s.written ≡ false
+    pub rotation : s.rotation ≡ None
+    pub down : s.down ≡ false
+    pub few : d.fault_count old < MAX_FAULTS
+    pub count : d.fault_count s.disk ≡ d.fault_count old
 
 -- The counter isn't spent. Opening answers this refusal; or memory or a call of the device was
 -- refused, which is counted.

@@ -111,9 +111,10 @@ after_taken rows (Some g) = after_groups rows (g ∷ [])
 
 -- A step from one store to the next that keeps the rows of the first, but for what it makes of
 -- them: it leaves them at any moment, and then stands so.
-pub record IsKeeping {D : Type 0} (d : Ghosts D) (made : Map → Map) (s t : StoreData D) : Type 0 where
-  pub any_moment : (rows : Map) → KeepsRows d s rows → LeavesRows d rows s t
-  pub keeps : (rows : Map) → KeepsRows d s rows → KeepsRows d t (made rows)
+pub record IsKeeping {D : Type 0} (d : Ghosts D) (made : Map → Map) (s t : StoreData D) : Type 0
+  where
+    pub any_moment : (rows : Map) → KeepsRows d s rows → LeavesRows d rows s t
+    pub keeps : (rows : Map) → KeepsRows d s rows → KeepsRows d t (made rows)
 
 -- it keeps them as they are
 abbrev pub Keeps : {D : Type 0} → Ghosts D → StoreData D → StoreData D → Type 0

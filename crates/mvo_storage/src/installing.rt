@@ -95,8 +95,8 @@ impl<D: Disk> Store<D> {
     /// Opens the gate, and syncs. The manifest is installed then, and its fresh segment takes
     /// frames. Answers its generation.
     ///
-    /// Refused: Down, then NothingToDo where this isn't due, then Busy while a body is written whose
-    /// gate isn't open, then DiskFault.
+    /// Refused: Down, then NothingToDo where this isn't due, then Busy while a body is written
+    /// whose gate isn't open, then DiskFault.
     pub fn install_open(&mut self) -> Result<Generation, Refusal>
         ensures refused { RefusedFor (why_not_install_open self.old) result }
         ensures no_memory { IsErrOf result Refusal.OutOfMemory → ⊥ }

@@ -33,7 +33,8 @@ fn load_synced<D: Disk>(alloc: Global, disk: &mut D) -> Result<Loaded, Refusal>
     ensures loaded { IfOk result (λ l. IsLoaded FIRST_FORMAT (D.content disk.old) l.manifest l.rows
         l.mark.0 l.gate) }
     ensures answer { IfOk result (λ l. IsAnswer (D.content disk.old) (Ok (l.rows, l.mark.0))) }
-    ensures synced { IfOk result (λ l. HasSynced D.Disk (IsUsed l.manifest) 1024 disk.old disk.new) }
+    ensures synced { IfOk result (λ l.
+        HasSynced D.Disk (IsUsed l.manifest) 1024 disk.old disk.new) }
     ensures few { OnOk result (D.fault_count disk.old < MAX_FAULTS) }
     ensures refused { IfErr result (λ e. IsNotOpened D.Disk disk.old e disk.new) }
     ensures content { KeepsContent D.Disk disk.old disk.new }
@@ -58,8 +59,8 @@ impl<D: Disk> Store<D> {
     /// Refused, the disk comes back.
     ///
     /// Refused: ClockSpent where the fault counter is 2^63 or above; then by the first rule that is
-    /// broken, in the order slot 0, slot 1, pairs, segments: NotFormatted, Corrupt with the file, or
-    /// BadVersion. OutOfMemory or DiskFault may stand in the place of any later answer.
+    /// broken, in the order slot 0, slot 1, pairs, segments: NotFormatted, Corrupt with the file,
+    /// or BadVersion. OutOfMemory or DiskFault may stand in the place of any later answer.
     pub fn open(alloc: Global, disk: D) -> Result<(Store<D>, Rows, Stamp), (Refusal, D)>
         ensures answer { IfOk result (λ x. IsAnswer (D.content disk) (Ok (x.1, x.2.0))) }
         ensures gives { IfOk result (λ x. Gives x.1 x.2.0 (D.content disk)) }
