@@ -1,5 +1,5 @@
 //! Writes a new store on a disk.
-ghost use Rattle.std.specs.Prelude.{◌≡◌, ◌≢◌, ◌<◌, ◌≤◌, ◌+◌, ◌^◌, OnOk, IfOk, IfErr, Err};
+ghost use Rattle.std.specs.Prelude.{◌≡◌, ◌<◌, ◌+◌, ◌^◌, OnOk, IfOk, IfErr};
 ghost use Rattle.mvo_disk.specs.Disk.{Only, OthersStay, AllStay, Counts};
 ghost use Rattle.mvo_format.specs.declared.format.TheConstants.{FIRST_FORMAT};
 ghost use Rattle.mvo_manifest.specs.Body.{sized_body};

@@ -2,7 +2,6 @@
 ghost use Rattle.std.specs.Prelude.{◌≡◌, ◌<◌, ◌≤◌, ◌+◌, ◌^◌, ◌↔◌, ℕ, [], ⊤};
 ghost use Rattle.std.specs.Prelude.{OnOk, IfOk, IfErr, IsErrOf, IsTrue, MatchOption};
 ghost use Rattle.mvo_disk.specs.Disk.{Only, AllOf, AllStay, OthersStay, LeavesOnly, Touched, Counts};
-ghost use Rattle.mvo_manifest.specs.Data.{ManifestData};
 ghost use Rattle.mvo_storage.specs.StoreData.{StoreData};
 ghost use Rattle.mvo_storage.specs.Standing.{Keeps};
 ghost use Rattle.mvo_storage.specs.Causes.{why_not_reclaim};
