@@ -1,4 +1,5 @@
-//! A store of groups over many files: appends, rotations of the log, and installing manifests.
+//! A store of groups over many files: formatting and opening a disk, appends, rotations of the log,
+//! installing manifests, and reclaiming files.
 #![tactic(auto)]
 
 mod appending;
