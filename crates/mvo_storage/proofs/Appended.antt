@@ -27,6 +27,7 @@ use Rattle.mvo_storage.specs.declared.rotation.Rotation.{Rotation}
 use Rattle.mvo_storage.specs.declared.due.Due.{Due}
 use Rattle.mvo_storage.specs.Standing.{FollowsMark, HasBody, HasInstall, HasRotation, IsUp, GivesOr, HasSlots, after_taken}
 use Rattle.mvo_storage.proofs.Keeping.{gives_or, parts_give, Leaves}
+use Rattle.mvo_storage.proofs.Slotted.{leaves_both}
 
 -- what a group holds keeps the limits of the version
 pub is_allowed : (g : GroupData) → IsGroup g → AreAllowed FIRST_FORMAT (g ∷ [])
@@ -95,10 +96,15 @@ module _ {D : Type 0} (d : Ghosts D) (s : StoreData D) (rows : Map) (up : IsUp d
   pub follows_last : (g : GroupData) → s.pending ≡ Some g → g.prev ≡ mark_after up.parts.middle up.parts.last
   follows_last g taken = let follows : FollowsMark s.mark (Some g) = subst (FollowsMark s.mark) taken up.pending in follows.0 ∙ up.mark_is
 
-  pub body_leaves : (new : D) → LeavesOnly d.moment d.left_since s.disk new (Touched file (d.may_leave s.disk) (HasFrames VERSION up.parts.middle up.parts.last)) → Leaves d s new rows
-  body_leaves new only = weaker d.moment d.left_since s.disk new _ (GivesOr rows s.mark (opening s))
+  -- what is written in the segment is in no slot
+  pub beside_slots : (P : List ℕ → Type 0) (c : List ℕ) → file < 2 → P c → c ≢ []
+  beside_slots P c lt p e = last_no_slot lt
+
+  pub body_leaves : (new : D) → HasSlots (d.content s.disk) → LeavesOnly d.moment d.left_since s.disk new (Touched file (d.may_leave s.disk) (HasFrames VERSION up.parts.middle up.parts.last)) → Leaves d s new rows
+  body_leaves new slots only = leaves_both d s rows up slots new file (HasFrames VERSION up.parts.middle up.parts.last) (beside_slots (HasFrames VERSION up.parts.middle up.parts.last)) only
+      (weaker d.moment d.left_since s.disk new (Touched file (d.may_leave s.disk) (HasFrames VERSION up.parts.middle up.parts.last)) (GivesOr rows s.mark (opening s))
       (λ image t. gives_or rows s.mark (opening s) image (parts_give d s rows up image
-      (within_body FIRST_FORMAT (d.content s.disk) (d.may_leave s.disk) s.manifest up.parts up.settled file up.last image t))) only
+      (within_body FIRST_FORMAT (d.content s.disk) (d.may_leave s.disk) s.manifest up.parts up.settled file up.last image t))) only)
 
   pub body_up : (new : D) (segment : Segment) (g : GroupData) → s.pending ≡ Some g → segment ≡ record s.segment { next = segment.next }
       → IsWritten VERSION up.parts.middle up.parts.last g segment.gate segment.next (d.content new file)
@@ -136,12 +142,13 @@ module _ {D : Type 0} (d : Ghosts D) (s : StoreData D) (rows : Map) (up : IsUp d
     opening_is : opening s ≡ Some g
     opening_is = ap (λ b. cond b s.pending None) written ∙ taken
 
-    pub gate_leaves : (new : D) → AreAllowed FIRST_FORMAT (g ∷ []) → LeavesOnly d.moment d.left_since s.disk new (Touched file (d.may_leave s.disk) (HasWithOrWithout VERSION up.parts.middle up.parts.last g)) → Leaves d s new rows
-    gate_leaves new allowed only = weaker d.moment d.left_since s.disk new _ (GivesOr rows s.mark (opening s))
+    pub gate_leaves : (new : D) → HasSlots (d.content s.disk) → AreAllowed FIRST_FORMAT (g ∷ []) → LeavesOnly d.moment d.left_since s.disk new (Touched file (d.may_leave s.disk) (HasWithOrWithout VERSION up.parts.middle up.parts.last g)) → Leaves d s new rows
+    gate_leaves new slots allowed only = leaves_both d s rows up slots new file (HasWithOrWithout VERSION up.parts.middle up.parts.last g) (beside_slots (HasWithOrWithout VERSION up.parts.middle up.parts.last g)) only
+        (weaker d.moment d.left_since s.disk new (Touched file (d.may_leave s.disk) (HasWithOrWithout VERSION up.parts.middle up.parts.last g)) (GivesOr rows s.mark (opening s))
         (λ image t. subst (λ (o : Option GroupData). GivesOr rows s.mark o image) (sym opening_is)
         (subst (λ (r : Map). GivesWithOrWithout FIRST_FORMAT r s.mark g image) (sym up.rows_are)
         (subst (λ k. GivesWithOrWithout FIRST_FORMAT (rows_of_parts up.parts) k g image) (sym up.mark_is)
-        (within_gate FIRST_FORMAT (d.content s.disk) (d.may_leave s.disk) s.manifest up.parts up.settled file up.last g allowed image t)))) only
+        (within_gate FIRST_FORMAT (d.content s.disk) (d.may_leave s.disk) s.manifest up.parts up.settled file up.last g allowed image t)))) only)
 
     some_behind : (gs : List GroupData) → gs ++ g ∷ [] ≢ []
     some_behind [] e = absurd cc

@@ -18,9 +18,10 @@ use Rattle.mvo_recovery.proofs.Rotated.{fresh_framed}
 use Rattle.mvo_storage.specs.Files.{is_named}
 use Rattle.mvo_storage.specs.StoreData.{StoreData, opening}
 use Rattle.mvo_storage.specs.declared.rotation.Rotation.{Rotation}
-use Rattle.mvo_storage.specs.Standing.{IsUp, HasBody, HasInstall, HasRotation, GivesOr, HasSlots}
+use Rattle.mvo_storage.specs.Standing.{IsUp, HasBody, HasInstall, HasRotation, MayBeLeft, HasSlots}
 use Rattle.mvo_storage.specs.Reclaiming.{fresh_file, IsDead, IsLeastDead, HasDead}
 use Rattle.mvo_storage.proofs.Keeping.{gives_or, parts_give, up_gives, Leaves}
+use Rattle.mvo_storage.proofs.Slotted.{image_slots, touched_slots}
 
 -- a file that the manifest doesn't name isn't used
 pub unnamed_unused : (m : ManifestData) (n : ℕ) → 2 ≤ n → is_named m n ≡ false → IsUsed m n → ⊥
@@ -91,16 +92,19 @@ module _ {D : Type 0} (d : Ghosts D) (s : StoreData D) where
           room = omega (arith, count, up.room);
         }
 
-    pub looks_leave : (mid : D) → LeavesOnly d.moment d.left_since s.disk mid (AllOf (d.may_leave s.disk)) → Leaves d s mid rows
-    looks_leave mid only = weaker d.moment d.left_since s.disk mid (AllOf (d.may_leave s.disk)) (GivesOr rows s.mark (opening s)) (λ image all. gives_or rows s.mark (opening s) image (up_gives d s rows up image all)) only
+    pub looks_leave : (mid : D) → HasSlots (d.content s.disk) → LeavesOnly d.moment d.left_since s.disk mid (AllOf (d.may_leave s.disk)) → Leaves d s mid rows
+    looks_leave mid slots only = weaker d.moment d.left_since s.disk mid (AllOf (d.may_leave s.disk)) (MayBeLeft rows s.mark (opening s)) (λ image all. record { slots = image_slots d s rows up slots image all; gives = gives_or rows s.mark (opening s) image (up_gives d s rows up image all) }) only
 
-    pub emptying_leaves : (mid new : D) (file : ℕ) → HasDead d s file → AllStay (d.content s.disk) (d.content mid) (d.may_leave s.disk) (d.may_leave mid) → LeavesOnly d.moment d.left_since s.disk mid (AllOf (d.may_leave s.disk))
+    pub emptying_leaves : (mid new : D) (file : ℕ) → HasSlots (d.content s.disk) → HasDead d s file → AllStay (d.content s.disk) (d.content mid) (d.may_leave s.disk) (d.may_leave mid) → LeavesOnly d.moment d.left_since s.disk mid (AllOf (d.may_leave s.disk))
         → LeavesOnly d.moment d.left_since mid new (Touched file (d.may_leave mid) (λ bytes. ⊤)) → Leaves d s new rows
-    emptying_leaves mid new file dead looks first second =
-        runs_on d.moment d.left_since s.disk mid new (GivesOr rows s.mark (opening s)) (Touched file (d.may_leave mid) (λ bytes. ⊤)) (looks_leave mid first) second
-        (λ image t. gives_or rows s.mark (opening s) image (parts_give d s rows up image
-        (within_unused FIRST_FORMAT (d.content s.disk) (d.may_leave s.disk) s.manifest up.parts up.settled file (λ bytes. ⊤) image (unnamed_unused s.manifest file dead.first dead.unnamed)
-        (record { here = t.here; others = λ n ne. looks.images n (image n) (t.others n ne) }))))
+    emptying_leaves mid new file slots dead looks first second =
+        runs_on d.moment d.left_since s.disk mid new (MayBeLeft rows s.mark (opening s)) (Touched file (d.may_leave mid) (λ bytes. ⊤)) (looks_leave mid slots first) second
+        (λ image t. record {
+          slots = touched_slots d s rows up slots file (λ bytes. ⊤) (λ c lt _ e. absurd (omega (arith, lt, dead.first))) image (record { here = t.here; others = λ n ne. looks.images n (image n) (t.others n ne) });
+          gives = gives_or rows s.mark (opening s) image (parts_give d s rows up image
+              (within_unused FIRST_FORMAT (d.content s.disk) (d.may_leave s.disk) s.manifest up.parts up.settled file (λ bytes. ⊤) image (unnamed_unused s.manifest file dead.first dead.unnamed)
+              (record { here = t.here; others = λ n ne. looks.images n (image n) (t.others n ne) })));
+        })
 
 -- the file that a look found
 pub dead_found : {D : Type 0} (d : Ghosts D) (s : StoreData D) (fresh found : Option ℕ) (file : ℕ) (P : Type 0) → fresh ≡ fresh_file s.rotation → found ≡ Some file → MatchOption found P (λ n. IsLeastDead (d.content s.disk) s.manifest fresh n) → HasDead d s file

@@ -1,5 +1,5 @@
 -- A disk on which a new store was written.
-use Rattle.std.proofs.Common.{◌≡◌, ◌≢◌, ℕ, zero, suc, ◌<◌, Bool, false, cond, List, [], ◌∷◌, ◌++◌, Some, None, sym, ap, subst, ◌∙◌, arith}
+use Rattle.std.proofs.Common.{◌≡◌, ◌≢◌, ℕ, zero, suc, ◌<◌, Bool, false, cond, List, [], ◌∷◌, ◌++◌, Some, None, sym, ap, subst, ◌∙◌, arith, inl}
 use Rattle.std.specs.FinMap as map
 use Rattle.std.proofs.lemmas.Bool.{lt-leb}
 use Rattle.mvo_types.specs.declared.refusal.Refusal.TheVariants.{ClockSpent, AlreadyFormatted}
@@ -55,4 +55,17 @@ module _ {D : Type 0} (d : Ghosts D) (old new : D) where
       → IsFormatted d old new
   is_formatted free stays settled slots count =
       let gives : (image : Image) → AllOf (d.may_leave new) image → Gives map.empty 0 image = settled_gives FIRST_FORMAT (d.content new) (d.may_leave new) (first_manifest 0 2) no_parts settled in
-      record { free = free; settled = settled; slots = slots; now = gives (d.content new) stays; images = gives; count = count }
+      record {
+        free = free;
+        settled = settled;
+        slots = slots;
+        now = gives (d.content new) stays;
+        images = λ image all. record {
+          slots = record {
+            first = λ e. slots.first (sym (settled.durable 0 (inl (omega arith)) (image 0) (all 0)) ∙ e);
+            second = λ e. slots.second (sym (settled.durable 1 (inl (omega arith)) (image 1) (all 1)) ∙ e);
+          };
+          gives = gives image all;
+        };
+        count = count;
+      }

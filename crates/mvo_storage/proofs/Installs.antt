@@ -1,5 +1,5 @@
 -- A store in each of the steps of an install.
-use Rattle.std.proofs.Common.{◌≡◌, ◌≢◌, ℕ, zero, suc, ◌+◌, ◌<◌, ◌%◌, false, List, [], Option, Some, None, refl, sym, ap, subst, ◌∙◌, arith}
+use Rattle.std.proofs.Common.{◌≡◌, ◌≢◌, ℕ, zero, suc, ◌+◌, ◌<◌, ◌%◌, false, List, [], Option, Some, None, refl, sym, ap, subst, ◌∙◌, arith, inl, inr}
 use Rattle.mvo_types.specs.Keys.{Map}
 use Rattle.mvo_disk.specs.declared.disk.Disk.{Ghosts}
 use Rattle.mvo_disk.specs.Disk.{Image, Only, OthersStay, Touched, LeavesOnly}
@@ -8,7 +8,7 @@ use Rattle.mvo_format.specs.declared.format.TheConstants.{FIRST_FORMAT}
 use Rattle.mvo_format.specs.declared.header.TheConstants.{VERSION}
 use Rattle.mvo_manifest.specs.Data.{ManifestData}
 use Rattle.mvo_manifest.specs.Slots.{IsShut, IsOpen, IsStaged, IsShutOrOpen}
-use Rattle.mvo_recovery.specs.Settled.{IsSettled, other_slot, GivesParts}
+use Rattle.mvo_recovery.specs.Settled.{IsSettled, other_slot, GivesParts, IsBehind}
 use Rattle.mvo_recovery.specs.Installing.{IsReady}
 use Rattle.mvo_recovery.specs.Rotation.{rotated, rotated_parts, IsFresh}
 use Rattle.mvo_recovery.proofs.Named.{slot_below}
@@ -22,6 +22,7 @@ use Rattle.mvo_storage.specs.declared.due.Due.{Due}
 use Rattle.mvo_storage.specs.declared.due.Due.TheVariants.{Body, Open}
 use Rattle.mvo_storage.specs.Standing.{HasBody, HasInstall, IsRotating, HasRotation, IsUp, GivesOr, HasSlots}
 use Rattle.mvo_storage.proofs.Keeping.{gives_or, parts_give, Leaves}
+use Rattle.mvo_storage.proofs.Slotted.{leaves_both}
 use Rattle.mvo_storage.proofs.Appended.{last_no_slot}
 
 -- ---- slots have a gate
@@ -39,6 +40,10 @@ staged_some slot n bytes staged e = absurd (cc (sym staged.whole ∙ e))
 
 open_some : (slot : ℕ) (n : ManifestData) (bytes : List ℕ) → IsOpen VERSION slot n bytes → bytes ≢ []
 open_some slot n bytes is e = absurd (cc (sym is.whole ∙ e))
+
+either_some : (slot : ℕ) (n : ManifestData) (bytes : List ℕ) → IsShutOrOpen VERSION slot n bytes → bytes ≢ []
+either_some slot n bytes (inl shut) = shut_some bytes shut
+either_some slot n bytes (inr is) = open_some slot n bytes is
 
 pub slots_with : (old new : Image) (may_old may_new : ℕ → List ℕ → Type 0) (slot : ℕ) → slot < 2 → OthersStay slot old new may_old may_new → new slot ≢ [] → HasSlots old → HasSlots new
 slots_with old new may_old may_new zero lt rest some slots = record { first = some; second = λ e. slots.second (sym (rest.content 1 (λ z. absurd (cc z))) ∙ e) }
@@ -59,7 +64,7 @@ module _ {D : Type 0} (d : Ghosts D) (s : StoreData D) (rows : Map) (up : IsUp d
   pub install_has : (due : Due) → r.due ≡ due → HasInstall due r.next (other_slot m) (d.content s.disk (other_slot m))
   install_has due e = subst (λ (k : Due). HasInstall k r.next (other_slot m) (d.content s.disk (other_slot m))) e running.install
 
-  parts_leave : (new : D) → LeavesOnly d.moment d.left_since s.disk new (GivesParts FIRST_FORMAT up.parts) → Leaves d s new rows
+  parts_leave : (new : D) → LeavesOnly d.moment d.left_since s.disk new (GivesParts FIRST_FORMAT up.parts) → LeavesOnly d.moment d.left_since s.disk new (GivesOr rows s.mark (opening s))
   parts_leave new only = weaker d.moment d.left_since s.disk new (GivesParts FIRST_FORMAT up.parts) (GivesOr rows s.mark (opening s))
       (λ image g. gives_or rows s.mark (opening s) image (parts_give d s rows up image g)) only
 
@@ -71,11 +76,20 @@ module _ {D : Type 0} (d : Ghosts D) (s : StoreData D) (rows : Map) (up : IsUp d
     pub close_leaves : (new : D) → HasSlots (d.content s.disk)
         → ((version : ℕ) (k : ManifestData) → IsOpen version slot k (d.content s.disk slot) → LeavesOnly d.moment d.left_since s.disk new (Touched slot (d.may_leave s.disk) (IsShutOrOpen version slot k)))
         → (IsShut (d.content s.disk slot) → LeavesOnly d.moment d.left_since s.disk new (Touched slot (d.may_leave s.disk) IsShut)) → Leaves d s new rows
-    close_leaves new slots when_open when_shut = parts_leave new
-        (moments_close d.moment d.left_since d.content d.may_leave s.disk new FIRST_FORMAT m up.parts up.settled slot it (slot_some (d.content s.disk) slot below slots) when_open when_shut)
+    close_leaves new slots when_open when_shut = go (subst (λ k. IsBehind FIRST_FORMAT m (d.content s.disk k)) (sym it) up.settled.installed.other)
+      where
+        gives : LeavesOnly d.moment d.left_since s.disk new (GivesOr rows s.mark (opening s))
+        gives = parts_leave new
+            (moments_close d.moment d.left_since d.content d.may_leave s.disk new FIRST_FORMAT m up.parts up.settled slot it (slot_some (d.content s.disk) slot below slots) when_open when_shut)
 
-    pub write_leaves : (new : D) → LeavesOnly d.moment d.left_since s.disk new (Touched slot (d.may_leave s.disk) IsShut) → Leaves d s new rows
-    write_leaves new only = parts_leave new (moments_write d.moment d.left_since d.content d.may_leave s.disk new FIRST_FORMAT m up.parts up.settled slot it only)
+        go : IsBehind FIRST_FORMAT m (d.content s.disk slot) → Leaves d s new rows
+        go (inl (inl none)) = absurd (slot_some (d.content s.disk) slot below slots none)
+        go (inl (inr shut)) = leaves_both d s rows up slots new slot IsShut (λ c _ p. shut_some c p) (when_shut shut) gives
+        go (inr older) = leaves_both d s rows up slots new slot (IsShutOrOpen VERSION slot older.manifest) (λ c _ p. either_some slot older.manifest c p)
+            (when_open VERSION older.manifest (subst (λ k. IsOpen VERSION k older.manifest (d.content s.disk slot)) (sym it) older.has)) gives
+
+    pub write_leaves : (new : D) → HasSlots (d.content s.disk) → LeavesOnly d.moment d.left_since s.disk new (Touched slot (d.may_leave s.disk) IsShut) → Leaves d s new rows
+    write_leaves new slots only = leaves_both d s rows up slots new slot IsShut (λ c _ p. shut_some c p) only (parts_leave new (moments_write d.moment d.left_since d.content d.may_leave s.disk new FIRST_FORMAT m up.parts up.settled slot it only))
 
     ready : IsReady FIRST_FORMAT (d.content s.disk) (d.may_leave s.disk) (rotated m r.fresh.file) (rotated_parts up.parts)
     ready = ready_rotated FIRST_FORMAT (d.content s.disk) (d.may_leave s.disk) m up.parts r.fresh.file running.fresh running.some up.settled
@@ -84,10 +98,10 @@ module _ {D : Type 0} (d : Ghosts D) (s : StoreData D) (rows : Map) (up : IsUp d
     staged due = subst (λ k. IsStaged VERSION k (rotated m r.fresh.file) (d.content s.disk k)) (sym it)
         (subst (λ (n : ManifestData). IsStaged VERSION (other_slot m) n (d.content s.disk (other_slot m))) running.next (install_has Open due))
 
-    pub open_leaves : (new : D) → r.due ≡ Open
+    pub open_leaves : (new : D) → HasSlots (d.content s.disk) → r.due ≡ Open
         → ((version : ℕ) (k : ManifestData) → IsStaged version slot k (d.content s.disk slot) → LeavesOnly d.moment d.left_since s.disk new (Touched slot (d.may_leave s.disk) (IsShutOrOpen version slot k))) → Leaves d s new rows
-    open_leaves new due only = parts_leave new
-        (moments_install d.moment d.left_since d.content d.may_leave s.disk new FIRST_FORMAT m up.parts up.settled slot it (rotated m r.fresh.file) (rotated_parts up.parts) refl ready (same_rotated up.parts) (staged due) only)
+    open_leaves new slots due only = leaves_both d s rows up slots new slot (IsShutOrOpen VERSION slot (rotated m r.fresh.file)) (λ c _ p. either_some slot (rotated m r.fresh.file) c p) (only VERSION (rotated m r.fresh.file) (staged due)) (parts_leave new
+        (moments_install d.moment d.left_since d.content d.may_leave s.disk new FIRST_FORMAT m up.parts up.settled slot it (rotated m r.fresh.file) (rotated_parts up.parts) refl ready (same_rotated up.parts) (staged due) only))
 
     -- ---- after a step
     module _ (new : D) (rest : OthersStay slot (d.content s.disk) (d.content new) (d.may_leave s.disk) (d.may_leave new)) (only : Only (d.content new slot) (d.may_leave new slot)) (count : d.fault_count new ≡ d.fault_count s.disk) where

@@ -11,7 +11,8 @@ use Rattle.mvo_recovery.specs.Parts.{rows_of_parts}
 use Rattle.mvo_recovery.specs.Settled.{GivesParts}
 use Rattle.mvo_recovery.proofs.Framed.{settled_gives}
 use Rattle.mvo_storage.specs.StoreData.{StoreData, opening}
-use Rattle.mvo_storage.specs.Standing.{IsUp, Gives, GivesOr, HasSlots, IsKeeping, Keeps}
+use Rattle.mvo_storage.proofs.Slotted.{image_slots}
+use Rattle.mvo_storage.specs.Standing.{IsUp, Gives, GivesOr, HasSlots, MayBeLeft, IsKeeping, Keeps}
 
 -- without the group that is being opened
 pub gives_or : (rows : Map) (mark : ℕ) (o : Option GroupData) (image : Image) → Gives rows mark image → GivesOr rows mark o image
@@ -29,7 +30,7 @@ module _ {D : Type 0} (d : Ghosts D) where
 
   -- a stop within a run from this store to that disk leaves the rows
   abbrev pub Leaves : StoreData D → D → Map → Type 0
-  Leaves s disk rows = LeavesOnly d.moment d.left_since s.disk disk (GivesOr rows s.mark (opening s))
+  Leaves s disk rows = LeavesOnly d.moment d.left_since s.disk disk (MayBeLeft rows s.mark (opening s))
 
   -- so it is for whatever rows the store is up with
   abbrev pub AllLeave : StoreData D → D → Type 0
@@ -44,7 +45,7 @@ module _ {D : Type 0} (d : Ghosts D) where
   -- nothing changes
   pub refused_keeps : OnlyNow → (s : StoreData D) → Keeps d s s
   refused_keeps only_now s = record {
-    any_moment = λ rows k. started d.moment d.left_since s.disk (GivesOr rows s.mark (opening s)) (λ image left. k.images image (only_now s.disk image left));
+    any_moment = λ rows k. started d.moment d.left_since s.disk (MayBeLeft rows s.mark (opening s)) (λ image left. k.images image (only_now s.disk image left));
     keeps = λ rows k. k;
   }
 
@@ -54,11 +55,14 @@ module _ {D : Type 0} (d : Ghosts D) where
   -- nothing of the disk does, and the store stays up
   pub unmoved_keeps : OnlyNow → (s t : StoreData D) → s.down ≡ false → t.disk ≡ s.disk → ((rows : Map) → IsUp d s rows → IsUp d t rows) → Keeps d s t
   unmoved_keeps only_now s t is same ups = record {
-    any_moment = λ rows k. subst (λ (disk : D). Leaves s disk rows) (sym same) (started d.moment d.left_since s.disk (GivesOr rows s.mark (opening s)) (λ image left. k.images image (only_now s.disk image left)));
+    any_moment = λ rows k. subst (λ (disk : D). Leaves s disk rows) (sym same) (started d.moment d.left_since s.disk (MayBeLeft rows s.mark (opening s)) (λ image left. k.images image (only_now s.disk image left)));
     keeps = λ rows k.
         let up = ups rows (k.up is).0 in
         record {
-          images = λ image all. gives_or rows t.mark (opening t) image (up_gives t rows up image all);
+          images = λ image all. record {
+            slots = image_slots d t rows up (subst (λ (disk : D). HasSlots (d.content disk)) (sym same) (k.up is).1) image all;
+            gives = gives_or rows t.mark (opening t) image (up_gives t rows up image all);
+          };
           up = λ _. (up, subst (λ (disk : D). HasSlots (d.content disk)) (sym same) (k.up is).1);
         };
   }
@@ -68,7 +72,7 @@ module _ {D : Type 0} (d : Ghosts D) where
   fault_keeps counts_now s disk is moments = record {
     any_moment = λ rows k. moments rows (k.up is).0 (k.up is).1;
     keeps = λ rows k. record {
-      images = λ image all. at_end d.moment d.may_leave d.left_since counts_now s.disk disk (GivesOr rows s.mark (opening s)) (moments rows (k.up is).0 (k.up is).1) image all;
+      images = λ image all. at_end d.moment d.may_leave d.left_since counts_now s.disk disk (MayBeLeft rows s.mark (opening s)) (moments rows (k.up is).0 (k.up is).1) image all;
       up = λ e. absurd (cc e);
     };
   }
@@ -82,7 +86,10 @@ module _ {D : Type 0} (d : Ghosts D) where
     keeps = λ rows k.
         let up = ups rows (k.up is).0 in
         record {
-          images = λ image all. gives_or (made rows) t.mark (opening t) image (up_gives t (made rows) up image all);
+          images = λ image all. record {
+            slots = image_slots d t (made rows) up (slots (k.up is).1) image all;
+            gives = gives_or (made rows) t.mark (opening t) image (up_gives t (made rows) up image all);
+          };
           up = λ _. (up, slots (k.up is).1);
         };
   }

@@ -1,4 +1,5 @@
 pub mod Named
+mod Slotted
 pub mod Keeping
 pub mod Appended
 pub mod Rotations

@@ -21,6 +21,7 @@ use Rattle.mvo_storage.specs.declared.limits.TheConstants.{MAX_FAULTS}
 use Rattle.mvo_storage.specs.StoreData.{StoreData}
 use Rattle.mvo_storage.specs.Standing.{IsUp, HasSlots, KeepsRows}
 use Rattle.mvo_storage.specs.Opening.{HasSynced}
+use Rattle.mvo_storage.proofs.Slotted.{image_slots}
 use Rattle.mvo_storage.proofs.Keeping.{up_gives}
 
 have_sealed : (f : Format) (image : Image) (ns : List ℕ) (mark : ℕ) (gs : List GroupData) (upto : ℕ) → HaveGroups (SealedSays f) image ns mark gs upto → HaveSealed f image ns mark gs upto
@@ -94,6 +95,9 @@ module _ {D : Type 0} (d : Ghosts D) (old new : D) (m : ManifestData) (rows : Ma
 
   pub opened_keeps : HasSlots (d.content old) → KeepsRows d opened_store rows
   opened_keeps slots = record {
-    images = λ image all. up_gives d opened_store rows opened_up image all;
-    up = λ _. (opened_up, record { first = λ e. slots.first (sym (synced.content 0) ∙ e); second = λ e. slots.second (sym (synced.content 1) ∙ e) });
+    images = λ image all. record { slots = image_slots d opened_store rows opened_up new_slots image all; gives = up_gives d opened_store rows opened_up image all };
+    up = λ _. (opened_up, new_slots);
   }
+    where
+      new_slots : HasSlots (d.content new)
+      new_slots = record { first = λ e. slots.first (sym (synced.content 0) ∙ e); second = λ e. slots.second (sym (synced.content 1) ∙ e) }

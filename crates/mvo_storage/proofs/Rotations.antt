@@ -25,6 +25,7 @@ use Rattle.mvo_storage.specs.declared.rotation.Rotation.{Rotation}
 use Rattle.mvo_storage.specs.Files.{is_named, IsLeastFree}
 use Rattle.mvo_storage.specs.Standing.{HasBody, IsUp, GivesOr, HasSlots}
 use Rattle.mvo_storage.proofs.Keeping.{gives_or, parts_give, Leaves}
+use Rattle.mvo_storage.proofs.Slotted.{leaves_both}
 
 or_left : (a b : Bool) → (a || b) ≡ false → a ≡ false
 or_left true b e = e
@@ -63,10 +64,11 @@ module _ {D : Type 0} (d : Ghosts D) (s : StoreData D) (rows : Map) (up : IsUp d
     pub rotated_is : IsManifest (rotated s.manifest file)
     rotated_is = manifest_rotated s.manifest file may up.settled.installed.own.is
 
-    pub fresh_leaves : (new : D) → LeavesOnly d.moment d.left_since s.disk new (Touched file (d.may_leave s.disk) (λ _. Unit {0})) → Leaves d s new rows
-    fresh_leaves new only = weaker d.moment d.left_since s.disk new _ (GivesOr rows s.mark (opening s))
+    pub fresh_leaves : (new : D) → HasSlots (d.content s.disk) → LeavesOnly d.moment d.left_since s.disk new (Touched file (d.may_leave s.disk) (λ _. Unit {0})) → Leaves d s new rows
+    fresh_leaves new slots only = leaves_both d s rows up slots new file (λ _. Unit {0}) (λ c lt _ e. absurd (omega (arith, lt, may.file.0))) only
+        (weaker d.moment d.left_since s.disk new (Touched file (d.may_leave s.disk) (λ _. Unit {0})) (GivesOr rows s.mark (opening s))
         (λ image t. gives_or rows s.mark (opening s) image (parts_give d s rows up image
-        (within_unused FIRST_FORMAT (d.content s.disk) (d.may_leave s.disk) s.manifest up.parts up.settled file (λ _. Unit {0}) image unused t))) only
+        (within_unused FIRST_FORMAT (d.content s.disk) (d.may_leave s.disk) s.manifest up.parts up.settled file (λ _. Unit {0}) image unused t))) only)
 
     pub fresh_slots : (new : D) → OthersStay file (d.content s.disk) (d.content new) (d.may_leave s.disk) (d.may_leave new) → HasSlots (d.content s.disk) → HasSlots (d.content new)
     fresh_slots new rest slots = record {

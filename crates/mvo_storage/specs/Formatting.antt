@@ -14,7 +14,7 @@ use Rattle.mvo_recovery.specs.Settled.{IsSettled, FilesStay}
 use Rattle.mvo_recovery.specs.Beginning.{first_manifest, no_parts}
 use Rattle.mvo_storage.specs.declared.limits.TheConstants.{MAX_FAULTS}
 use Rattle.mvo_storage.specs.Causes.{first_cause}
-use Rattle.mvo_storage.specs.Standing.{Gives, HasSlots}
+use Rattle.mvo_storage.specs.Standing.{Gives, HasSlots, MayBeLeft}
 
 -- its first byte is an open gate, whatever stands behind it
 abbrev pub is_open : List ℕ → Bool
@@ -52,12 +52,12 @@ FilesBehindStay d old new = FilesStay (λ n. FIRST_FILE < n) (d.content old) (d.
     (d.may_leave old) (d.may_leave new)
 
 -- A disk with a new store: generation 0 is installed and names one fresh segment. Each image that a
--- stop leaves gives no rows at mark 0.
+-- stop leaves has a gate in each slot, and gives no rows at mark 0.
 pub record IsFormatted {D : Type 0} (d : Ghosts D) (old new : D) : Type 0 where
   pub free : why_not_format (d.fault_count old) (d.content old) ≡ None
   pub settled : IsSettled FIRST_FORMAT (d.content new) (d.may_leave new)
       (first_manifest 0 FIRST_FILE) no_parts
   pub slots : HasSlots (d.content new)
   pub now : Gives map.empty 0 (d.content new)
-  pub images : (image : Image) → AllOf (d.may_leave new) image → Gives map.empty 0 image
+  pub images : (image : Image) → AllOf (d.may_leave new) image → MayBeLeft map.empty 0 None image
   pub count : d.fault_count new ≡ d.fault_count old

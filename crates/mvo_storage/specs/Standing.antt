@@ -91,18 +91,25 @@ pub record HasSlots (content : Image) : Type 0 where
   pub first : content 0 ≢ []
   pub second : content 1 ≢ []
 
+-- What a stop may leave: each slot has a gate, and the image gives these rows and this mark, or
+-- those after the group that is being opened.
+pub record MayBeLeft (rows : Map) (mark : ℕ) (taken : Option GroupData) (image : Image) : Type 0
+  where
+    pub slots : HasSlots image
+    pub gives : GivesOr rows mark taken image
+
 -- A stop now leaves these rows at the store's mark, or also the group that is being opened. Unless
 -- the disk met a fault, the store is up.
 pub record KeepsRows {D : Type 0} (d : Ghosts D) (s : StoreData D) (rows : Map) : Type 0 where
   pub images : (image : Image) → AllOf (d.may_leave s.disk) image →
-      GivesOr rows s.mark (opening s) image
+      MayBeLeft rows s.mark (opening s) image
   pub up : s.down ≡ false → IsUp d s rows × HasSlots (d.content s.disk)
 
 -- a stop at any moment from one store to the next leaves these rows, or also the group that is
 -- being opened
 abbrev pub LeavesRows : {D : Type 0} → Ghosts D → Map → StoreData D → StoreData D → Type 0
 LeavesRows d rows s t =
-    LeavesOnly d.moment d.left_since s.disk t.disk (GivesOr rows s.mark (opening s))
+    LeavesOnly d.moment d.left_since s.disk t.disk (MayBeLeft rows s.mark (opening s))
 
 -- the rows after the group
 abbrev pub after_taken : Map → Option GroupData → Map

@@ -22,9 +22,10 @@ impl<D: Disk> Store<D> {
         ensures refused { RefusedFor (why_not_append_body self.old) result }
         ensures ok { OnOk result (self.new ≡ record self.old {
           disk = self.new.disk;
-          segment = self.new.segment;
+          segment = record self.old.segment { next = self.new.segment.next };
           written = true;
         }) }
+        ensures count { OnOk result (D.fault_count self.new.disk ≡ D.fault_count self.old.disk) }
         ensures err { IfErr result (λ e. LeftBy D.Disk e self.old self.new) }
         ensures keeps { Keeps D.Disk self.old self.new }
     {
@@ -59,11 +60,12 @@ impl<D: Disk> Store<D> {
         ensures no_memory { IsErrOf result Refusal.OutOfMemory → ⊥ }
         ensures ok { OnOk result (self.new ≡ record self.old {
           disk = self.new.disk;
-          segment = self.new.segment;
+          segment = record self.old.segment { gate = self.old.segment.next };
           mark = self.new.mark;
           pending = None;
           written = false;
         }) }
+        ensures count { OnOk result (D.fault_count self.new.disk ≡ D.fault_count self.old.disk) }
         ensures mark { IfOk result (λ durable. IsMarkOf self.old.pending durable) }
         ensures durable { IfOk result (λ durable. self.new.mark ≡ durable) }
         ensures err { IfErr result (λ e. LeftBy D.Disk e self.old self.new) }

@@ -37,6 +37,7 @@ impl<D: Disk> Store<D> {
           disk = self.new.disk;
           rotation = with_due Due.Body self.old.rotation;
         }) }
+        ensures count { OnOk result (D.fault_count self.new.disk ≡ D.fault_count self.old.disk) }
         ensures err { IfErr result (λ e. LeftBy D.Disk e self.old self.new) }
         ensures keeps { Keeps D.Disk self.old self.new }
     {
@@ -66,6 +67,7 @@ impl<D: Disk> Store<D> {
           disk = self.new.disk;
           rotation = with_due Due.Open self.old.rotation;
         }) }
+        ensures count { OnOk result (D.fault_count self.new.disk ≡ D.fault_count self.old.disk) }
         ensures err { IfErr result (λ e. LeftBy D.Disk e self.old self.new) }
         ensures keeps { Keeps D.Disk self.old self.new }
     {
@@ -102,6 +104,7 @@ impl<D: Disk> Store<D> {
         ensures no_memory { IsErrOf result Refusal.OutOfMemory → ⊥ }
         ensures ok { OnOk result (IsInstalledBy self.old.rotation self.old self.new) }
         ensures generation { IfOk result (λ g. g.0 ≡ self.new.manifest.generation) }
+        ensures count { OnOk result (D.fault_count self.new.disk ≡ D.fault_count self.old.disk) }
         ensures err { IfErr result (λ e. LeftBy D.Disk e self.old self.new) }
         ensures keeps { Keeps D.Disk self.old self.new }
     {

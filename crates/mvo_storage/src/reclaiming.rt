@@ -105,6 +105,7 @@ impl<D: Disk> Store<D> {
         ensures no_memory { IsErrOf result Refusal.OutOfMemory → ⊥ }
         ensures ok { OnOk result (self.new ≡ record self.old { disk = self.new.disk }) }
         ensures reclaimed { IfOk result (λ answer. HasReclaimed D.Disk self.old answer self.new) }
+        ensures count { OnOk result (D.fault_count self.new.disk ≡ D.fault_count self.old.disk) }
         ensures err { IfErr result (λ e. LeftBy D.Disk e self.old self.new) }
         ensures keeps { Keeps D.Disk self.old self.new }
     {

@@ -72,6 +72,7 @@ impl<D: Disk> Store<D> {
           rotation = self.new.rotation;
         }) }
         ensures rotation { OnOk result (IsRotationOf self.old.manifest self.new.rotation) }
+        ensures count { OnOk result (D.fault_count self.new.disk ≡ D.fault_count self.old.disk) }
         ensures err { IfErr result (λ e. LeftBy D.Disk e self.old self.new) }
         ensures keeps { Keeps D.Disk self.old self.new }
     {

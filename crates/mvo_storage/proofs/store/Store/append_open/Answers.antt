@@ -3,7 +3,7 @@ use Rattle.mvo_group.specs.Data.{GroupData}
 use Rattle.mvo_format.specs.declared.header.TheConstants.{VERSION}
 use Rattle.mvo_storage.specs.StoreData.{StoreData}
 use Rattle.mvo_storage.specs.Standing.{IsKeeping, after_taken}
-use Rattle.mvo_storage.proofs.Keeping.{fault_keeps, step_keeps}
+use Rattle.mvo_storage.proofs.Keeping.{refused_keeps, fault_keeps, step_keeps}
 use Rattle.mvo_storage.proofs.Appended.{last_file, last_durable, slots_stay, stands_written, is_allowed, gate_leaves, gate_up}
 use Rattle.mvo_storage.proofs.store.Store.append_open.Goals as goal
 
@@ -25,7 +25,7 @@ returns-in_default-open_gate-clause-keeps_err g c =
     let old : StoreData _ = record { disk = c.self.inside.disk; manifest = c.self.inside.manifest; segment = c.self.inside.segment; mark = c.self.inside.mark.0; pending = c.self.inside.pending; written = c.self.inside.written; rotation = c.self.inside.rotation; down = c.self.inside.down } in
     let e = c.in_default-open_gate.ensures in
     rw (← c.self.view_is) (rw e.err (fault_keeps d g.met.D.Disk.counts_now old c.open_gate.new.disk c.if-self.false
-    (λ rows up _. gate_leaves d old rows up c.in-Some.group c.if-not-self.false c.in-Some.is c.open_gate.new.disk (is_allowed c.in-Some.group c.mark-mark.ensures.group)
+    (λ rows up slots. gate_leaves d old rows up c.in-Some.group c.if-not-self.false c.in-Some.is c.open_gate.new.disk slots (is_allowed c.in-Some.group c.mark-mark.ensures.group)
     (e.any_moment VERSION up.parts.middle up.parts.last c.in-Some.group (stands_written d old rows up c.in-Some.group c.if-not-self.false c.in-Some.is)))))
 
 pub invariant_of-self-2 : goal.invariant_of-self-2
@@ -53,7 +53,13 @@ returns-clause-keeps g c =
     rw (← c.self.view_is) (rw c.mark-mark.ensures.value (rw c.take.ensures.after
     (subst (λ (o : Option GroupData). IsKeeping d (λ rows. after_taken rows o) old new) (sym c.in-Some.is)
     (step_keeps d (λ rows. after_taken rows (Some group)) old new c.if-self.false
-    (λ rows up _. gate_leaves d old rows up group c.if-not-self.false c.in-Some.is c.open_gate.new.disk (is_allowed group c.mark-mark.ensures.group)
+    (λ rows up slots. gate_leaves d old rows up group c.if-not-self.false c.in-Some.is c.open_gate.new.disk slots (is_allowed group c.mark-mark.ensures.group)
     (e.any_moment VERSION up.parts.middle up.parts.last group (stands_written d old rows up group c.if-not-self.false c.in-Some.is)))
     (λ rows up. gate_up d old rows up group c.if-not-self.false c.in-Some.is c.open_gate.new.disk c.open_gate.new.self (is_allowed group c.mark-mark.ensures.group) e.ok (e.opened VERSION up.parts.middle up.parts.last group (stands_written d old rows up group c.if-not-self.false c.in-Some.is)) e.durable e.rest e.count)
     (slots_stay d old now.0 now.1 c.open_gate.new.disk e.rest)))))
+
+pub returns-then-self-clause-keeps_err : goal.returns-then-self-clause-keeps_err
+returns-then-self-clause-keeps_err g c = rw (← c.self.view_is) (refused_keeps g.D.Disk g.met.D.Disk.only_now _)
+
+pub returns-then-not-self-clause-keeps_err : goal.returns-then-not-self-clause-keeps_err
+returns-then-not-self-clause-keeps_err g c = rw (← c.self.view_is) (refused_keeps g.D.Disk g.met.D.Disk.only_now _)

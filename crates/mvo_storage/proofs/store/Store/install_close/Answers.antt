@@ -4,7 +4,7 @@ use Rattle.mvo_storage.specs.Standing.{IsUp, Keeps}
 use Rattle.mvo_storage.specs.Steps.{with_due}
 use Rattle.mvo_storage.specs.declared.due.Due.TheVariants.{Body}
 use Rattle.mvo_storage.specs.declared.rotation.Rotation.{Rotation}
-use Rattle.mvo_storage.proofs.Keeping.{fault_keeps, step_keeps}
+use Rattle.mvo_storage.proofs.Keeping.{refused_keeps, fault_keeps, step_keeps}
 use Rattle.mvo_storage.proofs.Installs.{slot_is, close_leaves, close_up, close_slots}
 use Rattle.mvo_storage.proofs.store.Store.install_close.Goals as goal
 
@@ -47,3 +47,12 @@ returns-clause-keeps g c =
     (λ rows up slots. close_leaves d old rows up r c.in-Some.is slot (slot_is d old rows up r c.in-Some.is slot c.slot.ensures.value) c.close_slot.new.disk slots e.moments_open e.moments_shut)
     (λ rows up. close_up d old rows up r c.in-Some.is slot (slot_is d old rows up r c.in-Some.is slot c.slot.ensures.value) c.close_slot.new.disk e.rest e.durable e.count e.shut)
     (close_slots d old now.0 now.1 r c.in-Some.is slot (slot_is d old now.0 now.1 r c.in-Some.is slot c.slot.ensures.value) c.close_slot.new.disk e.rest e.durable e.count e.shut)))
+
+pub returns-then-self-clause-keeps : goal.returns-then-self-clause-keeps
+returns-then-self-clause-keeps g c = rw (← c.self.view_is) (refused_keeps g.D.Disk g.met.D.Disk.only_now _)
+
+pub returns-in_default-clause-keeps : goal.returns-in_default-clause-keeps
+returns-in_default-clause-keeps g c = rw (← c.self.view_is) (refused_keeps g.D.Disk g.met.D.Disk.only_now _)
+
+pub returns-then-ne-clause-keeps : goal.returns-then-ne-clause-keeps
+returns-then-ne-clause-keeps g c = rw (← c.self.view_is) (refused_keeps g.D.Disk g.met.D.Disk.only_now _)
