@@ -1,6 +1,6 @@
 use crate::writer::written;
 use anyhow::{Result, bail};
-use mvo_storage::Store;
+use mvo_store::Store;
 use mvo_types::{RowKey, Rows};
 use std::rt::Clock;
 use std::time::Instant;

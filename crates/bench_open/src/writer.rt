@@ -1,7 +1,7 @@
 use anyhow::{Result, bail};
 use mvo_disk::{Disk, MemDisk};
 use mvo_group::{Group, Record, Write};
-use mvo_storage::{Store, format};
+use mvo_store::{Store, format};
 use mvo_types::{Refusal, Row, RowKey, Stamp};
 use std::alloc::{AllocError, Global};
 

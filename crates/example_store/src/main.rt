@@ -14,7 +14,7 @@ const KEY: RowKey = RowKey { table: 0, key: 5 };
 
 fn main(rt: HostRuntime) -> Result<(), anyhow::Error> {
     let alloc = rt.alloc();
-    let disk = format(MemDisk::new(alloc)?).map_err(|refused| refused.0)?;
+    let disk = format(alloc, MemDisk::new(alloc)?).map_err(|refused| refused.0)?;
     let mut world = World::open(alloc, disk).map_err(|refused| refused.0)?;
     let tx = begin(&mut world)?;
     for reply in world.run(&put_and_flush(alloc, tx)?)? {

@@ -15,6 +15,7 @@ use Rattle.mvo_world.specs.declared.event.Event.TheVariants as event
 use Rattle.mvo_world.specs.declared.reply.Reply.{Reply}
 use Rattle.mvo_world.specs.declared.reply.Reply.TheVariants.{Core, Durable, Polled, Refused}
 use Rattle.mvo_script.specs.Bound.{bound_by, BindsBegun, Ends, KeepsBound, is_covered}
+use Rattle.mvo_script.specs.Rotating.{rotation, AreToRefusal}
 use Rattle.mvo_script.specs.declared.bound.BoundTx.{BoundTx}
 use Rattle.mvo_script.specs.declared.driver.Driver.{Driver}
 use Rattle.mvo_script.specs.declared.line.Line.{Line}
@@ -152,3 +153,10 @@ module _ (IsStep : WorldData MemDisk → Event → Reply → WorldData MemDisk �
   IsAnswer d line.Body r d' = IsStepOf d event.AppendBody r d'
   IsAnswer d line.Open r d' = IsStepOf d event.AppendOpen r d'
   IsAnswer d line.Flush r d' = IsFlushed d'.world r × (d'.names ≡ d.names)
+  IsAnswer d line.RotateWrite r d' = IsStepOf d event.RotateWrite r d'
+  IsAnswer d line.InstallClose r d' = IsStepOf d event.InstallClose r d'
+  IsAnswer d line.InstallBody r d' = IsStepOf d event.InstallBody r d'
+  IsAnswer d line.InstallOpen r d' = IsStepOf d event.InstallOpen r d'
+  IsAnswer d line.Rotate r d' =
+      AreToRefusal IsStep rotation d.world r d'.world × (d'.names ≡ d.names)
+  IsAnswer d line.Reclaim r d' = IsStepOf d event.Reclaim r d'

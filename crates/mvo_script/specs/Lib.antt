@@ -3,4 +3,5 @@ pub mod Begun
 pub mod Bound
 pub mod Fresh
 pub mod Forms
+pub mod Rotating
 pub mod Answers

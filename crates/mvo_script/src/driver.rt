@@ -6,6 +6,7 @@ use crate::flush::flush;
 use crate::line::{Line, RowText};
 use crate::names::Names;
 use crate::reply::LineReply;
+use crate::rotate::rotate;
 use mvo_core::{Event as CoreEvent, Reply as CoreReply};
 use mvo_disk::{Disk, MemDisk};
 use mvo_store::format;
@@ -85,6 +86,12 @@ impl Driver {
             Line::Body => Some(self.ask(Event::AppendBody)),
             Line::Open => Some(self.ask(Event::AppendOpen)),
             Line::Flush => Some(flush(&mut self.world)),
+            Line::RotateWrite => Some(self.ask(Event::RotateWrite)),
+            Line::InstallClose => Some(self.ask(Event::InstallClose)),
+            Line::InstallBody => Some(self.ask(Event::InstallBody)),
+            Line::InstallOpen => Some(self.ask(Event::InstallOpen)),
+            Line::Rotate => Some(rotate(&mut self.world)),
+            Line::Reclaim => Some(self.ask(Event::Reclaim)),
         }
     }
 
@@ -215,7 +222,7 @@ fn fresh_world(alloc: Global) -> Result<World<MemDisk>, Refusal>
     ensures memory { IfErr result (λ r. r ≡ Refusal.OutOfMemory) }
 {
     let disk = MemDisk::new(alloc)?;
-    let Ok(disk) = format(disk) else {
+    let Ok(disk) = format(alloc, disk) else {
         return Err(Refusal::OutOfMemory);
     };
     match World::open(alloc, disk) {

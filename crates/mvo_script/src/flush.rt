@@ -1,12 +1,13 @@
 ghost use Rattle.mvo_script.specs.Answers.{IsFlushed, IsAppended};
 
+use crate::rotate::finish_rotation;
 use mvo_disk::Disk;
 use mvo_types::Refusal;
 use mvo_world::{Event, Reply, World};
 
 /// Closes the next group, where there is one to close and a place for it, and makes each closed
-/// group durable. It answers Durable with the store's mark, also where there was nothing to do, or
-/// the refusal at which it stopped.
+/// group durable, with a rotation where the segment is full. It answers Durable with the store's
+/// mark, also where there was nothing to do, or the refusal at which it stopped.
 pub fn flush<D: Disk>(world: &mut World<D>) -> Reply
     ensures { IsFlushed world.new result }
 {
@@ -29,12 +30,28 @@ pub fn flush<D: Disk>(world: &mut World<D>) -> Reply
     Reply::Refused(Refusal::Busy)
 }
 
-/// Makes the pending group durable. Its body may be written already.
+/// Makes the pending group durable. Its body may be written already. Where the segment is full for
+/// it, the log is rotated first.
 fn append<D: Disk>(world: &mut World<D>) -> Reply
     ensures { IsAppended result }
 {
     match world.step(Event::AppendBody) {
         Reply::Written | Reply::Refused(Refusal::Busy) => world.step(Event::AppendOpen),
+        Reply::Refused(Refusal::SegmentFull) => append_rotated(world),
+        refused => refused,
+    }
+}
+
+/// Makes the pending group durable in the segment that a rotation gives.
+fn append_rotated<D: Disk>(world: &mut World<D>) -> Reply
+    ensures { IsAppended result }
+{
+    match finish_rotation(world) {
+        Reply::Installed(_) => {}
+        refused => return refused,
+    }
+    match world.step(Event::AppendBody) {
+        Reply::Written => world.step(Event::AppendOpen),
         refused => refused,
     }
 }

@@ -7,6 +7,7 @@ mod flush;
 mod line;
 mod names;
 mod reply;
+mod rotate;
 mod script;
 mod words;
 

@@ -41,6 +41,18 @@ pub enum Line<'a> {
     Open,
     /// `flush`
     Flush,
+    /// `rotate-write`
+    RotateWrite,
+    /// `install-close`
+    InstallClose,
+    /// `install-body`
+    InstallBody,
+    /// `install-open`
+    InstallOpen,
+    /// `rotate`
+    Rotate,
+    /// `reclaim`
+    Reclaim,
 }
 
 /// A row as a line gives it.
@@ -81,6 +93,12 @@ fn line_of<'a>(first: &str, rest: &mut str::Split<'a, char>) -> Option<Line<'a>>
         "body" => Some(Line::Body),
         "open" => Some(Line::Open),
         "flush" => Some(Line::Flush),
+        "rotate-write" => Some(Line::RotateWrite),
+        "install-close" => Some(Line::InstallClose),
+        "install-body" => Some(Line::InstallBody),
+        "install-open" => Some(Line::InstallOpen),
+        "rotate" => Some(Line::Rotate),
+        "reclaim" => Some(Line::Reclaim),
         _ => named_line_of(first, rest),
     }
 }

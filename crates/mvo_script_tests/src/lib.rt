@@ -6,7 +6,11 @@ mod assert;
 #[cfg(test)]
 mod durable;
 #[cfg(test)]
+mod full_segment;
+#[cfg(test)]
 mod lines;
+#[cfg(test)]
+mod rotations;
 #[cfg(test)]
 mod streams;
 #[cfg(test)]

@@ -5,7 +5,7 @@ use std::alloc::AllocError;
 use std::test::Fail;
 
 /// Lines that are none of a script, where t1 was begun.
-const BAD_LINES: [&[u8]; 57] = [
+const BAD_LINES: [&[u8]; 65] = [
     b"",
     b" ",
     b"begin",
@@ -62,6 +62,14 @@ const BAD_LINES: [&[u8]; 57] = [
     b"open t1",
     b"flush t1",
     b"Flush",
+    b"rotate t1",
+    b"rotate ",
+    b"rotate-write t1",
+    b"rotate_write",
+    b"install",
+    b"install-open 1",
+    b"Install-close",
+    b"reclaim 2",
     b"durable",
 ];
 

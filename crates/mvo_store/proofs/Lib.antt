@@ -1,10 +1,11 @@
-pub mod Crash
-pub mod Appends
-pub mod Sized
-pub mod Walk
-pub mod Images
-pub mod Safety
-pub mod Header
-pub mod Replays
+pub mod Named
+mod Slotted
+pub mod Keeping
+pub mod Appended
+pub mod Rotations
+pub mod Allowed
+pub mod Installs
+pub mod Synced
 pub mod Opens
-pub mod Openings
+pub mod Formatted
+pub mod Emptied

@@ -1,41 +1,103 @@
--- A store is up over what was read.
-use Rattle.std.proofs.Common.{◌≡◌, ℕ, ◌<◌, ◌^◌, List, length, None, false, refl, ap, ◌∙◌, arith}
+-- A store over what is found on its disk.
+use Rattle.std.proofs.Common.{inl, inr, ℕ, ◌<◌, false, List, [], ◌∷◌, None, refl, sym, ap, ◌∙◌, arith}
+use Rattle.std.proofs.lemmas.List.Elements.{All-contains}
 use Rattle.mvo_types.specs.Keys.{Map}
-use Rattle.mvo_disk.specs.Disk.{Only}
-use Rattle.mvo_group.specs.Data.{GroupData}
-use Rattle.mvo_store.specs.Frames.{HasGroups, front}
-use Rattle.mvo_store.specs.Recovery.{IsRead, rows_of, mark_of}
-use Rattle.mvo_store.specs.StoreData.{StoreData}
-use Rattle.mvo_store.specs.Standing.{IsUp}
-use Rattle.mvo_store.specs.Steps.{IsUpOver}
 use Rattle.mvo_disk.specs.declared.disk.Disk.{Ghosts}
-use Rattle.mvo_store.specs.declared.layout.TheConstants.{MAX_FAULTS}
-use Rattle.mvo_store.proofs.Walk.{groups_once}
+use Rattle.mvo_disk.specs.Disk.{Image}
+use Rattle.mvo_group.specs.Data.{GroupData}
+use Rattle.mvo_format.specs.declared.format.Format.{Format}
+use Rattle.mvo_format.specs.declared.format.TheConstants.{FIRST_FORMAT}
+use Rattle.mvo_frame.specs.Frames.{mark_after}
+use Rattle.mvo_manifest.specs.Data.{ManifestData, named}
+use Rattle.mvo_manifest.specs.Rules.{IsManifest, IsFile}
+use Rattle.mvo_image.specs.Gives.{HaveGroups}
+use Rattle.mvo_image.specs.Rows.{rows_of, after_groups}
+use Rattle.mvo_recovery.specs.Parts.{Parts, HaveSealed, IsLastFile}
+use Rattle.mvo_recovery.specs.Settled.{IsUsed, IsInstalled, IsSettled}
+use Rattle.mvo_recovery.proofs.Opened.{newest_stands}
+use Rattle.mvo_recovery.proofs.Framed.{installed_framed}
+use Rattle.mvo_load.specs.Loaded.{SealedSays, IsLoaded}
+use Rattle.mvo_store.specs.declared.limits.TheConstants.{MAX_FAULTS}
+use Rattle.mvo_store.specs.StoreData.{StoreData}
+use Rattle.mvo_store.specs.Standing.{IsUp, HasSlots, KeepsRows}
+use Rattle.mvo_store.specs.Opening.{HasSynced}
+use Rattle.mvo_store.proofs.Slotted.{image_slots}
+use Rattle.mvo_store.proofs.Keeping.{up_gives}
 
-abbrev pub opened : {D : Type 0} → D → ℕ → ℕ → StoreData D
-opened disk gate mark = record { disk = disk; gate = gate; next = gate; mark = mark; pending = None; written = false; down = false }
+have_sealed : (f : Format) (image : Image) (ns : List ℕ) (mark : ℕ) (gs : List GroupData) (upto : ℕ) → HaveGroups (SealedSays f) image ns mark gs upto → HaveSealed f image ns mark gs upto
+have_sealed f image [] mark gs upto have = have
+have_sealed f image (n ∷ ns) mark gs upto have = (have.0, have.1, have.2, have.3, have_sealed f image ns (mark_after mark have.0) have.1 upto have.4)
 
-module _ {D : Type 0} (d : Ghosts D) where
-  pub opens : (disk : D) (bytes : List ℕ) (rows : Map) (gate mark : ℕ) → IsRead bytes rows gate mark → d.content disk 2 ≡ bytes → Only (d.content disk 2) (d.may_leave disk 2) → d.fault_count disk < MAX_FAULTS
-      → IsUpOver d bytes (opened disk gate mark) rows mark
-  opens disk bytes rows gate mark read whole only few gs has =
-      let same : read.groups ≡ gs = groups_once read.groups gs bytes read.has has in
-      let mark_is : mark ≡ mark_of gs = read.mark_is ∙ ap mark_of same in (
-        record {
-          up = refl;
-          gate = has.gate;
-          rest = has.rest;
-          whole = whole ∙ has.whole;
-          closed = has.closed;
-          chain = has.chain;
-          place = read.place ∙ ap (λ (l : List GroupData). length (front l)) same;
-          few = read.few;
-          mark = mark_is;
-          durable = only;
-          room = omega (arith, few);
-          pending = tt;
-          written = λ e. absurd cc;
-        },
-        read.rows_are ∙ ap rows_of same,
-        mark_is,
-      )
+-- each file that is used is one of the disk
+used_below : (m : ManifestData) → IsManifest m → (n : ℕ) → IsUsed m n → n < 1024
+used_below m is n (inl lt) = omega (arith, lt)
+used_below m is n (inr has) = let file : IsFile n = All-contains IsFile (named m) n is.rules.files has in omega (arith, file.1)
+
+module _ (f : Format) (image : Image) (m : ManifestData) (rows : Map) (mark gate : ℕ) (loaded : IsLoaded f image m rows mark gate) where
+  abbrev pub parts_loaded : Parts
+  parts_loaded = record { lives = loaded.lives; sealed = loaded.log.last.earlier; middle = loaded.log.last.middle; last = loaded.log.last.own }
+
+  pub installed_loaded : IsInstalled f image m parts_loaded
+  installed_loaded =
+      let i = loaded.installed in
+      let last = loaded.log.last in
+      let s = newest_stands f image m (record { even = i.first; odd = i.second; even_has = i.first_has; odd_has = i.second_has; greatest = i.is }) in
+      record {
+        own = s.own;
+        other = s.other;
+        parts = record {
+          sealed_files = last.sealed;
+          last_file = last.last;
+          segments = last.files;
+          live = loaded.live;
+          distinct = loaded.distinct;
+          sealed = have_sealed f image last.sealed m.checkpoint_mark last.earlier last.middle last.before;
+          last = record { has = last.stands.has; allowed = last.allowed; some = tt };
+        };
+      }
+
+module _ {D : Type 0} (d : Ghosts D) (old new : D) (m : ManifestData) (rows : Map) (mark gate file : ℕ) (loaded : IsLoaded FIRST_FORMAT (d.content old) m rows mark gate) (synced : HasSynced d (IsUsed m) 1024 old new) (is : IsLastFile m file) (few : d.fault_count old < MAX_FAULTS) where
+  abbrev pub opened_store : StoreData D
+  opened_store = record {
+    disk = new;
+    manifest = m;
+    segment = record { file = file; gate = gate; next = gate };
+    mark = mark;
+    pending = None;
+    written = false;
+    rotation = None;
+    down = false;
+  }
+
+  settled_opened : IsSettled FIRST_FORMAT (d.content new) (d.may_leave new) m (parts_loaded FIRST_FORMAT (d.content old) m rows mark gate loaded)
+  settled_opened =
+      let was = installed_loaded FIRST_FORMAT (d.content old) m rows mark gate loaded in
+      record {
+        installed = installed_framed FIRST_FORMAT (d.content old) (d.content new) m (parts_loaded FIRST_FORMAT (d.content old) m rows mark gate loaded) (λ n _. synced.content n) was;
+        durable = λ n used. synced.durable n (used_below m was.own.is n used) used;
+      }
+
+  pub opened_up : IsUp d opened_store rows
+  opened_up = record {
+    up = refl;
+    parts = parts_loaded FIRST_FORMAT (d.content old) m rows mark gate loaded;
+    settled = settled_opened;
+    rows_are = loaded.log.rows_are ∙ ap (after_groups (rows_of loaded.lives)) loaded.log.last.all;
+    mark_is = loaded.log.last.upto;
+    last = is;
+    gate = loaded.log.last.stands.place;
+    few = loaded.log.last.few;
+    pending = tt;
+    written = λ e. absurd (cc e);
+    rotation = tt;
+    room = omega (arith, synced.count, few);
+  }
+
+  pub opened_keeps : HasSlots (d.content old) → KeepsRows d opened_store rows
+  opened_keeps slots = record {
+    images = λ image all. record { slots = image_slots d opened_store rows opened_up new_slots image all; gives = up_gives d opened_store rows opened_up image all };
+    up = λ _. (opened_up, new_slots);
+  }
+    where
+      new_slots : HasSlots (d.content new)
+      new_slots = record { first = λ e. slots.first (sym (synced.content 0) ∙ e); second = λ e. slots.second (sym (synced.content 1) ∙ e) }

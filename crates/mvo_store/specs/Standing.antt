@@ -1,93 +1,128 @@
 -- How a store stands over its disk, and what a stop leaves of it.
-use Rattle.std.specs.Prelude.{◌≡◌, ◌≢◌, ◌⊎◌, ℕ, ◌<◌, ◌+◌, ◌^◌, true, false, List, [], ◌∷◌, ◌++◌}
-use Rattle.std.specs.Prelude.{length, Option, Some, None, Result, Ok, Err}
+use Rattle.std.specs.Prelude.{◌≡◌, ◌≢◌, ℕ, ◌<◌, ◌+◌, ◌^◌, true, false, List, [], ◌∷◌}
+use Rattle.std.specs.Prelude.{Option, Some, None}
+use Rattle.mvo_types.specs.Keys.{Map}
 use Rattle.mvo_types.specs.declared.limits.TheConstants.{MAX_SEGMENT_LEN}
 use Rattle.mvo_disk.specs.declared.disk.Disk.{Ghosts}
-use Rattle.mvo_disk.specs.Disk.{Only, AllOf, LeavesOnly}
+use Rattle.mvo_disk.specs.Disk.{Image, AllOf, LeavesOnly}
 use Rattle.mvo_group.specs.Data.{GroupData}
 use Rattle.mvo_group.specs.Rules.{IsGroup}
-use Rattle.mvo_group.specs.Body.{body_of}
-use Rattle.mvo_store.specs.declared.layout.TheConstants.{OPEN, CLOSED}
-use Rattle.mvo_store.specs.Frames.{front, sized, Chains, HasGroups}
-use Rattle.mvo_store.specs.Recovery.{mark_of}
+use Rattle.mvo_format.specs.declared.format.TheConstants.{FIRST_FORMAT}
+use Rattle.mvo_format.specs.declared.header.TheConstants.{VERSION, HEADER_LEN}
+use Rattle.mvo_frame.specs.Standing.{gate_of, IsWritten}
+use Rattle.mvo_manifest.specs.Data.{ManifestData}
+use Rattle.mvo_manifest.specs.Slots.{IsShut, IsStaged}
+use Rattle.mvo_image.specs.Files.{GivesRows}
+use Rattle.mvo_image.specs.Rows.{after_groups}
+use Rattle.mvo_recovery.specs.Parts.{Parts, rows_of_parts, mark_of_parts, IsLastFile}
+use Rattle.mvo_recovery.specs.Settled.{IsSettled, other_slot, GivesWithOrWithout}
+use Rattle.mvo_recovery.specs.Rotation.{rotated, IsFresh, MayRotate}
+use Rattle.mvo_store.specs.declared.due.Due.{Due}
+use Rattle.mvo_store.specs.declared.due.Due.TheVariants.{Close, Body, Open}
+use Rattle.mvo_store.specs.declared.rotation.Rotation.{Rotation}
 use Rattle.mvo_store.specs.StoreData.{StoreData, opening}
 
--- the taken group follows the mark
+-- ---- a group that is being appended
+
+-- it follows the mark
 abbrev pub FollowsMark : ℕ → Option GroupData → Type 0
 FollowsMark mark None = Unit {0}
 FollowsMark mark (Some g) = (g.prev ≡ mark) × IsGroup g
 
--- the bytes of a group behind its gate: its length, its body, and the next gate, closed
-abbrev pub behind_gate : GroupData → List ℕ
-behind_gate g = sized (body_of g) ++ CLOSED ∷ []
+-- its body is written behind these parts' last gate
+abbrev pub HasBody : Parts → Option GroupData → ℕ → ℕ → List ℕ → Type 0
+HasBody x None gate next bytes = ⊥
+HasBody x (Some g) gate next bytes = IsWritten VERSION x.middle x.last g gate next bytes
 
--- these bytes are to be written behind the gate
-abbrev pub IsBodyOf : Option GroupData → List ℕ → Type 0
-IsBodyOf None bytes = ⊥
-IsBodyOf (Some g) bytes = bytes ≡ behind_gate g
+-- ---- a rotation that runs
 
--- the body of the taken group stands behind the present gate, and the next one behind it
-pub record IsBehind (gate next : ℕ) (rest : List ℕ) (g : GroupData) : Type 0 where
-  pub more : List ℕ
-  pub bytes : rest ≡ sized (body_of g) ++ CLOSED ∷ more
-  pub place : next ≡ gate + 1 + length (sized (body_of g))
-  pub few : next < MAX_SEGMENT_LEN
+-- how far the install of its manifest is, in the other slot
+abbrev pub HasInstall : Due → ManifestData → ℕ → List ℕ → Type 0
+HasInstall Close next slot bytes = Unit {0}
+HasInstall Body next slot bytes = IsShut bytes
+HasInstall Open next slot bytes = IsStaged VERSION slot next bytes
 
-abbrev pub IsWritten : ℕ → ℕ → List ℕ → Option GroupData → Type 0
-IsWritten gate next rest None = ⊥
-IsWritten gate next rest (Some g) = IsBehind gate next rest g
+-- Its segment is fresh in a file that isn't used, and its manifest names it last.
+pub record IsRotating (content : Image) (may : ℕ → List ℕ → Type 0) (m : ManifestData) (x : Parts)
+    (r : Rotation) : Type 0 where
+  pub next : r.next ≡ rotated m r.fresh.file
+  pub may_rotate : MayRotate m r.fresh.file
+  pub some : x.last ≢ []
+  pub fresh : IsFresh FIRST_FORMAT content may r.fresh.file
+  pub gate : r.fresh.gate ≡ HEADER_LEN
+  pub install : HasInstall r.due r.next (other_slot m) (content (other_slot m))
 
--- The store is up: its segment has exactly these groups, and all of them are durable.
-pub record IsUp {D : Type 0} (d : Ghosts D) (s : StoreData D) (gs : List GroupData) : Type 0 where
+abbrev pub HasRotation : Image → (ℕ → List ℕ → Type 0) → ManifestData → Parts → Option Rotation
+    → Type 0
+HasRotation content may m x None = Unit {0}
+HasRotation content may m x (Some r) = IsRotating content may m x r
+
+-- ---- the store
+
+-- The store is up: its manifest is installed, the files that it names give exactly these rows and
+-- the store's mark, and all of that is durable.
+pub record IsUp {D : Type 0} (d : Ghosts D) (s : StoreData D) (rows : Map) : Type 0 where
   pub up : s.down ≡ false
-  pub gate : ℕ
-  pub rest : List ℕ
-  pub whole : d.content s.disk 2 ≡ front gs ++ gate ∷ rest
-  pub closed : gate ≢ OPEN
-  pub chain : Chains 0 gs
-  pub place : s.gate ≡ length (front gs)
-  pub few : s.gate < MAX_SEGMENT_LEN
-  pub mark : s.mark ≡ mark_of gs
-  pub durable : Only (d.content s.disk 2) (d.may_leave s.disk 2)
-  pub room : d.fault_count s.disk + 1 < 2 ^ 64
+  pub parts : Parts
+  pub settled :
+      IsSettled FIRST_FORMAT (d.content s.disk) (d.may_leave s.disk) s.manifest parts
+  pub rows_are : rows ≡ rows_of_parts parts
+  pub mark_is : s.mark ≡ mark_of_parts parts
+  pub last : IsLastFile s.manifest s.segment.file
+  pub gate : s.segment.gate ≡ gate_of parts.last
+  pub few : s.segment.gate < MAX_SEGMENT_LEN
   pub pending : FollowsMark s.mark s.pending
-  pub written : s.written ≡ true → IsWritten s.gate s.next rest s.pending
+  pub written : s.written ≡ true → HasBody parts s.pending s.segment.gate s.segment.next
+      (d.content s.disk s.segment.file)
+  pub rotation : HasRotation (d.content s.disk) (d.may_leave s.disk) s.manifest parts s.rotation
+  pub room : d.fault_count s.disk + 1 < 2 ^ 64
 
--- the groups, and the taken one behind them
-abbrev pub with_taken : List GroupData → Option GroupData → List GroupData
-with_taken gs None = gs
-with_taken gs (Some g) = gs ++ g ∷ []
+-- the image is well formed, and gives these rows and this mark
+abbrev pub Gives : Map → ℕ → Image → Type 0
+Gives rows mark image = GivesRows FIRST_FORMAT image rows mark
 
--- the groups after a step that opens the taken one's gate
-abbrev pub groups_after : {T E : Type 0} →
-    Result T E → List GroupData → Option GroupData → List GroupData
-groups_after (Ok x) gs taken = with_taken gs taken
-groups_after (Err e) gs taken = gs
+-- these, or those after the group that is being opened
+abbrev pub GivesOr : Map → ℕ → Option GroupData → Image → Type 0
+GivesOr rows mark None image = Gives rows mark image
+GivesOr rows mark (Some g) image = GivesWithOrWithout FIRST_FORMAT rows mark g image
 
--- the groups, or those and the taken one
-abbrev pub HasWithOrWithout : List GroupData → Option GroupData → List ℕ → Type 0
-HasWithOrWithout gs taken bytes = HasGroups 0 gs bytes ⊎ HasGroups 0 (with_taken gs taken) bytes
+-- each slot has a gate: only a disk that isn't formatted has an empty one
+pub record HasSlots (content : Image) : Type 0 where
+  pub first : content 0 ≢ []
+  pub second : content 1 ≢ []
 
--- A stop now leaves these groups, up to the store's mark, or also the one that is being opened.
--- Unless the disk met a fault, the store is up.
-pub record KeepsGroups {D : Type 0} (d : Ghosts D) (s : StoreData D) (gs : List GroupData) :
-    Type 0 where
-  pub mark : s.mark ≡ mark_of gs
-  pub images : (image : ℕ → List ℕ) → AllOf (d.may_leave s.disk) image →
-      HasWithOrWithout gs (opening s) (image 2)
-  pub up : s.down ≡ false → IsUp d s gs
+-- What a stop may leave: each slot has a gate, and the image gives these rows and this mark, or
+-- those after the group that is being opened.
+pub record MayBeLeft (rows : Map) (mark : ℕ) (taken : Option GroupData) (image : Image) : Type 0
+  where
+    pub slots : HasSlots image
+    pub gives : GivesOr rows mark taken image
 
--- ---- a stop at any moment of a step, from one store to the next
+-- A stop now leaves these rows at the store's mark, or also the group that is being opened. Unless
+-- the disk met a fault, the store is up.
+pub record KeepsRows {D : Type 0} (d : Ghosts D) (s : StoreData D) (rows : Map) : Type 0 where
+  pub images : (image : Image) → AllOf (d.may_leave s.disk) image →
+      MayBeLeft rows s.mark (opening s) image
+  pub up : s.down ≡ false → IsUp d s rows × HasSlots (d.content s.disk)
 
--- it leaves the groups
-abbrev pub LeavesGroups : {D : Type 0} →
-    Ghosts D → List GroupData → StoreData D → StoreData D → Type 0
-LeavesGroups d gs s t =
-    LeavesOnly d.moment d.left_since s.disk t.disk (λ image. HasGroups 0 gs (image 2))
+-- a stop at any moment from one store to the next leaves these rows, or also the group that is
+-- being opened
+abbrev pub LeavesRows : {D : Type 0} → Ghosts D → Map → StoreData D → StoreData D → Type 0
+LeavesRows d rows s t =
+    LeavesOnly d.moment d.left_since s.disk t.disk (MayBeLeft rows s.mark (opening s))
 
--- it leaves the groups, or also the one that is being opened
-abbrev pub LeavesWithOrWithout : {D : Type 0} →
-    Ghosts D → List GroupData → StoreData D → StoreData D → Type 0
-LeavesWithOrWithout d gs s t =
-    LeavesOnly d.moment d.left_since s.disk t.disk
-    (λ image. HasWithOrWithout gs (opening s) (image 2))
+-- the rows after the group
+abbrev pub after_taken : Map → Option GroupData → Map
+after_taken rows None = rows
+after_taken rows (Some g) = after_groups rows (g ∷ [])
+
+-- A step from one store to the next that keeps the rows of the first, but for what it makes of
+-- them: it leaves them at any moment, and then stands so.
+pub record IsKeeping {D : Type 0} (d : Ghosts D) (made : Map → Map) (s t : StoreData D) : Type 0
+  where
+    pub any_moment : (rows : Map) → KeepsRows d s rows → LeavesRows d rows s t
+    pub keeps : (rows : Map) → KeepsRows d s rows → KeepsRows d t (made rows)
+
+-- it keeps them as they are
+abbrev pub Keeps : {D : Type 0} → Ghosts D → StoreData D → StoreData D → Type 0
+Keeps d s t = IsKeeping d (λ rows. rows) s t

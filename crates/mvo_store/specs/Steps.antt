@@ -1,17 +1,16 @@
 -- What a call of a store answers, and what a refusal leaves.
-use Rattle.std.specs.Prelude.{◌≡◌, ◌≢◌, ◌⊎◌, ℕ, ◌+◌, ◌<◌, ◌≤◌, List, [], true, false, Option, Some, None}
-use Rattle.std.specs.Prelude.{Result, Ok, Err}
+use Rattle.std.specs.Prelude.{◌≡◌, ◌≢◌, ◌⊎◌, ℕ, ◌+◌, Option, Some, None, Result, Ok, Err, true}
 use Rattle.mvo_types.specs.declared.refusal.Refusal.{Refusal}
-use Rattle.mvo_types.specs.declared.refusal.Refusal.TheVariants.{ClockSpent, DiskFault, NotFormatted, Corrupt, BadVersion, AlreadyFormatted, OutOfMemory}
-use Rattle.mvo_types.specs.Keys.{Map}
+use Rattle.mvo_types.specs.declared.refusal.Refusal.TheVariants.{DiskFault, OutOfMemory}
 use Rattle.mvo_disk.specs.declared.disk.Disk.{Ghosts}
-use Rattle.mvo_disk.specs.Disk.{AllOf, LeavesOnly}
 use Rattle.mvo_group.specs.Data.{GroupData}
-use Rattle.mvo_store.specs.declared.layout.TheConstants.{MAX_FAULTS}
-use Rattle.mvo_store.specs.Frames.{HasGroups, IsOtherVersion, IsBroken}
-use Rattle.mvo_store.specs.Recovery.{Recovers, rows_of, mark_of}
+use Rattle.mvo_manifest.specs.Data.{ManifestData}
+use Rattle.mvo_recovery.specs.Rotation.{rotated}
+use Rattle.mvo_store.specs.declared.due.Due.{Due}
+use Rattle.mvo_store.specs.declared.due.Due.TheVariants.{Close}
+use Rattle.mvo_store.specs.declared.rotation.Rotation.{Rotation}
+use Rattle.mvo_store.specs.Files.{IsLeastFree}
 use Rattle.mvo_store.specs.StoreData.{StoreData}
-use Rattle.mvo_store.specs.Standing.{IsUp}
 
 -- The first cause that stands is the refusal. Where none stands, only out of memory and a fault
 -- refuse.
@@ -43,70 +42,23 @@ abbrev pub IsMarkOf : Option GroupData → ℕ → Type 0
 IsMarkOf None mark = ⊥
 IsMarkOf (Some g) mark = mark ≡ g.mark
 
--- the other files read as before
-abbrev pub KeepsOthers : {D : Type 0} → Ghosts D → D → D → Type 0
-KeepsOthers d old new = (n : ℕ) → n ≢ 2 → d.content new n ≡ d.content old n
+-- a rotation into the least free file, of which nothing is installed yet
+abbrev pub IsRotationOf : ManifestData → Option Rotation → Type 0
+IsRotationOf m None = ⊥
+IsRotationOf m (Some r) =
+    IsLeastFree m r.fresh.file × (r.next ≡ rotated m r.fresh.file) × (r.due ≡ Close)
 
--- all files do
-abbrev pub KeepsContent : {D : Type 0} → Ghosts D → D → D → Type 0
-KeepsContent d old new = (n : ℕ) → d.content new n ≡ d.content old n
+-- the next step of its install is due
+abbrev pub with_due : Due → Option Rotation → Option Rotation
+with_due step None = None
+with_due step (Some r) = Some (record r { due = step })
 
--- a stop at any moment leaves what it might have left before
-abbrev pub LeavesAsBefore : {D : Type 0} → Ghosts D → D → D → Type 0
-LeavesAsBefore d old new = LeavesOnly d.moment d.left_since old new (AllOf (d.may_leave old))
-
--- ---- formatting and opening
-
--- the rows and the mark of a segment's bytes are these alone
-abbrev pub OnlyRecovers : List ℕ → Map → ℕ → Type 0
-OnlyRecovers bytes rows mark =
-    (r : Map) (m : ℕ) → Recovers bytes r m → (r ≡ rows) × (m ≡ mark)
-
--- the store is up over the groups of these bytes, and the rows and the mark are theirs
-abbrev pub IsUpOver : {D : Type 0} → Ghosts D → List ℕ → StoreData D → Map → ℕ → Type 0
-IsUpOver d bytes s rows mark =
-    (gs : List GroupData) → HasGroups 0 gs bytes →
-    IsUp d s gs × (rows ≡ rows_of gs) × (mark ≡ mark_of gs)
-
--- the store that was just opened, at this mark
-pub record HasBegun {D : Type 0} (d : Ghosts D) (disk : D) (s : StoreData D) (mark : ℕ) :
-    Type 0 where
-  pub down : s.down ≡ false
-  pub written : s.written ≡ false
-  pub pending : s.pending ≡ None
-  pub mark_is : s.mark ≡ mark
-  pub few : d.fault_count disk < MAX_FAULTS
-  pub count : d.fault_count s.disk ≡ d.fault_count disk
-
--- the refusal, the fault counter before and after, and the bytes of the segment
-abbrev pub IsOpenRefusal : Refusal → ℕ → ℕ → List ℕ → Type 0
-IsOpenRefusal ClockSpent faults later bytes = (MAX_FAULTS ≤ faults) × (later ≡ faults)
-IsOpenRefusal NotFormatted faults later bytes =
-    (faults < MAX_FAULTS) × (bytes ≡ []) × (later ≡ faults)
-IsOpenRefusal (Corrupt file) faults later bytes =
-    (faults < MAX_FAULTS) × (file ≡ 2) × (bytes ≢ []) × IsBroken bytes × (later ≡ faults)
-IsOpenRefusal BadVersion faults later bytes =
-    (faults < MAX_FAULTS) × IsOtherVersion bytes × (later ≡ faults)
-IsOpenRefusal DiskFault faults later bytes = (faults < MAX_FAULTS) × (later ≡ faults + 1)
-IsOpenRefusal OutOfMemory faults later bytes = (faults < MAX_FAULTS) × (later ≡ faults)
-IsOpenRefusal _ faults later bytes = ⊥
-
--- the disk is not opened, for this refusal, and comes back so
-abbrev pub IsNotOpened : {D : Type 0} → Ghosts D → D → Refusal → D → Type 0
-IsNotOpened d old e new = IsOpenRefusal e (d.fault_count old) (d.fault_count new) (d.content old 2)
-
--- refusals that say nothing of the bytes
-abbrev pub IsNotOfBytes : Refusal → Type 0
-IsNotOfBytes e = (e ≡ ClockSpent) ⊎ ((e ≡ DiskFault) ⊎ (e ≡ OutOfMemory))
-
-abbrev pub IsFormatRefusal : Refusal → ℕ → ℕ → List ℕ → Type 0
-IsFormatRefusal ClockSpent faults later bytes = (MAX_FAULTS ≤ faults) × (later ≡ faults)
-IsFormatRefusal AlreadyFormatted faults later bytes =
-    (faults < MAX_FAULTS) × (bytes ≢ []) × (later ≡ faults)
-IsFormatRefusal DiskFault faults later bytes = (faults < MAX_FAULTS) × (later ≡ faults + 1)
-IsFormatRefusal _ faults later bytes = ⊥
-
--- the disk is not formatted, for this refusal, and comes back so
-abbrev pub IsNotFormatted : {D : Type 0} → Ghosts D → D → Refusal → D → Type 0
-IsNotFormatted d old e new =
-    IsFormatRefusal e (d.fault_count old) (d.fault_count new) (d.content old 2)
+-- the manifest that it installs, and the segment that takes frames then
+abbrev pub IsInstalledBy : {D : Type 0} → Option Rotation → StoreData D → StoreData D → Type 0
+IsInstalledBy None old new = ⊥
+IsInstalledBy (Some r) old new = new ≡ record old {
+  disk = new.disk;
+  manifest = r.next;
+  segment = r.fresh;
+  rotation = None;
+}

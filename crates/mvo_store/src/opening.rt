@@ -1,22 +1,41 @@
-//! Reads a disk, whatever is on it.
-ghost use Rattle.std.specs.Prelude.{◌≡◌, ◌<◌, OnOk, IfOk, IfErr};
-ghost use Rattle.mvo_disk.specs.Disk.{Only};
-ghost use Rattle.mvo_store.specs.declared.layout.TheConstants.{MAX_FAULTS};
-ghost use Rattle.mvo_store.specs.Recovery.{IsRead};
-ghost use Rattle.mvo_store.specs.Steps.{IsNotOpened, KeepsContent, LeavesAsBefore};
+//! Opens a store over what is on its disk.
+ghost use Rattle.std.specs.Prelude.{◌≡◌, ◌<◌, Ok, OnOk, IfOk, IfErr};
+ghost use Rattle.mvo_format.specs.declared.format.TheConstants.{FIRST_FORMAT};
+ghost use Rattle.mvo_recovery.specs.Parts.{IsLastFile};
+ghost use Rattle.mvo_recovery.specs.Settled.{IsUsed};
+ghost use Rattle.mvo_load.specs.Loaded.{IsLoaded};
+ghost use Rattle.mvo_store.specs.declared.limits.TheConstants.{MAX_FAULTS};
+ghost use Rattle.mvo_store.specs.Standing.{IsUp, Gives, HasSlots, KeepsRows};
+ghost use Rattle.mvo_store.specs.Opening.{IsAnswer, HasBegun, KeepsContent, LeavesAsBefore};
+ghost use Rattle.mvo_store.specs.Opening.{HasSynced, IsNotOpened};
 
-use crate::layout::{MAX_FAULTS, SEGMENT};
-use crate::reading::{Segment, read_segment};
-use mvo_disk::{Disk, ReadFailure, read_whole};
-use mvo_types::Refusal;
+use crate::limits::MAX_FAULTS;
+use crate::store::Store;
+use crate::syncing::sync_used;
+use mvo_disk::Disk;
+use mvo_format::FIRST_FORMAT;
+use mvo_frame::Segment;
+use mvo_load::{Loaded, load};
+use mvo_manifest::Manifest;
+use mvo_types::{Refusal, Rows, Stamp};
 use std::alloc::Global;
 
-/// Reads the segment and syncs it. It writes and cuts nothing.
-pub fn read_disk<D: Disk>(alloc: Global, disk: &mut D) -> Result<Segment, Refusal>
-    ensures found { IfOk result (λ s. IsRead (D.content disk.old 2) s.rows s.gate s.mark.0) }
-    ensures durable { OnOk result (Only (D.content disk.new 2) (D.may_leave disk.new 2)) }
+/// The file of the last segment.
+fn last_segment(manifest: &Manifest) -> u16
+    ensures { IsLastFile manifest.now result }
+{
+    let segments = manifest.segments();
+    segments[segments.len() - 1]
+}
+
+/// What is on the disk, which is durable then.
+fn load_synced<D: Disk>(alloc: Global, disk: &mut D) -> Result<Loaded, Refusal>
+    ensures loaded { IfOk result (λ l. IsLoaded FIRST_FORMAT (D.content disk.old) l.manifest l.rows
+        l.mark.0 l.gate) }
+    ensures answer { IfOk result (λ l. IsAnswer (D.content disk.old) (Ok (l.rows, l.mark.0))) }
+    ensures synced { IfOk result (λ l.
+        HasSynced D.Disk (IsUsed l.manifest) 1024 disk.old disk.new) }
     ensures few { OnOk result (D.fault_count disk.old < MAX_FAULTS) }
-    ensures count { OnOk result (D.fault_count disk.new ≡ D.fault_count disk.old) }
     ensures refused { IfErr result (λ e. IsNotOpened D.Disk disk.old e disk.new) }
     ensures content { KeepsContent D.Disk disk.old disk.new }
     ensures any_moment { LeavesAsBefore D.Disk disk.old disk.new }
@@ -24,17 +43,62 @@ pub fn read_disk<D: Disk>(alloc: Global, disk: &mut D) -> Result<Segment, Refusa
     if disk.faults() >= MAX_FAULTS {
         return Err(Refusal::ClockSpent);
     }
-    let bytes = match read_whole(alloc, disk, SEGMENT) {
-        Ok(bytes) => bytes,
-        Err(ReadFailure::Memory) => return Err(Refusal::OutOfMemory),
-        Err(ReadFailure::Fault) => return Err(Refusal::DiskFault),
+    let loaded = match load(alloc, disk, FIRST_FORMAT) {
+        Ok(loaded) => loaded,
+        Err(refusal) => return Err(refusal),
     };
-    if bytes.is_empty() {
-        return Err(Refusal::NotFormatted);
-    }
-    let segment = read_segment(alloc, &bytes)?;
-    let Ok(()) = disk.sync(SEGMENT) else {
+    let Ok(()) = sync_used(disk, &loaded.manifest) else {
         return Err(Refusal::DiskFault);
     };
-    Ok(segment)
+    Ok(loaded)
+}
+
+impl<D: Disk> Store<D> {
+    /// Opens what is on the disk, and answers its rows and mark. It writes and cuts nothing, and
+    /// syncs what it read before it answers Ok: both slots and every file that the manifest names.
+    /// Refused, the disk comes back.
+    ///
+    /// Refused: ClockSpent where the fault counter is 2^63 or above; then by the first rule that is
+    /// broken, in the order slot 0, slot 1, pairs, segments: NotFormatted, Corrupt with the file,
+    /// or BadVersion. OutOfMemory or DiskFault may stand in the place of any later answer.
+    pub fn open(alloc: Global, disk: D) -> Result<(Store<D>, Rows, Stamp), (Refusal, D)>
+        ensures answer { IfOk result (λ x. IsAnswer (D.content disk) (Ok (x.1, x.2.0))) }
+        ensures gives { IfOk result (λ x. Gives x.1 x.2.0 (D.content disk)) }
+        ensures up { IfOk result (λ x. IsUp D.Disk x.0 x.1) }
+        ensures keeps { IfOk result (λ x. HasSlots (D.content disk) → KeepsRows D.Disk x.0 x.1) }
+        ensures begins { IfOk result (λ x. HasBegun D.Disk disk x.0 x.2.0) }
+        ensures content { IfOk result (λ x. KeepsContent D.Disk disk x.0.disk) }
+        ensures any_moment { IfOk result (λ x. LeavesAsBefore D.Disk disk x.0.disk) }
+        ensures refused { IfErr result (λ e. IsNotOpened D.Disk disk e.0 e.1) }
+        ensures content_err { IfErr result (λ e. KeepsContent D.Disk disk e.1) }
+        ensures any_moment_err { IfErr result (λ e. LeavesAsBefore D.Disk disk e.1) }
+    {
+        let mut disk = disk;
+        let Loaded {
+            manifest,
+            rows,
+            mark,
+            gate,
+        } = match load_synced(alloc, &mut disk) {
+            Ok(loaded) => loaded,
+            Err(refusal) => return Err((refusal, disk)),
+        };
+        let segment = Segment {
+            file: last_segment(&manifest),
+            gate,
+            next: gate,
+        };
+        let store = Store {
+            alloc,
+            disk,
+            manifest,
+            segment,
+            mark,
+            pending: None,
+            written: false,
+            rotation: None,
+            down: false,
+        };
+        Ok((store, rows, mark))
+    }
 }

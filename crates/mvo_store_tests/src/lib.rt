@@ -1,4 +1,4 @@
-//! The tests of the store of groups.
+//! The tests of a store over many files.
 #![tactic(auto)]
 
 #[cfg(test)]

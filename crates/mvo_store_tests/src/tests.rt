@@ -1,10 +1,25 @@
-use mvo_disk::{Call, Disk, FileImage, MemDisk, Work};
+use mvo_disk::{Disk, MemDisk, Work};
 use mvo_group::Group;
-use mvo_store::{Store, format};
-use mvo_types::{Refusal, Row, RowKey, Rows, Stamp};
+use mvo_store::{Generation, Reclaimed, Store, format};
+use mvo_types::{Refusal, RowKey, Rows, Stamp};
 use std::alloc::Global;
 use std::process::Abort;
 use std::test::Fail;
+
+// A segment without groups.
+const FRESH: [u8; 9] = [0x4d, 0x56, 0x4f, 0x4c, 1, 0, 0, 0, 0];
+
+// Slot 0 of a new store: generation 0, mark 0, no pairs, segment 2.
+const FIRST: [u8; 35] = [
+    0xa5, 0x1e, 0, 0, 0, 0x4d, 0x56, 0x4f, 0x4d, 1, 0, 0, 0, 0, 0, 0, 0, 0, 0, 0, 0, 0, 0, 0, 0, 0,
+    0, 0, 0, 0, 0, 1, 0, 2, 0,
+];
+
+// Slot 1 after a rotation: generation 1, mark 0, no pairs, segments 2 and 3.
+const ROTATED: [u8; 37] = [
+    0xa5, 0x20, 0, 0, 0, 0x4d, 0x56, 0x4f, 0x4d, 1, 0, 0, 0, 1, 0, 0, 0, 0, 0, 0, 0, 0, 0, 0, 0, 0,
+    0, 0, 0, 0, 0, 2, 0, 2, 0, 3, 0,
+];
 
 // The group (0, 2]: one record, end 2, one put at table 0, key 5, sort 50, data 61.
 const ONE_PUT: [u8; 49] = [
@@ -12,44 +27,96 @@ const ONE_PUT: [u8; 49] = [
     0, 0, 0, 0, 0, 0, 0x32, 0, 0, 0, 0, 0, 0, 0, 1, 0, 0x61,
 ];
 
-// The group (2, 4]: one record, end 4, one delete at table 0, key 5.
-const ONE_DELETE: [u8; 38] = [
-    2, 0, 0, 0, 0, 0, 0, 0, 4, 0, 0, 0, 0, 0, 0, 0, 1, 0, 4, 0, 0, 0, 0, 0, 0, 0, 1, 0, 2, 0, 5, 0,
-    0, 0, 0, 0, 0, 0,
-];
-
-const FRESH: [u8; 9] = [0x4d, 0x56, 0x4f, 0x4c, 1, 0, 0, 0, 0];
-
-// The segment with the first group.
+// The segment with that group.
 const SEGMENT: [u8; 63] = [
     0x4d, 0x56, 0x4f, 0x4c, 1, 0, 0, 0, 0xa5, 0x31, 0, 0, 0, 0, 0, 0, 0, 0, 0, 0, 0, 2, 0, 0, 0, 0,
     0, 0, 0, 1, 0, 2, 0, 0, 0, 0, 0, 0, 0, 1, 0, 1, 0, 5, 0, 0, 0, 0, 0, 0, 0, 0x32, 0, 0, 0, 0, 0,
     0, 0, 1, 0, 0x61, 0,
 ];
 
-const KEY: RowKey = RowKey { table: 0, key: 5 };
+// A disk whose file has these bytes, synced or not.
+fn holding(alloc: Global, file: u16, bytes: &[u8]) -> Result<MemDisk, Fail> {
+    let mut disk = MemDisk::new(alloc)?;
+    if file > 7 || disk.faults() != 0 || !disk.bytes(file).is_empty() {
+        return Err(Fail::from("a new disk"));
+    }
+    disk.write_at(file, 0, bytes)?;
+    Ok(disk)
+}
 
-fn formatted(alloc: Global) -> Result<MemDisk, Fail> {
-    let disk = MemDisk::new(alloc)?;
-    match format(disk) {
+fn formatted(alloc: Global, disk: MemDisk) -> Result<MemDisk, Fail> {
+    match format(alloc, disk) {
         Ok(disk) => Ok(disk),
         Err((refusal, _)) => Err(Fail::from(refusal)),
     }
 }
 
-// A disk whose file 2 holds these bytes, synced.
-fn holding(alloc: Global, bytes: &[u8]) -> Result<MemDisk, Fail> {
-    let mut disk = MemDisk::new(alloc)?;
-    if disk.faults() != 0 || !disk.bytes(2).is_empty() {
-        return Err(Fail::from("a new disk"));
+// The refusal, and the bytes of slot 0, of slot 1 and of file 2 then.
+fn refused(alloc: Global, disk: MemDisk) -> Result<String, Fail> {
+    match format(alloc, disk) {
+        Ok(_) => Ok(format!(in alloc; "formatted")?),
+        Err((refusal, disk)) => {
+            let lens = (
+                disk.bytes(0).len(),
+                disk.bytes(1).len(),
+                disk.bytes(2).len(),
+            );
+            Ok(format!(in alloc; "{refusal} {} {} {}", lens.0, lens.1, lens.2)?)
+        }
     }
-    disk.write_at(2, 0, bytes)?;
-    if disk.faults() != 0 {
-        return Err(Fail::from("a fault"));
-    }
-    disk.sync(2)?;
-    Ok(disk)
 }
+
+#[test]
+fn a_new_store_is_written(rt: HostRuntime) -> Result<(), Fail> {
+    let alloc = rt.alloc();
+    let disk = formatted(alloc, MemDisk::new(alloc)?)?;
+    assert_eq!(rt; disk.bytes(0), FIRST.as_slice());
+    assert_eq!(rt; disk.bytes(1), [0].as_slice());
+    assert_eq!(rt; disk.bytes(2), FRESH.as_slice());
+    assert_eq!(rt; disk.bytes(3), [].as_slice());
+    assert_eq!(rt; disk.faults(), 0);
+    Ok(())
+}
+
+#[test]
+fn a_store_is_not_formatted_again(rt: HostRuntime) -> Result<(), Fail> {
+    let alloc = rt.alloc();
+    let disk = formatted(alloc, MemDisk::new(alloc)?)?;
+    assert_eq!(rt; refused(alloc, disk)?.as_str(), "refused 57 35 1 9");
+    Ok(())
+}
+
+#[test]
+fn an_open_gate_is_enough(rt: HostRuntime) -> Result<(), Fail> {
+    let alloc = rt.alloc();
+    for slot in 0..2 {
+        let disk = holding(alloc, slot, &[0xa5])?;
+        let open = refused(alloc, disk)?;
+        let first = if slot == 0 {
+            "refused 57 1 0 0"
+        } else {
+            "refused 57 0 1 0"
+        };
+        assert_eq!(rt; open.as_str(), first);
+    }
+    Ok(())
+}
+
+// What stands behind a closed gate stays, and other files too.
+#[test]
+fn a_closed_slot_is_written_over(rt: HostRuntime) -> Result<(), Fail> {
+    let alloc = rt.alloc();
+    let disk = formatted(alloc, holding(alloc, 1, &[1, 0xa5, 2])?)?;
+    assert_eq!(rt; disk.bytes(0), FIRST.as_slice());
+    assert_eq!(rt; disk.bytes(1), [1, 0xa5, 2].as_slice());
+    let disk = formatted(alloc, holding(alloc, 2, &[7; 20])?)?;
+    assert_eq!(rt; disk.bytes(2), FRESH.as_slice());
+    let disk = formatted(alloc, holding(alloc, 7, &[7; 20])?)?;
+    assert_eq!(rt; disk.bytes(7), [7; 20].as_slice());
+    Ok(())
+}
+
+// ---- a store
 
 fn opened(alloc: Global, disk: MemDisk) -> Result<(Store<MemDisk>, Rows, Stamp), Fail> {
     match Store::open(alloc, disk) {
@@ -58,12 +125,10 @@ fn opened(alloc: Global, disk: MemDisk) -> Result<(Store<MemDisk>, Rows, Stamp),
     }
 }
 
-// Why the bytes of file 2 aren't opened, as its line.
-fn refusal_of(alloc: Global, bytes: &[u8]) -> Result<String, Fail> {
-    match Store::open(alloc, holding(alloc, bytes)?) {
-        Ok(_) => Ok(format!(in alloc; "opened")?),
-        Err((refusal, _)) => Ok(format!(in alloc; "{refusal}")?),
-    }
+// A store over a new disk.
+fn new_store(alloc: Global) -> Result<Store<MemDisk>, Fail> {
+    let (store, _, _) = opened(alloc, formatted(alloc, MemDisk::new(alloc)?)?)?;
+    Ok(store)
 }
 
 fn take(store: &mut Store<MemDisk>, alloc: Global, body: &[u8]) -> Result<(), Fail> {
@@ -77,252 +142,258 @@ fn take(store: &mut Store<MemDisk>, alloc: Global, body: &[u8]) -> Result<(), Fa
     }
 }
 
-// A store that has taken a group and written its body.
-fn with_body(alloc: Global, body: &[u8]) -> Result<Store<MemDisk>, Fail> {
-    let (mut store, _, _) = opened(alloc, formatted(alloc)?)?;
-    take(&mut store, alloc, body)?;
+// Takes a group and appends it, and answers the mark that is durable then.
+fn append(store: &mut Store<MemDisk>, alloc: Global, body: &[u8]) -> Result<Stamp, Fail> {
+    take(store, alloc, body)?;
     store.append_body()?;
-    Ok(store)
+    Ok(store.append_open()?.mark())
 }
 
-// The mark that the disk opens at, and how long the data of the row at table 0, key 5 is there.
-fn found(alloc: Global, disk: MemDisk) -> Result<(u64, Option<usize>), Fail> {
-    let (_, rows, mark) = opened(alloc, disk)?;
-    let row = rows.get(KEY)?;
-    Ok((mark.0, row.map(|row| row.data_len())))
+fn rotate(store: &mut Store<MemDisk>) -> Result<Generation, Fail> {
+    store.rotate_write()?;
+    store.install_close()?;
+    store.install_body()?;
+    Ok(store.install_open()?)
+}
+
+// The group of round k: (2k - 2, 2k], one put of key k.
+fn round(alloc: Global, k: u8) -> Result<Vec<u8>, Fail> {
+    let mut body = ONE_PUT.to_vec(alloc)?;
+    let mark = k.saturating_mul(2);
+    body[0] = mark.saturating_sub(2);
+    body[8] = mark;
+    body[18] = mark;
+    body[30] = k;
+    Ok(body)
+}
+
+// How long the data of the row at table 0 and this key is.
+fn len_at(rows: &Rows, key: u64) -> Result<Option<usize>, Fail> {
+    let row = rows.get(RowKey { table: 0, key })?;
+    Ok(row.map(|row| row.data_len()))
 }
 
 #[test]
-fn formats_once(rt: HostRuntime) -> Result<(), Fail> {
-    let disk = formatted(rt.alloc())?;
-    assert_eq!(rt; disk.bytes(2), FRESH.as_slice());
-    match format(disk) {
-        Ok(_) => Err(Fail::from("formatted twice")),
-        Err((refusal, disk)) => {
-            assert_eq!(rt; format!(in rt.alloc(); "{refusal}")?.as_str(), "refused 57");
-            assert_eq!(rt; disk.bytes(2), FRESH.as_slice());
-            Ok(())
-        }
-    }
-}
-
-#[test]
-fn appends_groups(rt: HostRuntime) -> Result<(), Fail> {
+fn a_group_is_appended(rt: HostRuntime) -> Result<(), Fail> {
     let alloc = rt.alloc();
-    let mut store = with_body(alloc, &ONE_PUT)?;
+    let mut store = new_store(alloc)?;
     assert_eq!(rt; store.mark(), Stamp(0));
-    assert_eq!(rt; store.append_open()?.mark(), Stamp(2));
+    assert_eq!(rt; append(&mut store, alloc, &ONE_PUT)?, Stamp(2));
     assert_eq!(rt; store.mark(), Stamp(2));
     let disk = store.into_disk();
     assert_eq!(rt; disk.bytes(2), SEGMENT.as_slice());
-    // Opened without a stop, it goes on where it was.
-    let (mut store, rows, mark) = opened(alloc, disk)?;
+    let (_, rows, mark) = opened(alloc, disk)?;
     assert_eq!(rt; mark, Stamp(2));
-    let row = rows.get(KEY)?.ok_or("the row stands there")?;
+    let row = rows.get(RowKey { table: 0, key: 5 })?.ok_or("the row")?;
     assert_eq!(rt; row.sort, 50);
     assert_eq!(rt; row.bytes.as_slice(), b"a".as_slice());
-    take(&mut store, alloc, &ONE_DELETE)?;
-    store.append_body()?;
-    assert_eq!(rt; store.append_open()?.mark(), Stamp(4));
-    assert_eq!(rt; found(alloc, store.into_disk())?, (4, None));
     Ok(())
 }
 
 #[test]
-fn makes_few_device_calls(rt: HostRuntime) -> Result<(), Fail> {
-    let store = with_body(rt.alloc(), &ONE_PUT)?;
-    let disk = store.into_disk();
-    let before = disk.calls().len();
-    let (mut store, _, _) = opened(rt.alloc(), disk)?;
-    take(&mut store, rt.alloc(), &ONE_PUT)?;
-    store.append_body()?;
-    let _ = store.append_open()?;
-    let disk = store.into_disk();
-    // Length, read and sync of the opening, then a write and a sync for each step.
-    assert_eq!(rt; disk.calls().len(), before + 7);
-    // The gate alone is written at the end.
-    let opening = Call {
-        file: 2,
-        work: Work::Write {
-            at: 8,
-            len: 1,
-            bytes: [0xa5].to_vec(rt.alloc())?,
-        },
-        failed: false,
-    };
-    assert!(rt; disk.calls().iter().any(|call| *call == opening));
-    Ok(())
-}
-
-// What is found after a stop within the write of the gate, which leaves it so.
-fn found_at_gate(alloc: Global, gate: u8) -> Result<(u64, Option<usize>), Fail> {
-    let mut disk = with_body(alloc, &ONE_PUT)?.into_disk();
-    if disk.faults() != 0 || disk.bytes(2).len() < 9 {
-        return Err(Fail::from("the body is written"));
-    }
-    // What opening the gate does first.
-    disk.write_at(2, 8, &[0xa5])?;
-    let mut bytes = SEGMENT.to_vec(alloc)?;
-    bytes[8] = gate;
-    disk.stop(&[FileImage { file: 2, bytes }])?;
-    found(alloc, disk)
-}
-
-#[test]
-fn stops_within_the_write_of_a_gate(rt: HostRuntime) -> Result<(), Fail> {
+fn a_body_alone_counts_for_nothing(rt: HostRuntime) -> Result<(), Fail> {
     let alloc = rt.alloc();
-    for gate in 0..=255u8 {
-        let wanted = if gate == 0xa5 {
-            (2, Some(1))
-        } else {
-            (0, None)
-        };
-        assert_eq!(rt; found_at_gate(alloc, gate)?, wanted, "at {gate}");
-    }
-    Ok(())
-}
-
-#[test]
-fn stops_after_the_body(rt: HostRuntime) -> Result<(), Fail> {
-    let alloc = rt.alloc();
-    let mut disk = with_body(alloc, &ONE_PUT)?.into_disk();
+    let mut store = new_store(alloc)?;
+    take(&mut store, alloc, &ONE_PUT)?;
+    store.append_body()?;
+    let mut disk = store.into_disk();
     disk.stop(&[])?;
     assert_eq!(rt; disk.bytes(2).len(), 63);
-    assert_eq!(rt; found(alloc, disk)?, (0, None));
+    let (_, rows, mark) = opened(alloc, disk)?;
+    assert_eq!(rt; mark, Stamp(0));
+    assert_eq!(rt; len_at(&rows, 5)?, None);
     Ok(())
 }
 
 #[test]
-fn stops_within_the_write_of_a_body(rt: HostRuntime) -> Result<(), Fail> {
+fn a_rotation_is_installed(rt: HostRuntime) -> Result<(), Fail> {
     let alloc = rt.alloc();
-    let mut disk = formatted(alloc)?;
-    if disk.faults() != 0 || disk.bytes(2).len() < 9 {
-        return Err(Fail::from("a fresh segment"));
-    }
-    let (_, behind) = SEGMENT.as_slice().split_at(9);
-    disk.write_at(2, 9, behind)?;
-    // Some of the bytes are there, then others, and the file has grown.
-    let mut bytes = SEGMENT.to_vec(alloc)?;
-    bytes[8] = 0;
-    bytes[20] = 0xff;
-    bytes.push(0xa5)?;
-    disk.stop(&[FileImage { file: 2, bytes }])?;
-    assert_eq!(rt; found(alloc, disk)?, (0, None));
+    let mut store = new_store(alloc)?;
+    let _ = append(&mut store, alloc, &ONE_PUT)?;
+    assert_eq!(rt; rotate(&mut store)?, Generation(1));
+    assert_eq!(rt; store.manifest().generation(), 1);
+    assert_eq!(rt; store.manifest().segments(), [2, 3].as_slice());
+    let disk = store.into_disk();
+    assert_eq!(rt; disk.bytes(0), FIRST.as_slice());
+    assert_eq!(rt; disk.bytes(1), ROTATED.as_slice());
+    assert_eq!(rt; disk.bytes(2), SEGMENT.as_slice());
+    assert_eq!(rt; disk.bytes(3), FRESH.as_slice());
+    let (mut store, rows, mark) = opened(alloc, disk)?;
+    assert_eq!(rt; mark, Stamp(2));
+    assert_eq!(rt; len_at(&rows, 5)?, Some(1));
+    // The next group goes to the fresh segment.
+    assert_eq!(rt; append(&mut store, alloc, &round(alloc, 2)?)?, Stamp(4));
+    let disk = store.into_disk();
+    assert_eq!(rt; disk.bytes(2).len(), 63);
+    assert_eq!(rt; disk.bytes(3).len(), 63);
     Ok(())
 }
 
-// The segment with one byte changed.
-fn changed(alloc: Global, at: usize, byte: u8) -> Result<Vec<u8>, Fail> {
-    let mut bytes = SEGMENT.to_vec(alloc)?;
-    if at < bytes.len() {
-        bytes[at] = byte;
-    }
-    Ok(bytes)
-}
-
-#[test]
-fn opens_what_is_there(rt: HostRuntime) -> Result<(), Fail> {
-    let alloc = rt.alloc();
-    assert_eq!(rt; found(alloc, holding(alloc, &SEGMENT)?)?, (2, Some(1)));
-    let closed = changed(alloc, 8, 0)?;
-    assert_eq!(rt; found(alloc, holding(alloc, &closed)?)?, (0, None));
-    // What stands behind the closed gate isn't read.
-    let mut longer = SEGMENT.to_vec(alloc)?;
-    longer.push(0xa5)?;
-    assert_eq!(rt; found(alloc, holding(alloc, &longer)?)?, (2, Some(1)));
-    Ok(())
-}
-
-// The segment cut to its first bytes.
-fn cut(alloc: Global, len: usize) -> Result<Vec<u8>, Fail> {
-    let mut bytes = SEGMENT.to_vec(alloc)?;
-    bytes.truncate(len);
-    Ok(bytes)
-}
-
-// Length bytes ffffffff.
-fn too_long(alloc: Global) -> Result<Vec<u8>, Fail> {
-    let mut bytes = SEGMENT.to_vec(alloc)?;
-    for at in 9..13usize {
-        if at < bytes.len() {
-            bytes[at] = 0xff;
-        }
-    }
-    Ok(bytes)
-}
-
-fn assert_refusals(
+// The store after a stop, which must have these rounds.
+fn stopped(
     rt: &impl Abort,
     alloc: Global,
-    images: &[Vec<u8>],
-    wanted: &str,
-) -> Result<(), Fail> {
-    for bytes in images {
-        assert_eq!(rt; refusal_of(alloc, bytes)?.as_str(), wanted);
+    store: Store<MemDisk>,
+    rounds: u8,
+) -> Result<Store<MemDisk>, Fail> {
+    let mut disk = store.into_disk();
+    disk.stop(&[])?;
+    let (store, rows, mark) = opened(alloc, disk)?;
+    assert_eq!(rt; mark, Stamp(rounds.saturating_mul(2) as u64));
+    for key in 1..=3u8 {
+        let wanted = if key <= rounds { Some(1) } else { None };
+        assert_eq!(rt; len_at(&rows, key as u64)?, wanted);
+    }
+    Ok(store)
+}
+
+#[test]
+fn three_rounds_are_kept(rt: HostRuntime) -> Result<(), Fail> {
+    let alloc = rt.alloc();
+    let mut store = new_store(alloc)?;
+    for k in 1..=3u8 {
+        let _ = append(&mut store, alloc, &round(alloc, k)?)?;
+        assert_eq!(rt; rotate(&mut store)?.0, k as u64);
+        store = stopped(&rt, alloc, store, k)?;
+    }
+    assert_eq!(rt; store.manifest().segments(), [2, 3, 4, 5].as_slice());
+    Ok(())
+}
+
+// The first steps of a rotation.
+fn rotate_so_far(store: &mut Store<MemDisk>, steps: u8) -> Result<(), Fail> {
+    if steps == 0 {
+        return Ok(());
+    }
+    store.rotate_write()?;
+    if steps == 1 {
+        return Ok(());
+    }
+    store.install_close()?;
+    if steps == 2 {
+        return Ok(());
+    }
+    store.install_body()?;
+    if steps == 3 {
+        return Ok(());
+    }
+    let _ = store.install_open()?;
+    Ok(())
+}
+
+// A store with one round, and so many steps of a rotation.
+fn rotating(alloc: Global, steps: u8) -> Result<Store<MemDisk>, Fail> {
+    let mut store = new_store(alloc)?;
+    let _ = append(&mut store, alloc, &round(alloc, 1)?)?;
+    rotate_so_far(&mut store, steps)?;
+    Ok(store)
+}
+
+// A stop after each step of a rotation takes nothing away.
+#[test]
+fn a_rotation_may_be_stopped(rt: HostRuntime) -> Result<(), Fail> {
+    let alloc = rt.alloc();
+    for steps in 0..=4u8 {
+        let store = stopped(&rt, alloc, rotating(alloc, steps)?, 1)?;
+        let wanted = if steps > 3 { 1 } else { 0 };
+        assert_eq!(rt; store.manifest().generation(), wanted);
     }
     Ok(())
 }
 
 #[test]
-fn tells_what_is_broken(rt: HostRuntime) -> Result<(), Fail> {
-    let alloc = rt.alloc();
-    assert_eq!(rt; refusal_of(alloc, &[])?.as_str(), "refused 53");
-    // Cut to 62 bytes, an open gate with nothing behind it, an end past the mark.
-    let broken = vec![in alloc;
-        too_long(alloc)?,
-        cut(alloc, 62)?,
-        changed(alloc, 62, 0xa5)?,
-        changed(alloc, 31, 3)?,
-    ]?;
-    assert_refusals(&rt, alloc, &broken, "refused 54 2")
-}
-
-#[test]
-fn tells_the_version_before_all_else(rt: HostRuntime) -> Result<(), Fail> {
-    let alloc = rt.alloc();
-    let changed = changed(alloc, 4, 2)?;
-    assert_eq!(rt; refusal_of(alloc, &changed)?.as_str(), "refused 55");
-    // But behind a whole magic alone.
-    let images = [
-        (b"MVOL\x02\0\0\0".as_slice(), "refused 55"),
-        (b"MVOM\x02\0\0\0\0".as_slice(), "refused 54 2"),
-        (b"MVOL\x02\0\0".as_slice(), "refused 54 2"),
-        (b"MVOL\x01\0\0\0".as_slice(), "refused 54 2"),
-    ];
-    for (bytes, wanted) in images {
-        assert_eq!(rt; refusal_of(alloc, bytes)?.as_str(), wanted);
-    }
-    Ok(())
-}
-
-#[test]
-fn refuses_steps_out_of_turn(rt: HostRuntime) -> Result<(), Fail> {
-    let alloc = rt.alloc();
-    let (mut store, _, _) = opened(alloc, formatted(alloc)?)?;
-    assert_eq!(rt; store.append_body(), Err(Refusal::NothingToDo));
-    assert_eq!(rt;
-        store.append_open().map(|durable| durable.mark()),
-        Err(Refusal::NothingToDo)
-    );
+fn nothing_is_due_at_first(rt: HostRuntime) -> Result<(), Fail> {
+    let mut store = new_store(rt.alloc())?;
     assert_eq!(rt; store.can_take(), None);
-    take(&mut store, alloc, &ONE_PUT)?;
+    assert_eq!(rt; store.append_body(), Err(Refusal::NothingToDo));
+    assert_eq!(rt; store.rotate_write(), Err(Refusal::NothingToDo));
+    assert_eq!(rt; store.install_close(), Err(Refusal::NothingToDo));
+    Ok(())
+}
+
+#[test]
+fn one_rotation_runs_at_a_time(rt: HostRuntime) -> Result<(), Fail> {
+    let mut store = rotating(rt.alloc(), 1)?;
+    assert_eq!(rt; store.rotate_write(), Err(Refusal::Busy));
+    assert_eq!(rt; store.install_body(), Err(Refusal::NothingToDo));
+    Ok(())
+}
+
+// Nothing is installed behind a body whose gate is closed.
+#[test]
+fn an_install_waits_for_a_gate(rt: HostRuntime) -> Result<(), Fail> {
+    let alloc = rt.alloc();
+    let mut store = rotating(alloc, 3)?;
+    take(&mut store, alloc, &round(alloc, 2)?)?;
     assert_eq!(rt; store.can_take(), Some(Refusal::Busy));
-    assert_eq!(rt;
-        store.append_open().map(|durable| durable.mark()),
-        Err(Refusal::NothingToDo)
-    );
     store.append_body()?;
     assert_eq!(rt; store.append_body(), Err(Refusal::Busy));
-    let group = Group::decode(alloc, &ONE_PUT)?.ok_or("the bytes are a group")?;
-    if group.prev().0 != store.mark().0 {
-        return Err(Fail::from("the group follows the mark"));
+    assert_eq!(rt; store.install_open(), Err(Refusal::Busy));
+    assert_eq!(rt; store.append_open()?.mark(), Stamp(4));
+    assert_eq!(rt; store.install_open()?, Generation(1));
+    Ok(())
+}
+
+// ---- reclaiming
+
+// How many cuts and syncs the disk was asked for.
+fn changes(disk: &MemDisk) -> (usize, usize) {
+    let calls = disk.calls();
+    let cuts = calls
+        .iter()
+        .filter(|call| matches!(&call.work, Work::Cut { .. }));
+    let syncs = calls.iter().filter(|call| matches!(&call.work, Work::Sync));
+    (cuts.count(), syncs.count())
+}
+
+#[test]
+fn a_dead_file_is_emptied(rt: HostRuntime) -> Result<(), Fail> {
+    let alloc = rt.alloc();
+    let disk = formatted(alloc, holding(alloc, 7, &[7; 20])?)?;
+    let (mut store, _, _) = opened(alloc, disk)?;
+    let _ = append(&mut store, alloc, &ONE_PUT)?;
+    assert_eq!(rt; store.reclaim()?, Reclaimed::More);
+    assert_eq!(rt; store.reclaim()?, Reclaimed::Done);
+    let mut disk = store.into_disk();
+    disk.stop(&[])?;
+    assert_eq!(rt; disk.bytes(7), [].as_slice());
+    assert_eq!(rt; disk.bytes(2), SEGMENT.as_slice());
+    assert_eq!(rt; disk.bytes(1), [0].as_slice());
+    Ok(())
+}
+
+#[test]
+fn one_file_is_emptied_by_a_call(rt: HostRuntime) -> Result<(), Fail> {
+    let alloc = rt.alloc();
+    let mut disk = formatted(alloc, holding(alloc, 7, &[7; 20])?)?;
+    if disk.faults() != 0 || !disk.bytes(4).is_empty() {
+        return Err(Fail::from("an empty file"));
     }
-    match store.take_group(group) {
-        Ok(()) => Err(Fail::from("a second group")),
-        Err((refusal, group)) => {
-            assert_eq!(rt; refusal, Refusal::Busy);
-            assert_eq!(rt; group.mark(), Stamp(2));
-            Ok(())
-        }
-    }
+    disk.write_at(4, 0, &[4])?;
+    disk.stop(&[])?;
+    let (mut store, _, _) = opened(alloc, disk)?;
+    assert_eq!(rt; store.reclaim()?, Reclaimed::More);
+    let disk = store.into_disk();
+    assert_eq!(rt; disk.bytes(4), [].as_slice());
+    assert_eq!(rt; disk.bytes(7).len(), 20);
+    // Opening syncs the two slots and the segment.
+    assert_eq!(rt; changes(&disk), (1, 4));
+    Ok(())
+}
+
+// The fresh segment of a rotation that runs is kept. It is dead where the rotation is abandoned.
+#[test]
+fn a_rotation_keeps_its_segment(rt: HostRuntime) -> Result<(), Fail> {
+    let alloc = rt.alloc();
+    let mut store = rotating(alloc, 1)?;
+    assert_eq!(rt; store.reclaim()?, Reclaimed::Done);
+    let disk = store.into_disk();
+    assert_eq!(rt; disk.bytes(3), FRESH.as_slice());
+    let (mut store, _, _) = opened(alloc, disk)?;
+    assert_eq!(rt; store.reclaim()?, Reclaimed::More);
+    assert_eq!(rt; store.reclaim()?, Reclaimed::Done);
+    let disk = store.into_disk();
+    assert_eq!(rt; disk.bytes(3), [].as_slice());
+    assert_eq!(rt; disk.bytes(2).len(), 63);
+    Ok(())
 }

@@ -1,20 +1,21 @@
 -- The groups of a world hold the commits up to the last one's mark.
-use Rattle.std.proofs.Common.{◌≡◌, ℕ, ◌<◌, ◌≤◌, Bool, true, false, cond, List, [], ◌∷◌, ◌++◌, map, refl, sym, ap, ◌∙◌, subst, arith}
+use Rattle.std.proofs.Common.{◌≡◌, ℕ, ◌<◌, ◌≤◌, Bool, true, false, cond, List, [], ◌∷◌, ◌++◌, map, refl, sym, ap, ◌∙◌, subst, arith, append-nil}
 use Rattle.std.specs.Prelude.{nat_lt, nat_le, ◌&&◌}
-use Rattle.std.specs.List.{AllByRecursion, filter}
+use Rattle.std.specs.List.{AllByRecursion, filter, fold}
 use Rattle.std.proofs.lemmas.Bool.{true≢false, lt-ltb, ltb-true, ltb-false, le-leb, leb-true, le-ltb, lt-leb}
 use Rattle.mvo_types.specs.Keys.{Map}
 use Rattle.mvo_model.specs.History.{History, after_history, after_histories}
 use Rattle.mvo_model.specs.Trace.{Step, history_of, rows_up_to}
-use Rattle.mvo_group.specs.Data.{GroupData}
+use Rattle.mvo_group.specs.Data.{RecordData, GroupData}
 use Rattle.mvo_state.specs.Line.{State, Slot}
 use Rattle.mvo_state.specs.Sound.{IsRising}
 use Rattle.mvo_state.specs.Marks.{StaysBelow, settled_to}
 use Rattle.mvo_state.specs.Stands.{Stands, pairs}
 use Rattle.mvo_state.proofs.Each.{each_weaker}
 use Rattle.mvo_core.specs.Groups.{AreRecordsOf}
-use Rattle.mvo_store.specs.Frames.{mark_after}
-use Rattle.mvo_store.specs.Recovery.{after_groups}
+use Rattle.mvo_frame.specs.Frames.{mark_after}
+use Rattle.mvo_image.specs.Rows.{after_record, after_groups}
+use Rattle.mvo_recovery.proofs.Grown.{after_groups-append}
 use Rattle.mvo_world.specs.Groups.{is_due, AreGroupsOf}
 use Rattle.mvo_world.proofs.Rows.{left_by_all, left_by_all-append, is_after, records_rows}
 
@@ -86,15 +87,18 @@ parts m n (x ∷ xs) le h = go (nat_le x.stop m) refl (parts m n xs le h.1)
                 split false t = absurd (true≢false (sym (le-leb x.stop m (ltb-false m x.stop t)) ∙ g))
 
 -- ---- the rows that the groups leave
-pub chain_rows : (s : State) (mark : ℕ) (gs : List GroupData) (rows : Map) → IsRising s.line → AreGroupsOf s mark gs → after_groups gs (left_by_all (settled_to mark s.line) rows) ≡ left_by_all (settled_to (mark_after mark gs) s.line) rows
+pub chain_rows : (s : State) (mark : ℕ) (gs : List GroupData) (rows : Map) → IsRising s.line → AreGroupsOf s mark gs → after_groups (left_by_all (settled_to mark s.line) rows) gs ≡ left_by_all (settled_to (mark_after mark gs) s.line) rows
 chain_rows s mark [] rows h gs = refl
 chain_rows s mark (g ∷ more) rows h gs =
     let prev = gs.0 in
     let it = gs.1 in
     let lt = it.rules.above in
     let le : mark ≤ g.mark = omega arith in
-    ap (after_groups more) (
-    records_rows g.prev (settled_to g.mark s.line) g.records (left_by_all (settled_to mark s.line) rows) it.records
+    let before = left_by_all (settled_to mark s.line) rows in
+    after_groups-append before (g ∷ []) more
+    ∙ ap (λ (m : Map). after_groups m more) (
+    ap (λ (rs : List RecordData). fold after_record before rs) (append-nil g.records)
+    ∙ records_rows g.prev (settled_to g.mark s.line) g.records (left_by_all (settled_to mark s.line) rows) it.records
     ∙ ap (λ (n : ℕ). left_by_all (filter (is_after n) (settled_to g.mark s.line)) (left_by_all (settled_to mark s.line) rows)) prev
     ∙ sym (left_by_all-append (settled_to mark s.line) (filter (is_after mark) (settled_to g.mark s.line)) rows)
     ∙ ap (λ cs. left_by_all cs rows) (sym (parts mark g.mark s.line le h)))

@@ -5,3 +5,4 @@ pub mod Standing
 pub mod Marks
 pub mod Moves
 pub mod Runs
+pub mod Opened

@@ -11,7 +11,6 @@ use Rattle.mvo_types.specs.declared.ids.Stamp.{Stamp}
 use Rattle.mvo_types.specs.Keys.{Map}
 use Rattle.mvo_model.specs.Trace.{Step}
 use Rattle.mvo_disk.specs.declared.disk.Disk.{Ghosts}
-use Rattle.mvo_disk.specs.Disk.{AllOf}
 use Rattle.mvo_disk.specs.Moments.{weaker}
 use Rattle.mvo_group.specs.Data.{GroupData}
 use Rattle.mvo_group.specs.Rules.{KeepsRules}
@@ -28,13 +27,15 @@ use Rattle.mvo_core.specs.Replies as core_replies
 use Rattle.mvo_core.specs.declared.event.Event as asked
 use Rattle.mvo_core.specs.declared.reply.Reply as answered
 use Rattle.mvo_core.specs.declared.closed.Closed as closing
-use Rattle.mvo_store.specs.Frames.{mark_after}
-use Rattle.mvo_store.specs.Recovery.{rows_of, mark_of}
-use Rattle.mvo_store.specs.StoreData.{StoreData}
-use Rattle.mvo_store.specs.Standing.{KeepsGroups, LeavesWithOrWithout, with_taken}
+use Rattle.mvo_frame.specs.Frames.{mark_after}
+use Rattle.mvo_image.specs.Rows.{after_groups}
+use Rattle.mvo_recovery.proofs.Grown.{after_groups-append}
+use Rattle.mvo_store.specs.declared.rotation.Rotation.{Rotation}
+use Rattle.mvo_store.specs.StoreData.{StoreData, opening}
+use Rattle.mvo_store.specs.Standing.{MayBeLeft, KeepsRows, LeavesRows, after_taken, IsKeeping, Keeps}
 use Rattle.mvo_store.specs.Causes.{why_not_take}
-use Rattle.mvo_store.specs.Steps.{RefusedFor, LeftBy, IsMarkOf, KeepsOthers}
-use Rattle.mvo_store.proofs.Images.{keeps_unmoved}
+use Rattle.mvo_store.specs.Steps.{RefusedFor, LeftBy, IsMarkOf, IsInstalledBy}
+use Rattle.mvo_store.proofs.Keeping.{OnlyNow, refused_keeps, same_keeps}
 use Rattle.mvo_world.specs.WorldData.{WorldData, waiting, Follow, IsLinked}
 use Rattle.mvo_world.specs.Past.{Past, happened, acknowledged_by, closed_by, with_event, opened_over}
 use Rattle.mvo_world.specs.Groups.{AreGroupsOf}
@@ -42,7 +43,7 @@ use Rattle.mvo_world.specs.Standing.{IsAfter, RecoversPrefix, LeavesPrefix}
 use Rattle.mvo_world.specs.Replies.{IsReplyTo, IsBodyRefusal, IsGateRefusal}
 use Rattle.mvo_world.specs.Steps.{IsStepBy, IsStep}
 use Rattle.mvo_world.specs.declared.event.Event.{Event}
-use Rattle.mvo_world.specs.declared.event.Event.TheVariants.{Core as Asked, CloseGroup, TakeGroup, AppendBody, AppendOpen, Poll}
+use Rattle.mvo_world.specs.declared.event.Event.TheVariants.{Core as Asked, CloseGroup, TakeGroup, AppendBody, AppendOpen, Poll, RotateWrite, InstallClose, InstallBody, InstallOpen, Reclaim}
 use Rattle.mvo_world.specs.declared.reply.Reply.{Reply}
 use Rattle.mvo_world.specs.declared.reply.Reply.TheVariants.{Core as Answered, Closed, Durable, Polled, Refused}
 use Rattle.mvo_world.proofs.Chain.{groups_stay}
@@ -119,20 +120,17 @@ nothing_taken {D} s e = go s.down s.pending e
     go false None f = refl
     go false (Some g) f = absurd cc
 
--- a store whose pending group became durable
-pub durable_store : {D : Type 0} (s : StoreData D) (mark : ℕ) → s.mark ≡ mark → s.pending ≡ None → s.written ≡ false → s.down ≡ false → s ≡ record s { mark = mark; pending = None; written = false; down = false }
-durable_store {D} s mark at none done up =
-    ap (λ (m : ℕ). record s { mark = m }) at
-    ∙ ap (λ (o : Option GroupData). record s { mark = mark; pending = o }) none
-    ∙ ap (λ (b : Bool). record s { mark = mark; pending = None; written = b }) done
-    ∙ ap (λ (b : Bool). record s { mark = mark; pending = None; written = false; down = b }) up
+-- a store whose manifest was installed keeps its mark and the group that it took
+pub installed_taken : {D : Type 0} (o : Option Rotation) (old new : StoreData D) → IsInstalledBy o old new → KeepsTaken old new
+installed_taken None old new h = absurd h
+installed_taken {D} (Some r) old new h = record { mark = ap (λ (s : StoreData D). s.mark) h; pending = ap (λ (s : StoreData D). s.pending) h }
 
 -- ---- a past with an event more
-past_is : (p : Past) (e : Event) (r : Reply) (steps : List Step) (acked closed : List ℕ) → p.steps ++ happened e r ≡ steps → p.acknowledged ++ acknowledged_by e r ≡ acked → p.closed ++ closed_by e r ≡ closed → record { groups = p.groups; steps = steps; acknowledged = acked; closed = closed } ≡ with_event p e r
+past_is : (p : Past) (e : Event) (r : Reply) (steps : List Step) (acked closed : List ℕ) → p.steps ++ happened e r ≡ steps → p.acknowledged ++ acknowledged_by e r ≡ acked → p.closed ++ closed_by e r ≡ closed → record { rows = p.rows; mark = p.mark; steps = steps; acknowledged = acked; closed = closed } ≡ with_event p e r
 past_is p e r steps acked closed a b c =
-    ap (λ (xs : List Step). record { groups = p.groups; steps = xs; acknowledged = acked; closed = closed }) (sym a)
-    ∙ ap (λ (ms : List ℕ). record { groups = p.groups; steps = p.steps ++ happened e r; acknowledged = ms; closed = closed }) (sym b)
-    ∙ ap (λ (ms : List ℕ). record { groups = p.groups; steps = p.steps ++ happened e r; acknowledged = p.acknowledged ++ acknowledged_by e r; closed = ms }) (sym c)
+    ap (λ (xs : List Step). record { rows = p.rows; mark = p.mark; steps = xs; acknowledged = acked; closed = closed }) (sym a)
+    ∙ ap (λ (ms : List ℕ). record { rows = p.rows; mark = p.mark; steps = p.steps ++ happened e r; acknowledged = ms; closed = closed }) (sym b)
+    ∙ ap (λ (ms : List ℕ). record { rows = p.rows; mark = p.mark; steps = p.steps ++ happened e r; acknowledged = p.acknowledged ++ acknowledged_by e r; closed = ms }) (sym c)
 
 -- nothing that a past remembers
 pub record IsSilent (e : Event) (r : Reply) : Type 0 where
@@ -147,6 +145,11 @@ silent_refused TakeGroup r = record { steps = refl; acknowledged = refl; closed 
 silent_refused AppendBody r = record { steps = refl; acknowledged = refl; closed = refl }
 silent_refused AppendOpen r = record { steps = refl; acknowledged = refl; closed = refl }
 silent_refused (Poll stamp) r = record { steps = refl; acknowledged = refl; closed = refl }
+silent_refused RotateWrite r = record { steps = refl; acknowledged = refl; closed = refl }
+silent_refused InstallClose r = record { steps = refl; acknowledged = refl; closed = refl }
+silent_refused InstallBody r = record { steps = refl; acknowledged = refl; closed = refl }
+silent_refused InstallOpen r = record { steps = refl; acknowledged = refl; closed = refl }
+silent_refused Reclaim r = record { steps = refl; acknowledged = refl; closed = refl }
 
 silent_past : (p : Past) (e : Event) (r : Reply) → IsSilent e r → p ≡ with_event p e r
 silent_past p e r s = past_is p e r p.steps p.acknowledged p.closed (ap (λ xs. p.steps ++ xs) s.steps ∙ append-nil p.steps) (ap (λ ms. p.acknowledged ++ ms) s.acknowledged ∙ append-nil p.acknowledged) (ap (λ ms. p.closed ++ ms) s.closed ∙ append-nil p.closed)
@@ -156,75 +159,71 @@ sound_closed s m h = record { legal = h.legal; rising = h.rising; clear = h.clea
 
 module _ {D : Type 0} (d : Ghosts D) where
   -- ---- what a stop leaves meanwhile
-  pub meanwhile : (p : Past) (w w' : WorldData D) (h : IsAfter d p w) → LeavesWithOrWithout d (p.groups ++ h.sent) w.store w'.store → LeavesPrefix d p w w'
-  meanwhile p w w' h only = weaker d.moment d.left_since w.store.disk w'.store.disk _ (λ image. RecoversPrefix p (image 2)) (λ image has. prefix_image d p w h (image 2) has) only
+  pub meanwhile : (p : Past) (w w' : WorldData D) (h : IsAfter d p w) → LeavesRows d (after_groups p.rows h.sent) w.store w'.store → LeavesPrefix d p w w'
+  meanwhile p w w' h only = weaker d.moment d.left_since w.store.disk w'.store.disk (MayBeLeft (after_groups p.rows h.sent) w.store.mark (opening w.store)) (RecoversPrefix p) (λ image gives. prefix_image d p w h image gives) only
 
   -- ---- the store goes on, and no group becomes durable
-  moved_after : (p : Past) (w w' : WorldData D) → w'.core ≡ w.core → waiting w' ≡ waiting w → w'.store.mark ≡ w.store.mark → (h : IsAfter d p w) → KeepsGroups d w'.store (p.groups ++ h.sent) → IsAfter d p w'
+  moved_after : (p : Past) (w w' : WorldData D) → w'.core ≡ w.core → waiting w' ≡ waiting w → w'.store.mark ≡ w.store.mark → (h : IsAfter d p w) → KeepsRows d w'.store (after_groups p.rows h.sent) → IsAfter d p w'
   moved_after p w w' core wait mark h keeps = record {
     sent = h.sent;
     sound = subst IsSound (sym core) h.sound;
-    core = subst (Stands (rows_of p.groups) p.steps) (sym core) h.core;
-    before = subst (IsClosedAt (mark_of p.groups)) (sym core) h.before;
-    none = ap (λ (s : State). settled_to (mark_of p.groups) s.line) core ∙ h.none;
+    core = subst (Stands p.rows p.steps) (sym core) h.core;
+    before = subst (IsClosedAt p.mark) (sym core) h.before;
+    none = ap (λ (s : State). settled_to p.mark s.line) core ∙ h.none;
     store = keeps;
-    groups = subst (λ (s : State). AreGroupsOf s (mark_of p.groups) (h.sent ++ waiting w')) (sym core) (subst (λ gs. AreGroupsOf w.core (mark_of p.groups) (h.sent ++ gs)) (sym wait) h.groups);
+    mark = mark ∙ h.mark;
+    groups = subst (λ (s : State). AreGroupsOf s p.mark (h.sent ++ waiting w')) (sym core) (subst (λ gs. AreGroupsOf w.core p.mark (h.sent ++ gs)) (sym wait) h.groups);
     marks = ap (λ gs. map (λ x. x.mark) (h.sent ++ gs)) wait ∙ h.marks;
     covers = subst (λ m. AllByRecursion (λ n. n ≤ m) p.acknowledged) (sym mark) h.covers;
   }
 
-  pub moved : (IsReply : WorldData D → Event → Reply → WorldData D → Type 0) (w w' : WorldData D) (e : Event) (r : Reply) → IsSilent e r → IsReply w e r w' → w'.core ≡ w.core → waiting w' ≡ waiting w → w'.store.mark ≡ w.store.mark
-      → ((gs : List GroupData) → KeepsGroups d w.store gs → KeepsGroups d w'.store gs) → ((gs : List GroupData) → KeepsGroups d w.store gs → LeavesWithOrWithout d gs w.store w'.store) → KeepsOthers d w.store.disk w'.store.disk
+  pub moved : (IsReply : WorldData D → Event → Reply → WorldData D → Type 0) (w w' : WorldData D) (e : Event) (r : Reply) → IsSilent e r → IsReply w e r w' → w'.core ≡ w.core → waiting w' ≡ waiting w → w'.store.mark ≡ w.store.mark → Keeps d w.store w'.store
       → IsStepBy IsReply d w e r w'
-  moved IsReply w w' e r silent reply core wait mark keeps leaves others = record {
+  moved IsReply w w' e r silent reply core wait mark keeps = record {
     reply = reply;
-    after = λ p h. subst (λ (q : Past). IsAfter d q w') (silent_past p e r silent) (moved_after p w w' core wait mark h (keeps (p.groups ++ h.sent) h.store));
-    any_moment = λ p h. meanwhile p w w' h (leaves (p.groups ++ h.sent) h.store);
-    others = others;
+    after = λ p h. subst (λ (q : Past). IsAfter d q w') (silent_past p e r silent) (moved_after p w w' core wait mark h (keeps.keeps (after_groups p.rows h.sent) h.store));
+    any_moment = λ p h. meanwhile p w w' h (keeps.any_moment (after_groups p.rows h.sent) h.store);
   }
+
+  -- so it is where the store keeps its mark and the group that it took, and the rest stays
+  pub store_moved : (w : WorldData D) (store : StoreData D) (e : Event) (r : Reply) → IsSilent e r → IsReplyTo d w e r (record w { store = store }) → KeepsTaken w.store store → Keeps d w.store store → IsStep d w e r (record w { store = store })
+  store_moved w store e r silent reply taken keeps =
+      moved (IsReplyTo d) w (record w { store = store }) e r silent reply refl (ap (λ (q : Option GroupData). option_to_list q ++ option_to_list w.place) taken.pending) taken.mark keeps
 
   -- ---- a group becomes durable
   pub durable : (w w' : WorldData D) (mark : Stamp) (g : GroupData) → IsReplyTo d w AppendOpen (Durable mark) w' → w'.core ≡ w.core → w'.place ≡ w.place → w.store.pending ≡ Some g → w'.store.pending ≡ None → w'.store.mark ≡ g.mark → mark.0 ≡ g.mark
-      → ((gs : List GroupData) → KeepsGroups d w.store gs → KeepsGroups d w'.store (with_taken gs w.store.pending)) → ((gs : List GroupData) → KeepsGroups d w.store gs → LeavesWithOrWithout d gs w.store w'.store) → KeepsOthers d w.store.disk w'.store.disk
-      → IsStep d w AppendOpen (Durable mark) w'
-  durable w w' mark g reply core place pending none at is keeps leaves others = record {
+      → IsKeeping d (λ rows. after_taken rows w.store.pending) w.store w'.store → IsStep d w AppendOpen (Durable mark) w'
+  durable w w' mark g reply core place pending none at is keeps = record {
     reply = reply;
     after = after;
-    any_moment = λ p h. meanwhile p w w' h (leaves (p.groups ++ h.sent) h.store);
-    others = others;
+    any_moment = λ p h. meanwhile p w w' h (keeps.any_moment (after_groups p.rows h.sent) h.store);
   }
     where
       after : (p : Past) → IsAfter d p w → IsAfter d (with_event p AppendOpen (Durable mark)) w'
       after p h =
-          let first = mark_of p.groups in
+          let first = p.mark in
           let before : waiting w ≡ g ∷ option_to_list w.place = ap (λ (q : Option GroupData). option_to_list q ++ option_to_list w.place) pending in
           let later : waiting w' ≡ option_to_list w.place = ap (λ (q : Option GroupData). option_to_list q ++ option_to_list w'.place) none ∙ ap option_to_list place in
           let list : h.sent ++ waiting w ≡ (h.sent ++ g ∷ []) ++ waiting w' = ap (λ gs. h.sent ++ gs) before ∙ sym (append_assoc h.sent (g ∷ []) (option_to_list w.place)) ∙ ap (λ gs. (h.sent ++ g ∷ []) ++ gs) (sym later) in
           let groups = subst (AreGroupsOf w.core first) list h.groups in
-          let last : w.store.mark ≡ mark_after first h.sent = h.store.mark ∙ mark_after-append 0 p.groups h.sent in
           let up : mark_after first h.sent ≤ g.mark = marks_rise w.core (mark_after first h.sent) (g ∷ []) (groups_back w.core first h.sent (g ∷ []) (groups_front w.core first (h.sent ++ g ∷ []) (waiting w') groups)) in
           subst (λ (q : Past). IsAfter d q w') (past_is p AppendOpen (Durable mark) p.steps (p.acknowledged ++ mark.0 ∷ []) p.closed (append-nil p.steps) refl (append-nil p.closed)) (record {
             sent = h.sent ++ g ∷ [];
             sound = subst IsSound (sym core) h.sound;
-            core = subst (Stands (rows_of p.groups) p.steps) (sym core) h.core;
+            core = subst (Stands p.rows p.steps) (sym core) h.core;
             before = subst (IsClosedAt first) (sym core) h.before;
             none = ap (λ (s : State). settled_to first s.line) core ∙ h.none;
-            store = subst (KeepsGroups d w'.store) (ap (with_taken (p.groups ++ h.sent)) pending ∙ append_assoc p.groups h.sent (g ∷ [])) (keeps (p.groups ++ h.sent) h.store);
+            store = subst (KeepsRows d w'.store) (ap (after_taken (after_groups p.rows h.sent)) pending ∙ sym (after_groups-append p.rows h.sent (g ∷ []))) (keeps.keeps (after_groups p.rows h.sent) h.store);
+            mark = at ∙ sym (mark_after-append first h.sent (g ∷ []));
             groups = subst (λ (s : State). AreGroupsOf s first ((h.sent ++ g ∷ []) ++ waiting w')) (sym core) groups;
             marks = ap (map (λ x. x.mark)) (sym list) ∙ h.marks;
-            covers = each_append (λ n. n ≤ w'.store.mark) p.acknowledged (mark.0 ∷ []) (each_weaker (λ n. n ≤ w.store.mark) (λ n. n ≤ w'.store.mark) (λ n le. omega (arith, le, last, up, at)) p.acknowledged h.covers) (omega (arith, at, is), tt);
+            covers = each_append (λ n. n ≤ w'.store.mark) p.acknowledged (mark.0 ∷ []) (each_weaker (λ n. n ≤ w.store.mark) (λ n. n ≤ w'.store.mark) (λ n le. omega (arith, le, h.mark, up, at)) p.acknowledged h.covers) (omega (arith, at, is), tt);
           })
 
-  module _ (only_now : (disk : D) (image : ℕ → List ℕ) → d.left_since disk (d.moment disk) image → AllOf (d.may_leave disk) image) where
-    unmoved : (w w' : WorldData D) → w'.store ≡ w.store → (gs : List GroupData) → KeepsGroups d w.store gs → LeavesWithOrWithout d gs w.store w'.store
-    unmoved w w' same gs keeps = subst (λ (s : StoreData D). LeavesWithOrWithout d gs w.store s) (sym same) (keeps_unmoved d only_now w.store gs keeps)
-
-    others_stay : (w w' : WorldData D) → w'.store ≡ w.store → KeepsOthers d w.store.disk w'.store.disk
-    others_stay w w' same n other = ap (λ (s : StoreData D). d.content s.disk n) same
-
+  module _ (only_now : OnlyNow d) where
     -- nothing happens
     pub still : (IsReply : WorldData D → Event → Reply → WorldData D → Type 0) (w : WorldData D) (e : Event) (r : Reply) → IsSilent e r → IsReply w e r w → IsStepBy IsReply d w e r w
-    still IsReply w e r silent reply = moved IsReply w w e r silent reply refl refl refl (λ gs keeps. keeps) (unmoved w w refl) (λ n other. refl)
+    still IsReply w e r silent reply = moved IsReply w w e r silent reply refl refl refl (refused_keeps d only_now w.store)
 
     -- a step of the core
     pub asked_step : (w : WorldData D) (s : State) (e : asked.Event) (r : answered.Reply) → core_replies.IsReplyTo w.core e r s → IsSound s → ((opening : Map) (xs : List Step) → Stands opening xs w.core → Stands opening (xs ++ core.happened e r) s) → StaysBelow w.core s
@@ -232,20 +231,20 @@ module _ {D : Type 0} (d : Ghosts D) where
     asked_step w s e r reply sound stands stays = record {
       reply = (reply, refl);
       after = λ p h.
-          let below = stays (mark_of p.groups) h.before in
+          let below = stays p.mark h.before in
           subst (λ (q : Past). IsAfter d q (record { core = s; place = w.place; store = w.store })) (past_is p (Asked e) (Answered r) (p.steps ++ core.happened e r) p.acknowledged p.closed refl (append-nil p.acknowledged) (append-nil p.closed)) (record {
             sent = h.sent;
             sound = sound;
-            core = stands (rows_of p.groups) p.steps h.core;
+            core = stands p.rows p.steps h.core;
             before = below.0;
             none = below.1 ∙ h.none;
             store = h.store;
-            groups = groups_stay w.core s (mark_of p.groups) (h.sent ++ waiting w) stays h.groups;
+            mark = h.mark;
+            groups = groups_stay w.core s p.mark (h.sent ++ waiting w) stays h.groups;
             marks = h.marks;
             covers = h.covers;
           });
-      any_moment = λ p h. meanwhile p w (record { core = s; place = w.place; store = w.store }) h (unmoved w w refl (p.groups ++ h.sent) h.store);
-      others = λ n other. refl;
+      any_moment = λ p h. meanwhile p w (record { core = s; place = w.place; store = w.store }) h ((refused_keeps d only_now w.store).any_moment (after_groups p.rows h.sent) h.store);
     }
 
     -- a group is closed
@@ -254,8 +253,7 @@ module _ {D : Type 0} (d : Ghosts D) where
     closed_step w w' c g why core place store next rules prev mark linked reply = record {
       reply = reply;
       after = after;
-      any_moment = λ p h. meanwhile p w w' h (unmoved w w' store (p.groups ++ h.sent) h.store);
-      others = others_stay w w' store;
+      any_moment = λ p h. meanwhile p w w' h ((same_keeps d only_now w.store w'.store store).any_moment (after_groups p.rows h.sent) h.store);
     }
       where
         at_mark : w'.core ≡ closed_at w.core g.mark
@@ -263,21 +261,22 @@ module _ {D : Type 0} (d : Ghosts D) where
 
         after : (p : Past) → IsAfter d p w → IsAfter d (with_event p CloseGroup (Closed c)) w'
         after p h =
-            let first = mark_of p.groups in
+            let first = p.mark in
             let none = none_closed w.core w.place why in
             let wait : waiting w' ≡ waiting w ++ g ∷ [] = ap (λ (s : StoreData D). option_to_list s.pending ++ option_to_list w'.place) store ∙ ap (λ (o : Option GroupData). option_to_list w.store.pending ++ option_to_list o) place ∙ with_place w g none in
             let list : (h.sent ++ waiting w) ++ g ∷ [] ≡ h.sent ++ waiting w' = append_assoc h.sent (waiting w) (g ∷ []) ∙ ap (λ gs. h.sent ++ gs) (sym wait) in
             let prev_is : g.prev ≡ mark_after first (h.sent ++ waiting w) =
             next.prev ∙ sym (follow_to w.store.mark w.core.marks.closed.0 (waiting w) linked)
-            ∙ ap (λ (m : ℕ). mark_after m (waiting w)) (h.store.mark ∙ mark_after-append 0 p.groups h.sent)
+            ∙ ap (λ (m : ℕ). mark_after m (waiting w)) h.mark
             ∙ sym (mark_after-append first h.sent (waiting w)) in
             subst (λ (q : Past). IsAfter d q w') (past_is p CloseGroup (Closed c) p.steps p.acknowledged (p.closed ++ g.mark ∷ []) (append-nil p.steps) (append-nil p.acknowledged) (ap (λ n. p.closed ++ n ∷ []) (sym mark))) (record {
               sent = h.sent;
               sound = subst IsSound (sym at_mark) (sound_closed w.core g.mark h.sound);
-              core = subst (Stands (rows_of p.groups) p.steps) (sym at_mark) (record { base = h.core.base; tale = h.core.tale; ended = h.core.ended; running = h.core.running; fresh = h.core.fresh; phases = h.core.phases });
+              core = subst (Stands p.rows p.steps) (sym at_mark) (record { base = h.core.base; tale = h.core.tale; ended = h.core.ended; running = h.core.running; fresh = h.core.fresh; phases = h.core.phases });
               before = subst (IsClosedAt first) (sym at_mark) (record { drawn = h.before.drawn; above = h.before.above });
               none = ap (λ (s : State). settled_to first s.line) at_mark ∙ h.none;
-              store = subst (λ (s : StoreData D). KeepsGroups d s (p.groups ++ h.sent)) (sym store) h.store;
+              store = subst (λ (s : StoreData D). KeepsRows d s (after_groups p.rows h.sent)) (sym store) h.store;
+              mark = ap (λ (s : StoreData D). s.mark) store ∙ h.mark;
               groups = subst (λ (s : State). AreGroupsOf s first (h.sent ++ waiting w')) (sym at_mark) (subst (AreGroupsOf (closed_at w.core g.mark) first) list (groups_closed w.core g.mark first ((h.sent ++ waiting w) ++ g ∷ []) (groups_push w.core first (h.sent ++ waiting w) g h.groups prev_is (group_of_next w.core g h.sound next rules))));
               marks = ap (map (λ x. x.mark)) (sym list) ∙ map-append (λ x. x.mark) (h.sent ++ waiting w) (g ∷ []) ∙ ap (λ ms. ms ++ g.mark ∷ []) h.marks;
               covers = subst (λ (s : StoreData D). AllByRecursion (λ m. m ≤ s.mark) p.acknowledged) (sym store) h.covers;
@@ -295,26 +294,27 @@ module _ {D : Type 0} (d : Ghosts D) where
         before = h.before;
         none = h.none;
         store = h.store;
+        mark = h.mark;
         groups = h.groups;
         marks = h.marks;
         covers = each_append (λ m. m ≤ w.store.mark) p.acknowledged (stamp.0 ∷ []) h.covers (leb-true stamp.0 w.store.mark (sym is), tt);
       });
-      any_moment = λ p h. meanwhile p w w h (unmoved w w refl (p.groups ++ h.sent) h.store);
-      others = λ n other. refl;
+      any_moment = λ p h. meanwhile p w w h ((refused_keeps d only_now w.store).any_moment (after_groups p.rows h.sent) h.store);
     }
 
   -- ---- a world that was just opened
-  pub begun : (gs : List GroupData) (rows : Map) (mark : ℕ) (s : State) (store : StoreData D) → s ≡ opened rows mark → rows ≡ rows_of gs → mark ≡ mark_of gs → store.pending ≡ None → store.mark ≡ mark → KeepsGroups d store gs → IsAfter d (opened_over gs) (record { core = s; place = None; store = store })
-  begun gs rows mark s store is rows_are mark_is none at keeps =
+  pub begun : (rows : Map) (mark : ℕ) (s : State) (store : StoreData D) → s ≡ opened rows mark → store.mark ≡ mark → store.pending ≡ None → KeepsRows d store rows → IsAfter d (opened_over s.base store.mark) (record { core = s; place = None; store = store })
+  begun rows mark s store is at none keeps =
       let wait : option_to_list store.pending ++ [] ≡ [] = ap (λ (q : Option GroupData). option_to_list q ++ []) none in
-      record {
+      subst (λ (p : Past). IsAfter d p (record { core = s; place = None; store = store })) (ap (λ (m : ℕ). opened_over rows m) (sym at) ∙ ap (λ (b : Map). opened_over b store.mark) (ap (λ (t : State). t.base) (sym is))) (record {
         sent = [];
         sound = subst IsSound (sym is) (record { legal = tt; rising = tt; clear = tt; placed = tt; preparing = tt; running = tt });
-        core = subst (Stands (rows_of gs) []) (sym is) (subst (λ (m : Map). Stands m [] (opened rows mark)) rows_are (stands_opened rows mark));
-        before = subst (IsClosedAt (mark_of gs)) (sym is) (record { drawn = omega (arith, mark_is); above = tt });
-        none = ap (λ (t : State). settled_to (mark_of gs) t.line) is;
-        store = subst (KeepsGroups d store) (sym (append-nil gs)) keeps;
-        groups = subst (AreGroupsOf s (mark_of gs)) (sym wait) tt;
+        core = subst (Stands rows []) (sym is) (stands_opened rows mark);
+        before = subst (IsClosedAt mark) (sym is) (record { drawn = omega arith; above = tt });
+        none = ap (λ (t : State). settled_to mark t.line) is;
+        store = keeps;
+        mark = at;
+        groups = subst (AreGroupsOf s mark) (sym wait) tt;
         marks = ap (map (λ x. x.mark)) wait;
-        covers = (omega (arith, mark_is, at), tt);
-      }
+        covers = (omega (arith, at), tt);
+      })

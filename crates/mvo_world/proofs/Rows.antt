@@ -2,7 +2,7 @@
 use Rattle.std.proofs.Common.{◌≡◌, ℕ, Bool, true, false, cond, List, [], ◌∷◌, ◌++◌, Option, None, Some, map, refl, sym, ap, ◌∙◌}
 use Rattle.std.specs.Prelude.{nat_lt, ◌&&◌}
 use Rattle.std.specs.Option.{option_map}
-use Rattle.std.specs.List.{AllByRecursion, filter}
+use Rattle.std.specs.List.{AllByRecursion, filter, fold}
 use Rattle.std.specs.List.Sorted.{IsStrictlySortedBy}
 use Rattle.std.specs.Ordering.{eq_by_cmp}
 use Rattle.std.specs.declared.cmp.Ordering.{Ordering}
@@ -17,7 +17,7 @@ use Rattle.mvo_model.specs.History.{History, write_of, after_write, after_effect
 use Rattle.mvo_model.proofs.Serials.{get-after_effect, get-after_history}
 use Rattle.mvo_group.specs.Data.{RecordData}
 use Rattle.mvo_state.specs.Entries.{noted, noted_key, written_from, written_keys}
-use Rattle.mvo_store.specs.Recovery.{after_writes, after_records}
+use Rattle.mvo_image.specs.Rows.{after_record}
 use Rattle.mvo_core.specs.Writers.{is_there}
 use Rattle.mvo_core.specs.Groups.{IsRecordOf, AreRecordsOf, write_in}
 
@@ -49,6 +49,9 @@ same_key q k t = exact_keys q k (go (key_cmp q k) t)
     go Equal t' = refl
     go Greater t' = absurd (false≢true t')
 
+abbrev after_writes : List Write → Map → Map
+after_writes ws m = fold (λ n w. after_effect w.0 w.1 n) m ws
+
 get-after_writes : (q : RowKey) (ws : List Write) (m : Map) → IsStrictlySortedBy key_cmp (map (λ w. w.0) ws) → fin.get (after_writes ws m) q ≡ content_after_last (write_in q ws) (fin.get m q)
 unfolding IsStrictlySortedBy
 get-after_writes q [] m h = refl
@@ -61,7 +64,7 @@ get-after_writes q (w ∷ ws) m h =
     go true t = ap (λ o. content_after_last o (content_after w.1)) (no_later q w.0 ws (same_key q w.0 t) h.0)
     go false t = refl
 
-record_rows : (c : ℕ × History) (r : RecordData) (m : Map) → IsRecordOf c r → after_writes r.writes m ≡ after_history c.1 m
+record_rows : (c : ℕ × History) (r : RecordData) (m : Map) → IsRecordOf c r → after_record m r ≡ after_history c.1 m
 record_rows c r m is = fin.same_map keys_total exact_keys _ _ (λ q. get-after_writes q r.writes m is.rise ∙ ap (λ o. content_after_last o (fin.get m q)) (is.writes q) ∙ sym (get-after_history q c.1 m))
 
 -- ---- one that wrote no key
@@ -114,15 +117,15 @@ abbrev pub is_after : ℕ → ℕ × History → Bool
 is_after prev c = nat_lt prev c.0
 
 -- the records of those that wrote leave what they all leave
-pub records_rows : (prev : ℕ) (cs : List (ℕ × History)) (rs : List RecordData) (m : Map) → AreRecordsOf (filter (λ c. nat_lt prev c.0 && is_there (written_keys c.1)) cs) rs → after_records rs m ≡ left_by_all (filter (is_after prev) cs) m
+pub records_rows : (prev : ℕ) (cs : List (ℕ × History)) (rs : List RecordData) (m : Map) → AreRecordsOf (filter (λ c. nat_lt prev c.0 && is_there (written_keys c.1)) cs) rs → fold after_record m rs ≡ left_by_all (filter (is_after prev) cs) m
 records_rows prev [] [] m h = refl
 records_rows prev [] (r ∷ rs) m h = absurd h
 records_rows prev (c ∷ cs) rs m h = go (nat_lt prev c.0) (is_there (written_keys c.1)) refl rs h (λ qs n k. records_rows prev cs qs n k)
   where
     go : (a b : Bool) → is_there (written_keys c.1) ≡ b → (qs : List RecordData) → AreRecordsOf (cond (a && b) (c ∷ filter (λ d. nat_lt prev d.0 && is_there (written_keys d.1)) cs) (filter (λ d. nat_lt prev d.0 && is_there (written_keys d.1)) cs)) qs →
-        ((ps : List RecordData) (n : Map) → AreRecordsOf (filter (λ d. nat_lt prev d.0 && is_there (written_keys d.1)) cs) ps → after_records ps n ≡ left_by_all (filter (is_after prev) cs) n) →
-        after_records qs m ≡ left_by_all (cond a (c ∷ filter (is_after prev) cs) (filter (is_after prev) cs)) m
+        ((ps : List RecordData) (n : Map) → AreRecordsOf (filter (λ d. nat_lt prev d.0 && is_there (written_keys d.1)) cs) ps → fold after_record n ps ≡ left_by_all (filter (is_after prev) cs) n) →
+        fold after_record m qs ≡ left_by_all (cond a (c ∷ filter (is_after prev) cs) (filter (is_after prev) cs)) m
     go false b e qs k ih = ih qs m k
     go true false e qs k ih = ih qs m k ∙ ap (left_by_all (filter (is_after prev) cs)) (sym (nothing c.1 m e))
     go true true e [] k ih = absurd k
-    go true true e (r ∷ qs) k ih = ap (after_records qs) (record_rows c r m k.0) ∙ ih qs (after_history c.1 m) k.1
+    go true true e (r ∷ qs) k ih = ap (λ (n : Map). fold after_record n qs) (record_rows c r m k.0) ∙ ih qs (after_history c.1 m) k.1

@@ -3,16 +3,16 @@ use Rattle.std.proofs.Common.{◌≡◌, inl, inr, ℕ, ◌≤◌, Bool, true, f
 use Rattle.std.specs.Option.{option_to_list}
 use Rattle.std.specs.List.{AllByRecursion}
 use Rattle.mvo_types.specs.Keys.{Map}
-use Rattle.mvo_model.specs.Trace.{rows_up_to}
 use Rattle.mvo_disk.specs.declared.disk.Disk.{Ghosts}
+use Rattle.mvo_disk.specs.Disk.{Image}
 use Rattle.mvo_group.specs.Data.{GroupData}
 use Rattle.mvo_state.specs.Line.{State}
 use Rattle.mvo_state.proofs.Each.{each_weaker}
-use Rattle.mvo_store.specs.Frames.{HasGroups, mark_after}
-use Rattle.mvo_store.specs.Recovery.{after_groups, rows_of, mark_of}
+use Rattle.mvo_frame.specs.Frames.{mark_after}
+use Rattle.mvo_image.specs.Rows.{after_groups}
+use Rattle.mvo_recovery.proofs.Grown.{after_groups-append}
 use Rattle.mvo_store.specs.StoreData.{opening}
-use Rattle.mvo_store.specs.Standing.{HasWithOrWithout, with_taken}
-use Rattle.mvo_store.proofs.Walk.{recovers_groups}
+use Rattle.mvo_store.specs.Standing.{Gives, GivesOr, HasSlots, MayBeLeft}
 use Rattle.mvo_world.specs.Past.{Past}
 use Rattle.mvo_world.specs.WorldData.{WorldData, waiting, Follow}
 use Rattle.mvo_world.specs.Groups.{IsGroupOf, AreGroupsOf}
@@ -24,10 +24,6 @@ use Rattle.mvo_world.proofs.Chain.{rows_up_to_is, chain_rows}
 pub mark_after-append : (m : ℕ) (gs hs : List GroupData) → mark_after m (gs ++ hs) ≡ mark_after (mark_after m gs) hs
 mark_after-append m [] hs = refl
 mark_after-append m (g ∷ gs) hs = mark_after-append g.mark gs hs
-
-after-append : (gs hs : List GroupData) (rows : Map) → after_groups (gs ++ hs) rows ≡ after_groups hs (after_groups gs rows)
-after-append [] hs rows = refl
-after-append (g ∷ gs) hs rows = after-append gs hs _
 
 pub groups_front : (s : State) (m : ℕ) (gs hs : List GroupData) → AreGroupsOf s m (gs ++ hs) → AreGroupsOf s m gs
 groups_front s m [] hs h = tt
@@ -56,43 +52,44 @@ follow_to m last (g ∷ gs) h = follow_to g.mark last gs h.1
 
 -- ---- what a stop leaves
 module _ {D : Type 0} (d : Ghosts D) (p : Past) (w : WorldData D) (h : IsAfter d p w) where
-  prefix_of : (bytes : List ℕ) (gs hs : List GroupData) → AreGroupsOf w.core (mark_of p.groups) (gs ++ hs) → map (λ g. g.mark) (gs ++ hs) ≡ p.closed → AllByRecursion (λ m. m ≤ mark_of (p.groups ++ gs)) p.acknowledged → HasGroups 0 (p.groups ++ gs) bytes → RecoversPrefix p bytes
-  prefix_of bytes gs hs groups marks covers has =
-      let old = p.groups in
-      let mark : mark_of (old ++ gs) ≡ mark_after (mark_of old) gs = mark_after-append 0 old gs in
-      record {
-        rows = rows_of (old ++ gs);
-        mark = mark_of (old ++ gs);
-        recovers = recovers_groups (old ++ gs) bytes has;
-        prefix = record {
-          rows_are = after-append old gs _
-              ∙ ap (λ cs. after_groups gs (left_by_all cs (rows_of old))) (sym h.none)
-              ∙ chain_rows w.core (mark_of old) gs (rows_of old) h.sound.rising (groups_front w.core (mark_of old) gs hs groups)
-              ∙ sym (rows_up_to_is (mark_after (mark_of old) gs) (rows_of old) p.steps w.core h.core)
-              ∙ ap (λ (m : ℕ). rows_up_to m (rows_of old) p.steps) (sym mark);
-          known = subst (λ (ms : List ℕ). IsOneOf (mark_of (old ++ gs)) (mark_of old ∷ ms)) marks (subst (λ (m : ℕ). IsOneOf m (mark_of old ∷ map (λ g. g.mark) (gs ++ hs))) (sym mark) (one_after (mark_of old) gs hs));
-          covers = covers;
-        };
-      }
+  prefix_of : (image : Image) → HasSlots image → (gs hs : List GroupData) → AreGroupsOf w.core p.mark (gs ++ hs) → map (λ g. g.mark) (gs ++ hs) ≡ p.closed → AllByRecursion (λ m. m ≤ mark_after p.mark gs) p.acknowledged → Gives (after_groups p.rows gs) (mark_after p.mark gs) image → RecoversPrefix p image
+  prefix_of image slots gs hs groups marks covers gives = record {
+    slots = slots;
+    rows = after_groups p.rows gs;
+    mark = mark_after p.mark gs;
+    gives = gives;
+    prefix = record {
+      rows_are = ap (λ cs. after_groups (left_by_all cs p.rows) gs) (sym h.none)
+          ∙ chain_rows w.core p.mark gs p.rows h.sound.rising (groups_front w.core p.mark gs hs groups)
+          ∙ sym (rows_up_to_is (mark_after p.mark gs) p.rows p.steps w.core h.core);
+      known = subst (λ (ms : List ℕ). IsOneOf (mark_after p.mark gs) (p.mark ∷ ms)) marks (one_after p.mark gs hs);
+      covers = covers;
+    };
+  }
 
-  without : (bytes : List ℕ) → HasGroups 0 (p.groups ++ h.sent) bytes → RecoversPrefix p bytes
-  without bytes has = prefix_of bytes h.sent (waiting w) h.groups h.marks (subst (λ (m : ℕ). AllByRecursion (λ n. n ≤ m) p.acknowledged) h.store.mark h.covers) has
+  without : (image : Image) → HasSlots image → Gives (after_groups p.rows h.sent) w.store.mark image → RecoversPrefix p image
+  without image slots gives =
+      prefix_of image slots h.sent (waiting w) h.groups h.marks (subst (λ (m : ℕ). AllByRecursion (λ n. n ≤ m) p.acknowledged) h.mark h.covers)
+      (subst (λ (m : ℕ). Gives (after_groups p.rows h.sent) m image) h.mark gives)
 
-  with_opening : (bytes : List ℕ) (b : Bool) (o : Option GroupData) → w.store.pending ≡ o → HasGroups 0 (with_taken (p.groups ++ h.sent) (cond b o None)) bytes → RecoversPrefix p bytes
-  with_opening bytes false o e has = without bytes has
-  with_opening bytes true None e has = without bytes has
-  with_opening bytes true (Some g) e has =
-      let old = p.groups in
+  with_opening : (image : Image) → HasSlots image → (g : GroupData) → w.store.pending ≡ Some g → Gives (after_groups (after_groups p.rows h.sent) (g ∷ [])) g.mark image → RecoversPrefix p image
+  with_opening image slots g e gives =
       let wait : waiting w ≡ g ∷ option_to_list w.place = ap (λ (q : Option GroupData). option_to_list q ++ option_to_list w.place) e in
       let list : h.sent ++ waiting w ≡ (h.sent ++ g ∷ []) ++ option_to_list w.place = ap (λ (gs : List GroupData). h.sent ++ gs) wait ∙ sym (append_assoc h.sent (g ∷ []) (option_to_list w.place)) in
-      let groups = subst (AreGroupsOf w.core (mark_of old)) list h.groups in
-      let mark : w.store.mark ≡ mark_after (mark_of old) h.sent = h.store.mark ∙ mark_after-append 0 old h.sent in
-      let up : mark_after (mark_of old) h.sent ≤ mark_after (mark_of old) (h.sent ++ g ∷ []) = subst (λ (m : ℕ). mark_after (mark_of old) h.sent ≤ m) (sym (mark_after-append (mark_of old) h.sent (g ∷ []))) (marks_rise w.core (mark_after (mark_of old) h.sent) (g ∷ []) (groups_back w.core (mark_of old) h.sent (g ∷ []) (groups_front w.core (mark_of old) (h.sent ++ g ∷ []) (option_to_list w.place) groups))) in
-      let last : mark_of (old ++ (h.sent ++ g ∷ [])) ≡ mark_after (mark_of old) (h.sent ++ g ∷ []) = mark_after-append 0 old (h.sent ++ g ∷ []) in
-      prefix_of bytes (h.sent ++ g ∷ []) (option_to_list w.place) groups (ap (map (λ x. x.mark)) (sym list) ∙ h.marks)
-      (each_weaker (λ n. n ≤ w.store.mark) (λ n. n ≤ mark_of (old ++ (h.sent ++ g ∷ []))) (λ n le. omega (arith, le, mark, up, last)) p.acknowledged h.covers)
-      (subst (λ (gs : List GroupData). HasGroups 0 gs bytes) (append_assoc old h.sent (g ∷ [])) has)
+      let groups = subst (AreGroupsOf w.core p.mark) list h.groups in
+      let last : mark_after p.mark (h.sent ++ g ∷ []) ≡ g.mark = mark_after-append p.mark h.sent (g ∷ []) in
+      let up : mark_after p.mark h.sent ≤ g.mark = marks_rise w.core (mark_after p.mark h.sent) (g ∷ []) (groups_back w.core p.mark h.sent (g ∷ []) (groups_front w.core p.mark (h.sent ++ g ∷ []) (option_to_list w.place) groups)) in
+      prefix_of image slots (h.sent ++ g ∷ []) (option_to_list w.place) groups (ap (map (λ x. x.mark)) (sym list) ∙ h.marks)
+      (each_weaker (λ n. n ≤ w.store.mark) (λ n. n ≤ mark_after p.mark (h.sent ++ g ∷ [])) (λ n le. omega (arith, le, h.mark, up, last)) p.acknowledged h.covers)
+      (subst (λ (m : ℕ). Gives (after_groups p.rows (h.sent ++ g ∷ [])) m image) (sym last)
+      (subst (λ (rows : Map). Gives rows g.mark image) (sym (after_groups-append p.rows h.sent (g ∷ []))) gives))
 
-  pub prefix_image : (bytes : List ℕ) → HasWithOrWithout (p.groups ++ h.sent) (opening w.store) bytes → RecoversPrefix p bytes
-  prefix_image bytes (inl has) = without bytes has
-  prefix_image bytes (inr has) = with_opening bytes w.store.written w.store.pending refl has
+  -- the group that is being opened is the pending one
+  with_or_without : (image : Image) → HasSlots image → (b : Bool) (o : Option GroupData) → w.store.pending ≡ o → GivesOr (after_groups p.rows h.sent) w.store.mark (cond b o None) image → RecoversPrefix p image
+  with_or_without image slots false o e gives = without image slots gives
+  with_or_without image slots true None e gives = without image slots gives
+  with_or_without image slots true (Some g) e (inl gives) = without image slots gives
+  with_or_without image slots true (Some g) e (inr gives) = with_opening image slots g e gives
+
+  pub prefix_image : (image : Image) → MayBeLeft (after_groups p.rows h.sent) w.store.mark (opening w.store) image → RecoversPrefix p image
+  prefix_image image left = with_or_without image left.slots w.store.written w.store.pending refl left.gives

@@ -1,8 +1,7 @@
 -- What a world remembers of its past.
 use Rattle.std.specs.Prelude.{ℕ, true, List, [], ◌∷◌, ◌++◌}
 use Rattle.mvo_model.specs.Trace.{Step, IsSerial}
-use Rattle.mvo_group.specs.Data.{GroupData}
-use Rattle.mvo_store.specs.Recovery.{rows_of, mark_of}
+use Rattle.mvo_types.specs.Keys.{Map}
 use Rattle.mvo_core.specs.Events as core
 use Rattle.mvo_world.specs.declared.event.Event.{Event}
 use Rattle.mvo_world.specs.declared.event.Event.TheVariants.{Core as Asked, CloseGroup, AppendOpen, Poll}
@@ -10,8 +9,9 @@ use Rattle.mvo_world.specs.declared.reply.Reply.{Reply}
 use Rattle.mvo_world.specs.declared.reply.Reply.TheVariants.{Core as Answered, Closed, Durable, Polled}
 
 pub record Past : Type 0 where
-  -- the groups that it was opened over
-  pub groups : List GroupData
+  -- the rows and the mark that it was opened with
+  pub rows : Map
+  pub mark : ℕ
   -- the steps of the transactions since
   pub steps : List Step
   -- the opening mark, the marks that were answered durable, and the timestamps polled with yes
@@ -19,13 +19,19 @@ pub record Past : Type 0 where
   -- the marks of the groups that were closed
   pub closed : List ℕ
 
--- just opened over these groups
-abbrev pub opened_over : List GroupData → Past
-opened_over gs = record { groups = gs; steps = []; acknowledged = mark_of gs ∷ []; closed = [] }
+-- just opened over these rows at this mark
+abbrev pub opened_over : Map → ℕ → Past
+opened_over rows mark = record {
+  rows = rows;
+  mark = mark;
+  steps = [];
+  acknowledged = mark ∷ [];
+  closed = [];
+}
 
 -- the committed transactions were told what they are told one after another
 abbrev pub IsSerialPast : Past → Type 0
-IsSerialPast p = IsSerial (rows_of p.groups) p.steps
+IsSerialPast p = IsSerial p.rows p.steps
 
 -- ---- an event with its reply
 
@@ -46,7 +52,8 @@ closed_by e r = []
 
 abbrev pub with_event : Past → Event → Reply → Past
 with_event p e r = record {
-  groups = p.groups;
+  rows = p.rows;
+  mark = p.mark;
   steps = p.steps ++ happened e r;
   acknowledged = p.acknowledged ++ acknowledged_by e r;
   closed = p.closed ++ closed_by e r;

@@ -8,13 +8,19 @@ use Rattle.mvo_group.specs.Rules.{KeepsRules}
 use Rattle.mvo_state.specs.Causes.{IsRefusal}
 use Rattle.mvo_core.specs.Replies as core
 use Rattle.mvo_core.specs.Groups.{IsNextGroup, why_not_closed, closed_at}
+use Rattle.mvo_store.specs.declared.due.Due.{Due}
+use Rattle.mvo_store.specs.declared.due.Due.TheVariants.{Close, Body, Open}
+use Rattle.mvo_store.specs.declared.reclaimed.Reclaimed as reclaiming
 use Rattle.mvo_store.specs.Causes.{why_not_take, why_not_append_body, why_not_append_open}
-use Rattle.mvo_store.specs.Steps.{LeftBy}
+use Rattle.mvo_store.specs.Causes.{why_not_rotate, why_not_install, why_not_install_open}
+use Rattle.mvo_store.specs.Causes.{why_not_reclaim}
+use Rattle.mvo_store.specs.Steps.{LeftBy, IsRotationOf, with_due, IsInstalledBy}
+use Rattle.mvo_store.specs.Reclaiming.{HasReclaimed}
 use Rattle.mvo_world.specs.WorldData.{WorldData}
 use Rattle.mvo_world.specs.declared.event.Event.{Event}
-use Rattle.mvo_world.specs.declared.event.Event.TheVariants.{Core as Asked, CloseGroup, TakeGroup, AppendBody, AppendOpen, Poll}
+use Rattle.mvo_world.specs.declared.event.Event.TheVariants.{Core as Asked, CloseGroup, TakeGroup, AppendBody, AppendOpen, Poll, RotateWrite, InstallClose, InstallBody, InstallOpen, Reclaim}
 use Rattle.mvo_world.specs.declared.reply.Reply.{Reply}
-use Rattle.mvo_world.specs.declared.reply.Reply.TheVariants.{Core as Answered, Closed, Taken, Written, Durable, Polled, Refused}
+use Rattle.mvo_world.specs.declared.reply.Reply.TheVariants.{Core as Answered, Closed, Taken, Written, Durable, Polled, Ready, Shut, Installed, Reclaimed, Refused}
 
 -- ---- the first refusal whose cause stands
 
@@ -27,12 +33,12 @@ or_nothing None (Some g) = None
 abbrev pub why_not_taken : {D : Type 0} → WorldData D → Option Refusal
 why_not_taken w = or_nothing (why_not_take w.store) w.place
 
--- writing a body takes memory and meets faults
+-- writing a body takes memory and may meet a fault
 abbrev pub IsBodyRefusal : Option Refusal → Refusal → Type 0
 IsBodyRefusal (Some why) r = r ≡ why
 IsBodyRefusal None r = (r ≡ OutOfMemory) ⊎ (r ≡ DiskFault)
 
--- opening a gate meets faults alone
+-- writing a gate takes none, and may meet a fault
 abbrev pub IsGateRefusal : Option Refusal → Refusal → Type 0
 IsGateRefusal (Some why) r = r ≡ why
 IsGateRefusal None r = r ≡ DiskFault
@@ -54,32 +60,60 @@ pub record IsTaken {D : Type 0} (w w' : WorldData D) : Type 0 where
   pub there : w.place ≡ Some group
   pub after : w' ≡ record w { place = None; store = record w.store { pending = Some group } }
 
+-- no call of the device failed
+abbrev pub HasNoFault : {D : Type 0} → Ghosts D → WorldData D → WorldData D → Type 0
+HasNoFault d w w' = d.fault_count w'.store.disk ≡ d.fault_count w.store.disk
+
 -- the body of the pending group is written
-pub record IsWritten {D : Type 0} (d : Ghosts D) (w w' : WorldData D) : Type 0 where
-  pub after : w' ≡ record w {
-    store = record w.store {
-      disk = w'.store.disk;
-      next = w'.store.next;
-      written = true;
-    };
-  }
-  pub count : d.fault_count w'.store.disk ≡ d.fault_count w.store.disk
+abbrev pub IsWritten : {D : Type 0} → WorldData D → WorldData D → Type 0
+IsWritten w w' = w' ≡ record w {
+  store = record w.store {
+    disk = w'.store.disk;
+    segment = record w.store.segment { next = w'.store.segment.next };
+    written = true;
+  };
+}
 
 -- the pending group is durable
-pub record IsDurable {D : Type 0} (d : Ghosts D) (w : WorldData D) (mark : ℕ) (w' : WorldData D) :
-    Type 0 where
+pub record IsDurable {D : Type 0} (w : WorldData D) (mark : ℕ) (w' : WorldData D) : Type 0 where
   pub group : GroupData
   pub there : w.store.pending ≡ Some group
   pub mark_is : group.mark ≡ mark
   pub after : w' ≡ record w {
-    store = record w'.store {
+    store = record w.store {
+      disk = w'.store.disk;
+      segment = record w.store.segment { gate = w.store.segment.next };
       mark = mark;
       pending = None;
       written = false;
-      down = false;
     };
   }
-  pub count : d.fault_count w'.store.disk ≡ d.fault_count w.store.disk
+
+-- a rotation runs, and nothing of it is installed yet
+pub record IsReady {D : Type 0} (w w' : WorldData D) : Type 0 where
+  pub rotation : IsRotationOf w.store.manifest w'.store.rotation
+  pub after : w' ≡ record w {
+    store = record w.store { disk = w'.store.disk; rotation = w'.store.rotation };
+  }
+
+-- this step of the install is due next
+abbrev pub MakesDue : {D : Type 0} → Due → WorldData D → WorldData D → Type 0
+MakesDue step w w' = w' ≡ record w {
+  store = record w.store { disk = w'.store.disk; rotation = with_due step w.store.rotation };
+}
+
+-- the manifest of the rotation is installed
+pub record IsInstalled {D : Type 0} (w : WorldData D) (generation : ℕ) (w' : WorldData D) : Type 0
+  where
+    pub rest : w' ≡ record w { store = w'.store }
+    pub installed : IsInstalledBy w.store.rotation w.store w'.store
+    pub generation_is : generation ≡ w'.store.manifest.generation
+
+-- the least dead file is emptied, or none is dead
+pub record IsReclaimed {D : Type 0} (d : Ghosts D) (w : WorldData D) (answer : reclaiming.Reclaimed)
+    (w' : WorldData D) : Type 0 where
+  pub after : w' ≡ record w { store = record w.store { disk = w'.store.disk } }
+  pub reclaimed : HasReclaimed d w.store answer w'.store
 
 -- a refusal of the store leaves the rest alone
 pub record IsLeft {D : Type 0} (d : Ghosts D) (w : WorldData D) (r : Refusal) (w' : WorldData D) :
@@ -100,14 +134,35 @@ IsReplyTo d w CloseGroup (Refused r) w' =
     IsRefusal (why_not_closed w.core (is_some w.place)) r × (w' ≡ w)
 IsReplyTo d w TakeGroup Taken w' = (why_not_taken w ≡ None) × IsTaken w w'
 IsReplyTo d w TakeGroup (Refused r) w' = (why_not_taken w ≡ Some r) × (w' ≡ w)
-IsReplyTo d w AppendBody Written w' = (why_not_append_body w.store ≡ None) × IsWritten d w w'
+IsReplyTo d w AppendBody Written w' =
+    (why_not_append_body w.store ≡ None) × IsWritten w w' × HasNoFault d w w'
 IsReplyTo d w AppendBody (Refused r) w' =
     IsBodyRefusal (why_not_append_body w.store) r × IsLeft d w r w'
 IsReplyTo d w AppendOpen (Durable m) w' =
-    (why_not_append_open w.store ≡ None) × IsDurable d w m.0 w'
+    (why_not_append_open w.store ≡ None) × IsDurable w m.0 w' × HasNoFault d w w'
 IsReplyTo d w AppendOpen (Refused r) w' =
     IsGateRefusal (why_not_append_open w.store) r × IsLeft d w r w'
 IsReplyTo d w (Poll stamp) (Polled answer) w' = (answer ≡ nat_le stamp.0 w.store.mark) × (w' ≡ w)
+IsReplyTo d w RotateWrite Ready w' =
+    (why_not_rotate w.store ≡ None) × IsReady w w' × HasNoFault d w w'
+IsReplyTo d w RotateWrite (Refused r) w' =
+    IsBodyRefusal (why_not_rotate w.store) r × IsLeft d w r w'
+IsReplyTo d w InstallClose Shut w' =
+    (why_not_install Close w.store ≡ None) × MakesDue Body w w' × HasNoFault d w w'
+IsReplyTo d w InstallClose (Refused r) w' =
+    IsGateRefusal (why_not_install Close w.store) r × IsLeft d w r w'
+IsReplyTo d w InstallBody Written w' =
+    (why_not_install Body w.store ≡ None) × MakesDue Open w w' × HasNoFault d w w'
+IsReplyTo d w InstallBody (Refused r) w' =
+    IsBodyRefusal (why_not_install Body w.store) r × IsLeft d w r w'
+IsReplyTo d w InstallOpen (Installed g) w' =
+    (why_not_install_open w.store ≡ None) × IsInstalled w g.0 w' × HasNoFault d w w'
+IsReplyTo d w InstallOpen (Refused r) w' =
+    IsGateRefusal (why_not_install_open w.store) r × IsLeft d w r w'
+IsReplyTo d w Reclaim (Reclaimed a) w' =
+    (why_not_reclaim w.store ≡ None) × IsReclaimed d w a w' × HasNoFault d w w'
+IsReplyTo d w Reclaim (Refused r) w' =
+    IsGateRefusal (why_not_reclaim w.store) r × IsLeft d w r w'
 IsReplyTo d w e r w' = ⊥
 
 -- a copy of the event takes memory: it has a row

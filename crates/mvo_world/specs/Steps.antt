@@ -1,7 +1,6 @@
 -- One step of a world, and a run of them.
 use Rattle.std.specs.Prelude.{◌≡◌, List, [], ◌∷◌}
 use Rattle.mvo_disk.specs.declared.disk.Disk.{Ghosts}
-use Rattle.mvo_store.specs.Steps.{KeepsOthers}
 use Rattle.mvo_world.specs.Past.{Past, with_event}
 use Rattle.mvo_world.specs.WorldData.{WorldData}
 use Rattle.mvo_world.specs.Standing.{IsAfter, LeavesPrefix}
@@ -16,7 +15,6 @@ pub record IsStepBy {D : Type 0} (IsReply : WorldData D → Event → Reply → 
   pub reply : IsReply w e r w'
   pub after : (p : Past) → IsAfter d p w → IsAfter d (with_event p e r) w'
   pub any_moment : (p : Past) → IsAfter d p w → LeavesPrefix d p w w'
-  pub others : KeepsOthers d w.store.disk w'.store.disk
 
 abbrev pub IsStep : {D : Type 0} → Ghosts D → WorldData D → Event → Reply → WorldData D → Type 0
 IsStep d = IsStepBy (IsReplyTo d) d

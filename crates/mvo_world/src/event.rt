@@ -16,6 +16,16 @@ pub enum Event {
     AppendOpen,
     /// Whether the store's mark is at least this timestamp.
     Poll(Stamp),
+    /// The store writes a fresh segment, and a rotation begins.
+    RotateWrite,
+    /// The store closes the gate of the slot that the next manifest goes to.
+    InstallClose,
+    /// The store writes that manifest behind the gate.
+    InstallBody,
+    /// The store opens the gate.
+    InstallOpen,
+    /// The store empties a file that is no longer used.
+    Reclaim,
 }
 
 impl Event {
@@ -34,6 +44,11 @@ impl Event {
             Event::AppendBody => Ok(Event::AppendBody),
             Event::AppendOpen => Ok(Event::AppendOpen),
             Event::Poll(stamp) => Ok(Event::Poll(*stamp)),
+            Event::RotateWrite => Ok(Event::RotateWrite),
+            Event::InstallClose => Ok(Event::InstallClose),
+            Event::InstallBody => Ok(Event::InstallBody),
+            Event::InstallOpen => Ok(Event::InstallOpen),
+            Event::Reclaim => Ok(Event::Reclaim),
         }
     }
 }

@@ -1,4 +1,5 @@
 use mvo_core::Closed;
+use mvo_store::{Generation, Reclaimed};
 use mvo_types::{Refusal, Stamp};
 
 /// What is answered to a step.
@@ -10,12 +11,20 @@ pub enum Reply {
     Closed(Closed),
     /// The store took the group.
     Taken,
-    /// The group's body is written.
+    /// The group's body, or the manifest, is written.
     Written,
     /// The group is durable: each commit with an end up to this mark stays over a stop.
     Durable(Stamp),
     /// Whether the store's mark is at least the timestamp.
     Polled(bool),
+    /// A rotation runs: its fresh segment is written.
+    Ready,
+    /// The gate of the slot is closed.
+    Shut,
+    /// The manifest of this generation is installed.
+    Installed(Generation),
+    /// Whether a file was emptied, or none was left.
+    Reclaimed(Reclaimed),
     /// The step is refused.
     Refused(Refusal),
 }

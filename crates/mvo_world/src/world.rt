@@ -44,33 +44,36 @@ impl<D: Disk> Model for World<D> {
 }
 
 impl<D: Disk> World<D> {
-    ghost use Rattle.std.specs.Prelude.{◌≡◌, List, length, IfOk, IfErr, OnErr};
-    ghost use Rattle.mvo_group.specs.Data.{GroupData};
-    ghost use Rattle.mvo_store.specs.Frames.{HasGroups};
-    ghost use Rattle.mvo_store.specs.Recovery.{IsWellFormed, Recovers};
-    ghost use Rattle.mvo_store.specs.Steps.{OnlyRecovers, KeepsOthers, KeepsContent};
-    ghost use Rattle.mvo_store.specs.Steps.{LeavesAsBefore, IsNotOpened, IsNotOfBytes};
+    ghost use Rattle.std.specs.Prelude.{◌≡◌, ℕ, length, Ok, IfOk, IfErr, OnErr};
+    ghost use Rattle.mvo_types.specs.Keys.{Map};
+    ghost use Rattle.mvo_store.specs.Standing.{Gives, HasSlots};
+    ghost use Rattle.mvo_store.specs.Opening.{IsAnswer, KeepsContent, LeavesAsBefore};
+    ghost use Rattle.mvo_store.specs.Opening.{IsNotOpened};
     ghost use Rattle.mvo_world.specs.WorldData.{HasBegun};
     ghost use Rattle.mvo_world.specs.Past.{Past, opened_over, with_events, IsSerialPast};
     ghost use Rattle.mvo_world.specs.Standing.{IsAfter, IsPrefix, RecoversPrefix, MayLeavePrefix};
+    ghost use Rattle.mvo_world.specs.Standing.{IsNotOfFiles};
     ghost use Rattle.mvo_world.specs.Steps.{IsStep, IsRunStep, AreSteps};
 
     /// A world over what is on the disk. It writes and cuts nothing. Refused as `Store::open` is,
     /// or with OutOfMemory; the disk comes back.
+    ///
+    /// The world stands after its past where both manifest slots hold a byte (`HasSlots`), as
+    /// `format` leaves them.
     pub fn open(alloc: Global, disk: D) -> Result<World<D>, (Refusal, D)>
-        ensures after { IfOk result (λ w. (gs : List GroupData) →
-            HasGroups 0 gs (D.content disk 2) → IsAfter D.Disk (opened_over gs) w) }
-        ensures recovers { IfOk result (λ w. Recovers (D.content disk 2) w.core.base w.store.mark) }
-        ensures exactly { IfOk result (λ w.
-            OnlyRecovers (D.content disk 2) w.core.base w.store.mark) }
-        ensures prefix { IfOk result (λ w. (past : Past) → RecoversPrefix past (D.content disk 2) →
+        ensures answer { IfOk result (λ w.
+            IsAnswer (D.content disk) (Ok (w.core.base, w.store.mark))) }
+        ensures gives { IfOk result (λ w. Gives w.core.base w.store.mark (D.content disk)) }
+        ensures after { IfOk result (λ w. HasSlots (D.content disk) →
+            IsAfter D.Disk (opened_over w.core.base w.store.mark) w) }
+        ensures prefix { IfOk result (λ w. (past : Past) → RecoversPrefix past (D.content disk) →
             IsPrefix past w.core.base w.store.mark) }
         ensures begins { IfOk result (λ w. HasBegun w) }
         ensures content { IfOk result (λ w. KeepsContent D.Disk disk w.store.disk) }
         ensures any_moment { IfOk result (λ w. LeavesAsBefore D.Disk disk w.store.disk) }
         ensures refused { IfErr result (λ e. IsNotOpened D.Disk disk e.0 e.1) }
-        ensures well_formed { IfErr result (λ e.
-            IsWellFormed (D.content disk 2) → IsNotOfBytes e.0) }
+        ensures well_formed { IfErr result (λ e. (rows : Map) (mark : ℕ) →
+            Gives rows mark (D.content disk) → IsNotOfFiles e.0) }
         ensures content_err { IfErr result (λ e. KeepsContent D.Disk disk e.1) }
         ensures any_moment_err { IfErr result (λ e. LeavesAsBefore D.Disk disk e.1) }
     {
@@ -102,7 +105,7 @@ impl<D: Disk> World<D> {
     pub fn into_disk(self) -> D
         ensures disk { result ≡ self.store.disk }
         ensures prefix { (past : Past) → IsAfter D.Disk past self →
-            RecoversPrefix past (D.content result 2) }
+            RecoversPrefix past (D.content result) }
     {
         let World { store, .. } = self;
         store.into_disk()
@@ -121,6 +124,11 @@ impl<D: Disk> World<D> {
             Event::AppendBody => self.append_body(),
             Event::AppendOpen => self.append_open(),
             Event::Poll(stamp) => self.poll(stamp),
+            Event::RotateWrite => self.rotate_write(),
+            Event::InstallClose => self.install_close(),
+            Event::InstallBody => self.install_body(),
+            Event::InstallOpen => self.install_open(),
+            Event::Reclaim => self.reclaim(),
         }
     }
 
@@ -143,7 +151,6 @@ impl<D: Disk> World<D> {
         ensures replies { IfOk result (λ replies. length replies.items ≡ length events.now) }
         ensures serial { IfOk result (λ replies. (past : Past) → IsAfter D.Disk past self.old →
             IsSerialPast (with_events past events.now replies.items)) }
-        ensures others { KeepsOthers D.Disk self.old.store.disk self.new.store.disk }
         ensures after { IfOk result (λ replies. (past : Past) → IsAfter D.Disk past self.old →
             IsAfter D.Disk (with_events past events.now replies.items) self.new) }
         ensures memory { IfErr result (λ r. r ≡ Refusal.OutOfMemory) }

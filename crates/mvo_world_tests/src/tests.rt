@@ -28,6 +28,15 @@ const EMPTY: [u8; 32] = [
     0, 0, 0, 0, 0, 0,
 ];
 
+// Slot 1 with the manifest of generation 1: checkpoint mark 0, no pair, the segments 2 and 3.
+const SLOT: [u8; 37] = [
+    0xa5, 0x20, 0, 0, 0, 0x4d, 0x56, 0x4f, 0x4d, 1, 0, 0, 0, 1, 0, 0, 0, 0, 0, 0, 0, 0, 0, 0, 0, 0,
+    0, 0, 0, 0, 0, 2, 0, 2, 0, 3, 0,
+];
+
+// A segment without a group.
+const FRESH: [u8; 9] = [0x4d, 0x56, 0x4f, 0x4c, 1, 0, 0, 0, 0];
+
 const KEY: RowKey = RowKey { table: 0, key: 5 };
 
 fn opened(alloc: Global, disk: MemDisk) -> Result<World<MemDisk>, Fail> {
@@ -38,7 +47,7 @@ fn opened(alloc: Global, disk: MemDisk) -> Result<World<MemDisk>, Fail> {
 }
 
 fn fresh(alloc: Global) -> Result<World<MemDisk>, Fail> {
-    match format(MemDisk::new(alloc)?) {
+    match format(alloc, MemDisk::new(alloc)?) {
         Ok(disk) => opened(alloc, disk),
         Err((refusal, _)) => Err(Fail::from(refusal)),
     }
@@ -131,6 +140,80 @@ fn one_put_is_durable(rt: HostRuntime) -> Result<(), Fail> {
     assert_eq!(rt; world.mark(), Stamp(2));
     let disk = world.into_disk();
     assert_eq!(rt; disk.bytes(2), SEGMENT.as_slice());
+    assert_eq!(rt; found(alloc, disk)?, (2, Some(1)));
+    Ok(())
+}
+
+#[test]
+fn a_rotation_keeps_the_rows(rt: HostRuntime) -> Result<(), Fail> {
+    let alloc = rt.alloc();
+    let mut world = with_body(alloc)?;
+    let events = vec![in alloc;
+        Event::RotateWrite,
+        Event::AppendOpen,
+        Event::RotateWrite,
+        Event::RotateWrite,
+        Event::InstallBody,
+        Event::InstallClose,
+        Event::InstallBody,
+        Event::InstallOpen,
+        Event::RotateWrite,
+        Event::Reclaim,
+        Event::Poll(Stamp(2)),
+    ]?;
+    let texts = [
+        "Refused(NothingToDo)",
+        "Durable(Stamp(2))",
+        "Ready",
+        "Refused(Busy)",
+        "Refused(NothingToDo)",
+        "Shut",
+        "Written",
+        "Installed(Generation(1))",
+        "Refused(NothingToDo)",
+        "Reclaimed(Done)",
+        "Polled(true)",
+    ];
+    assert_replies(&rt, &mut world, &events, &texts)?;
+    let disk = world.into_disk();
+    assert_eq!(rt; disk.bytes(1), SLOT.as_slice());
+    assert_eq!(rt; disk.bytes(2), SEGMENT.as_slice());
+    assert_eq!(rt; disk.bytes(3), FRESH.as_slice());
+    assert_eq!(rt; found(alloc, disk)?, (2, Some(1)));
+    Ok(())
+}
+
+#[test]
+fn a_rotation_that_a_stop_ends_is_reclaimed(rt: HostRuntime) -> Result<(), Fail> {
+    let alloc = rt.alloc();
+    let mut world = with_body(alloc)?;
+    let events = vec![in alloc;
+        Event::AppendOpen,
+        Event::RotateWrite,
+        Event::InstallClose,
+        Event::InstallBody,
+    ]?;
+    let texts = ["Durable(Stamp(2))", "Ready", "Shut", "Written"];
+    assert_replies(&rt, &mut world, &events, &texts)?;
+    let mut disk = world.into_disk();
+    disk.stop(&[])?;
+    assert_eq!(rt; disk.bytes(3), FRESH.as_slice());
+    let mut world = opened(alloc, disk)?;
+    let events = vec![in alloc;
+        Event::InstallOpen,
+        Event::Reclaim,
+        Event::Reclaim,
+        Event::Poll(Stamp(2)),
+    ]?;
+    let texts = [
+        "Refused(NothingToDo)",
+        "Reclaimed(More)",
+        "Reclaimed(Done)",
+        "Polled(true)",
+    ];
+    assert_replies(&rt, &mut world, &events, &texts)?;
+    let disk = world.into_disk();
+    assert!(rt; disk.bytes(3).is_empty());
     assert_eq!(rt; found(alloc, disk)?, (2, Some(1)));
     Ok(())
 }

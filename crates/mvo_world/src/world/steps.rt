@@ -64,6 +64,51 @@ impl<D: Disk> World<D> {
         }
     }
 
+    pub(super) fn rotate_write(&mut self) -> Reply
+        ensures { IsStep D.Disk self.old Event.RotateWrite result self.new }
+    {
+        match self.store.rotate_write() {
+            Ok(()) => Reply::Ready,
+            Err(refusal) => Reply::Refused(refusal),
+        }
+    }
+
+    pub(super) fn install_close(&mut self) -> Reply
+        ensures { IsStep D.Disk self.old Event.InstallClose result self.new }
+    {
+        match self.store.install_close() {
+            Ok(()) => Reply::Shut,
+            Err(refusal) => Reply::Refused(refusal),
+        }
+    }
+
+    pub(super) fn install_body(&mut self) -> Reply
+        ensures { IsStep D.Disk self.old Event.InstallBody result self.new }
+    {
+        match self.store.install_body() {
+            Ok(()) => Reply::Written,
+            Err(refusal) => Reply::Refused(refusal),
+        }
+    }
+
+    pub(super) fn install_open(&mut self) -> Reply
+        ensures { IsStep D.Disk self.old Event.InstallOpen result self.new }
+    {
+        match self.store.install_open() {
+            Ok(generation) => Reply::Installed(generation),
+            Err(refusal) => Reply::Refused(refusal),
+        }
+    }
+
+    pub(super) fn reclaim(&mut self) -> Reply
+        ensures { IsStep D.Disk self.old Event.Reclaim result self.new }
+    {
+        match self.store.reclaim() {
+            Ok(reclaimed) => Reply::Reclaimed(reclaimed),
+            Err(refusal) => Reply::Refused(refusal),
+        }
+    }
+
     pub(super) fn poll(&self, stamp: Stamp) -> Reply
         ensures { IsStep D.Disk self.now (Event.Poll stamp) result self.now }
     {

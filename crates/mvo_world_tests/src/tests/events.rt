@@ -1,7 +1,7 @@
 //! Random events: mostly those that are due, and at times any others.
 
 use super::draws::Draws;
-use super::observed::{Known, Observed, Open, Phase};
+use super::observed::{Job, Known, Observed, Open, Phase};
 use mvo_core::Event as Step;
 use mvo_types::{Row, RowKey, Stamp, TxId};
 use mvo_world::Event;
@@ -31,12 +31,23 @@ fn due_of_groups(known: &Known) -> Event {
     }
 }
 
+/// The step that the rotation waits for, or a rotation.
+fn due_of_job(known: &Known) -> Event {
+    match known.job {
+        Job::None => Event::RotateWrite,
+        Job::Close => Event::InstallClose,
+        Job::Body => Event::InstallBody,
+        Job::Open => Event::InstallOpen,
+    }
+}
+
 impl Draws {
     /// An event. The keys in use begin at the number.
     pub fn event(&mut self, observed: &Observed, first_key: u64) -> Result<Event, AllocError> {
         let key = key_at(first_key.saturating_add(self.below(KEYS)));
-        match self.below(16) {
+        match self.below(17) {
             0..=2 => Ok(self.event_of_groups(&observed.known)),
+            16 => Ok(self.event_of_jobs(&observed.known)),
             3 => Ok(Event::Poll(self.stamp(observed))),
             4 => Ok(Event::Core(self.any_step(observed, key)?)),
             _ => Ok(Event::Core(self.due_step(observed, key)?)),
@@ -50,6 +61,18 @@ impl Draws {
             2 => Event::AppendBody,
             3 => Event::AppendOpen,
             _ => due_of_groups(known),
+        }
+    }
+
+    fn event_of_jobs(&mut self, known: &Known) -> Event {
+        match self.below(16) {
+            0 => Event::RotateWrite,
+            1 => Event::InstallClose,
+            2 => Event::InstallBody,
+            3 => Event::InstallOpen,
+            4 => Event::Reclaim,
+            5..=8 if known.job == Job::None => Event::Reclaim,
+            _ => due_of_job(known),
         }
     }
 

@@ -1,12 +1,9 @@
-//! Random images of the segment: what the model of the disk says that a stop may leave.
+//! Random images of a disk: what the model of the disk says that a stop may leave.
 
 use super::draws::Draws;
-use mvo_disk::{Call, Disk, MemDisk, Work};
+use mvo_disk::{Call, Disk, FILE_COUNT, FileImage, MemDisk, Work};
 use std::alloc::{AllocError, Global};
 use std::test::Fail;
-
-/// The file of the segment.
-pub const SEGMENT: u16 = 2;
 
 /// The value of a gate that is open.
 pub const OPEN: u8 = 0xa5;
@@ -27,45 +24,78 @@ pub struct Loose {
     len: usize,
     kept: usize,
     ranges: Vec<Range>,
+    /// Nothing was written or cut since.
+    is_exact: bool,
+}
+
+/// What a stop is to leave of a disk.
+#[derive(Drop)]
+pub struct Drawn {
+    pub images: Vec<FileImage>,
+    /// There is one image alone.
+    pub is_synced: bool,
+    /// A file has other bytes than a read gave.
+    pub is_torn: bool,
+}
+
+/// Where a write began.
+#[derive(Clone, Copy)]
+pub struct Place {
+    pub file: u16,
+    pub at: usize,
 }
 
 impl Loose {
-    /// That of a file that was empty before these calls.
-    pub fn after(alloc: Global, calls: &[Call]) -> Result<Loose, Fail> {
-        let mut loose = Loose {
+    /// That of an empty file.
+    fn new(alloc: Global) -> Loose {
+        Loose {
             len: 0,
             kept: 0,
             ranges: Vec::new(alloc),
-        };
-        for call in calls {
-            if call.file != SEGMENT || call.failed {
-                return Err(Fail::from("calls of the segment alone"));
-            }
-            loose.call(&call.work)?;
+            is_exact: true,
         }
-        Ok(loose)
     }
 
-    fn call(&mut self, work: &Work) -> Result<(), Fail> {
+    /// Those of the files of a disk that was empty before these calls, up to the last one that they
+    /// change.
+    fn after(alloc: Global, calls: &[Call]) -> Result<Vec<Loose>, Fail> {
+        let mut all = Vec::new(alloc);
+        for _ in 0..files_of(calls) {
+            all.push(Loose::new(alloc))?;
+        }
+        for call in calls {
+            if call.failed {
+                return Err(Fail::from("no fault"));
+            }
+            let file = call.file as usize;
+            if !is_look(call) && file < all.len() {
+                all[file].call(&call.work)?;
+            }
+        }
+        Ok(all)
+    }
+
+    fn call(&mut self, work: &Work) -> Result<(), AllocError> {
         match work {
             Work::Length | Work::Read { .. } => {}
             Work::Write { at, len, .. } => {
                 let to = at.saturating_add(*len);
                 self.len = self.len.max(to);
                 self.ranges.push(Range { from: *at, to })?;
+                self.is_exact = false;
             }
             Work::Sync => {
                 self.kept = self.len;
                 self.ranges.clear();
+                self.is_exact = true;
             }
-            Work::Cut { .. } => return Err(Fail::from("no cuts")),
+            Work::Cut { new_len, .. } => {
+                self.len = *new_len;
+                self.kept = self.kept.min(*new_len);
+                self.is_exact = false;
+            }
         }
         Ok(())
-    }
-
-    /// Whether there is one image alone.
-    pub fn is_none(&self) -> bool {
-        self.ranges.is_empty()
     }
 
     fn is_loose(&self, at: usize) -> bool {
@@ -78,9 +108,28 @@ impl Loose {
 }
 
 impl Draws {
+    /// An image of each file up to the last one that was written.
+    pub fn images(&mut self, disk: &MemDisk) -> Result<Drawn, Fail> {
+        let mut drawn = Drawn {
+            images: Vec::new(self.alloc),
+            is_synced: true,
+            is_torn: false,
+        };
+        let all = Loose::after(self.alloc, disk.calls())?;
+        let mut file = 0;
+        for loose in &all {
+            let bytes = self.image(bytes_of(disk, file), loose)?;
+            drawn.is_synced = drawn.is_synced && loose.is_exact;
+            drawn.is_torn = drawn.is_torn || bytes_of(disk, file) != bytes.as_slice();
+            drawn.images.push(FileImage { file, bytes })?;
+            file = file.saturating_add(1);
+        }
+        Ok(drawn)
+    }
+
     /// An image of the file with this content.
-    pub fn image(&mut self, content: &[u8], loose: &Loose) -> Result<Vec<u8>, AllocError> {
-        if loose.is_none() {
+    fn image(&mut self, content: &[u8], loose: &Loose) -> Result<Vec<u8>, AllocError> {
+        if loose.is_exact {
             return content.to_vec(self.alloc);
         }
         let len = self.len_of_image(content.len(), loose.kept);
@@ -129,17 +178,62 @@ impl Draws {
     }
 }
 
-/// A disk whose segment holds these bytes, synced.
-pub fn disk_of(alloc: Global, bytes: &[u8]) -> Result<MemDisk, Fail> {
+impl Drawn {
+    /// Whether the byte at the place is an open gate.
+    pub fn is_open(&self, place: Place) -> bool {
+        let mut images = self.images.iter();
+        images.any(|image| { image.file == place.file && image.bytes.get(place.at) == Some(&OPEN) })
+    }
+}
+
+/// The bytes of a file.
+fn bytes_of(disk: &MemDisk, file: u16) -> &[u8] {
+    if file < FILE_COUNT {
+        disk.bytes(file)
+    } else {
+        &[]
+    }
+}
+
+/// Whether a call changes no file, nor what a stop may leave of it.
+pub fn is_look(call: &Call) -> bool {
+    matches!(&call.work, Work::Length | Work::Read { .. })
+}
+
+/// One more than the greatest file that these calls change.
+fn files_of(calls: &[Call]) -> u16 {
+    let mut count = 0;
+    for call in calls {
+        if !is_look(call) {
+            count = count.max(call.file.saturating_add(1));
+        }
+    }
+    count
+}
+
+/// Copies of the first files of a disk.
+pub fn files_on(alloc: Global, disk: &MemDisk, count: u16) -> Result<Vec<FileImage>, AllocError> {
+    let mut files = Vec::new(alloc);
+    for file in 0..count {
+        let bytes = bytes_of(disk, file).to_vec(alloc)?;
+        files.push(FileImage { file, bytes })?;
+    }
+    Ok(files)
+}
+
+/// A disk with these files, synced.
+pub fn disk_of(alloc: Global, files: &[FileImage]) -> Result<MemDisk, Fail> {
     let mut disk = MemDisk::new(alloc)?;
-    if disk.faults() != 0 {
-        return Err(Fail::from("no fault"));
+    for image in files {
+        if disk.faults() != 0 || image.file >= FILE_COUNT {
+            return Err(Fail::from("a file, and no fault"));
+        }
+        disk.write_at(image.file, 0, &image.bytes)?;
+        if disk.faults() != 0 {
+            return Err(Fail::from("no fault"));
+        }
+        disk.sync(image.file)?;
     }
-    disk.write_at(SEGMENT, 0, bytes)?;
-    if disk.faults() != 0 {
-        return Err(Fail::from("no fault"));
-    }
-    disk.sync(SEGMENT)?;
     Ok(disk)
 }
 
@@ -153,26 +247,30 @@ pub fn disk_after(alloc: Global, calls: &[Call], number: usize) -> Result<MemDis
 }
 
 /// Where the last write among these calls begins.
-pub fn last_write(calls: &[Call], from: usize, to: usize) -> Option<usize> {
+pub fn last_write(calls: &[Call], from: usize, to: usize) -> Option<Place> {
     let mut last = None;
     for call in calls.iter().take(to).skip(from) {
         if let Work::Write { at, .. } = &call.work {
-            last = Some(*at);
+            last = Some(Place {
+                file: call.file,
+                at: *at,
+            });
         }
     }
     last
 }
 
 fn make(disk: &mut MemDisk, call: &Call) -> Result<(), Fail> {
-    if disk.faults() != 0 || call.file != SEGMENT {
-        return Err(Fail::from("calls of the segment alone, and no fault"));
+    if disk.faults() != 0 || call.file >= FILE_COUNT {
+        return Err(Fail::from("a file, and no fault"));
     }
-    let len = disk.bytes(SEGMENT).len();
+    let len = disk.bytes(call.file).len();
     match &call.work {
         Work::Length | Work::Read { .. } => {}
-        Work::Write { at, bytes, .. } if *at <= len => disk.write_at(SEGMENT, *at, bytes)?,
-        Work::Sync => disk.sync(SEGMENT)?,
-        _ => return Err(Fail::from("writes within the segment, and syncs")),
+        Work::Write { at, bytes, .. } if *at <= len => disk.write_at(call.file, *at, bytes)?,
+        Work::Cut { new_len, .. } if *new_len <= len => disk.cut(call.file, *new_len)?,
+        Work::Sync => disk.sync(call.file)?,
+        _ => return Err(Fail::from("writes and cuts within a file, and syncs")),
     }
     Ok(())
 }

@@ -1,6 +1,7 @@
 //! What happened in a run, as its events and their replies tell.
 
 use mvo_core::{Event as Step, Reply as Answered};
+use mvo_store::Reclaimed;
 use mvo_types::{Answer, Op, Refusal, Stamp, TxId};
 use mvo_world::{Event, Reply};
 use std::alloc::{AllocError, Global};
@@ -40,7 +41,17 @@ pub struct ClosedGroup {
     pub mark: Stamp,
 }
 
-/// What is known of the groups at a moment.
+/// The step of a rotation that comes next.
+#[derive(Clone, Copy, PartialEq)]
+pub enum Job {
+    /// No rotation runs.
+    None,
+    Close,
+    Body,
+    Open,
+}
+
+/// What is known of the groups and of a rotation at a moment.
 #[derive(Clone, Copy)]
 pub struct Known {
     /// The greatest of the opening mark, those answered durable and those polled with yes.
@@ -52,6 +63,9 @@ pub struct Known {
     /// The mark of the group that the store took, and whether its body is written.
     pub taken: Option<Stamp>,
     pub written: bool,
+    pub job: Job,
+    /// So many files were emptied.
+    pub emptied: u64,
 }
 
 /// How often things happened.
@@ -64,6 +78,8 @@ pub struct Counts {
     pub rolled_back: u64,
     pub out_of_turn: u64,
     pub groups: u64,
+    pub installed: u64,
+    pub emptied: u64,
     pub polled_yes: u64,
     pub polled_no: u64,
     pub strange: u64,
@@ -79,6 +95,8 @@ impl Counts {
             rolled_back: 0,
             out_of_turn: 0,
             groups: 0,
+            installed: 0,
+            emptied: 0,
             polled_yes: 0,
             polled_no: 0,
             strange: 0,
@@ -142,6 +160,8 @@ impl Observed {
                 closed: None,
                 taken: None,
                 written: false,
+                job: Job::None,
+                emptied: 0,
             },
             counts,
         }
@@ -159,13 +179,32 @@ impl Observed {
                 })?;
             }
             Reply::Taken => self.known.taken = self.known.closed.take(),
-            Reply::Written => self.known.written = true,
+            Reply::Written => self.note_written(event),
             Reply::Durable(mark) => self.note_durable(mark),
             Reply::Polled(yes) => self.note_poll(event, yes),
+            Reply::Ready => self.known.job = Job::Close,
+            Reply::Shut => self.known.job = Job::Body,
+            Reply::Installed(_) => {
+                count(&mut self.counts.installed);
+                self.known.job = Job::None;
+            }
+            Reply::Reclaimed(Reclaimed::More) => {
+                count(&mut self.counts.emptied);
+                count(&mut self.known.emptied);
+            }
+            Reply::Reclaimed(Reclaimed::Done) => {}
             Reply::Refused(refusal) => self.note_refusal(refusal),
         }
         self.events = self.events.saturating_add(1);
         Ok(())
+    }
+
+    fn note_written(&mut self, event: &Event) {
+        match event {
+            Event::AppendBody => self.known.written = true,
+            Event::InstallBody => self.known.job = Job::Open,
+            _ => count(&mut self.counts.strange),
+        }
     }
 
     fn note_durable(&mut self, mark: Stamp) {

@@ -3,8 +3,8 @@
 use super::draws::Draws;
 use super::events::{KEYS, key_at};
 use super::images::disk_of;
-use super::observed::{Counts, Known, Observed};
-use mvo_disk::MemDisk;
+use super::observed::{Counts, Job, Known, Observed};
+use mvo_disk::{FileImage, MemDisk};
 use mvo_model::Serial;
 use mvo_types::{Row, RowKey, Rows, Stamp};
 use mvo_world::{Event, World};
@@ -26,10 +26,10 @@ const EVENTS_APART: u64 = 80;
 /// As many keys as are ever in use, and some more.
 const KEYS_IN_ALL: u64 = (RUNS * EVENTS_APART + EVENTS) / EVENTS_OF_A_KEY + KEYS;
 
-/// What a run starts from: the bytes of the segment, and the rows and the mark that they hold.
+/// What a run starts from: the files, and the rows and the mark that they hold.
 #[derive(Drop)]
 pub struct Start {
-    pub bytes: Vec<u8>,
+    pub files: Vec<FileImage>,
     pub rows: Vec<Row>,
     pub mark: Stamp,
 }
@@ -61,7 +61,7 @@ impl Run {
     pub fn of(start: Start, draws: &mut Draws, counts: Counts, run: u64) -> Result<Run, Fail> {
         let alloc = draws.alloc;
         let mut observed = Observed::new(alloc, start.mark, counts);
-        let mut world = opened(alloc, disk_of(alloc, &start.bytes)?)?;
+        let mut world = opened(alloc, disk_of(alloc, &start.files)?)?;
         let mut events = Vec::new(alloc);
         let mut known = Vec::new(alloc);
         for number in 0..EVENTS {
@@ -84,28 +84,39 @@ impl Run {
 
     /// The disk after the first events: the run again, up to there.
     pub fn disk_after(&self, number: usize) -> Result<MemDisk, Fail> {
-        let mut world = opened(self.alloc, disk_of(self.alloc, &self.start.bytes)?)?;
+        let mut world = opened(self.alloc, disk_of(self.alloc, &self.start.files)?)?;
         for event in self.events.iter().take(number) {
             let _ = world.step(event.copy()?);
         }
         Ok(world.into_disk())
     }
 
-    /// Whether the event before or after the first ones wrote a body or opened a gate.
-    pub fn is_at_append(&self, number: usize) -> bool {
-        self.is_append(number)
+    /// Whether the event before or after the first ones wrote to the disk.
+    pub fn is_at_write(&self, number: usize) -> bool {
+        self.is_write(number)
             || number
                 .checked_sub(1)
-                .is_some_and(|event| self.is_append(event))
+                .is_some_and(|event| self.is_write(event))
     }
 
-    /// Whether the event of this number wrote a body or opened a gate.
-    pub fn is_append(&self, event: usize) -> bool {
+    /// Whether the event of this number wrote to the disk.
+    fn is_write(&self, event: usize) -> bool {
         let after = event.saturating_add(1);
         match (self.known.get(event), self.known.get(after)) {
-            (Some(known), Some(later)) => known.written != later.written,
+            (Some(known), Some(later)) => {
+                known.written != later.written
+                    || known.job != later.job
+                    || known.emptied != later.emptied
+            }
             _ => false,
         }
+    }
+
+    /// Whether a rotation runs after the first events.
+    pub fn is_rotating(&self, number: usize) -> bool {
+        self.known
+            .get(number)
+            .is_some_and(|known| known.job != Job::None)
     }
 
     /// The slow program at the start of the run.

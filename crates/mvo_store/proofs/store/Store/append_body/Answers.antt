@@ -1,78 +1,69 @@
-use Rattle.std.proofs.Common.{◌≡◌, ◌≤◌, ◌+◌, false, List, ℕ, length, sym, subst, arith}
-use Rattle.mvo_types.specs.declared.limits.TheConstants.{MAX_SEGMENT_LEN}
+use Rattle.std.proofs.Common.{true, subst, sym}
+use Rattle.mvo_format.specs.declared.header.TheConstants.{VERSION}
 use Rattle.mvo_store.specs.StoreData.{StoreData}
-use Rattle.mvo_store.specs.Standing.{IsBodyOf}
-use Rattle.mvo_store.proofs.Images.{unmoved, keeps_up}
-use Rattle.mvo_store.proofs.Safety.{with_or_without, fault_keeps}
-use Rattle.mvo_store.proofs.Appends.{body_moments, written_up}
+use Rattle.mvo_store.specs.Standing.{IsUp}
+use Rattle.mvo_store.proofs.Keeping.{refused_keeps, same_keeps, fault_keeps, step_keeps}
+use Rattle.mvo_store.proofs.Appended.{last_stands, last_durable, slots_stay, follows_last, last_file, body_leaves, body_up, left_same}
 use Rattle.mvo_store.proofs.store.Store.append_body.Goals as goal
 
-pub returns-in_err-bytes-clause-any_moment_up : goal.returns-in_err-bytes-clause-any_moment_up
-returns-in_err-bytes-clause-any_moment_up g c = λ gs up. unmoved g.D.Disk g.met.D.Disk.only_now c.args.self.now gs up
+pub write_body-requires-clause-durable : goal.write_body-requires-clause-durable
+write_body-requires-clause-durable g c =
+    let old : StoreData _ = record { disk = c.self.inside.disk; manifest = c.self.inside.manifest; segment = c.self.inside.segment; mark = c.self.inside.mark.0; pending = c.self.inside.pending; written = c.self.inside.written; rotation = c.self.inside.rotation; down = c.self.inside.down } in
+    let up = c.self.invariant c.if-self.false in
+    last_durable g.D.Disk old up.0 up.1
 
 pub invariant_of-self : goal.invariant_of-self
 invariant_of-self g c =
     let d = g.D.Disk in
-    let old : StoreData _ = record { disk = c.self.inside.disk; gate = c.self.inside.gate; next = c.self.inside.next; mark = c.self.inside.mark.0; pending = c.self.inside.pending; written = c.self.inside.written; down = c.self.inside.down } in
-    let gs = c.self.invariant.0 in
-    let new = c.write_synced.new.disk in
-    let up = c.self.invariant.1.up (subst (λ (s : StoreData _). s.down ≡ false) (sym c.self.view_is) c.in_ok-bytes.ensures.up) in
-    (gs, fault_keeps d g.met.D.Disk.counts_now old new gs up (with_or_without d old new gs (body_moments d old gs _ new up c.write_synced.ensures.any_moment)))
+    let old : StoreData _ = record { disk = c.self.inside.disk; manifest = c.self.inside.manifest; segment = c.self.inside.segment; mark = c.self.inside.mark.0; pending = c.self.inside.pending; written = c.self.inside.written; rotation = c.self.inside.rotation; down = c.self.inside.down } in
+    let up = c.self.invariant c.if-self.false in
+    let e = c.in-Ok.ensures in
+    λ _. (up.0, body_up d old up.0 up.1 c.write_body.new.disk c.write_body.new.self c.in-Some.group c.in-Some.is e.ok (e.written VERSION up.1.parts.middle up.1.parts.last (last_stands d old up.0 up.1) (follows_last d old up.0 up.1 c.in-Some.group c.in-Some.is)) e.durable e.rest e.count)
 
-pub returns-in_default-clause-any_moment_up : goal.returns-in_default-clause-any_moment_up
-returns-in_default-clause-any_moment_up g c = rw (← c.self.view_is) (λ gs up. body_moments g.D.Disk _ gs _ c.write_synced.new.disk up c.write_synced.ensures.any_moment)
-
-pub returns-in_default-clause-any_moment : goal.returns-in_default-clause-any_moment
-returns-in_default-clause-any_moment g c =
+pub invariant_of-self-else-is_fault : goal.invariant_of-self-else-is_fault
+invariant_of-self-else-is_fault g c =
     let d = g.D.Disk in
-    let old : StoreData _ = record { disk = c.self.inside.disk; gate = c.self.inside.gate; next = c.self.inside.next; mark = c.self.inside.mark.0; pending = c.self.inside.pending; written = c.self.inside.written; down = c.self.inside.down } in
-    let is_up = subst (λ (s : StoreData _). s.down ≡ false) (sym c.self.view_is) c.in_ok-bytes.ensures.up in
-    rw (← c.self.view_is) (λ gs keeps. with_or_without d old c.write_synced.new.disk gs (body_moments d old gs _ c.write_synced.new.disk (keeps.up is_up) c.write_synced.ensures.any_moment))
+    let old : StoreData _ = record { disk = c.self.inside.disk; manifest = c.self.inside.manifest; segment = c.self.inside.segment; mark = c.self.inside.mark.0; pending = c.self.inside.pending; written = c.self.inside.written; rotation = c.self.inside.rotation; down = c.self.inside.down } in
+    let up = c.self.invariant c.if-self.false in
+    let same_disk = c.in-Err.ensures.left.other c.if-is_fault.ensures.other in
+    λ _. (up.0, subst (λ (s : StoreData _). IsUp d s up.0) (left_same old c.write_body.new.disk c.write_body.new.self same_disk c.in-Err.ensures.err) up.1)
+
+pub returns-in-Ok-clause-keeps : goal.returns-in-Ok-clause-keeps
+returns-in-Ok-clause-keeps g c =
+    let d = g.D.Disk in
+    let old : StoreData _ = record { disk = c.self.inside.disk; manifest = c.self.inside.manifest; segment = c.self.inside.segment; mark = c.self.inside.mark.0; pending = c.self.inside.pending; written = c.self.inside.written; rotation = c.self.inside.rotation; down = c.self.inside.down } in
+    let now = c.self.invariant c.if-self.false in
+    let e = c.in-Ok.ensures in
+    rw (← c.self.view_is) (step_keeps d (λ rows. rows) old (record old { disk = c.write_body.new.disk; segment = c.write_body.new.self; written = true }) c.if-self.false
+    (λ rows up slots. body_leaves d old rows up c.write_body.new.disk slots (e.any_moment VERSION up.parts.middle up.parts.last (last_stands d old rows up)))
+    (λ rows up. body_up d old rows up c.write_body.new.disk c.write_body.new.self c.in-Some.group c.in-Some.is e.ok (e.written VERSION up.parts.middle up.parts.last (last_stands d old rows up) (follows_last d old rows up c.in-Some.group c.in-Some.is)) e.durable e.rest e.count)
+    (slots_stay d old now.0 now.1 c.write_body.new.disk e.rest))
+
+pub returns-then-is_fault-clause-keeps : goal.returns-then-is_fault-clause-keeps
+returns-then-is_fault-clause-keeps g c =
+    let d = g.D.Disk in
+    let old : StoreData _ = record { disk = c.self.inside.disk; manifest = c.self.inside.manifest; segment = c.self.inside.segment; mark = c.self.inside.mark.0; pending = c.self.inside.pending; written = c.self.inside.written; rotation = c.self.inside.rotation; down = c.self.inside.down } in
+    rw (← c.self.view_is) (rw c.in-Err.ensures.err (fault_keeps d g.met.D.Disk.counts_now old c.write_body.new.disk c.if-self.false
+    (λ rows up slots. body_leaves d old rows up c.write_body.new.disk slots (c.in-Err.ensures.any_moment VERSION up.parts.middle up.parts.last (last_stands d old rows up)))))
+
+pub returns-then-self-clause-keeps : goal.returns-then-self-clause-keeps
+returns-then-self-clause-keeps g c = rw (← c.self.view_is) (refused_keeps g.D.Disk g.met.D.Disk.only_now _)
 
 pub returns-in_default-clause-keeps : goal.returns-in_default-clause-keeps
-returns-in_default-clause-keeps g c =
-    let d = g.D.Disk in
-    let old : StoreData _ = record { disk = c.self.inside.disk; gate = c.self.inside.gate; next = c.self.inside.next; mark = c.self.inside.mark.0; pending = c.self.inside.pending; written = c.self.inside.written; down = c.self.inside.down } in
-    let is_up = subst (λ (s : StoreData _). s.down ≡ false) (sym c.self.view_is) c.in_ok-bytes.ensures.up in
-    rw (← c.self.view_is) (λ gs keeps.
-    fault_keeps d g.met.D.Disk.counts_now old c.write_synced.new.disk gs (keeps.up is_up) (with_or_without d old c.write_synced.new.disk gs (body_moments d old gs _ c.write_synced.new.disk (keeps.up is_up) c.write_synced.ensures.any_moment)))
+returns-in_default-clause-keeps g c = rw (← c.self.view_is) (refused_keeps g.D.Disk g.met.D.Disk.only_now _)
 
-pub invariant_of-self-2 : goal.invariant_of-self-2
-invariant_of-self-2 g c =
-    let d = g.D.Disk in
-    let old : StoreData _ = record { disk = c.self.inside.disk; gate = c.self.inside.gate; next = c.self.inside.next; mark = c.self.inside.mark.0; pending = c.self.inside.pending; written = c.self.inside.written; down = c.self.inside.down } in
-    let is_up = subst (λ (s : StoreData _). s.down ≡ false) (sym c.self.view_is) c.in_ok-bytes.ensures.up in
-    let body = subst (λ (s : StoreData _). IsBodyOf s.pending c.in_ok-bytes.bytes.items) (sym c.self.view_is) c.in_ok-bytes.ensures.body in
-    let body_is = subst (λ (l : List ℕ). IsBodyOf c.self.inside.pending l) (sym c.deref.ensures.value) body in
-    let fits = subst (λ (s : StoreData _). s.gate + 1 + length c.in_ok-bytes.bytes.items ≤ MAX_SEGMENT_LEN) (sym c.self.view_is) c.in_ok-bytes.ensures.fits in
-    let gs = c.self.invariant.0 in
-    (gs, keeps_up d _ gs (written_up d old gs c.write_synced.new.disk _ c.deref.result.now (c.self.invariant.1.up is_up) body_is (omega (arith, fits, c.deref.ensures.len)) (omega (arith, c.len.ensures, c.deref.ensures.len)) c.in-Ok.ensures.written c.in-Ok.ensures.durable c.in-Ok.ensures.count))
+pub returns-then-self-2-clause-keeps : goal.returns-then-self-2-clause-keeps
+returns-then-self-2-clause-keeps g c = rw (← c.self.view_is) (refused_keeps g.D.Disk g.met.D.Disk.only_now _)
 
-pub returns-clause-up : goal.returns-clause-up
-returns-clause-up g c =
-    let d = g.D.Disk in
-    let old : StoreData _ = record { disk = c.self.inside.disk; gate = c.self.inside.gate; next = c.self.inside.next; mark = c.self.inside.mark.0; pending = c.self.inside.pending; written = c.self.inside.written; down = c.self.inside.down } in
-    let body = subst (λ (s : StoreData _). IsBodyOf s.pending c.in_ok-bytes.bytes.items) (sym c.self.view_is) c.in_ok-bytes.ensures.body in
-    let body_is = subst (λ (l : List ℕ). IsBodyOf c.self.inside.pending l) (sym c.deref.ensures.value) body in
-    let fits = subst (λ (s : StoreData _). s.gate + 1 + length c.in_ok-bytes.bytes.items ≤ MAX_SEGMENT_LEN) (sym c.self.view_is) c.in_ok-bytes.ensures.fits in
-    rw (← c.self.view_is) (λ gs up. written_up d old gs c.write_synced.new.disk _ c.deref.result.now up body_is (omega (arith, fits, c.deref.ensures.len)) (omega (arith, c.len.ensures, c.deref.ensures.len)) c.in-Ok.ensures.written c.in-Ok.ensures.durable c.in-Ok.ensures.count)
+pub write_body-requires-clause-file : goal.write_body-requires-clause-file
+write_body-requires-clause-file g c =
+    let old : StoreData _ = record { disk = c.self.inside.disk; manifest = c.self.inside.manifest; segment = c.self.inside.segment; mark = c.self.inside.mark.0; pending = c.self.inside.pending; written = c.self.inside.written; rotation = c.self.inside.rotation; down = c.self.inside.down } in
+    let up = c.self.invariant c.if-self.false in
+    last_file g.D.Disk old up.0 up.1
 
-pub returns-clause-any_moment_up : goal.returns-clause-any_moment_up
-returns-clause-any_moment_up g c = rw (← c.self.view_is) (λ gs up. body_moments g.D.Disk _ gs _ c.write_synced.new.disk up c.write_synced.ensures.any_moment)
-
-pub returns-clause-any_moment : goal.returns-clause-any_moment
-returns-clause-any_moment g c =
+pub returns-else-is_fault-clause-keeps : goal.returns-else-is_fault-clause-keeps
+returns-else-is_fault-clause-keeps g c =
     let d = g.D.Disk in
-    let old : StoreData _ = record { disk = c.self.inside.disk; gate = c.self.inside.gate; next = c.self.inside.next; mark = c.self.inside.mark.0; pending = c.self.inside.pending; written = c.self.inside.written; down = c.self.inside.down } in
-    let is_up = subst (λ (s : StoreData _). s.down ≡ false) (sym c.self.view_is) c.in_ok-bytes.ensures.up in
-    rw (← c.self.view_is) (λ gs keeps. with_or_without d old c.write_synced.new.disk gs (body_moments d old gs _ c.write_synced.new.disk (keeps.up is_up) c.write_synced.ensures.any_moment))
-
-pub returns-clause-keeps : goal.returns-clause-keeps
-returns-clause-keeps g c =
-    let d = g.D.Disk in
-    let old : StoreData _ = record { disk = c.self.inside.disk; gate = c.self.inside.gate; next = c.self.inside.next; mark = c.self.inside.mark.0; pending = c.self.inside.pending; written = c.self.inside.written; down = c.self.inside.down } in
-    let is_up = subst (λ (s : StoreData _). s.down ≡ false) (sym c.self.view_is) c.in_ok-bytes.ensures.up in
-    let body = subst (λ (s : StoreData _). IsBodyOf s.pending c.in_ok-bytes.bytes.items) (sym c.self.view_is) c.in_ok-bytes.ensures.body in
-    let body_is = subst (λ (l : List ℕ). IsBodyOf c.self.inside.pending l) (sym c.deref.ensures.value) body in
-    let fits = subst (λ (s : StoreData _). s.gate + 1 + length c.in_ok-bytes.bytes.items ≤ MAX_SEGMENT_LEN) (sym c.self.view_is) c.in_ok-bytes.ensures.fits in
-    rw (← c.self.view_is) (λ gs keeps. keeps_up d _ gs (written_up d old gs c.write_synced.new.disk _ c.deref.result.now (keeps.up is_up) body_is (omega (arith, fits, c.deref.ensures.len)) (omega (arith, c.len.ensures, c.deref.ensures.len)) c.in-Ok.ensures.written c.in-Ok.ensures.durable c.in-Ok.ensures.count))
+    let old : StoreData _ = record { disk = c.self.inside.disk; manifest = c.self.inside.manifest; segment = c.self.inside.segment; mark = c.self.inside.mark.0; pending = c.self.inside.pending; written = c.self.inside.written; rotation = c.self.inside.rotation; down = c.self.inside.down } in
+    let same_disk = c.in-Err.ensures.left.other c.if-is_fault.ensures.other in
+    rw (← c.self.view_is) (same_keeps d g.met.D.Disk.only_now old (record old { disk = c.write_body.new.disk; segment = c.write_body.new.self }) (sym (left_same old c.write_body.new.disk c.write_body.new.self same_disk c.in-Err.ensures.err)))

@@ -7,5 +7,5 @@ pub returns-clause-prefix : goal.returns-clause-prefix
 returns-clause-prefix g c = λ past h.
     let disk = c.args.self.store.disk in
     let content = g.D.Disk.content disk in
-    subst (λ d. RecoversPrefix past (g.D.Disk.content d 2)) (ap (λ w. w.store.disk) (sym c.self.view_is) ∙ sym c.into_disk.ensures)
-    (prefix_image g.D.Disk past c.args.self h (content 2) (h.store.images content (λ n. g.met.D.Disk.content_may_stay disk n)))
+    subst (λ d. RecoversPrefix past (g.D.Disk.content d)) (ap (λ w. w.store.disk) (sym c.self.view_is) ∙ sym c.into_disk.ensures)
+    (prefix_image g.D.Disk past c.args.self h content (h.store.images content (λ n. g.met.D.Disk.content_may_stay disk n)))

@@ -1,7 +1,6 @@
 use Rattle.std.proofs.Common.{arith, ◌≡◌, ◌++◌, ◌∷◌, ◌+◌, [], List, length, take, refl, ap, ◌∙◌, sym, subst, length-append}
 use Rattle.std.proofs.lemmas.List.{take_more, take_all, length-take-le}
 use Rattle.mvo_state.proofs.Tales.{stands_serializable}
-use Rattle.mvo_store.specs.Recovery.{rows_of}
 use Rattle.mvo_world.specs.Past.{Past, with_events}
 use Rattle.mvo_world.specs.Standing.{IsAfter}
 use Rattle.mvo_world.specs.Steps.{IsRunStep, AreSteps}
@@ -17,7 +16,6 @@ loop-event-init g c =
       many = ap length none;
       room = let room = c.in_ok-reserve.ensures.ok in omega arith;
       each = subst (λ (rs : List Reply). AreSteps (IsRunStep g.D.Disk) c.args.self.now [] rs c.args.self.now) (sym none) refl;
-      others = λ n other. refl;
       after = λ past h. h;
     }
 
@@ -44,7 +42,6 @@ loop-event-preserved g c =
       each = subst (λ (xs : List Event). AreSteps (IsRunStep d) c.args.self.now xs c.push_reserved.new.items.items later) (sym events)
           (subst (λ (xs : List Reply). AreSteps (IsRunStep d) c.args.self.now (take i es ++ e ∷ []) xs later) (sym pushed)
           (steps-push (IsRunStep d) c.args.self.now (take i es) rs c.loop-event.self e r later before.each step));
-      others = λ n other. step.others n other ∙ before.others n other;
       after = λ past h.
           let so_far = with_events past (take i es) rs in
           let now : with_events past (take (i + 1) es) c.push_reserved.new.items.items ≡ _ = ap (λ (xs : List Event). with_events past xs c.push_reserved.new.items.items) events ∙ ap (with_events past (take i es ++ e ∷ [])) pushed ∙ with_events-push past (take i es) rs e r many in
@@ -62,7 +59,7 @@ pub returns-clause-serial : goal.returns-clause-serial
 returns-clause-serial g c = λ past h.
     let after = returns-clause-after g c past h in
     let p = with_events past c.args.events.now c.loop-event.replies.items in
-    stands_serializable (rows_of p.groups) p.steps c.loop-event.self.core after.sound after.core
+    stands_serializable p.rows p.steps c.loop-event.self.core after.sound after.core
 
 pub returns-clause-each : goal.returns-clause-each
 returns-clause-each g c =

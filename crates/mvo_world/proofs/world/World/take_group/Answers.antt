@@ -1,11 +1,9 @@
-use Rattle.std.proofs.Common.{◌≡◌, ◌++◌, ◌∷◌, Option, Some, None, refl, ap, ◌∙◌, sym, subst}
+use Rattle.std.proofs.Common.{◌≡◌, ◌++◌, ◌∷◌, Option, Some, None, refl, ap, ◌∙◌, sym}
 use Rattle.std.specs.Option.{option_to_list}
 use Rattle.mvo_group.specs.Data.{GroupData}
 use Rattle.mvo_types.specs.declared.refusal.Refusal.TheVariants.{NothingToDo}
 use Rattle.mvo_store.specs.StoreData.{StoreData}
 use Rattle.mvo_store.specs.Causes.{why_not_take}
-use Rattle.mvo_store.proofs.Images.{keeps_unmoved}
-use Rattle.mvo_store.specs.Standing.{LeavesWithOrWithout}
 use Rattle.mvo_world.specs.WorldData.{WorldData}
 use Rattle.mvo_world.specs.Replies.{IsReplyTo, or_nothing}
 use Rattle.mvo_world.specs.declared.event.Event.TheVariants.{TakeGroup}
@@ -44,6 +42,4 @@ returns-in-Ok g c =
     (ap (λ w. or_nothing w c.self.inside.place) why ∙ ap (or_nothing None) there, record { group = group; there = there; after = is })
     refl
     (ap (λ (s : StoreData _). option_to_list s.pending ++ option_to_list c.take.new.self) ok ∙ ap (λ p. group ∷ option_to_list p) c.take.ensures.after ∙ sym (ap (λ p. option_to_list p ++ option_to_list c.self.inside.place) none ∙ ap option_to_list there))
-    (ap (λ (s : StoreData _). s.mark) ok) c.in-Ok.ensures.keeps
-    (λ gs keeps. subst (λ (s : StoreData _). LeavesWithOrWithout d gs old s) (sym ok) (keeps_unmoved d g.met.D.Disk.only_now old gs keeps))
-    (λ n other. ap (λ (s : StoreData _). d.content s.disk n) ok))
+    (ap (λ (s : StoreData _). s.mark) ok) c.in-Ok.ensures.keeps)

@@ -1,0 +1,36 @@
+-- A rotation of the log, from a fresh segment to its installing.
+use Rattle.std.specs.Prelude.{◌≡◌, ◌⊎◌, Bool, true, false, List, [], ◌∷◌}
+use Rattle.mvo_world.specs.WorldData.{WorldData}
+use Rattle.mvo_world.specs.declared.event.Event.{Event}
+use Rattle.mvo_world.specs.declared.event.Event.TheVariants.{RotateWrite, InstallClose, InstallBody, InstallOpen}
+use Rattle.mvo_world.specs.declared.reply.Reply.{Reply}
+use Rattle.mvo_world.specs.declared.reply.Reply.TheVariants.{Installed, Refused}
+
+-- the steps of an install, in their order
+abbrev pub install : List Event
+install = InstallClose ∷ InstallBody ∷ InstallOpen ∷ []
+
+-- the steps of a rotation, in their order
+abbrev pub rotation : List Event
+rotation = RotateWrite ∷ install
+
+abbrev pub is_refused : Reply → Bool
+is_refused (Refused r) = true
+is_refused r = false
+
+-- a rotation is installed, or refused
+abbrev pub IsRotated : Reply → Type 0
+IsRotated (Installed generation) = Unit {0}
+IsRotated (Refused r) = Unit {0}
+IsRotated r = ⊥
+
+-- ---- by the steps of the world
+module _ {D : Type 0} (IsStep : WorldData D → Event → Reply → WorldData D → Type 0) where
+  -- one event after another, up to the first that is refused; the reply is that to the last one
+  abbrev pub AreToRefusal : List Event → WorldData D → Reply → WorldData D → Type 0
+  AreToRefusal [] w r w' = ⊥
+  AreToRefusal (e ∷ []) w r w' = IsStep w e r w'
+  AreToRefusal (e ∷ next ∷ es) w r w' =
+      (IsStep w e r w' × (is_refused r ≡ true))
+      ⊎ ((q : Reply) × (v : WorldData D) × IsStep w e q v × (is_refused q ≡ false)
+      × AreToRefusal (next ∷ es) v r w')

@@ -1,0 +1,57 @@
+//! A flush whose group doesn't fit into the last segment of the log.
+use crate::assert::assert_replies;
+use std::io::Write;
+use std::test::Fail;
+
+/// One group takes so many of the transactions below: the record of one has 267,274 bytes, and a
+/// body at most 4,194,304.
+const PER_GROUP: u64 = 15;
+
+/// So many of them are 17 groups. A segment of 67,108,864 bytes has room for 16 of these, of
+/// 4,009,133 bytes each.
+const TRANSACTIONS: u8 = 255;
+
+/// A transaction that writes 256 rows with 1,024 bytes of data each.
+fn push_transaction(script: &mut Vec<u8>, place: u8, data: &[u8]) -> Result<(), Fail> {
+    writeln!(script, "begin t{place}")?;
+    let first = u64::from(place) * 256;
+    for number in 0..256_u64 {
+        let key = first + number;
+        write!(script, "insert t{place} 0 {key} 1 ")?;
+        script.extend_from_slice(data)?;
+        script.push(b'\n')?;
+    }
+    writeln!(script, "commit t{place}")?;
+    Ok(())
+}
+
+/// What it is answered.
+fn push_answers(expected: &mut Vec<u8>, begin: u64, end: u64) -> Result<(), Fail> {
+    writeln!(expected, "began {begin}")?;
+    for _ in 0..256 {
+        expected.extend_from_slice(b"inserted\n")?;
+    }
+    writeln!(expected, "committed {end}")?;
+    Ok(())
+}
+
+#[test]
+fn a_flush_rotates_where_the_segment_is_full(rt: HostRuntime) -> Result<(), Fail> {
+    let alloc = rt.alloc();
+    let data = vec![in alloc; b'6'; 2_048]?;
+    let mut script = Vec::new(alloc);
+    let mut expected = Vec::new(alloc);
+    for place in 0..TRANSACTIONS {
+        let begin = 2 * u64::from(place) + 1;
+        let end = begin + 1;
+        push_transaction(&mut script, place, &data)?;
+        push_answers(&mut expected, begin, end)?;
+        if (u64::from(place) + 1) % PER_GROUP == 0 {
+            script.extend_from_slice(b"flush\n")?;
+            writeln!(expected, "durable {end}")?;
+        }
+    }
+    script.extend_from_slice(b"rotate\nrotate\n")?;
+    expected.extend_from_slice(b"installed 2\nrefused 56\n")?;
+    assert_replies(&rt, alloc, script.as_slice(), expected.as_slice())
+}

@@ -1,5 +1,0 @@
-//! The tests of a store over many files.
-#![tactic(auto)]
-
-#[cfg(test)]
-mod tests;
