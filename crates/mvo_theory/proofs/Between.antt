@@ -33,6 +33,17 @@ write_here k e (Some v) h f = go (eq_by_cmp key_cmp k v.0) refl h
     go true g i = f v refl ∙ ap Key (key_same k v.0 g)
     go false g i = absurd (false≢true i)
 
+-- what holds of the entry of each operation holds of each key that they write
+pub written_at : (P : Entry → Type 0) (k : RowKey) (us : History) → AllByRecursion (λ o. P (entry_of o.0)) us → is_some (net_write k us) ≡ true → P (Key k)
+written_at P k [] a h = absurd (false≢true h)
+written_at P k (t ∷ ts) a h = go (is_some (net_write k ts)) refl (written_at P k ts a.1)
+  where
+    go : (b : Bool) → is_some (net_write k ts) ≡ b → (is_some (net_write k ts) ≡ true → P (Key k)) → P (Key k)
+    go true e r = r e
+    go false e r =
+        let here : is_some (write_at k (write_of t.0 t.1)) ≡ true = ap (λ (w : Option Effect). is_some (later w (write_at k (write_of t.0 t.1)))) (sym (none_unless (net_write k ts) e)) ∙ h in
+        subst P (write_here k (entry_of t.0) (write_of t.0 t.1) here (write_entry t.0 t.1)) a.0
+
 pub apart_writer : (k : RowKey) (x : StampedTx) (us : History) → IsApart x us → is_some (net_write k us) ≡ true → net_write k x.history ≡ None
 apart_writer k x [] a h = absurd (false≢true h)
 apart_writer k x (t ∷ ts) a h = go (is_some (net_write k ts)) refl (apart_writer k x ts a.1)

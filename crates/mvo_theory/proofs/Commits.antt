@@ -9,6 +9,7 @@ use Rattle.mvo_theory.specs.Sound.{IsSound}
 use Rattle.mvo_theory.proofs.Cases.{settle_none, if_stands, or_flagged, not_settled_at}
 use Rattle.mvo_theory.specs.Causes.{why_not_settle, waiting_for}
 use Rattle.mvo_theory.proofs.Causes.{waiting_none}
+use Rattle.mvo_theory.proofs.Apart.{IsFreeToSettle}
 use Rattle.mvo_theory.proofs.Ends.{settled_in}
 use Rattle.mvo_types.specs.declared.refusal.Refusal.{Refusal}
 use Rattle.mvo_types.specs.declared.refusal.Refusal.TheVariants.{NotValidated, DependencyAborted}
@@ -48,3 +49,9 @@ sound_settled s t x f w n h =
     subst (λ (l : List StampedTx). IsSound (after_commit (record s { stamped = l }) t x.end)) (sym p.2)
     (subst (λ (i : ℕ). IsSound (after_commit (record s { stamped = p.0 ++ x ∷ p.1 }) i x.end)) p.3
     (settled_in s.start s.base s.past s.marks s.clock s.active p.0 p.1 x s.ended p.4 q.1 q.0 (subst (AllByRecursion _) p.2 (waiting_none x.depends_on s.stamped n)) there))
+
+-- it is valid and isn't flagged, and none that it depends on is Preparing
+pub free_settled : (s : State) (t : ℕ) (x : StampedTx) → preparing_of t s.stamped ≡ Some x → why_not_settle s t ≡ None → waiting_for x.depends_on s.stamped ≡ None → (x.aborted_dependency ≡ None) × (x.valid ≡ true) × IsFreeToSettle s.stamped x.depends_on
+free_settled s t x f w n =
+    let q = not_flagged_valid x.aborted_dependency x.valid (sym (ap (not_settled_at s t) f) ∙ settle_none s t w) in
+    (q.0, q.1, waiting_none x.depends_on s.stamped n)

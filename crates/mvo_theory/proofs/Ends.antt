@@ -86,7 +86,7 @@ some_none : (n : ℕ) → ◌≡◌ {A = Option ℕ} (Some n) None → ⊥
 some_none n g = cc
 
 -- what isn't flagged by this abort wasn't before, and doesn't depend on the aborted one
-spared : (t e : ℕ) (ds : List ℕ) (aborted_dependency : Option ℕ) → aborted_dependency_after t e ds aborted_dependency ≡ None → (aborted_dependency ≡ None) × (has_end ds e ≡ false)
+pub spared : (t e : ℕ) (ds : List ℕ) (aborted_dependency : Option ℕ) → aborted_dependency_after t e ds aborted_dependency ≡ None → (aborted_dependency ≡ None) × (has_end ds e ≡ false)
 spared t e ds (Some u) h = absurd (some_none u h)
 spared t e ds None h = (refl, go (has_end ds e) h)
   where
@@ -94,7 +94,7 @@ spared t e ds None h = (refl, go (has_end ds e) h)
     go true g = absurd (some_none t g)
     go false g = refl
 
-out_here : (e : ℕ) (ds : List ℕ) → has_end ds e ≡ false → (x : StampedTx) → (x.end ≡ e → x.settled ≡ false) → IsOut (not_at e) ds x
+pub out_here : (e : ℕ) (ds : List ℕ) → has_end ds e ≡ false → (x : StampedTx) → (x.end ≡ e → x.settled ≡ false) → IsOut (not_at e) ds x
 out_here e ds n x f = λ q. let is = eqb-true x.end e (not-false (x.end == e) q) in (f is, ap (has_end ds) is ∙ n)
 
 pub like_flag : (t e : ℕ) → IsLike (with_flag t e)

@@ -59,6 +59,7 @@ kept_worded opening xs s f h = record {
   claimed = record { active = h.claimed.active; stamped = h.claimed.stamped; past = h.claimed.past };
   has_ends = record { ends = h.has_ends.ends; alone = h.has_ends.alone; active = h.has_ends.active; stamped = h.has_ends.stamped; fresh = h.has_ends.fresh; others = h.has_ends.others };
   prints = record { active = h.prints.active; stamped = h.prints.stamped; fresh = h.prints.fresh };
+  origins = record { active = h.origins.active; preparing = h.origins.preparing; settled = h.origins.settled; behind = h.origins.behind };
 }
 
 pub kept_taken_over : (opening : Map) (xs : List Step) (s : State) (c : Option Claim) → IsKept opening xs s → IsKept opening xs (taken_over c s)
@@ -87,4 +88,5 @@ kept_closed opening xs s m h = record {
   claimed = record { active = h.claimed.active; stamped = h.claimed.stamped; past = h.claimed.past };
   has_ends = record { ends = h.has_ends.ends; alone = h.has_ends.alone; active = h.has_ends.active; stamped = h.has_ends.stamped; fresh = h.has_ends.fresh; others = h.has_ends.others };
   prints = record { active = h.prints.active; stamped = h.prints.stamped; fresh = h.prints.fresh };
+  origins = record { active = h.origins.active; preparing = h.origins.preparing; settled = h.origins.settled; behind = h.origins.behind };
 }

@@ -14,7 +14,7 @@ use Rattle.mvo_model.specs.Trace.Step.{Begins, Answers, Prepares, Checks, Commit
 use Rattle.mvo_theory.specs.Entries.{entries}
 use Rattle.mvo_theory.specs.State.{State, StampedTx, ActiveTx, seen_by, history_of_active, snapshot, active_of, preparing_of}
 use Rattle.mvo_theory.specs.Claims.{ended_key}
-use Rattle.mvo_theory.specs.Changes.{after_begin, after_operation, after_check, after_abort_of_active, after_termination, after_prepare, after_trim}
+use Rattle.mvo_theory.specs.Changes.{after_begin, after_operation, after_check, after_abort_of_active, after_termination, after_prepare, after_trim, after_commit}
 use Rattle.mvo_theory.specs.Causes.{why_not_trim, claimed_by, change_of, differs, entry_differs, why_not_do, why_not_precommit, why_not_validate, why_not_settle, waiting_for, awaited_by, awaited, end_at, end_of, is_failure, why_not_finish}
 use Rattle.mvo_theory.proofs.Cases.{validate_none, or_flagged, not_op, not_checked_at}
 use Rattle.mvo_theory.specs.Steps.{after_precommit_of, after_precommit, after_validate_of, after_validate, after_commit_of, after_commit_now, after_settle_unless, after_settle, after_abort_of, after_abort, after_refusal, steps_of_refusal}
@@ -28,7 +28,7 @@ use Rattle.mvo_theory.proofs.Each.{each_weaker, each_both, each_append}
 use Rattle.mvo_theory.proofs.Sound.{sound_after_begin, IsAnswer, sound_after_operation, sound_after_prepare, IsCheck, sound_after_check}
 use Rattle.mvo_theory.proofs.Ends.{sound_after_abort_of_active, sound_after_abort_of_preparing}
 use Rattle.mvo_theory.proofs.Causes.{change_none}
-use Rattle.mvo_theory.proofs.Commits.{split_at, sound_settled}
+use Rattle.mvo_theory.proofs.Commits.{split_at, free_settled, sound_settled}
 use Rattle.mvo_theory.proofs.Settle.{rising_before, rising_after}
 use Rattle.mvo_theory.proofs.Numbered.{numbered_after_begin, numbered_after_operation, numbered_after_prepare, numbered_after_check, numbered_after_commit, numbered_after_abort_of_active, numbered_after_abort_of_preparing}
 use Rattle.mvo_theory.proofs.Single.{single_after_begin, single_after_operation, single_after_prepare, single_after_check, single_after_commit, single_after_abort_of_active, single_after_abort_of_preparing, single_after_termination}
@@ -46,6 +46,9 @@ use Rattle.mvo_theory.proofs.EndSteps.{ends_after_begin, ends_after_operation, e
 use Rattle.mvo_theory.proofs.ClaimSteps.{claimed_same, claimed_after_begin, claimed_after_operation, claimed_after_prepare, claimed_after_check, claimed_after_commit, claimed_after_abort_of_active, claimed_after_abort_of_preparing, claimed_after_termination, claimed_after_trim}
 use Rattle.mvo_theory.proofs.Claims.{first_claim, exclusive_after_begin, IsFirst, exclusive_after_operation, exclusive_after_prepare, exclusive_after_check, exclusive_after_commit, exclusive_after_abort_of_active, exclusive_after_abort_of_preparing, exclusive_after_termination}
 use Rattle.mvo_theory.specs.Calls.Call.{Settle}
+use Rattle.mvo_theory.specs.Origins.{HasOrigins}
+use Rattle.mvo_theory.proofs.OriginSteps.{Of, origins_after_begin, origins_after_operation, origins_after_prepare, origins_after_check, origins_after_abort_of_active, origins_after_termination, origins_after_trim}
+use Rattle.mvo_theory.proofs.OriginEnds.{alone_at, origins_after_commit, origins_after_abort_of_preparing}
 
 -- ---- what an Active transaction sees
 pub sees : (s : State) (t : ℕ) → IsNumbered s → AllByRecursion (λ (r : ActiveTx). r.id ≡ t → snapshot s t ≡ after_history r.history (seen_by s.base s.stamped r.id)) s.active
@@ -89,6 +92,7 @@ kept_done opening xs s t op w h =
       claimed = claimed_after_operation opening xs s t op a h.sound h.single h.started h.after_trace h.claimed;
       has_ends = ends_after_operation xs s t op a h.has_ends;
       prints = prints_after_operation opening xs s t op a (drawn found.0 found.1) (apart found.0 found.1) (seen_traced opening xs s h) h.prints;
+      origins = origins_after_operation s t op a h.origins;
     }
   where
     drawn : (r : ActiveTx) → active_of t s.active ≡ Some r → t ≤ s.clock
@@ -110,6 +114,7 @@ kept_begun opening xs s h = record {
   claimed = claimed_after_begin xs (Begins (s.clock + 1) ∷ []) s (s.clock + 1) h.claimed;
   has_ends = ends_after_begin xs s (s.clock + 1) (omega arith) h.sound h.started h.has_ends;
   prints = prints_after_begin opening xs s (s.clock + 1) (omega arith) h.prints;
+  origins = origins_after_begin s (s.clock + 1) h.origins;
 }
 
 -- ---- precommit
@@ -134,6 +139,8 @@ kept_prepared opening xs s t w h =
           (ends_after_prepare xs s r (s.clock + 1) (omega arith) (active_holds (λ q. is_aborted q.id xs ≡ false) t s.active r found.1 h.has_ends.active).0
           (each_append (λ x. x.id ≢ r.id) s.past s.stamped (active_holds (λ q. AllByRecursion (λ x. x.id ≢ q.id) s.past) t s.active r found.1 h.numbered.before).0 (active_holds (λ q. AllByRecursion (λ x. x.id ≢ q.id) s.stamped) t s.active r found.1 h.numbered.apart).0) h.has_ends));
       prints = subst (HasFootprints opening (xs ++ Prepares t (s.clock + 1) ∷ [])) now (prints_after_prepare opening xs s r t (s.clock + 1) (omega arith) (active_holds (λ q. footprint_in opening xs q.id ≡ q.footprint) t s.active r found.1 h.prints.active).0 h.prints);
+      origins = subst HasOrigins now (origins_after_prepare s r (s.clock + 1) (omega arith) (active_holds (IsActive s.base s.stamped s.clock) t s.active r found.1 h.sound.active).0 (active_holds (Of s) t s.active r found.1 h.origins.active).0
+          (active_holds (λ q. AllByRecursion (λ x. x.end ≢ q.id) s.past) t s.active r found.1 h.has_ends.others).0 (active_holds (λ q. s.start ≤ q.id) t s.active r found.1 h.started.begun).0 h.sound h.started h.origins);
     }
 
 -- ---- validate
@@ -182,6 +189,7 @@ kept_checked opening xs s t w h =
       claimed = subst (AreClaimed (xs ++ Checks t ∷ [])) now (claimed_at x v x.valid);
       has_ends = subst (HasEnds (xs ++ Checks t ∷ [])) now (ends_at x v x.valid);
       prints = subst (HasFootprints opening (xs ++ Checks t ∷ [])) now (prints_at x v x.valid);
+      origins = subst HasOrigins now (origins_at x v x.valid);
     }
   where
     sound_at : (x : StampedTx) (v : Bool) (before after : List StampedTx) → s.stamped ≡ before ++ x ∷ after → (b : Bool) → cond b None (entry_differs s.stamped x (slice_get (entries x.history) x.checked)) ≡ None → IsSound (cond b s (after_check s x.end (nat_le (length (entries x.history)) (x.checked + 1))))
@@ -204,6 +212,10 @@ kept_checked opening xs s t w h =
     prints_at x v true = prints_silent opening xs (Checks t) s (λ u. refl) h.prints
     prints_at x v false = prints_after_check opening xs s t x.end v h.prints
 
+    origins_at : (x : StampedTx) (v b : Bool) → HasOrigins (cond b s (after_check s x.end v))
+    origins_at x v true = h.origins
+    origins_at x v false = origins_after_check s x.end v h.origins
+
     ends_at : (x : StampedTx) (v b : Bool) → HasEnds (xs ++ Checks t ∷ []) (cond b s (after_check s x.end v))
     ends_at x v true = ends_same_after_check xs s t h.has_ends
     ends_at x v false = ends_after_check xs s t x.end v h.has_ends
@@ -221,6 +233,13 @@ kept_checked opening xs s t w h =
     started_at x v false = started_after_check s x.end v h.started
 
 -- ---- settle
+settled_origins : {opening : Map} (xs : List Step) (s : State) (t : ℕ) (x : StampedTx) → preparing_of t s.stamped ≡ Some x → why_not_settle s t ≡ None → waiting_for x.depends_on s.stamped ≡ None → IsKept opening xs s → HasOrigins (after_commit s t x.end)
+settled_origins xs s t x f w n h =
+    let p = split_at t s.stamped x f in
+    let m = found_in t s.stamped x f in
+    let q = free_settled s t x f w n in
+    origins_after_commit xs s t x m.0 (λ P here. subst (AllByRecursion (λ y. y.end ≡ x.end → P y)) (sym p.2) (alone_at p.0 p.1 x (subst IsRising p.2 h.sound.rising) P here)) p.4 q.1 q.0 q.2 h.sound h.started h.claimed h.origins
+
 kept_committed : (opening : Map) (xs : List Step) (s : State) (t : ℕ) (x : StampedTx) → preparing_of t s.stamped ≡ Some x → why_not_settle s t ≡ None → waiting_for x.depends_on s.stamped ≡ None → IsKept opening xs s → IsKept opening (xs ++ Commits t (end_of s t) ∷ []) (after_commit_now s t)
 kept_committed opening xs s t x f w n h =
     let now = sym (ap (after_commit_of s t) f) in
@@ -235,6 +254,7 @@ kept_committed opening xs s t x f w n h =
       claimed = subst (AreClaimed (xs ++ Commits t (end_of s t) ∷ [])) now (claimed_after_commit xs (Commits t (end_of s t) ∷ []) s t x.end h.claimed);
       has_ends = subst (HasEnds (xs ++ Commits t (end_of s t) ∷ [])) now (ends_after_commit xs s t t (end_of s t) x.end h.has_ends);
       prints = subst (HasFootprints opening (xs ++ Commits t (end_of s t) ∷ [])) now (prints_after_commit opening xs s t t (end_of s t) x.end h.prints);
+      origins = subst HasOrigins now (settled_origins xs s t x f w n h);
     }
 
 pub same_trace : (opening : Map) (xs : List Step) (s : State) → IsKept opening xs s → IsKept opening (xs ++ []) s
@@ -253,7 +273,7 @@ kept_settled opening xs s t w h = go (awaited s t) refl
 pub kept_aborted : (opening : Map) (xs : List Step) (s : State) (t : ℕ) → IsUnended s t → IsKept opening xs s → IsKept opening (xs ++ Aborts t ∷ []) (after_abort s t)
 kept_aborted opening xs s t u h =
     let q = go (preparing_of t s.stamped) refl in
-    record { sound = q.0; numbered = q.1; single = q.2; exclusive = q.3; started = q.4; after_trace = trace_aborted opening xs s t u h.sound h.single h.after_trace; traced = q.5; claimed = q.6; has_ends = q.7; prints = q.8 }
+    record { sound = q.0; numbered = q.1; single = q.2; exclusive = q.3; started = q.4; after_trace = trace_aborted opening xs s t u h.sound h.single h.after_trace; traced = q.5; claimed = q.6; has_ends = q.7; prints = q.8; origins = q.9 }
   where
     gone : (r : ActiveTx) → active_of t s.active ≡ Some r → HasEnds (xs ++ Aborts t ∷ []) (after_abort_of_active s t)
     gone r f =
@@ -265,10 +285,10 @@ kept_aborted opening xs s t u h =
         (subst (λ (n : ℕ). AllByRecursion (λ x. x.id ≢ n) s.past) is (active_holds (λ q. AllByRecursion (λ x. x.id ≢ q.id) s.past) t s.active r f h.numbered.before).0)
         (subst (λ (n : ℕ). AllByRecursion (λ x. x.id ≢ n) s.stamped) is (active_holds (λ q. AllByRecursion (λ x. x.id ≢ q.id) s.stamped) t s.active r f h.numbered.apart).0)) h.has_ends
 
-    drop : (r : ActiveTx) → active_of t s.active ≡ Some r → IsSound (after_abort_of_active s t) × IsNumbered (after_abort_of_active s t) × IsSingle (after_abort_of_active s t) × AreExclusive (after_abort_of_active s t) × IsStarted (after_abort_of_active s t) × AreTraced opening (xs ++ Aborts t ∷ []) (after_abort_of_active s t) × AreClaimed (xs ++ Aborts t ∷ []) (after_abort_of_active s t) × HasEnds (xs ++ Aborts t ∷ []) (after_abort_of_active s t) × HasFootprints opening (xs ++ Aborts t ∷ []) (after_abort_of_active s t)
-    drop r f = (sound_after_abort_of_active s t h.sound, numbered_after_abort_of_active s t h.numbered, single_after_abort_of_active s t r f h.sound h.single, exclusive_after_abort_of_active s t h.exclusive, started_after_abort_of_active s t h.started, traced_after_abort_of_active opening xs (Aborts t ∷ []) s t h.sound h.traced, claimed_after_abort_of_active xs (Aborts t ∷ []) s t h.claimed, gone r f, prints_after_abort_of_active opening xs s t h.prints)
+    drop : (r : ActiveTx) → active_of t s.active ≡ Some r → IsSound (after_abort_of_active s t) × IsNumbered (after_abort_of_active s t) × IsSingle (after_abort_of_active s t) × AreExclusive (after_abort_of_active s t) × IsStarted (after_abort_of_active s t) × AreTraced opening (xs ++ Aborts t ∷ []) (after_abort_of_active s t) × AreClaimed (xs ++ Aborts t ∷ []) (after_abort_of_active s t) × HasEnds (xs ++ Aborts t ∷ []) (after_abort_of_active s t) × HasFootprints opening (xs ++ Aborts t ∷ []) (after_abort_of_active s t) × HasOrigins (after_abort_of_active s t)
+    drop r f = (sound_after_abort_of_active s t h.sound, numbered_after_abort_of_active s t h.numbered, single_after_abort_of_active s t r f h.sound h.single, exclusive_after_abort_of_active s t h.exclusive, started_after_abort_of_active s t h.started, traced_after_abort_of_active opening xs (Aborts t ∷ []) s t h.sound h.traced, claimed_after_abort_of_active xs (Aborts t ∷ []) s t h.claimed, gone r f, prints_after_abort_of_active opening xs s t h.prints, origins_after_abort_of_active s t h.origins)
 
-    go : (w : Option StampedTx) → preparing_of t s.stamped ≡ w → IsSound (after_abort_of s t w) × IsNumbered (after_abort_of s t w) × IsSingle (after_abort_of s t w) × AreExclusive (after_abort_of s t w) × IsStarted (after_abort_of s t w) × AreTraced opening (xs ++ Aborts t ∷ []) (after_abort_of s t w) × AreClaimed (xs ++ Aborts t ∷ []) (after_abort_of s t w) × HasEnds (xs ++ Aborts t ∷ []) (after_abort_of s t w) × HasFootprints opening (xs ++ Aborts t ∷ []) (after_abort_of s t w)
+    go : (w : Option StampedTx) → preparing_of t s.stamped ≡ w → IsSound (after_abort_of s t w) × IsNumbered (after_abort_of s t w) × IsSingle (after_abort_of s t w) × AreExclusive (after_abort_of s t w) × IsStarted (after_abort_of s t w) × AreTraced opening (xs ++ Aborts t ∷ []) (after_abort_of s t w) × AreClaimed (xs ++ Aborts t ∷ []) (after_abort_of s t w) × HasEnds (xs ++ Aborts t ∷ []) (after_abort_of s t w) × HasFootprints opening (xs ++ Aborts t ∷ []) (after_abort_of s t w) × HasOrigins (after_abort_of s t w)
     go None e = let r = u e in drop r.0 r.1
     go (Some x) e =
         let p = split_at t s.stamped x e in (
@@ -281,6 +301,7 @@ kept_aborted opening xs s t u h =
           claimed_after_abort_of_preparing xs (Aborts t ∷ []) s t x.end h.claimed,
           (let m = found_in t s.stamped x e in ends_after_abort_of_preparing xs s t x m.0 m.1 h.sound h.started h.numbered h.has_ends),
           prints_after_abort_of_preparing opening xs s t x.end h.prints,
+          origins_after_abort_of_preparing xs s t x.end (subst (AllByRecursion (λ y. y.end ≡ x.end → y.settled ≡ false)) (sym p.2) (alone_open p.0 p.1 x p.4 (subst IsRising p.2 h.sound.rising))) h.sound h.claimed h.origins,
         )
 
 pub kept_failed : (opening : Map) (xs : List Step) (s : State) (t : ℕ) (r : Refusal) → (is_failure r ≡ true → IsUnended s t) → IsKept opening xs s → IsKept opening (xs ++ steps_of_refusal t r) (after_refusal s t r)
@@ -303,6 +324,7 @@ kept_terminated opening xs s t w h = record {
   claimed = claimed_after_termination xs (Terminates t ∷ []) s t h.claimed;
   has_ends = ends_after_termination xs s t h.has_ends;
   prints = prints_after_termination opening xs s t h.prints;
+  origins = origins_after_termination s t h.origins;
 }
 
 -- ---- trim
@@ -318,4 +340,5 @@ kept_trimmed opening xs s m w h = let t = may_trim s m w h.sound in record {
   claimed = claimed_after_trim xs s m h.claimed;
   has_ends = ends_after_trim xs s m h.sound h.has_ends;
   prints = prints_after_trim opening xs s m h.prints;
+  origins = origins_after_trim s m t h.sound h.origins;
 }

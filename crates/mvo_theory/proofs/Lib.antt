@@ -50,3 +50,6 @@ pub mod Prints
 pub mod Differs
 pub mod Converse
 pub mod Found
+pub mod Origins
+pub mod OriginSteps
+pub mod OriginEnds

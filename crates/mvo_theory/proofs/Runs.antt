@@ -21,6 +21,7 @@ use Rattle.mvo_theory.proofs.Traced.{traced_opened}
 use Rattle.mvo_theory.proofs.Prints.{prints_opened}
 use Rattle.mvo_theory.proofs.EndSteps.{ends_opened}
 use Rattle.mvo_theory.proofs.ClaimSteps.{claimed_opened}
+use Rattle.mvo_theory.proofs.OriginSteps.{origins_opened}
 use Rattle.mvo_theory.specs.Calls.Result.{Accepted, Refused}
 use Rattle.mvo_theory.specs.Calls.Call.{Begin, Do, Precommit, Validate, Settle, Rollback, Finish, Trim, Close}
 use Rattle.mvo_theory.proofs.Kept.{same_trace, kept_done, kept_begun, kept_prepared, kept_checked, kept_settled, kept_aborted, kept_failed, kept_terminated, kept_trimmed}
@@ -89,6 +90,7 @@ kept_opened rows mark = record {
   claimed = claimed_opened rows mark;
   has_ends = ends_opened rows mark;
   prints = prints_opened rows mark;
+  origins = origins_opened rows mark;
 }
 
 pub kept_after_run : (opening : Map) (xs : List Step) (s : State) (cs : Run) → MayRun s cs → IsKept opening xs s → IsKept opening (xs ++ trace_of s cs) (after_run s cs)

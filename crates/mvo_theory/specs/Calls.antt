@@ -18,6 +18,7 @@ use Rattle.mvo_theory.specs.Sound.{IsSound, IsNumbered, IsSingle, IsStarted, Are
 use Rattle.mvo_theory.specs.AfterTrace.{IsAfterTrace}
 use Rattle.mvo_theory.specs.Traced.{AreTraced}
 use Rattle.mvo_theory.specs.Claimed.{AreClaimed}
+use Rattle.mvo_theory.specs.Origins.{HasOrigins}
 use Rattle.mvo_theory.specs.Snapshots.{HasEnds, HasFootprints}
 
 pub data Call : Type 0 where
@@ -174,3 +175,4 @@ pub record IsKept (opening : Map) (steps : List Step) (s : State) : Type 0 where
   pub claimed : AreClaimed steps s
   pub has_ends : HasEnds steps s
   pub prints : HasFootprints opening steps s
+  pub origins : HasOrigins s

@@ -13,6 +13,7 @@ pub mod Steps
 pub mod AfterTrace
 pub mod Traced
 pub mod Claimed
+pub mod Origins
 pub mod Snapshots
 pub mod Calls
 pub mod Groups
