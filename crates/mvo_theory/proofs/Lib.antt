@@ -53,3 +53,4 @@ pub mod Found
 pub mod Origins
 pub mod OriginSteps
 pub mod OriginEnds
+pub mod StandingClaims

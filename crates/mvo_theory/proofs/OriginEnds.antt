@@ -1,31 +1,30 @@
 -- Claims are of the versions that stand for their transactions: a commit, and an abort of a Preparing one, keep that.
-use Rattle.std.proofs.Common.{◌≡◌, ◌≢◌, ℕ, ◌<◌, ◌≤◌, Bool, true, false, cond, not, ◌||◌, List, [], ◌∷◌, ◌++◌, Option, None, Some, map, refl, sym, ap, ◌∙◌, subst, ◌⊎◌, inl, inr, arith}
+use Rattle.std.proofs.Common.{◌≡◌, ◌≢◌, ℕ, ◌<◌, Bool, true, false, not, ◌||◌, List, [], ◌∷◌, ◌++◌, Option, None, map, refl, sym, ap, ◌∙◌, inl, inr, arith}
 use Rattle.std.specs.Prelude.{nat_lt, ◌==◌, ◌&&◌, is_some}
 use Rattle.std.specs.List.{AllByRecursion, filter}
-use Rattle.std.proofs.lemmas.Bool.{false≢true, true≢false, eqb-true, le-ltb, cases_lt, lt-ltb, eq-eqb, ltb-true}
+use Rattle.std.proofs.lemmas.Bool.{false≢true, true≢false, eqb-true, le-ltb, cases_lt, lt-ltb, ltb-true}
 use Rattle.mvo_types.specs.declared.row.RowKey.{RowKey}
-use Rattle.mvo_types.specs.Keys.{Map}
 use Rattle.mvo_model.specs.History.{History, net_write}
 use Rattle.mvo_model.specs.Trace.{Step}
-use Rattle.mvo_theory.specs.Entries.{Entry, entry_of, entries}
+use Rattle.mvo_theory.specs.Entries.{entry_of}
 use Rattle.mvo_theory.specs.Entries.Entry.{Key}
-use Rattle.mvo_theory.specs.State.{State, StampedTx, ActiveTx, Claim, timeline}
+use Rattle.mvo_theory.specs.State.{State, StampedTx, Claim}
 use Rattle.mvo_theory.specs.Dependencies.{is_writer, last_writer, has_end}
 use Rattle.mvo_theory.specs.Claims.{end_or, origin}
 use Rattle.mvo_theory.specs.Causes.{last_end, or_first}
-use Rattle.mvo_theory.specs.Changes.{after_commit, with_settled, with_flag, active_with_flag, aborted_dependency_after, not_at, after_abort_of_preparing}
+use Rattle.mvo_theory.specs.Changes.{after_commit, with_settled, with_flag, active_with_flag, not_at, after_abort_of_preparing}
 use Rattle.mvo_theory.specs.Claimed.{HasClaims, AreClaimed}
-use Rattle.mvo_theory.specs.Sound.{IsActive, IsPreparing, IsPlaced, IsPast, IsStarted, IsSound, IsRising, IsClear, IsApart, IsConsistent, IsUnchanged, IsDecidedOn, changes}
-use Rattle.mvo_theory.specs.Origins.{settled_ones, settled_origin, HaveOrigins, HasOrigins}
-use Rattle.mvo_theory.proofs.Each.{each_weaker, each_both, each_append, each_front, each_back, each_map, each_filter}
+use Rattle.mvo_theory.specs.Sound.{IsActive, IsPreparing, IsPlaced, IsPast, IsStarted, IsSound, IsRising, IsClear, IsApart, IsUnchanged, IsDecidedOn, changes}
+use Rattle.mvo_theory.specs.Origins.{settled_origin, HaveOrigins, HasOrigins}
+use Rattle.mvo_theory.proofs.Each.{each_weaker, each_both, each_append, each_front, each_back, each_map}
 use Rattle.mvo_theory.proofs.Stamped.{IsOut, each_part}
 use Rattle.mvo_theory.proofs.Apart.{IsIn, IsFreeToSettle, each_in, each_entry}
 use Rattle.mvo_theory.proofs.Depends.{written_decided}
 use Rattle.mvo_theory.proofs.Between.{apart_writer, free_key, written_at}
 use Rattle.mvo_theory.proofs.Settle.{rising_before, rising_after}
 use Rattle.mvo_theory.proofs.Ends.{spared, out_here}
-use Rattle.mvo_theory.proofs.Origins.{last_same, last_filter, last_map, last_push, last_kept, settles, same_origin, same_settled, settled_is, origin_is, or_mark}
-use Rattle.mvo_theory.proofs.OriginSteps.{Of, OfPreparing, OfSettled, IsBehind, moved, origins_alike, not_below}
+use Rattle.mvo_theory.proofs.Origins.{last_same, last_filter, last_map, last_kept, settles, same_origin, same_settled, settled_is, origin_is, or_mark}
+use Rattle.mvo_theory.proofs.OriginSteps.{Of, OfPreparing, OfSettled, IsBehind, moved}
 
 -- ---- an abort of a Preparing one
 -- what is claimed was written

@@ -1,36 +1,23 @@
 -- Claims are of the versions that stand for their transactions: each step keeps that.
-use Rattle.std.proofs.Common.{◌≡◌, ◌≢◌, ℕ, ◌+◌, ◌<◌, ◌≤◌, Bool, true, false, cond, not, ◌||◌, List, [], ◌∷◌, ◌++◌, Option, None, Some, map, refl, sym, ap, ◌∙◌, subst, ◌⊎◌, inl, inr, arith, append_assoc}
+use Rattle.std.proofs.Common.{◌≡◌, ◌≢◌, ℕ, ◌<◌, ◌≤◌, Bool, true, false, cond, not, List, [], ◌∷◌, ◌++◌, Option, None, Some, map, refl, sym, ap, ◌∙◌, subst, arith}
 use Rattle.std.specs.Prelude.{nat_lt, ◌==◌, ◌&&◌, is_some}
 use Rattle.std.specs.List.{AllByRecursion, filter}
-use Rattle.std.proofs.lemmas.Bool.{false≢true, true≢false, eqb-true, le-ltb, cases_lt, lt-ltb, eq-eqb, ltb-true}
+use Rattle.std.proofs.lemmas.Bool.{false≢true, le-ltb}
 use Rattle.mvo_types.specs.declared.row.RowKey.{RowKey}
 use Rattle.mvo_types.specs.declared.op.Op.{Op}
 use Rattle.mvo_types.specs.AnswerData.{AnswerData}
 use Rattle.mvo_types.specs.Keys.{Map}
-use Rattle.mvo_model.specs.History.{History, net_write}
-use Rattle.mvo_model.specs.Trace.{Step}
-use Rattle.mvo_theory.specs.Entries.{Entry, entry_of, entries}
-use Rattle.mvo_theory.specs.Entries.Entry.{Key}
-use Rattle.mvo_theory.specs.State.{State, StampedTx, ActiveTx, Claim, EndedTx, Word, timeline, opened, preparing_of}
-use Rattle.mvo_theory.specs.Dependencies.{is_writer, last_writer, has_end}
+use Rattle.mvo_model.specs.History.{net_write}
+use Rattle.mvo_theory.specs.State.{State, StampedTx, ActiveTx, Claim, timeline, opened}
+use Rattle.mvo_theory.specs.Dependencies.{is_writer, last_writer}
 use Rattle.mvo_theory.specs.Claims.{end_or, origin, ended_key, claims_with}
-use Rattle.mvo_theory.specs.Causes.{last_end, or_first, why_not_settle, waiting_for}
-use Rattle.mvo_theory.specs.Changes.{new_active, after_begin, after_operation, with_answer, after_prepare, to_stamped, without, after_check, with_check, after_commit, with_settled, with_flag, active_with_flag, aborted_dependency_after, not_at, after_abort_of_active, after_abort_of_preparing, after_termination, is_to, after_trim}
-use Rattle.mvo_theory.specs.Claimed.{HasClaims, AreClaimed}
-use Rattle.mvo_theory.specs.Snapshots.{HasEnds}
-use Rattle.mvo_theory.specs.Sound.{IsActive, IsPreparing, IsPlaced, IsPast, IsStarted, IsSound, IsRising, IsClear, IsApart, IsConsistent, IsUnchanged, changes}
+use Rattle.mvo_theory.specs.Changes.{new_active, after_begin, after_operation, with_answer, after_prepare, to_stamped, after_check, with_check, after_abort_of_active, after_termination, is_to, after_trim}
+use Rattle.mvo_theory.specs.Sound.{IsActive, IsPlaced, IsPast, IsStarted, IsSound}
 use Rattle.mvo_theory.specs.Origins.{settled_ones, settled_origin, HaveOrigins, HasOrigins}
 use Rattle.mvo_theory.proofs.Each.{each_weaker, each_both, each_append, each_front, each_back, each_map, each_filter}
-use Rattle.mvo_theory.proofs.Stamped.{IsOut, each_part}
-use Rattle.mvo_theory.proofs.Apart.{IsIn, each_in, each_entry}
-use Rattle.mvo_theory.proofs.Depends.{written_decided}
-use Rattle.mvo_theory.proofs.Between.{apart_writer, free_key}
-use Rattle.mvo_theory.proofs.Footprints.{none_unless}
-use Rattle.mvo_theory.proofs.Commits.{split_at, free_settled}
-use Rattle.mvo_theory.proofs.Settle.{rising_before, rising_after}
-use Rattle.mvo_theory.proofs.Ends.{spared, out_here}
+use Rattle.mvo_theory.proofs.Stamped.{each_part}
 use Rattle.mvo_theory.proofs.Trim.{IsTrim, is_after, front_below, timeline_trimmed, origins_trimmed}
-use Rattle.mvo_theory.proofs.Origins.{last_same, last_filter, last_map, last_push, last_kept, settles, same_origin, same_settled, settled_is, origin_is, or_mark}
+use Rattle.mvo_theory.proofs.Origins.{last_map, last_push, settles, same_origin, same_settled}
 
 abbrev pub Of : State → ActiveTx → Type 0
 Of s r = r.aborted_dependency ≡ None → HaveOrigins (origin s r.id) r.claims

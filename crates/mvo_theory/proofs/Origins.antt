@@ -1,21 +1,15 @@
 -- Claims are of the versions that stand for their transactions: each step keeps that.
-use Rattle.std.proofs.Common.{◌≡◌, ℕ, ◌+◌, ◌<◌, ◌≤◌, Bool, true, false, cond, not, ◌||◌, List, [], ◌∷◌, ◌++◌, Option, None, Some, map, refl, sym, ap, ◌∙◌, subst, ◌⊎◌, inl, inr, arith}
-use Rattle.std.specs.Prelude.{nat_lt, ◌==◌, ◌&&◌, is_some}
+use Rattle.std.proofs.Common.{◌≡◌, ℕ, Bool, true, false, cond, List, [], ◌∷◌, ◌++◌, Option, None, Some, map, refl, sym, ap, ◌∙◌, subst, inl, inr}
+use Rattle.std.specs.Prelude.{◌&&◌}
 use Rattle.std.specs.List.{AllByRecursion, filter}
-use Rattle.std.proofs.lemmas.Bool.{false≢true, true≢false, eqb-true, le-ltb}
+use Rattle.std.proofs.lemmas.Bool.{false≢true}
 use Rattle.mvo_types.specs.declared.row.RowKey.{RowKey}
-use Rattle.mvo_types.specs.declared.op.Op.{Op}
-use Rattle.mvo_types.specs.AnswerData.{AnswerData}
-use Rattle.mvo_types.specs.Keys.{Map}
-use Rattle.mvo_model.specs.History.{net_write}
-use Rattle.mvo_model.specs.Trace.{Step}
-use Rattle.mvo_theory.specs.State.{State, StampedTx, ActiveTx, Claim, EndedTx, Word, timeline, opened}
-use Rattle.mvo_theory.specs.Dependencies.{is_writer, or_later, last_writer, has_end}
-use Rattle.mvo_theory.specs.Claims.{end_or, origin, ended_key, claims_with}
+use Rattle.mvo_theory.specs.State.{StampedTx}
+use Rattle.mvo_theory.specs.Dependencies.{is_writer, or_later, last_writer}
+use Rattle.mvo_theory.specs.Claims.{end_or}
 use Rattle.mvo_theory.specs.Causes.{or_first, last_end}
-use Rattle.mvo_theory.specs.Origins.{settled_ones, settled_origin, HaveOrigins, HasOrigins}
+use Rattle.mvo_theory.specs.Origins.{settled_ones}
 use Rattle.mvo_theory.specs.Sound.{IsDecided, IsWritten}
-use Rattle.mvo_theory.proofs.Each.{each_weaker, each_both, each_append, each_front, each_back, each_map, each_filter}
 use Rattle.mvo_theory.proofs.Stamped.{IsOut}
 
 -- ---- the end of the last that passes

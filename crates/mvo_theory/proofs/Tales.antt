@@ -10,7 +10,7 @@ use Rattle.std.proofs.lemmas.Bool.{lt-ltb, ne_eqb, eq-eqb}
 use Rattle.mvo_types.specs.Keys.{Map}
 use Rattle.mvo_model.specs.History.{History, after_history, AreSerial, Legal}
 use Rattle.mvo_model.proofs.Serials.{rows_after_all-after_history}
-use Rattle.mvo_model.specs.Trace.{Step, history_of, commits, commit_of, end_cmp, IsCommitOrder, committed, IsSerial}
+use Rattle.mvo_model.specs.Trace.{Step, history_of, commits, commit_of, end_cmp, committed, IsSerial}
 use Rattle.mvo_model.specs.Trace.Step.{Commits}
 use Rattle.mvo_model.proofs.Orders.{in_order_same}
 use Rattle.mvo_model.proofs.Scans.{end_total, only_committed}

@@ -16,4 +16,5 @@ pub mod Claimed
 pub mod Origins
 pub mod Snapshots
 pub mod Calls
+pub mod StandingClaims
 pub mod Groups

@@ -1,5 +1,5 @@
 -- Of which version a claim is: of the one that stands for its transaction.
-use Rattle.std.specs.Prelude.{ℕ, ◌≡◌, ◌<◌, Bool, true, false, List, None}
+use Rattle.std.specs.Prelude.{ℕ, ◌≡◌, ◌<◌, true, false, List, None}
 use Rattle.std.specs.List.{AllByRecursion, filter}
 use Rattle.mvo_types.specs.declared.row.RowKey.{RowKey}
 use Rattle.mvo_types.specs.Keys.{Map}
@@ -25,7 +25,8 @@ abbrev pub HaveOrigins : (RowKey → ℕ) → List Claim → Type 0
 HaveOrigins origins cs = AllByRecursion (λ c. c.origin ≡ origins c.key) cs
 
 -- an unfinished transaction that isn't flagged claims what stands below its begin, and a settled
--- one what stands in the serial order below its end. The past of a Preparing one is before its begin
+-- one what stands in the serial order below its end. All that is past ended before a Preparing one
+-- began
 pub record HasOrigins (s : State) : Type 0 where
   pub active :
       AllByRecursion
