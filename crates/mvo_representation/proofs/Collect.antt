@@ -81,7 +81,7 @@ removed_rest (Puts g) h q = q
 removed_rest Clash h q = q
 
 -- an effect that leaves a row has a version that puts it
-abbrev leaves_row : NetEffect → Bool
+abbrev pub leaves_row : NetEffect → Bool
 leaves_row Untouched = false
 leaves_row Removed = false
 leaves_row (Puts h) = true
@@ -108,7 +108,7 @@ leaves_with (Puts g) (Puts h) q = refl
 leaves_with (Puts g) Clash q = refl
 leaves_with Clash e q = refl
 
-leaves_put : (g : ContentData) (e : NetEffect) → leaves_row (with_effect (Puts g) e) ≡ true
+pub leaves_put : (g : ContentData) (e : NetEffect) → leaves_row (with_effect (Puts g) e) ≡ true
 leaves_put g Untouched = refl
 leaves_put g Removed = refl
 leaves_put g (Puts h) = refl

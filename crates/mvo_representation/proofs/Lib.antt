@@ -45,3 +45,13 @@ pub mod WordSteps
 pub mod RowsPlaced
 pub mod Proved
 pub mod OutOfOrder
+pub mod OrderLists
+pub mod OrderPairs
+pub mod OrderSteps
+pub mod OrderOperations
+pub mod OrderFronts
+pub mod OrderEnds
+pub mod OrderAborts
+pub mod OrderClaims
+pub mod OrderBases
+pub mod OrderFalls

@@ -81,7 +81,7 @@ origins_after_abort_of_preparing xs s t e alone sound claimed h = record {
 
 -- ---- a commit
 -- of two of these, an earlier one that isn't settled leaves alone where a later one that is looked
-clear_pairs : (xs : List StampedTx) → IsRising xs → IsClear xs → AllByRecursion (λ y. AllByRecursion (λ z. z.settled ≡ false → y.settled ≡ true → z.end < y.end → IsApart z y.history) xs) xs
+pub clear_pairs : (xs : List StampedTx) → IsRising xs → IsClear xs → AllByRecursion (λ y. AllByRecursion (λ z. z.settled ≡ false → y.settled ≡ true → z.end < y.end → IsApart z y.history) xs) xs
 clear_pairs [] r c = tt
 clear_pairs (x ∷ xs) r c = (
   (λ o q lt. absurd (omega arith), each_weaker (λ z. x.end < z.end) (λ z. z.settled ≡ false → x.settled ≡ true → z.end < x.end → IsApart z x.history) (λ z above o q lt. absurd (omega arith)) xs r.0),

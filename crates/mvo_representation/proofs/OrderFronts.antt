@@ -1,0 +1,85 @@
+-- Versions that come to the front of their keys keep them in order, as their transaction goes on.
+use Rattle.std.proofs.Common.{◌≡◌, ◌≢◌, ℕ, ◌||◌, Bool, true, false, cond, eqb, List, [], ◌∷◌, map, Option, None, Some, refl, sym, ap, ◌∙◌, subst, ◌⊎◌, inl, inr}
+use Rattle.std.specs.List.{AllByRecursion}
+use Rattle.std.specs.Ordering.{eq_by_cmp}
+use Rattle.std.specs.Cmp.{eq_by_cmp_equiv}
+use Rattle.std.proofs.lemmas.Bool.{eqb-true, eqb-false, eq-eqb, false≢true, true≢false, or_parts}
+use Rattle.mvo_types.proofs.Maps.{keys_total}
+use Rattle.mvo_types.specs.declared.row.RowKey.{RowKey}
+use Rattle.mvo_types.specs.Keys.{key_cmp}
+use Rattle.mvo_theory.proofs.Each.{each_weaker, each_both}
+use Rattle.mvo_theory.proofs.Footprints.{key_same, or_left, or_right}
+use Rattle.mvo_chain.specs.declared.version.Version.{Version}
+use Rattle.mvo_chain.specs.Slots.{Slots, version_at}
+use Rattle.mvo_hash.specs.Lists.{Lists, number, numbers_of, is_among}
+use Rattle.mvo_representation.specs.Indexes.{HasNumbers}
+use Rattle.mvo_representation.specs.Order.{EachPair, with_fronts, AreNumbersOf}
+use Rattle.mvo_representation.proofs.OrderLists.{On, OnOne, fronted, EachLater, pairs_fronted, of_key, numbers_fronted, pairs_weaker}
+use Rattle.mvo_representation.proofs.OrderSteps.{at_key, none_of, IsOther}
+
+abbrev pub IsNumberOf : Slots → (Version → Bool) → RowKey × ℕ → Type 0
+IsNumberOf slots test p = (v : Version) → version_at slots (number p.1) ≡ Some v → (v.row.key ≡ p.0) × (test v ≡ true)
+
+-- of one key that comes later
+abbrev pub StandsLater : Slots → (Version → Version → Type 0) → RowKey × ℕ → RowKey × ℕ → Type 0
+StandsLater slots E p q = (v w : Version) → version_at slots (number p.1) ≡ Some v → version_at slots (number q.1) ≡ Some w → p.0 ≡ q.0 → p.1 ≢ q.1 → E w v
+
+same_keys : (q k : RowKey) → k ≡ q → eq_by_cmp key_cmp q k ≡ true
+same_keys q k e = subst (λ (j : RowKey). eq_by_cmp key_cmp j k ≡ true) e ((eq_by_cmp_equiv keys_total).refl k)
+
+among_key : (slots : Slots) (test : Version → Bool) (q : RowKey) (a : ℕ) (w : Version) → version_at slots (number a) ≡ Some w → w.row.key ≡ q → (ps : List (RowKey × ℕ)) → AllByRecursion (IsNumberOf slots test) ps → is_among a (map (λ p. p.1) ps) ≡ true → is_among a (of_key q ps) ≡ true
+among_key slots test q a w at key [] h e = absurd (false≢true e)
+among_key slots test q a w at key (p ∷ ps) h e = go (eqb a p.1) refl e (among_key slots test q a w at key ps h.1)
+  where
+    more : (b : Bool) → is_among a (of_key q ps) ≡ true → is_among a (cond b (p.1 ∷ of_key q ps) (of_key q ps)) ≡ true
+    more true f = or_right (eqb a p.1) (is_among a (of_key q ps)) f
+    more false f = f
+
+    go : (b : Bool) → eqb a p.1 ≡ b → (b || is_among a (map (λ r. r.1) ps)) ≡ true → (is_among a (map (λ r. r.1) ps) ≡ true → is_among a (of_key q ps) ≡ true) → is_among a (cond (eq_by_cmp key_cmp q p.0) (p.1 ∷ of_key q ps) (of_key q ps)) ≡ true
+    go true f g r =
+        let is = h.0 w (ap (λ (i : ℕ). version_at slots (number i)) (sym (eqb-true a p.1 f)) ∙ at) in
+        ap (λ (b : Bool). is_among a (cond b (p.1 ∷ of_key q ps) (of_key q ps))) (same_keys q p.0 (sym is.0 ∙ key)) ∙ or_left (eqb a p.1) (is_among a (of_key q ps)) f
+    go false f g r = more (eq_by_cmp key_cmp q p.0) (r g)
+
+picked : (Q : ℕ → Type 0) (q : RowKey) (ps : List (RowKey × ℕ)) → AllByRecursion (λ p. p.0 ≡ q → Q p.1) ps → AllByRecursion Q (of_key q ps)
+picked Q q [] h = tt
+picked Q q (p ∷ ps) h = go (eq_by_cmp key_cmp q p.0) refl (picked Q q ps h.1)
+  where
+    go : (b : Bool) → eq_by_cmp key_cmp q p.0 ≡ b → AllByRecursion Q (of_key q ps) → AllByRecursion Q (cond b (p.1 ∷ of_key q ps) (of_key q ps))
+    go true e r = (h.0 (key_same q p.0 e), r)
+    go false e r = r
+
+untested : (slots : Slots) (test : Version → Bool) (ps : List (RowKey × ℕ)) (q : RowKey) → AreNumbersOf slots test ps → (a : ℕ) (w : Version) → w.row.key ≡ q → is_among a (of_key q ps) ≡ false → version_at slots (number a) ≡ Some w → test w ≡ false
+untested slots test ps q h a w key none at = go (test w) refl
+  where
+    go : (b : Bool) → test w ≡ b → test w ≡ false
+    go false e = e
+    go true e = absurd (true≢false (sym (among_key slots test q a w at key ps h.only (h.all a w at e)) ∙ none))
+
+module _ (slots : Slots) (lists : Lists) (test : Version → Bool) (R R' E : Version → Version → Type 0) (F : Version → Type 0) where
+  tested : (ps : List (RowKey × ℕ)) (q : RowKey) → AllByRecursion (IsNumberOf slots test) ps → AllByRecursion (OnOne slots (λ w. test w ≡ true)) (of_key q ps)
+  tested ps q h = picked (OnOne slots (λ w. test w ≡ true)) q ps (each_weaker (IsNumberOf slots test) (λ p. p.0 ≡ q → OnOne slots (λ w. test w ≡ true) p.1) (λ p f e w at. (f w at).1) ps h)
+
+  later : (ps : List (RowKey × ℕ)) (q : RowKey) → ((n : ℕ) (v : Version) → version_at slots (number n) ≡ Some v → F v) → AllByRecursion (IsNumberOf slots test) ps → EachPair (StandsLater slots E) ps → ((w v : Version) → F w → F v → test w ≡ true → E w v → R' w v) → EachLater (On slots R') (of_key q ps)
+  later [] q facts h o front = tt
+  later (p ∷ ps) q facts h o front = go (eq_by_cmp key_cmp q p.0) refl (later ps q facts h.1 o.1 front)
+    where
+      here : p.0 ≡ q → is_among p.1 (of_key q ps) ≡ false → AllByRecursion (λ a. On slots R' a p.1) (of_key q ps)
+      here k none = each_both (λ a. IsOther p.1 a × OnOne slots (λ w. test w ≡ true) a) (λ a. p.1 ≢ a → On slots E a p.1) (λ a. On slots R' a p.1)
+          (λ a is f w v at at'. front w v (facts a w at) (facts p.1 v at') (is.1 w at) (f (λ e. is.0 (sym e)) w v at at')) (of_key q ps)
+          (each_both (IsOther p.1) (OnOne slots (λ w. test w ≡ true)) (λ a. IsOther p.1 a × OnOne slots (λ w. test w ≡ true) a) (λ a x y. (x, y)) (of_key q ps) (none_of p.1 (of_key q ps) none) (tested ps q h.1))
+          (picked (λ a. p.1 ≢ a → On slots E a p.1) q ps (each_weaker (StandsLater slots E p) (λ r. r.0 ≡ q → p.1 ≢ r.1 → On slots E r.1 p.1) (λ r f e d w v at at'. f v w at' at (k ∙ sym e) d) ps o.0))
+
+      go : (b : Bool) → eq_by_cmp key_cmp q p.0 ≡ b → EachLater (On slots R') (of_key q ps) → EachLater (On slots R') (cond b (p.1 ∷ of_key q ps) (of_key q ps))
+      go true e r = (here (key_same q p.0 e), r)
+      go false e r = r
+
+  -- those that pass come to the front
+  pub fronts_in_order : (ps : List (RowKey × ℕ)) → HasNumbers slots lists → ((n : ℕ) (v : Version) → version_at slots (number n) ≡ Some v → F v) → AreNumbersOf slots test ps → EachPair (StandsLater slots E) ps → ((w v : Version) → F w → F v → test w ≡ false → test v ≡ false → R w v → R' w v) →
+      ((w v : Version) → F w → F v → test w ≡ true → E w v → R' w v) → ((w v : Version) → F v → test v ≡ false → E w v) → (q : RowKey) → EachPair (On slots R) (numbers_of lists q) → EachPair (On slots R') (numbers_of (with_fronts lists ps) q)
+  fronts_in_order ps has facts h o stay front apart q order = subst (EachPair (On slots R')) (sym (numbers_fronted lists ps q)) (pairs_fronted (On slots R') (of_key q ps) (numbers_of lists q)
+      (pairs_weaker (OnOne slots (λ v. v.row.key ≡ q)) (On slots R) (λ a b. is_among a (of_key q ps) ≡ false → is_among b (of_key q ps) ≡ false → On slots R' a b)
+      (λ a b ka kb f x y w v at at'. stay w v (facts a w at) (facts b v at') (untested slots test ps q h a w (ka w at) x at) (untested slots test ps q h b v (kb v at') y at') (f w v at at')) (numbers_of lists q) (at_key slots lists q has) order)
+      (each_weaker (OnOne slots (λ v. v.row.key ≡ q)) (λ b. is_among b (of_key q ps) ≡ false → AllByRecursion (λ a. On slots R' a b) (of_key q ps))
+      (λ b kb none. each_weaker (OnOne slots (λ w. test w ≡ true)) (λ a. On slots R' a b) (λ a is w v at at'. front w v (facts a w at) (facts b v at') (is w at) (apart w v (facts b v at') (untested slots test ps q h b v (kb v at') none at'))) (of_key q ps) (tested ps q h.only)) (numbers_of lists q) (at_key slots lists q has))
+      (later ps q facts h.only o front))

@@ -1,0 +1,118 @@
+-- How the versions of a key stand, newest first.
+use Rattle.std.specs.Prelude.{ℕ, ◌≡◌, ◌≢◌, ◌<◌, ◌≤◌, ◌⊎◌, ◌||◌, ◌&&◌, Bool, true, false, is_none, List, [], ◌∷◌, map, Option, None, Some, ⊤}
+use Rattle.std.specs.List.{AllByRecursion}
+use Rattle.std.specs.Option.{option_or}
+use Rattle.mvo_types.specs.declared.row.RowKey.{RowKey}
+use Rattle.mvo_word.specs.declared.held.Held.{Held}
+use Rattle.mvo_chain.specs.declared.version.Version.{Version}
+use Rattle.mvo_chain.specs.Slots.{Slots, version_at}
+use Rattle.mvo_hash.specs.Lists.{Lists, number, is_among}
+use Rattle.mvo_model.specs.Trace.Phase.{Active, Preparing}
+use Rattle.mvo_visible.specs.Words.{States, names}
+use Rattle.mvo_visible.specs.Versions.{Numbered, versions_at}
+use Rattle.mvo_visible.specs.Fronts.{with_front}
+use Rattle.mvo_representation.specs.Words.{Phases, Ends, ends_of, stamp_in, has_stamp}
+use Rattle.mvo_representation.specs.Table.{phases_of}
+
+-- each stands so to each behind it
+abbrev pub EachPair : {X : Type 0} → (X → X → Type 0) → List X → Type 0
+EachPair R [] = ⊤
+EachPair R (w ∷ vs) = AllByRecursion (R w) vs × EachPair R vs
+
+-- ---- two versions of a key, w in front of v
+abbrev pub IsUpTo : ℕ → Option ℕ → Type 0
+IsUpTo s None = ⊤
+IsUpTo s (Some e) = e ≤ s
+
+-- the stamp of the put, or else that of the removal
+abbrev pub first_stamp : Ends → Version → Option ℕ
+first_stamp ends v = option_or (stamp_in ends v.begin) (stamp_in ends v.end)
+
+-- behind a put with a stamp no put has a greater one, and no removal of what has no stamp itself
+abbrev pub HasFallingPut : Ends → Version → Version → Type 0
+HasFallingPut ends w v =
+    (s : ℕ) → stamp_in ends w.begin ≡ Some s → IsUpTo s (first_stamp ends v)
+
+-- nor has any removal up to the start
+abbrev pub HasFallingRemoval : Ends → ℕ → Version → Version → Type 0
+HasFallingRemoval ends start w v =
+    (s e : ℕ) → stamp_in ends w.begin ≡ Some s → stamp_in ends v.end ≡ Some e
+    → e ≤ start → e ≤ s
+
+-- where one put both, it has ended the one behind
+abbrev pub HasEndedItsOwn : (Held → Bool) → Version → Version → Type 0
+HasEndedItsOwn n w v = n w.begin ≡ true → n v.begin ≡ true → n v.end ≡ true
+
+-- whether t put the version or ended it
+abbrev pub is_written_by : ℕ → Version → Bool
+is_written_by t v = names t v.begin || names t v.end
+
+-- behind a put with a stamp below its begin t wrote nothing
+abbrev pub WritesInFront : Ends → ℕ → Version → Version → Type 0
+WritesInFront ends t w v =
+    (s : ℕ) → stamp_in ends w.begin ≡ Some s → s < t → is_written_by t v ≡ false
+
+-- w may stand in front of v
+pub record MayPrecede (start : ℕ) (table : Phases) (w v : Version) : Type 0 where
+  pub puts : HasFallingPut (ends_of table) w v
+  pub removals : HasFallingRemoval (ends_of table) start w v
+  pub stamped : (e : ℕ) → HasEndedItsOwn (has_stamp (ends_of table) e) w v
+  pub active : (t : ℕ) → table t ≡ Active → HasEndedItsOwn (names t) w v
+  pub writes : (t : ℕ) → table t ≡ Active → WritesInFront (ends_of table) t w v
+
+-- ---- the versions of a key, and of each key
+abbrev pub StandInOrder : ℕ → Phases → List Numbered → Type 0
+StandInOrder start table vs = EachPair (λ w v. MayPrecede start table w.1 v.1) vs
+
+abbrev pub AllStandInOrder : ℕ → States → Slots → Lists → Type 0
+AllStandInOrder start states slots lists =
+    (key : RowKey) → StandInOrder start (phases_of states) (versions_at slots lists key)
+
+-- ---- versions that come to the front
+-- the lists after these numbers were brought to the front of their keys, one after another
+abbrev pub with_fronts : Lists → List (RowKey × ℕ) → Lists
+with_fronts lists [] = lists
+with_fronts lists (p ∷ ps) = with_fronts (with_front lists p.0 p.1) ps
+
+-- these are the numbers of the versions that pass, each with its key
+pub record AreNumbersOf (slots : Slots) (test : Version → Bool)
+    (ps : List (RowKey × ℕ)) : Type 0 where
+  pub all : (n : ℕ) (v : Version) → version_at slots (number n) ≡ Some v → test v ≡ true
+      → is_among n (map (λ p. p.1) ps) ≡ true
+  pub only :
+      AllByRecursion
+      (λ p. (v : Version) → version_at slots (number p.1) ≡ Some v
+      → (v.row.key ≡ p.0) × (test v ≡ true)) ps
+
+-- what comes to the front as t draws its end: what it put or ended whose put has no stamp
+abbrev pub comes_forward : Ends → ℕ → Version → Bool
+comes_forward ends t v = is_written_by t v && is_none (stamp_in ends v.begin)
+
+-- as t is aborted: what it put
+abbrev pub is_put_by : ℕ → Version → Bool
+is_put_by t v = names t v.begin
+
+-- of two that t put of one key, the later one comes behind the end of the earlier one
+abbrev pub EndsBefore : ℕ → Slots → RowKey × ℕ → RowKey × ℕ → Type 0
+EndsBefore t slots p q =
+    (v w : Version) → version_at slots (number p.1) ≡ Some v → version_at slots (number q.1) ≡ Some w
+    → p.0 ≡ q.0 → p.1 ≢ q.1 → HasEndedItsOwn (names t) w v
+
+-- whether t may still be aborted: it is Active or Preparing
+abbrev pub MayAbort : Phases → ℕ → Type 0
+MayAbort table t = (table t ≡ Active) ⊎ ((e : ℕ) × (table t ≡ Preparing e))
+
+-- ---- words that change so that others see the same
+-- an Active transaction has the same words, or none
+pub data HasSameWords (states : States) (t : ℕ) (v w : Version) : Type 0 where
+  Same : phases_of states t ≡ Active → names t w.begin ≡ names t v.begin
+      → names t w.end ≡ names t v.end → HasSameWords states t v w
+  Nothing : names t w.begin ≡ false → names t w.end ≡ false → HasSameWords states t v w
+
+-- the version has become w, and the table the other one
+pub record IsSeenAlike (states states' : States) (v w : Version) : Type 0 where
+  pub begin : stamp_in (ends_of (phases_of states')) w.begin
+      ≡ stamp_in (ends_of (phases_of states)) v.begin
+  pub end : stamp_in (ends_of (phases_of states')) w.end
+      ≡ stamp_in (ends_of (phases_of states)) v.end
+  pub active : (t : ℕ) → phases_of states' t ≡ Active → HasSameWords states t v w

@@ -1,0 +1,153 @@
+-- What keeps the versions of each key in order, and what follows.
+use Rattle.std.specs.Prelude.{ℕ, ◌≡◌, ◌+◌, ◌≤◌, length, List, Option, None, Some}
+use Rattle.std.specs.FinMap as fin
+use Rattle.mvo_types.specs.declared.row.RowKey.{RowKey}
+use Rattle.mvo_types.specs.declared.ids.Stamp.{Stamp}
+use Rattle.mvo_types.specs.RowData.{RowData}
+use Rattle.mvo_types.specs.Keys.{Map}
+use Rattle.mvo_model.specs.Trace.{Step}
+use Rattle.mvo_theory.specs.State.{State, ActiveTx, active_of, snapshot}
+use Rattle.mvo_theory.specs.Causes.{why_not_trim}
+use Rattle.mvo_chain.specs.declared.version.Version.{Version}
+use Rattle.mvo_chain.specs.declared.version.VersionNo.{VersionNo}
+use Rattle.mvo_chain.specs.Slots.{Slots, version_at}
+use Rattle.mvo_hash.specs.Lists.{Lists, IsFresh, number, numbers_of}
+use Rattle.mvo_range.specs.Place.{Map as Places}
+use Rattle.mvo_txn.specs.declared.state.TxState.TheVariants.{Active, Preparing, Committed, Aborted}
+use Rattle.mvo_visible.specs.Words.{States}
+use Rattle.mvo_visible.specs.Shown.{AllHaveFallingStamps}
+use Rattle.mvo_visible.specs.Fronts.{AllOwnInFront, DifferAt, with_new, with_less}
+use Rattle.mvo_visible.specs.Laws.{SlotsDifferAt}
+use Rattle.mvo_representation.specs.Words.{ends_of}
+use Rattle.mvo_representation.specs.Indexes.{all_versions}
+use Rattle.mvo_representation.specs.Steps.{MayEnd, IsUnnamed, fresh, ended_by}
+use Rattle.mvo_representation.specs.Table.{phases_of}
+use Rattle.mvo_representation.specs.Laws.{StandsFor}
+use Rattle.mvo_representation.specs.Order.{AllStandInOrder, with_fronts, AreNumbersOf, comes_forward, is_put_by, EachPair, EndsBefore, MayAbort, IsSeenAlike}
+
+-- ---- what follows
+-- Versions that stand in order have falling stamps, as a walk over them asks.
+abbrev pub OrderFalls : Type 0
+OrderFalls = (opening : Map) (steps : List Step) (s : State) (states : States) (slots : Slots)
+    (lists : Lists) (places : Places) → StandsFor opening steps s states slots lists places
+    → AllStandInOrder s.start states slots lists → AllHaveFallingStamps states slots lists
+
+-- What an Active transaction wrote stands in front of each put that is settled below its begin.
+abbrev pub OrderHasOwnInFront : Type 0
+OrderHasOwnInFront = (start : ℕ) (states : States) (slots : Slots) (lists : Lists) (t : ℕ)
+    → states t ≡ Some Active → AllStandInOrder start states slots lists
+    → AllOwnInFront states t t slots lists
+
+-- ---- an operation
+-- the slots have this at the number, and are the same at the others
+pub record HaveNow (slots slots' : Slots) (n : ℕ) (v : Version) : Type 0 where
+  pub others : SlotsDifferAt n slots slots'
+  pub here : version_at slots' (number n) ≡ Some v
+
+-- An insert that is told inserted puts a new version in front.
+abbrev pub InsertKeepsOrder : Type 0
+InsertKeepsOrder = (opening : Map) (steps : List Step) (s : State) (states : States)
+    (slots slots' : Slots) (lists : Lists) (places : Places) (r : ActiveTx) (row : RowData) (n : ℕ)
+    → StandsFor opening steps s states slots lists places → active_of r.id s.active ≡ Some r
+    → fin.get (snapshot s r.id) row.key ≡ None → IsFresh lists n
+    → HaveNow slots slots' n (fresh r.id row) → AllStandInOrder s.start states slots lists
+    → AllStandInOrder s.start states slots' (with_new lists row.key n)
+
+-- A delete ends a version that its transaction may end.
+abbrev pub DeleteKeepsOrder : Type 0
+DeleteKeepsOrder = (opening : Map) (steps : List Step) (s : State) (states : States)
+    (slots slots' : Slots) (lists : Lists) (places : Places) (r : ActiveTx) (v : Version) (n : ℕ)
+    → StandsFor opening steps s states slots lists places → active_of r.id s.active ≡ Some r
+    → version_at slots (number n) ≡ Some v
+    → MayEnd s (phases_of states) r.id (all_versions slots) v
+    → HaveNow slots slots' n (ended_by r.id v) → AllStandInOrder s.start states slots lists
+    → AllStandInOrder s.start states slots' lists
+
+-- An update ends such a version of the row's key, and puts a new one in front.
+abbrev pub UpdateKeepsOrder : Type 0
+UpdateKeepsOrder = (opening : Map) (steps : List Step) (s : State) (states : States)
+    (slots between slots' : Slots) (lists : Lists) (places : Places) (r : ActiveTx) (v : Version)
+    (row : RowData) (n m : ℕ)
+    → StandsFor opening steps s states slots lists places → active_of r.id s.active ≡ Some r
+    → version_at slots (number n) ≡ Some v → row.key ≡ v.row.key
+    → MayEnd s (phases_of states) r.id (all_versions slots) v
+    → HaveNow slots between n (ended_by r.id v)
+    → IsFresh lists m → HaveNow between slots' m (fresh r.id row)
+    → AllStandInOrder s.start states slots lists
+    → AllStandInOrder s.start states slots' (with_new lists row.key m)
+
+-- ---- a draw of an end, and an abort
+-- As a transaction draws its end, what it put or ended whose put has no stamp comes to the front, in
+-- the order of writing.
+abbrev pub DrawKeepsOrder : Type 0
+DrawKeepsOrder = (opening : Map) (steps : List Step) (s : State) (states states' : States)
+    (slots : Slots) (lists : Lists) (places : Places) (t : ℕ) (end' : Stamp)
+    (ps : List (RowKey × ℕ))
+    → StandsFor opening steps s states slots lists places → states t ≡ Some Active
+    → DifferAt t states states' → states' t ≡ Some (Preparing end') → end'.0 ≡ s.clock + 1
+    → AreNumbersOf slots (comes_forward (ends_of (phases_of states)) t) ps
+    → EachPair (EndsBefore t slots) ps → AllStandInOrder s.start states slots lists
+    → AllStandInOrder s.start states' slots (with_fronts lists ps)
+
+-- As an Active or Preparing one is aborted, what it put comes to the front.
+abbrev pub AbortBringsOrder : Type 0
+AbortBringsOrder = (opening : Map) (steps : List Step) (s : State) (states states' : States)
+    (slots : Slots) (lists : Lists) (places : Places) (t : ℕ) (ps : List (RowKey × ℕ))
+    → StandsFor opening steps s states slots lists places → MayAbort (phases_of states) t
+    → DifferAt t states states' → states' t ≡ Some Aborted → AreNumbersOf slots (is_put_by t) ps
+    → AllStandInOrder s.start states slots lists
+    → AllStandInOrder s.start states' slots (with_fronts lists ps)
+
+-- ---- other steps
+-- Words and transactions change so that others see the same.
+abbrev pub AlikeStayInOrder : Type 0
+AlikeStayInOrder = (start : ℕ) (states states' : States) (slots slots' : Slots) (lists : Lists)
+    → ((m : VersionNo) (w : Version) → version_at slots' m ≡ Some w
+    → (v : Version) × (version_at slots m ≡ Some v) × IsSeenAlike states states' v w)
+    → AllStandInOrder start states slots lists → AllStandInOrder start states' slots' lists
+
+-- A transaction begins.
+abbrev pub BeginKeepsOrder : Type 0
+BeginKeepsOrder = (opening : Map) (steps : List Step) (s : State) (states states' : States)
+    (slots : Slots) (lists : Lists) (places : Places) (t : ℕ)
+    → StandsFor opening steps s states slots lists places → states t ≡ None
+    → DifferAt t states states' → states' t ≡ Some Active
+    → AllStandInOrder s.start states slots lists → AllStandInOrder s.start states' slots lists
+
+-- A Preparing one commits.
+abbrev pub CommitStaysInOrder : Type 0
+CommitStaysInOrder = (start : ℕ) (states states' : States) (slots : Slots) (lists : Lists) (t : ℕ)
+    (end' : Stamp)
+    → DifferAt t states states' → states t ≡ Some (Preparing end')
+    → states' t ≡ Some (Committed end') → AllStandInOrder start states slots lists
+    → AllStandInOrder start states' slots lists
+
+-- One that no word names leaves the table.
+abbrev pub LeavingKeepsOrder : Type 0
+LeavingKeepsOrder = (start : ℕ) (states states' : States) (slots : Slots) (lists : Lists) (t : ℕ)
+    → DifferAt t states states' → states' t ≡ None → IsUnnamed t (all_versions slots)
+    → AllStandInOrder start states slots lists → AllStandInOrder start states' slots lists
+
+-- The start of the tale moves on.
+abbrev pub TrimKeepsOrder : Type 0
+TrimKeepsOrder = (opening : Map) (steps : List Step) (s : State) (states : States) (slots : Slots)
+    (lists : Lists) (places : Places) (m : ℕ)
+    → StandsFor opening steps s states slots lists places → why_not_trim s m ≡ None
+    → AllStandInOrder s.start states slots lists → AllStandInOrder m states slots lists
+
+-- A version of a key is removed, or the slot of a number that no key has changes.
+abbrev pub RemovalKeepsOrder : Type 0
+RemovalKeepsOrder = (start : ℕ) (states : States) (slots : Slots) (lists : Lists) (key : RowKey)
+    (n : ℕ) → AllStandInOrder start states slots lists
+    → AllStandInOrder start states slots (with_less lists key n)
+
+abbrev pub UnheldStaysInOrder : Type 0
+UnheldStaysInOrder = (start : ℕ) (states : States) (slots slots' : Slots) (lists : Lists) (n : ℕ)
+    → SlotsDifferAt n slots slots' → IsFresh lists n → AllStandInOrder start states slots lists
+    → AllStandInOrder start states slots' lists
+
+-- Where each key has one version at most, as when a core opens, they stand in order.
+abbrev pub SingleStandInOrder : Type 0
+SingleStandInOrder = (start : ℕ) (states : States) (slots : Slots) (lists : Lists)
+    → ((key : RowKey) → length (numbers_of lists key) ≤ 1)
+    → AllStandInOrder start states slots lists
