@@ -22,19 +22,21 @@ use Rattle.mvo_hash.specs.Lists.{Lists, number, numbers_of}
 use Rattle.mvo_txn.specs.declared.state.TxState.{TxState}
 use Rattle.mvo_txn.specs.declared.state.TxState.TheVariants as state
 use Rattle.mvo_visible.specs.Words.{States, names}
+use Rattle.mvo_visible.specs.Versions.{versions_at}
 use Rattle.mvo_visible.specs.Fronts.{DifferAt}
 use Rattle.mvo_representation.specs.Words.{Phases, Ends, end_in, ends_of, stamp_in, is_stamp, has_stamp}
 use Rattle.mvo_representation.specs.Versions.{IsKnown, IsKnownStamp, AreVersionsOf}
 use Rattle.mvo_representation.specs.Indexes.{all_versions}
 use Rattle.mvo_representation.specs.Steps.{IsUnnamed}
 use Rattle.mvo_representation.specs.Table.{phase_as, phases_of}
-use Rattle.mvo_representation.specs.Order.{IsUpTo, first_stamp, is_written_by, MayPrecede, AllStandInOrder, EachPair, with_fronts, AreNumbersOf, is_put_by, MayAbort, HasSameWords, IsSeenAlike}
+use Rattle.mvo_representation.specs.Order.{IsUpTo, first_stamp, is_written_by, MayPrecede, StandInOrder, AllStandInOrder, EachPair, with_fronts, is_put_by, MayAbort, HasSameWords, IsSeenAlike}
 use Rattle.mvo_representation.specs.Order.HasSameWords.{Same, Nothing}
 use Rattle.mvo_representation.specs.OrderLaws.{AbortBringsOrder, BeginKeepsOrder, CommitStaysInOrder, LeavingKeepsOrder}
 use Rattle.mvo_representation.proofs.Facts.{preparing_is, found_holds}
 use Rattle.mvo_representation.proofs.OrderPairs.{is_the_stamp, has_the_stamp, unstamped_pair}
+use Rattle.mvo_representation.proofs.OrderLists.{keyed, with_keyed, fronts_keyed}
 use Rattle.mvo_representation.proofs.OrderSteps.{order_to, order_from, live, alike_stay_in_order}
-use Rattle.mvo_representation.proofs.OrderFronts.{StandsLater, fronts_in_order}
+use Rattle.mvo_representation.proofs.OrderFronts.{StandsLater, fronts_in_order, written_numbers}
 use Rattle.mvo_representation.proofs.OrderEnds.{other_stamp, own_stamp, one_name, IsLive, live_at}
 
 none_stamp : (s : ℕ) → ◌≡◌ {A = Option ℕ} None (Some s) → ⊥
@@ -124,15 +126,19 @@ every_pair : {X : Type 0} (R : X → X → Type 0) → ((w v : X) → R w v) →
 every_pair R f [] = tt
 every_pair R f (x ∷ xs) = (each_always (R x) (f x) xs, every_pair R f xs)
 
+put_written : (t : ℕ) (v : Version) → is_put_by t v ≡ true → is_written_by t v ≡ true
+put_written t v e = ap (λ (b : Bool). b || names t v.end) e
+
 pub abort_brings_order : AbortBringsOrder
-abort_brings_order opening steps s states states' slots lists places t ps h may d aborted numbers order key =
+abort_brings_order opening steps s states states' slots lists places t ns h may d aborted written order key =
     let now : phases_of states' t ≡ Aborted = ap phase_as aborted in
-    order_from s.start (phases_of states') slots (numbers_of (with_fronts lists ps) key)
-    (fronts_in_order slots lists (is_put_by t) (MayPrecede s.start (phases_of states)) (MayPrecede s.start (phases_of states')) (λ w v. ⊤) (IsLive s (phases_of states)) ps h.numbers (live_at s (phases_of states) slots h.versions) numbers
-    (every_pair (StandsLater slots (λ w v. ⊤)) (λ p q v w a b c e. tt) ps)
+    subst (λ ls. StandInOrder s.start (phases_of states') (versions_at slots ls key)) (sym (fronts_keyed (is_put_by t) slots lists ns))
+    (order_from s.start (phases_of states') slots (numbers_of (with_keyed lists (keyed (is_put_by t) slots ns)) key)
+    (fronts_in_order slots lists (is_put_by t) (MayPrecede s.start (phases_of states)) (MayPrecede s.start (phases_of states')) (λ w v. ⊤) (IsLive s (phases_of states)) (keyed (is_put_by t) slots ns) h.numbers (live_at s (phases_of states) slots h.versions)
+    (written_numbers t slots (is_put_by t) ns (put_written t) written) (every_pair (StandsLater slots (λ w v. ⊤)) (λ p q v w a b c e. tt) (keyed (is_put_by t) slots ns))
     (λ w v lw lv fw fv. aborted_behind s states states' (all_versions slots) t h.kept.sound h.versions may now d w v lw fw fv)
     (λ w v lw lv n _. aborted_front s states states' (all_versions slots) t h.kept.sound h.versions may now d w v n) (λ w v lv f. tt) key
-    (order_to s.start (phases_of states) slots (numbers_of lists key) (order key)))
+    (order_to s.start (phases_of states) slots (numbers_of lists key) (order key))))
 
 -- ---- steps that others don't see
 -- only the phase of t differs, with the same end, and no word names it if it is Active then

@@ -3,7 +3,7 @@ use Rattle.std.proofs.Common.{◌≡◌, ◌≢◌, ℕ, ◌+◌, ◌<◌, ◌�
 use Rattle.std.specs.Prelude.{⊤, ◌==◌, ◌&&◌, is_none}
 use Rattle.std.specs.List.{AllByRecursion}
 use Rattle.std.specs.Option.{option_or}
-use Rattle.std.proofs.lemmas.Bool.{eqb-true, eqb-false, eq-eqb, false≢true, true≢false, cases_Bool}
+use Rattle.std.proofs.lemmas.Bool.{eqb-true, eqb-false, eq-eqb, false≢true, true≢false, cases_Bool, or_parts}
 use Rattle.mvo_types.specs.declared.row.RowKey.{RowKey}
 use Rattle.mvo_types.specs.declared.ids.Stamp.{Stamp}
 use Rattle.mvo_types.specs.declared.ids.TxId.{TxId}
@@ -24,17 +24,19 @@ use Rattle.mvo_hash.specs.Lists.{Lists, number, numbers_of}
 use Rattle.mvo_txn.specs.declared.state.TxState.{TxState}
 use Rattle.mvo_txn.specs.declared.state.TxState.TheVariants as state
 use Rattle.mvo_visible.specs.Words.{States, names}
+use Rattle.mvo_visible.specs.Versions.{versions_at}
 use Rattle.mvo_visible.specs.Fronts.{DifferAt}
 use Rattle.mvo_representation.specs.Words.{Phases, Ends, end_in, ends_of, stamp_in, is_stamp, has_stamp}
 use Rattle.mvo_representation.specs.Versions.{IsKnown, IsKnownStamp, IsInside, AreVersionsOf}
 use Rattle.mvo_representation.specs.Indexes.{all_versions}
 use Rattle.mvo_representation.specs.Table.{phase_as, phases_of}
-use Rattle.mvo_representation.specs.Order.{IsUpTo, first_stamp, is_written_by, MayPrecede, AllStandInOrder, EachPair, with_fronts, AreNumbersOf, comes_forward, is_put_by, EndsBefore, MayAbort, HasEndedItsOwn}
-use Rattle.mvo_representation.specs.OrderLaws.{DrawKeepsOrder, AbortBringsOrder}
+use Rattle.mvo_representation.specs.Order.{IsUpTo, first_stamp, is_written_by, MayPrecede, StandInOrder, AllStandInOrder, with_fronts, comes_forward, HasEndedItsOwn}
+use Rattle.mvo_representation.specs.OrderLaws.{DrawKeepsOrder}
 use Rattle.mvo_representation.proofs.Facts.{preparing_is, found_holds, IsDrawn, stamp_drawn}
 use Rattle.mvo_representation.proofs.OrderPairs.{is_the_stamp, has_the_stamp, unstamped_pair, active_is, inside_is}
+use Rattle.mvo_representation.proofs.OrderLists.{keyed, with_keyed, fronts_keyed}
 use Rattle.mvo_representation.proofs.OrderSteps.{order_to, order_from, live}
-use Rattle.mvo_representation.proofs.OrderFronts.{StandsLater, fronts_in_order}
+use Rattle.mvo_representation.proofs.OrderFronts.{fronts_in_order, written_numbers, written_order}
 
 none_stamp : (s : ℕ) → ◌≡◌ {A = Option ℕ} None (Some s) → ⊥
 none_stamp s q = cc
@@ -118,20 +120,15 @@ module _ (s : State) (states states' : States) (vs : List Version) (t e : ℕ) (
       let le = a.0.drawn in let is = a.1 in omega (arith, le, is)
 
   unput : (v : Version) → comes_forward (ends_of (phases_of states)) t v ≡ false → names t v.begin ≡ false
-  unput v f = elim (cases_Bool (names t v.begin)) [
-    | inl n ↦ absurd (true≢false (sym (ap (λ (b : Bool). (b || names t v.end) && is_none (stamp_in (ends_of (phases_of states)) v.begin)) n ∙ ap (λ (o : Option ℕ). is_none o) (old_stamp v.begin n)) ∙ f))
-    | inr n ↦ n
-  ]
+  unput v f = (or_parts (names t v.begin) (names t v.end && is_none (stamp_in (ends_of (phases_of states)) v.begin)) f).0
 
   unended : (v : Version) → comes_forward (ends_of (phases_of states)) t v ≡ false → stamp_in (ends_of (phases_of states)) v.begin ≡ None → names t v.end ≡ false
-  unended v f o = elim (cases_Bool (names t v.end)) [
-    | inl n ↦ absurd (true≢false (sym (ap (λ (b : Bool). b && is_none (stamp_in (ends_of (phases_of states)) v.begin)) (both (names t v.begin) (names t v.end) n) ∙ ap (λ (p : Option ℕ). is_none p) o) ∙ f))
-    | inr n ↦ n
-  ]
+  unended v f o = go (names t v.end) (is_none (stamp_in (ends_of (phases_of states)) v.begin)) (ap (λ (p : Option ℕ). is_none p) o) (or_parts (names t v.begin) (names t v.end && is_none (stamp_in (ends_of (phases_of states)) v.begin)) f).1
     where
-      both : (a b : Bool) → b ≡ true → (a || b) ≡ true
-      both true b q = refl
-      both false b q = q
+      go : (a b : Bool) → b ≡ true → (a && b) ≡ false → a ≡ false
+      go true true p g = absurd (true≢false g)
+      go true false p g = absurd (false≢true p)
+      go false b p g = refl
 
   -- one that comes to the front
   drawn_front : (w v : Version) → IsLive s (phases_of states) w → IsLive s (phases_of states) v → comes_forward (ends_of (phases_of states)) t w ≡ true → HasEndedItsOwn (names t) w v → MayPrecede s.start (phases_of states') w v
@@ -151,29 +148,34 @@ module _ (s : State) (states states' : States) (vs : List Version) (t e : ℕ) (
       parts true false g = absurd (false≢true g)
       parts false b g = absurd (false≢true g)
 
-      test_is : (is_written_by t w ≡ true) × (is_none (stamp_in (ends_of (phases_of states)) w.begin) ≡ true)
-      test_is = parts (is_written_by t w) (is_none (stamp_in (ends_of (phases_of states)) w.begin)) test
-
       no_stamp : (o : Option ℕ) → is_none o ≡ true → o ≡ None
       no_stamp None g = refl
       no_stamp (Some x) g = absurd (false≢true g)
 
+      -- it put the version, or it ended it and the put has no stamp
+      test_is : (names t w.begin ≡ true) ⊎ ((names t w.end ≡ true) × (stamp_in (ends_of (phases_of states)) w.begin ≡ None))
+      test_is = go (names t w.begin) refl
+        where
+          go : (b : Bool) → names t w.begin ≡ b → (names t w.begin ≡ true) ⊎ ((names t w.end ≡ true) × (stamp_in (ends_of (phases_of states)) w.begin ≡ None))
+          go true e = inl e
+          go false e = let p = parts (names t w.end) (is_none (stamp_in (ends_of (phases_of states)) w.begin)) (sym (ap (λ (c : Bool). c || (names t w.end && is_none (stamp_in (ends_of (phases_of states)) w.begin))) e) ∙ test) in
+              inr (p.0, no_stamp (stamp_in (ends_of (phases_of states)) w.begin) p.1)
+
+      put_has_none : stamp_in (ends_of (phases_of states)) w.begin ≡ None
+      put_has_none = elim test_is [ inl n ↦ old_stamp w.begin n | inr q ↦ q.1 ]
+
       put_is : (x : ℕ) → stamp_in (ends_of (phases_of states')) w.begin ≡ Some x → (names t w.begin ≡ true) × (x ≡ e)
       put_is x q = elim (cases_Bool (names t w.begin)) [
         | inl n ↦ (n, some_stamp x e (sym q ∙ new_stamp w.begin n))
-        | inr n ↦ absurd (none_stamp x (sym (other_stamp t states states' d w.begin n ∙ no_stamp (stamp_in (ends_of (phases_of states)) w.begin) test_is.1) ∙ q))
+        | inr n ↦ absurd (none_stamp x (sym (other_stamp t states states' d w.begin n ∙ put_has_none) ∙ q))
       ]
 
-      or_is : (a b : Bool) → (a || b) ≡ true → (a ≡ true) ⊎ (b ≡ true)
-      or_is true b g = inl refl
-      or_is false b g = inr g
-
       nobodys : (u : ℕ) → phases_of states' u ≡ Active → names u w.begin ≡ true → ⊥
-      nobodys u act p = let a = still_active u act in elim (or_is (names t w.begin) (names t w.end) test_is.0) [
+      nobodys u act p = let a = still_active u act in elim test_is [
         | inl n ↦ a.0 (one_name u t w.begin p n)
         | inr n ↦ elim (inside_is s (phases_of states) w u versions.phases lw.inside a.1 p) [
-          | inl i ↦ false≢true (sym (ap (names t) i) ∙ n)
-          | inr i ↦ a.0 (one_name u t w.end i n)
+          | inl i ↦ false≢true (sym (ap (names t) i) ∙ n.0)
+          | inr i ↦ a.0 (one_name u t w.end i n.0)
         ]
       ]
 
@@ -205,13 +207,24 @@ module _ (s : State) (states states' : States) (vs : List Version) (t e : ℕ) (
         | inr n ↦ ap (is_stamp x) (other_stamp t states states' d v.end n) ∙ p
       ]
 
+forward_written : (ends : Ends) (t : ℕ) (v : Version) → comes_forward ends t v ≡ true → is_written_by t v ≡ true
+forward_written ends t v e = go (names t v.begin) (names t v.end) (is_none (stamp_in ends v.begin)) e
+  where
+    go : (a b c : Bool) → (a || (b && c)) ≡ true → (a || b) ≡ true
+    go true b c f = refl
+    go false true c f = refl
+    go false false c f = f
+
 pub draw_keeps_order : DrawKeepsOrder
-draw_keeps_order opening steps s states states' slots lists places t end' ps h act d prepared drawn numbers ordered order key =
+draw_keeps_order opening steps s states states' slots lists places t end' ns h act d prepared drawn written order key =
     let was : phases_of states t ≡ Active = ap phase_as act in
     let now : phases_of states' t ≡ Preparing end'.0 = ap phase_as prepared in
-    order_from s.start (phases_of states') slots (numbers_of (with_fronts lists ps) key)
-    (fronts_in_order slots lists (comes_forward (ends_of (phases_of states)) t) (MayPrecede s.start (phases_of states)) (MayPrecede s.start (phases_of states')) (HasEndedItsOwn (names t)) (IsLive s (phases_of states)) ps h.numbers (live_at s (phases_of states) slots h.versions) numbers ordered
+    let test : Version → Bool = comes_forward (ends_of (phases_of states)) t in
+    subst (λ ls. StandInOrder s.start (phases_of states') (versions_at slots ls key)) (sym (fronts_keyed test slots lists ns))
+    (order_from s.start (phases_of states') slots (numbers_of (with_keyed lists (keyed test slots ns)) key)
+    (fronts_in_order slots lists test (MayPrecede s.start (phases_of states)) (MayPrecede s.start (phases_of states')) (HasEndedItsOwn (names t)) (IsLive s (phases_of states)) (keyed test slots ns) h.numbers (live_at s (phases_of states) slots h.versions)
+    (written_numbers t slots test ns (forward_written (ends_of (phases_of states)) t) written) (written_order t slots test ns written)
     (λ w v lw lv. drawn_behind s states states' (all_versions slots) t end'.0 h.kept.sound h.kept.started.drawn h.versions was now drawn d w v)
     (λ w v lw lv. drawn_front s states states' (all_versions slots) t end'.0 h.kept.sound h.kept.started.drawn h.versions was now drawn d w v lw lv)
     (λ w v lv f p q. absurd (true≢false (sym q ∙ unput s states states' (all_versions slots) t end'.0 h.kept.sound h.kept.started.drawn h.versions was now drawn d v f))) key
-    (order_to s.start (phases_of states) slots (numbers_of lists key) (order key)))
+    (order_to s.start (phases_of states) slots (numbers_of lists key) (order key))))

@@ -12,13 +12,19 @@ use Rattle.mvo_theory.proofs.Footprints.{key_same, or_left, or_right}
 use Rattle.mvo_chain.specs.declared.version.Version.{Version}
 use Rattle.mvo_chain.specs.Slots.{Slots, version_at}
 use Rattle.mvo_hash.specs.Lists.{Lists, number, numbers_of, is_among}
+use Rattle.mvo_visible.specs.Words.{names}
 use Rattle.mvo_representation.specs.Indexes.{HasNumbers}
-use Rattle.mvo_representation.specs.Order.{EachPair, with_fronts, AreNumbersOf}
-use Rattle.mvo_representation.proofs.OrderLists.{On, OnOne, fronted, EachLater, pairs_fronted, of_key, numbers_fronted, pairs_weaker}
+use Rattle.mvo_representation.specs.Order.{EachPair, with_fronts, HasEndedItsOwn, is_written_by, IsEndedBefore, IsWritten}
+use Rattle.mvo_representation.proofs.OrderLists.{On, OnOne, fronted, EachLater, pairs_fronted, of_key, and_key, keyed, with_keyed, fronts_keyed, numbers_fronted, no_version, some_version, pairs_weaker}
 use Rattle.mvo_representation.proofs.OrderSteps.{at_key, none_of, IsOther}
 
 abbrev pub IsNumberOf : Slots → (Version → Bool) → RowKey × ℕ → Type 0
 IsNumberOf slots test p = (v : Version) → version_at slots (number p.1) ≡ Some v → (v.row.key ≡ p.0) × (test v ≡ true)
+
+-- these are the numbers of the versions that pass, each with its key
+pub record AreNumbersOf (slots : Slots) (test : Version → Bool) (ps : List (RowKey × ℕ)) : Type 0 where
+  pub all : (n : ℕ) (v : Version) → version_at slots (number n) ≡ Some v → test v ≡ true → is_among n (map (λ p. p.1) ps) ≡ true
+  pub only : AllByRecursion (IsNumberOf slots test) ps
 
 -- of one key that comes later
 abbrev pub StandsLater : Slots → (Version → Version → Type 0) → RowKey × ℕ → RowKey × ℕ → Type 0
@@ -76,10 +82,69 @@ module _ (slots : Slots) (lists : Lists) (test : Version → Bool) (R R' E : Ver
 
   -- those that pass come to the front
   pub fronts_in_order : (ps : List (RowKey × ℕ)) → HasNumbers slots lists → ((n : ℕ) (v : Version) → version_at slots (number n) ≡ Some v → F v) → AreNumbersOf slots test ps → EachPair (StandsLater slots E) ps → ((w v : Version) → F w → F v → test w ≡ false → test v ≡ false → R w v → R' w v) →
-      ((w v : Version) → F w → F v → test w ≡ true → E w v → R' w v) → ((w v : Version) → F v → test v ≡ false → E w v) → (q : RowKey) → EachPair (On slots R) (numbers_of lists q) → EachPair (On slots R') (numbers_of (with_fronts lists ps) q)
+      ((w v : Version) → F w → F v → test w ≡ true → E w v → R' w v) → ((w v : Version) → F v → test v ≡ false → E w v) → (q : RowKey) → EachPair (On slots R) (numbers_of lists q) → EachPair (On slots R') (numbers_of (with_keyed lists ps) q)
   fronts_in_order ps has facts h o stay front apart q order = subst (EachPair (On slots R')) (sym (numbers_fronted lists ps q)) (pairs_fronted (On slots R') (of_key q ps) (numbers_of lists q)
       (pairs_weaker (OnOne slots (λ v. v.row.key ≡ q)) (On slots R) (λ a b. is_among a (of_key q ps) ≡ false → is_among b (of_key q ps) ≡ false → On slots R' a b)
       (λ a b ka kb f x y w v at at'. stay w v (facts a w at) (facts b v at') (untested slots test ps q h a w (ka w at) x at) (untested slots test ps q h b v (kb v at') y at') (f w v at at')) (numbers_of lists q) (at_key slots lists q has) order)
       (each_weaker (OnOne slots (λ v. v.row.key ≡ q)) (λ b. is_among b (of_key q ps) ≡ false → AllByRecursion (λ a. On slots R' a b) (of_key q ps))
       (λ b kb none. each_weaker (OnOne slots (λ w. test w ≡ true)) (λ a. On slots R' a b) (λ a is w v at at'. front w v (facts a w at) (facts b v at') (is w at) (apart w v (facts b v at') (untested slots test ps q h b v (kb v at') none at'))) (of_key q ps) (tested ps q h.only)) (numbers_of lists q) (at_key slots lists q has))
       (later ps q facts h.only o front))
+
+-- ---- what a transaction has written, as it comes to the front
+no_key : (o : Option Version) (test : Version → Bool) (n : ℕ) (ps : List (RowKey × ℕ)) (P : RowKey × ℕ → Type 0) → ((v : Version) → o ≡ Some v → test v ≡ true → P (v.row.key, n)) → AllByRecursion P ps → AllByRecursion P (and_key test n o ps)
+no_key None test n ps P f h = h
+no_key (Some v) test n ps P f h = go (test v) refl
+  where
+    go : (b : Bool) → test v ≡ b → AllByRecursion P (cond b ((v.row.key, n) ∷ ps) ps)
+    go true e = (f v refl e, h)
+    go false e = h
+
+-- what holds of each number that passes
+pub each_keyed : (test : Version → Bool) (slots : Slots) (P : RowKey × ℕ → Type 0) (ns : List ℕ) → AllByRecursion (λ n. (v : Version) → version_at slots (number n) ≡ Some v → test v ≡ true → P (v.row.key, n)) ns → AllByRecursion P (keyed test slots ns)
+each_keyed test slots P [] h = tt
+each_keyed test slots P (n ∷ ns) h = no_key (version_at slots (number n)) test n (keyed test slots ns) P h.0 (each_keyed test slots P ns h.1)
+
+always_of : (P : ℕ → Type 0) → ((n : ℕ) → P n) → (ns : List ℕ) → AllByRecursion P ns
+always_of P f [] = tt
+always_of P f (n ∷ ns) = (f n, always_of P f ns)
+
+pairs_keyed : (test : Version → Bool) (slots : Slots) (R : RowKey × ℕ → RowKey × ℕ → Type 0) (ns : List ℕ) → EachPair (λ m n. (v w : Version) → version_at slots (number m) ≡ Some v → version_at slots (number n) ≡ Some w → R (v.row.key, m) (w.row.key, n)) ns → EachPair R (keyed test slots ns)
+pairs_keyed test slots R [] h = tt
+pairs_keyed test slots R (n ∷ ns) h = go (version_at slots (number n)) refl (pairs_keyed test slots R ns h.1)
+  where
+    here : (b : Bool) (v : Version) → version_at slots (number n) ≡ Some v → EachPair R (keyed test slots ns) → EachPair R (cond b ((v.row.key, n) ∷ keyed test slots ns) (keyed test slots ns))
+    here true v e r = (each_keyed test slots (R (v.row.key, n)) ns (each_weaker _ (λ m. (w : Version) → version_at slots (number m) ≡ Some w → test w ≡ true → R (v.row.key, n) (w.row.key, m)) (λ m f w at _. f v w e at) ns h.0), r)
+    here false v e r = r
+
+    go : (o : Option Version) → version_at slots (number n) ≡ o → EachPair R (keyed test slots ns) → EachPair R (and_key test n o (keyed test slots ns))
+    go None e r = r
+    go (Some v) e r = here (test v) v e r
+
+among_keyed : (test : Version → Bool) (slots : Slots) (n : ℕ) (v : Version) → version_at slots (number n) ≡ Some v → test v ≡ true → (ns : List ℕ) → is_among n ns ≡ true → is_among n (map (λ p. p.1) (keyed test slots ns)) ≡ true
+among_keyed test slots n v at on [] e = absurd (false≢true e)
+among_keyed test slots n v at on (m ∷ ns) e = go (eqb n m) refl e (among_keyed test slots n v at on ns)
+  where
+    more : (o : Option Version) → is_among n (map (λ p. p.1) (keyed test slots ns)) ≡ true → is_among n (map (λ p. p.1) (and_key test m o (keyed test slots ns))) ≡ true
+    more None r = r
+    more (Some w) r = by (test w)
+      where
+        by : (b : Bool) → is_among n (map (λ p. p.1) (cond b ((w.row.key, m) ∷ keyed test slots ns) (keyed test slots ns))) ≡ true
+        by true = or_right (eqb n m) (is_among n (map (λ p. p.1) (keyed test slots ns))) r
+        by false = r
+
+    go : (b : Bool) → eqb n m ≡ b → (b || is_among n ns) ≡ true → (is_among n ns ≡ true → is_among n (map (λ p. p.1) (keyed test slots ns)) ≡ true) → is_among n (map (λ p. p.1) (and_key test m (version_at slots (number m)) (keyed test slots ns))) ≡ true
+    go true f g r =
+        ap (λ o. is_among n (map (λ p. p.1) (and_key test m o (keyed test slots ns)))) (ap (λ (i : ℕ). version_at slots (number i)) (sym (eqb-true n m f)) ∙ at)
+        ∙ ap (λ (b : Bool). is_among n (map (λ p. p.1) (cond b ((v.row.key, m) ∷ keyed test slots ns) (keyed test slots ns)))) on
+        ∙ or_left (eqb n m) (is_among n (map (λ p. p.1) (keyed test slots ns))) f
+    go false f g r = more (version_at slots (number m)) (r g)
+
+pub written_numbers : (t : ℕ) (slots : Slots) (test : Version → Bool) (ns : List ℕ) → ((v : Version) → test v ≡ true → is_written_by t v ≡ true) → IsWritten t slots ns → AreNumbersOf slots test (keyed test slots ns)
+written_numbers t slots test ns f h = record {
+  all = λ n v at on. among_keyed test slots n v at on ns (h.all n v at (f v on));
+  only = each_keyed test slots (IsNumberOf slots test) ns (always_of (λ n. (v : Version) → version_at slots (number n) ≡ Some v → test v ≡ true → IsNumberOf slots test (v.row.key, n)) (λ n v at on w at'. let same = some_version v w (sym at ∙ at') in (sym (ap (λ (x : Version). x.row.key) same), sym (ap test same) ∙ on)) ns);
+}
+
+pub written_order : (t : ℕ) (slots : Slots) (test : Version → Bool) (ns : List ℕ) → IsWritten t slots ns → EachPair (StandsLater slots (HasEndedItsOwn (names t))) (keyed test slots ns)
+written_order t slots test ns h = pairs_keyed test slots (StandsLater slots (HasEndedItsOwn (names t))) ns
+    (pairs_weaker (λ n. Unit {0}) (IsEndedBefore t slots) _ (λ m n _ _ f v w at at' x y p q e d. f x y p q (sym (ap (λ (z : Version). z.row.key) (some_version v x (sym at ∙ p))) ∙ e ∙ ap (λ (z : Version). z.row.key) (some_version w y (sym at' ∙ q))) d) ns (always_of (λ n. Unit {0}) (λ n. tt) ns) h.order)

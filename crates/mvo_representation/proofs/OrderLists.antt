@@ -14,7 +14,7 @@ use Rattle.mvo_visible.specs.Versions.{Numbered, and_version, versions_by}
 use Rattle.mvo_visible.specs.Fronts.{with_front}
 use Rattle.mvo_theory.proofs.Footprints.{key_same}
 use Rattle.mvo_theory.proofs.Each.{each_weaker, each_both}
-use Rattle.mvo_representation.specs.Order.{EachPair, with_fronts}
+use Rattle.mvo_representation.specs.Order.{EachPair, with_front_if, with_fronts}
 
 -- ---- pairs
 pub pairs_weaker : {X : Type 0} (P : X → Type 0) (R Q : X → X → Type 0) → ((w v : X) → P w → P v → R w v → Q w v) → (xs : List X) → AllByRecursion P xs → EachPair R xs → EachPair Q xs
@@ -124,11 +124,16 @@ pairs_fronted R (m ∷ ms) ns h k l = pairs_fronted R ms (m ∷ without m ns)
     always (x ∷ xs) = (tt, always xs)
 
 -- ---- of the numbers that come to the front, those of one key
+-- these numbers, each with the key of its version, come to the front of their keys
+abbrev pub with_keyed : Lists → List (RowKey × ℕ) → Lists
+with_keyed lists [] = lists
+with_keyed lists (p ∷ ps) = with_keyed (with_front lists p.0 p.1) ps
+
 abbrev pub of_key : RowKey → List (RowKey × ℕ) → List ℕ
 of_key q [] = []
 of_key q (p ∷ ps) = cond (eq_by_cmp key_cmp q p.0) (p.1 ∷ of_key q ps) (of_key q ps)
 
-pub numbers_fronted : (lists : Lists) (ps : List (RowKey × ℕ)) (q : RowKey) → numbers_of (with_fronts lists ps) q ≡ fronted (of_key q ps) (numbers_of lists q)
+pub numbers_fronted : (lists : Lists) (ps : List (RowKey × ℕ)) (q : RowKey) → numbers_of (with_keyed lists ps) q ≡ fronted (of_key q ps) (numbers_of lists q)
 numbers_fronted lists [] q = refl
 numbers_fronted lists (p ∷ ps) q =
     numbers_fronted (with_front lists p.0 p.1) ps q ∙ ap (fronted (of_key q ps)) (numbers_put lists p.0 (p.1 ∷ without p.1 (numbers_of lists p.0)) q)
@@ -137,3 +142,24 @@ numbers_fronted lists (p ∷ ps) q =
     go : (c : Bool) → eq_by_cmp key_cmp q p.0 ≡ c → fronted (of_key q ps) (cond c (p.1 ∷ without p.1 (numbers_of lists p.0)) (numbers_of lists q)) ≡ fronted (cond c (p.1 ∷ of_key q ps) (of_key q ps)) (numbers_of lists q)
     go true e = ap (λ (k : RowKey). fronted (of_key q ps) (p.1 ∷ without p.1 (numbers_of lists k))) (key_same q p.0 e)
     go false e = refl
+
+-- the numbers whose versions pass, each with its key
+abbrev pub and_key : (Version → Bool) → ℕ → Option Version → List (RowKey × ℕ) → List (RowKey × ℕ)
+and_key test n None ps = ps
+and_key test n (Some v) ps = cond (test v) ((v.row.key, n) ∷ ps) ps
+
+abbrev pub keyed : (Version → Bool) → Slots → List ℕ → List (RowKey × ℕ)
+keyed test slots [] = []
+keyed test slots (n ∷ ns) = and_key test n (version_at slots (number n)) (keyed test slots ns)
+
+pub fronts_keyed : (test : Version → Bool) (slots : Slots) (lists : Lists) (ns : List ℕ) → with_fronts test slots lists ns ≡ with_keyed lists (keyed test slots ns)
+fronts_keyed test slots lists [] = refl
+fronts_keyed test slots lists (n ∷ ns) = fronts_keyed test slots (with_front_if test lists n (version_at slots (number n))) ns ∙ go (version_at slots (number n))
+  where
+    one : (b : Bool) (v : Version) → with_keyed (cond b (with_front lists v.row.key n) lists) (keyed test slots ns) ≡ with_keyed lists (cond b ((v.row.key, n) ∷ keyed test slots ns) (keyed test slots ns))
+    one true v = refl
+    one false v = refl
+
+    go : (o : Option Version) → with_keyed (with_front_if test lists n o) (keyed test slots ns) ≡ with_keyed lists (and_key test n o (keyed test slots ns))
+    go None = refl
+    go (Some v) = one (test v) v

@@ -1,5 +1,5 @@
 -- How the versions of a key stand, newest first.
-use Rattle.std.specs.Prelude.{ℕ, ◌≡◌, ◌≢◌, ◌<◌, ◌≤◌, ◌⊎◌, ◌||◌, ◌&&◌, Bool, true, false, is_none, List, [], ◌∷◌, map, Option, None, Some, ⊤}
+use Rattle.std.specs.Prelude.{ℕ, ◌≡◌, ◌≢◌, ◌<◌, ◌≤◌, ◌⊎◌, ◌||◌, ◌&&◌, Bool, true, false, cond, is_none, List, [], ◌∷◌, Option, None, Some, ⊤}
 use Rattle.std.specs.List.{AllByRecursion}
 use Rattle.std.specs.Option.{option_or}
 use Rattle.mvo_types.specs.declared.row.RowKey.{RowKey}
@@ -69,34 +69,40 @@ AllStandInOrder start states slots lists =
     (key : RowKey) → StandInOrder start (phases_of states) (versions_at slots lists key)
 
 -- ---- versions that come to the front
--- the lists after these numbers were brought to the front of their keys, one after another
-abbrev pub with_fronts : Lists → List (RowKey × ℕ) → Lists
-with_fronts lists [] = lists
-with_fronts lists (p ∷ ps) = with_fronts (with_front lists p.0 p.1) ps
-
--- these are the numbers of the versions that pass, each with its key
-pub record AreNumbersOf (slots : Slots) (test : Version → Bool)
-    (ps : List (RowKey × ℕ)) : Type 0 where
-  pub all : (n : ℕ) (v : Version) → version_at slots (number n) ≡ Some v → test v ≡ true
-      → is_among n (map (λ p. p.1) ps) ≡ true
-  pub only :
-      AllByRecursion
-      (λ p. (v : Version) → version_at slots (number p.1) ≡ Some v
-      → (v.row.key ≡ p.0) × (test v ≡ true)) ps
-
--- what comes to the front as t draws its end: what it put or ended whose put has no stamp
+-- what t put; and what it ended, where that put has no stamp
 abbrev pub comes_forward : Ends → ℕ → Version → Bool
-comes_forward ends t v = is_written_by t v && is_none (stamp_in ends v.begin)
+comes_forward ends t v = names t v.begin || (names t v.end && is_none (stamp_in ends v.begin))
 
--- as t is aborted: what it put
+-- what t put
 abbrev pub is_put_by : ℕ → Version → Bool
 is_put_by t v = names t v.begin
 
--- of two that t put of one key, the later one comes behind the end of the earlier one
-abbrev pub EndsBefore : ℕ → Slots → RowKey × ℕ → RowKey × ℕ → Type 0
-EndsBefore t slots p q =
-    (v w : Version) → version_at slots (number p.1) ≡ Some v → version_at slots (number q.1) ≡ Some w
-    → p.0 ≡ q.0 → p.1 ≢ q.1 → HasEndedItsOwn (names t) w v
+-- the lists after the version with this number came to the front of its key, if it passes
+abbrev pub with_front_if : (Version → Bool) → Lists → ℕ → Option Version → Lists
+with_front_if test lists n None = lists
+with_front_if test lists n (Some v) = cond (test v) (with_front lists v.row.key n) lists
+
+-- the lists after those that pass came to the front, one after another
+abbrev pub with_fronts : (Version → Bool) → Slots → Lists → List ℕ → Lists
+with_fronts test slots lists [] = lists
+with_fronts test slots lists (n ∷ ns) =
+    with_fronts test slots (with_front_if test lists n (version_at slots (number n))) ns
+
+-- ---- what a transaction has written
+-- of two versions that t put of one key, it ended the one that it put first
+abbrev pub IsEndedBefore : ℕ → Slots → ℕ → ℕ → Type 0
+IsEndedBefore t slots m n =
+    (v w : Version) → version_at slots (number m) ≡ Some v → version_at slots (number n) ≡ Some w
+    → v.row.key ≡ w.row.key → m ≢ n → HasEndedItsOwn (names t) w v
+
+-- these are the numbers of the versions that t put or ended, in the order of writing
+pub record IsWritten (t : ℕ) (slots : Slots) (ns : List ℕ) : Type 0 where
+  pub all : (n : ℕ) (v : Version) → version_at slots (number n) ≡ Some v
+      → is_written_by t v ≡ true → is_among n ns ≡ true
+  pub only :
+      AllByRecursion
+      (λ n. (v : Version) × (version_at slots (number n) ≡ Some v) × (is_written_by t v ≡ true)) ns
+  pub order : EachPair (IsEndedBefore t slots) ns
 
 -- whether t may still be aborted: it is Active or Preparing
 abbrev pub MayAbort : Phases → ℕ → Type 0

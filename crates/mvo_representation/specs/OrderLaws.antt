@@ -23,7 +23,7 @@ use Rattle.mvo_representation.specs.Indexes.{all_versions}
 use Rattle.mvo_representation.specs.Steps.{MayEnd, IsUnnamed, fresh, ended_by}
 use Rattle.mvo_representation.specs.Table.{phases_of}
 use Rattle.mvo_representation.specs.Laws.{StandsFor}
-use Rattle.mvo_representation.specs.Order.{AllStandInOrder, with_fronts, AreNumbersOf, comes_forward, is_put_by, EachPair, EndsBefore, MayAbort, IsSeenAlike}
+use Rattle.mvo_representation.specs.Order.{AllStandInOrder, with_fronts, comes_forward, is_put_by, IsWritten, MayAbort, IsSeenAlike}
 
 -- ---- what follows
 -- Versions that stand in order have falling stamps, as a walk over them asks.
@@ -77,26 +77,25 @@ UpdateKeepsOrder = (opening : Map) (steps : List Step) (s : State) (states : Sta
     → AllStandInOrder s.start states slots' (with_new lists row.key m)
 
 -- ---- a draw of an end, and an abort
--- As a transaction draws its end, what it put or ended whose put has no stamp comes to the front, in
--- the order of writing.
+-- As a transaction draws its end, what it put, and what it ended whose put has no stamp, comes to the
+-- front, in the order of writing.
 abbrev pub DrawKeepsOrder : Type 0
 DrawKeepsOrder = (opening : Map) (steps : List Step) (s : State) (states states' : States)
-    (slots : Slots) (lists : Lists) (places : Places) (t : ℕ) (end' : Stamp)
-    (ps : List (RowKey × ℕ))
+    (slots : Slots) (lists : Lists) (places : Places) (t : ℕ) (end' : Stamp) (ns : List ℕ)
     → StandsFor opening steps s states slots lists places → states t ≡ Some Active
     → DifferAt t states states' → states' t ≡ Some (Preparing end') → end'.0 ≡ s.clock + 1
-    → AreNumbersOf slots (comes_forward (ends_of (phases_of states)) t) ps
-    → EachPair (EndsBefore t slots) ps → AllStandInOrder s.start states slots lists
-    → AllStandInOrder s.start states' slots (with_fronts lists ps)
+    → IsWritten t slots ns → AllStandInOrder s.start states slots lists
+    → AllStandInOrder s.start states' slots
+    (with_fronts (comes_forward (ends_of (phases_of states)) t) slots lists ns)
 
 -- As an Active or Preparing one is aborted, what it put comes to the front.
 abbrev pub AbortBringsOrder : Type 0
 AbortBringsOrder = (opening : Map) (steps : List Step) (s : State) (states states' : States)
-    (slots : Slots) (lists : Lists) (places : Places) (t : ℕ) (ps : List (RowKey × ℕ))
+    (slots : Slots) (lists : Lists) (places : Places) (t : ℕ) (ns : List ℕ)
     → StandsFor opening steps s states slots lists places → MayAbort (phases_of states) t
-    → DifferAt t states states' → states' t ≡ Some Aborted → AreNumbersOf slots (is_put_by t) ps
+    → DifferAt t states states' → states' t ≡ Some Aborted → IsWritten t slots ns
     → AllStandInOrder s.start states slots lists
-    → AllStandInOrder s.start states' slots (with_fronts lists ps)
+    → AllStandInOrder s.start states' slots (with_fronts (is_put_by t) slots lists ns)
 
 -- ---- other steps
 -- Words and transactions change so that others see the same.
