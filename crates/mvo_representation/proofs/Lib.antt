@@ -55,3 +55,4 @@ pub mod OrderAborts
 pub mod OrderClaims
 pub mod OrderBases
 pub mod OrderFalls
+pub mod OrderOthers

@@ -58,7 +58,7 @@ numbers_added slots lists n v lt hole h = record { at = λ q m. ap (how_many (λ
             let w = same in omega (arith, c, z, w)
         by false e = h.at q m ∙ sym same
 
-without_same : (n : ℕ) (ns : List ℕ) → how_many (λ i. i == n) (without n ns) ≡ 0
+pub without_same : (n : ℕ) (ns : List ℕ) → how_many (λ i. i == n) (without n ns) ≡ 0
 without_same n [] = refl
 without_same n (m ∷ ns) = go (eqb n m) refl (without_same n ns)
   where
@@ -66,7 +66,7 @@ without_same n (m ∷ ns) = go (eqb n m) refl (without_same n ns)
     go true e z = z
     go false e z = let c : one (m == n) ≡ 0 = ap one (ne_eqb m n (λ i. true≢false (sym (eq-eqb n m (sym i)) ∙ e))) in omega (arith, z, c)
 
-without_other : (n j : ℕ) (ns : List ℕ) → (j ≡ n → ⊥) → how_many (λ i. i == j) (without n ns) ≡ how_many (λ i. i == j) ns
+pub without_other : (n j : ℕ) (ns : List ℕ) → (j ≡ n → ⊥) → how_many (λ i. i == j) (without n ns) ≡ how_many (λ i. i == j) ns
 without_other n j [] d = refl
 without_other n j (m ∷ ns) d = go (eqb n m) refl (without_other n j ns d)
   where

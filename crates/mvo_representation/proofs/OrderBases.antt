@@ -81,7 +81,7 @@ leaves_none Removed Clash e = absurd (true≢false e)
 leaves_none (Puts h) b e = absurd (true≢false (sym (leaves_put h b) ∙ e))
 leaves_none Clash b e = absurd (true≢false e)
 
-stands_here : (ends : Ends) (start : ℕ) (k : RowKey) (y : Version) → y.row.key ≡ k → is_standing ends start y ≡ true → standing_effect_of ends start k y ≡ Puts (content_of y.row)
+pub stands_here : (ends : Ends) (start : ℕ) (k : RowKey) (y : Version) → y.row.key ≡ k → is_standing ends start y ≡ true → standing_effect_of ends start k y ≡ Puts (content_of y.row)
 stands_here ends start k y key on = ap (λ (b : Bool). cond (b && is_standing ends start y) (Puts (content_of y.row)) Untouched) (same_key k y key) ∙ ap (λ (b : Bool). cond b (Puts (content_of y.row)) Untouched) on
 
 none_standing : (ends : Ends) (start : ℕ) (k : RowKey) (zs : List Version) → leaves_row (standing_effect ends start k zs) ≡ false → AllByRecursion (λ y. y.row.key ≡ k → is_standing ends start y ≡ true → ⊥) zs

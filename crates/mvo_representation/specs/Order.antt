@@ -4,6 +4,7 @@ use Rattle.std.specs.List.{AllByRecursion}
 use Rattle.std.specs.Option.{option_or}
 use Rattle.mvo_types.specs.declared.row.RowKey.{RowKey}
 use Rattle.mvo_word.specs.declared.held.Held.{Held}
+use Rattle.mvo_word.specs.declared.held.Held.TheVariants.{At, Infinity}
 use Rattle.mvo_chain.specs.declared.version.Version.{Version}
 use Rattle.mvo_chain.specs.Slots.{Slots, version_at}
 use Rattle.mvo_hash.specs.Lists.{Lists, number, is_among}
@@ -122,3 +123,20 @@ pub record IsSeenAlike (states states' : States) (v w : Version) : Type 0 where
   pub end : stamp_in (ends_of (phases_of states')) w.end
       ≡ stamp_in (ends_of (phases_of states)) v.end
   pub active : (t : ℕ) → phases_of states' t ≡ Active → HasSameWords states t v w
+
+-- ---- words that are finished
+-- the timestamp of one that committed, or infinity
+abbrev pub word_of_stamp : Option ℕ → Held
+word_of_stamp None = Infinity
+word_of_stamp (Some e) = At (record { 0 = e })
+
+-- the word is what it was, or it named t and says what is known of t now
+abbrev pub IsFinished : Ends → ℕ → Held → Held → Type 0
+IsFinished ends t old new = (new ≡ old) ⊎ ((names t old ≡ true) × (new ≡ word_of_stamp (ends t)))
+
+-- ---- the words of one transaction in a version
+-- the key, and which of the two words name it, if one does
+abbrev pub own_words : ℕ → Option Version → Option (RowKey × Bool × Bool)
+own_words t None = None
+own_words t (Some v) =
+    cond (is_written_by t v) (Some (v.row.key, names t v.begin, names t v.end)) None

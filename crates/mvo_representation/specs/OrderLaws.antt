@@ -1,17 +1,20 @@
 -- What keeps the versions of each key in order, and what follows.
-use Rattle.std.specs.Prelude.{ℕ, ◌≡◌, ◌+◌, ◌≤◌, length, List, Option, None, Some}
+use Rattle.std.specs.Prelude.{ℕ, ◌≡◌, ◌≢◌, ◌+◌, ◌≤◌, true, Bool, length, List, Option, None, Some}
+use Rattle.std.specs.List.{AllByRecursion}
 use Rattle.std.specs.FinMap as fin
 use Rattle.mvo_types.specs.declared.row.RowKey.{RowKey}
 use Rattle.mvo_types.specs.declared.ids.Stamp.{Stamp}
 use Rattle.mvo_types.specs.RowData.{RowData}
 use Rattle.mvo_types.specs.Keys.{Map}
 use Rattle.mvo_model.specs.Trace.{Step}
-use Rattle.mvo_theory.specs.State.{State, ActiveTx, active_of, snapshot}
+use Rattle.mvo_model.specs.Trace.Phase.{Active as IsActive}
+use Rattle.mvo_theory.specs.State.{State, ActiveTx, opened, active_of, snapshot}
 use Rattle.mvo_theory.specs.Causes.{why_not_trim}
+use Rattle.mvo_word.specs.declared.held.Held.TheVariants.{At, Infinity}
 use Rattle.mvo_chain.specs.declared.version.Version.{Version}
 use Rattle.mvo_chain.specs.declared.version.VersionNo.{VersionNo}
 use Rattle.mvo_chain.specs.Slots.{Slots, version_at}
-use Rattle.mvo_hash.specs.Lists.{Lists, IsFresh, number, numbers_of}
+use Rattle.mvo_hash.specs.Lists.{Lists, IsFresh, is_among, number, numbers_of}
 use Rattle.mvo_range.specs.Place.{Map as Places}
 use Rattle.mvo_txn.specs.declared.state.TxState.TheVariants.{Active, Preparing, Committed, Aborted}
 use Rattle.mvo_visible.specs.Words.{States}
@@ -19,11 +22,12 @@ use Rattle.mvo_visible.specs.Shown.{AllHaveFallingStamps}
 use Rattle.mvo_visible.specs.Fronts.{AllOwnInFront, DifferAt, with_new, with_less}
 use Rattle.mvo_visible.specs.Laws.{SlotsDifferAt}
 use Rattle.mvo_representation.specs.Words.{ends_of}
-use Rattle.mvo_representation.specs.Indexes.{all_versions}
+use Rattle.mvo_representation.specs.Versions.{AreVersionsOf}
+use Rattle.mvo_representation.specs.Indexes.{all_versions, HasNumbers}
 use Rattle.mvo_representation.specs.Steps.{MayEnd, IsUnnamed, fresh, ended_by}
 use Rattle.mvo_representation.specs.Table.{phases_of}
 use Rattle.mvo_representation.specs.Laws.{StandsFor}
-use Rattle.mvo_representation.specs.Order.{AllStandInOrder, with_fronts, comes_forward, is_put_by, IsWritten, MayAbort, IsSeenAlike}
+use Rattle.mvo_representation.specs.Order.{AllStandInOrder, with_fronts, comes_forward, is_put_by, IsWritten, MayAbort, IsSeenAlike, IsFinished}
 
 -- ---- what follows
 -- Versions that stand in order have falling stamps, as a walk over them asks.
@@ -150,3 +154,36 @@ abbrev pub SingleStandInOrder : Type 0
 SingleStandInOrder = (start : ℕ) (states : States) (slots : Slots) (lists : Lists)
     → ((key : RowKey) → length (numbers_of lists key) ≤ 1)
     → AllStandInOrder start states slots lists
+
+-- So do those of a core that was just opened.
+abbrev pub OpeningStandsInOrder : Type 0
+OpeningStandsInOrder = (rows : Map) (mark : ℕ) (states : States) (slots : Slots) (lists : Lists)
+    → AreVersionsOf (opened rows mark) (phases_of states) (all_versions slots)
+    → HasNumbers slots lists
+    → AllByRecursion
+    (λ v. (v.begin ≡ At (record { 0 = mark })) × (v.end ≡ Infinity)) (all_versions slots)
+    → AllStandInOrder mark states slots lists
+
+-- A word of one that is Committed or Aborted is replaced.
+abbrev pub FinishStaysInOrder : Type 0
+FinishStaysInOrder = (start : ℕ) (states : States) (slots slots' : Slots) (lists : Lists)
+    (t n : ℕ) (v w : Version)
+    → phases_of states t ≢ IsActive → version_at slots (number n) ≡ Some v → HaveNow slots slots' n w
+    → IsFinished (ends_of (phases_of states)) t v.begin w.begin
+    → IsFinished (ends_of (phases_of states)) t v.end w.end
+    → AllStandInOrder start states slots lists → AllStandInOrder start states slots' lists
+
+-- ---- the key index, as versions come to the front
+-- A version that has a number is among those of its key, and the index has the same numbers.
+abbrev pub FrontsKeepNumbers : Type 0
+FrontsKeepNumbers = (test : Version → Bool) (slots : Slots) (lists : Lists) (ns : List ℕ)
+    → HasNumbers slots lists → HasNumbers slots (with_fronts test slots lists ns)
+
+abbrev pub NumbersAreAmong : Type 0
+NumbersAreAmong = (slots : Slots) (lists : Lists) (n : ℕ) (v : Version) → HasNumbers slots lists
+    → version_at slots (number n) ≡ Some v → is_among n (numbers_of lists v.row.key) ≡ true
+
+-- No key has the number of an empty slot.
+abbrev pub HolesAreFresh : Type 0
+HolesAreFresh = (slots : Slots) (lists : Lists) (n : ℕ) → HasNumbers slots lists
+    → version_at slots (number n) ≡ None → IsFresh lists n
