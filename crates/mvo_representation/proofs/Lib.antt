@@ -56,3 +56,4 @@ pub mod OrderClaims
 pub mod OrderBases
 pub mod OrderFalls
 pub mod OrderOthers
+pub mod OrderWritten

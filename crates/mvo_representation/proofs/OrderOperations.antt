@@ -66,11 +66,11 @@ state_active s states vs r h f = by (states r.id) (h.phases r.id ∙ phase_activ
         aborted : Aborted ≡ Active → ⊥
         aborted q = cc
 
-own_words : (s : State) (table : Phases) (vs : List Version) (r : ActiveTx) (k : RowKey) → AreVersionsOf s table vs → active_of r.id s.active ≡ Some r → net_effect (names r.id) k vs ≡ as_net_effect (net_write k r.history)
+pub own_words : (s : State) (table : Phases) (vs : List Version) (r : ActiveTx) (k : RowKey) → AreVersionsOf s table vs → active_of r.id s.active ≡ Some r → net_effect (names r.id) k vs ≡ as_net_effect (net_write k r.history)
 own_words s table vs r k h f = (active_holds (λ q. Say (names q.id) q.history q.footprint vs) r.id s.active r f h.active).0.writes k
 
 -- ---- an insert
-unput : (w : Option Effect) (before : Option ContentData) → content_after_last w before ≡ None → leaves_row (as_net_effect w) ≡ false
+pub unput : (w : Option Effect) (before : Option ContentData) → content_after_last w before ≡ None → leaves_row (as_net_effect w) ≡ false
 unput None b e = refl
 unput (Some Gone) b e = refl
 unput (Some (Put h)) b e = absurd (put_there h e)
@@ -87,12 +87,12 @@ insert_keeps_order opening steps s states slots slots' lists places r row n h f 
 
 -- ---- a version that is ended
 -- what a version was before the one with the number n changed
-record WasBefore (slots : Slots) (n : ℕ) (v : Version) (t m : ℕ) (x : Version) : Type 0 where
+pub record WasBefore (slots : Slots) (n : ℕ) (v : Version) (t m : ℕ) (x : Version) : Type 0 where
   pub version : Version
   pub at : version_at slots (number m) ≡ Some version
   pub is : ((m ≢ n) × (x ≡ version)) ⊎ ((m ≡ n) × (x ≡ ended_by t v))
 
-was_before : (slots slots' : Slots) (n : ℕ) (v : Version) (t : ℕ) → version_at slots (number n) ≡ Some v → HaveNow slots slots' n (ended_by t v) → (m : ℕ) (x : Version) → version_at slots' (number m) ≡ Some x → WasBefore slots n v t m x
+pub was_before : (slots slots' : Slots) (n : ℕ) (v : Version) (t : ℕ) → version_at slots (number n) ≡ Some v → HaveNow slots slots' n (ended_by t v) → (m : ℕ) (x : Version) → version_at slots' (number m) ≡ Some x → WasBefore slots n v t m x
 was_before slots slots' n v t e now m x q = elim (cases_eq m n) [
   | inl same ↦ record { version = v; at = ap (λ (i : ℕ). version_at slots (number i)) same ∙ e; is = inr (same, sym (some_version (ended_by t v) x (sym now.here ∙ ap (λ (i : ℕ). version_at slots' (number i)) (sym same) ∙ q))) }
   | inr other ↦ record { version = x; at = sym (now.others (number m) other) ∙ q; is = inl (other, refl) }
@@ -155,7 +155,7 @@ two_clash h (Puts g) e = refl
 two_clash h Clash e = refl
 
 -- of what it put of the key, just the one that it ends wasn't ended
-other_ended : (s : State) (states : States) (slots : Slots) (r : ActiveTx) (v x : Version) (n m : ℕ) → AreVersionsOf s (phases_of states) (all_versions slots) → active_of r.id s.active ≡ Some r → MayEnd s (phases_of states) r.id (all_versions slots) v → version_at slots (number n) ≡ Some v → m ≢ n → version_at slots (number m) ≡ Some x → x.row.key ≡ v.row.key → names r.id x.begin ≡ true → names r.id x.end ≡ true
+pub other_ended : (s : State) (states : States) (slots : Slots) (r : ActiveTx) (v x : Version) (n m : ℕ) → AreVersionsOf s (phases_of states) (all_versions slots) → active_of r.id s.active ≡ Some r → MayEnd s (phases_of states) r.id (all_versions slots) v → version_at slots (number n) ≡ Some v → m ≢ n → version_at slots (number m) ≡ Some x → x.row.key ≡ v.row.key → names r.id x.begin ≡ true → names r.id x.end ≡ true
 other_ended s states slots r v x n m h f (Other o) at other here key b = absurd (put_has_effect (names r.id) v.row.key w.before x w.after key b (ap (net_effect (names r.id) v.row.key) w.with' ∙ own_words s (phases_of states) (all_versions slots) r v.row.key h f ∙ ap (λ ts. as_net_effect (net_write v.row.key ts)) (sym (found_is r.id s.active r f).1) ∙ ap as_net_effect o.unwritten))
   where
     w : IsOneMore x (all_versions (slice_set slots m None)) (all_versions slots)

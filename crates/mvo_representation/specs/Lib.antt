@@ -8,3 +8,4 @@ pub mod Table
 pub mod Laws
 pub mod Order
 pub mod OrderLaws
+pub mod WrittenLaws
