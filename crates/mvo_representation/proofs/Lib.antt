@@ -57,3 +57,4 @@ pub mod OrderBases
 pub mod OrderFalls
 pub mod OrderOthers
 pub mod OrderWritten
+pub mod OrderSlots

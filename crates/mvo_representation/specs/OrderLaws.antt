@@ -13,7 +13,7 @@ use Rattle.mvo_theory.specs.Causes.{why_not_trim}
 use Rattle.mvo_word.specs.declared.held.Held.TheVariants.{At, Infinity}
 use Rattle.mvo_chain.specs.declared.version.Version.{Version}
 use Rattle.mvo_chain.specs.declared.version.VersionNo.{VersionNo}
-use Rattle.mvo_chain.specs.Slots.{Slots, version_at}
+use Rattle.mvo_chain.specs.Slots.{Slots, version_at, IsHole, with_room, with_slot, with_change}
 use Rattle.mvo_hash.specs.Lists.{Lists, IsFresh, is_among, number, numbers_of}
 use Rattle.mvo_range.specs.Place.{Map as Places}
 use Rattle.mvo_txn.specs.declared.state.TxState.TheVariants.{Active, Preparing, Committed, Aborted}
@@ -47,6 +47,18 @@ OrderHasOwnInFront = (start : ℕ) (states : States) (slots : Slots) (lists : Li
 pub record HaveNow (slots slots' : Slots) (n : ℕ) (v : Version) : Type 0 where
   pub others : SlotsDifferAt n slots slots'
   pub here : version_at slots' (number n) ≡ Some v
+
+-- So it is where a version fills an empty slot.
+abbrev pub AddedIsNow : Type 0
+AddedIsNow = (slots : Slots) (number : VersionNo) (v : Version) → IsHole (with_room slots) number
+    → (version_at slots number ≡ None)
+    × HaveNow slots (with_slot (with_room slots) number (Some v)) number.0 v
+
+-- And where one changes.
+abbrev pub ChangedIsNow : Type 0
+ChangedIsNow = (slots : Slots) (number : VersionNo) (v : Version) (change : Version → Version)
+    → version_at slots number ≡ Some v
+    → HaveNow slots (with_change slots number change) number.0 (change v)
 
 -- An insert that is told inserted puts a new version in front.
 abbrev pub InsertKeepsOrder : Type 0

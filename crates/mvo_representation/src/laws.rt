@@ -1,6 +1,20 @@
 ghost use Rattle.mvo_representation.specs.Laws.{OpensSo, EachCallKeeps, ShowsSnapshot, DependsSo};
 ghost use Rattle.mvo_representation.specs.Laws.{ShownIsThere, FreeMayBeEnded, TellsCause};
 ghost use Rattle.mvo_representation.specs.Laws.{NamesChange, RowsArePlaced, MeetsWhatCounts};
+ghost use Rattle.mvo_representation.specs.OrderLaws.{OrderFalls, OrderHasOwnInFront};
+ghost use Rattle.mvo_representation.specs.OrderLaws.{InsertKeepsOrder, DeleteKeepsOrder};
+ghost use Rattle.mvo_representation.specs.OrderLaws.{UpdateKeepsOrder, DrawKeepsOrder};
+ghost use Rattle.mvo_representation.specs.OrderLaws.{AbortBringsOrder, AlikeStayInOrder};
+ghost use Rattle.mvo_representation.specs.OrderLaws.{BeginKeepsOrder, CommitStaysInOrder};
+ghost use Rattle.mvo_representation.specs.OrderLaws.{FinishStaysInOrder, LeavingKeepsOrder};
+ghost use Rattle.mvo_representation.specs.OrderLaws.{TrimKeepsOrder, RemovalKeepsOrder};
+ghost use Rattle.mvo_representation.specs.OrderLaws.{UnheldStaysInOrder, SingleStandInOrder};
+ghost use Rattle.mvo_representation.specs.OrderLaws.{OpeningStandsInOrder, FrontsKeepNumbers};
+ghost use Rattle.mvo_representation.specs.OrderLaws.{NumbersAreAmong, HolesAreFresh};
+ghost use Rattle.mvo_representation.specs.OrderLaws.{AddedIsNow, ChangedIsNow};
+ghost use Rattle.mvo_representation.specs.WrittenLaws.{NothingIsWritten, InsertIsWritten};
+ghost use Rattle.mvo_representation.specs.WrittenLaws.{DeleteIsWritten, UpdateIsWritten};
+ghost use Rattle.mvo_representation.specs.WrittenLaws.{OthersKeepWritten};
 
 /// The laws of the representation. What versions, the transaction table and the indexes say is a
 /// state of the theory: when a core opens, and after each call, whatever it comes to. And what the
@@ -18,4 +32,44 @@ pub fn laws_of_representation()
     ensures names { NamesChange }
     ensures placed { RowsArePlaced }
     ensures meets { MeetsWhatCounts }
+{}
+
+/// The laws of the order in which the versions of a key stand. Where they stand so, their stamps
+/// fall and what an Active transaction wrote stands in front, as the walks over them ask. And they
+/// do: when a core opens, where versions are put, ended, removed or brought to the front, and as
+/// transactions begin, draw their ends, commit, are aborted, are finished and leave. The call does
+/// nothing.
+pub fn laws_of_standing_order()
+    ensures falls { OrderFalls }
+    ensures own_in_front { OrderHasOwnInFront }
+    ensures insert { InsertKeepsOrder }
+    ensures delete { DeleteKeepsOrder }
+    ensures update { UpdateKeepsOrder }
+    ensures draw { DrawKeepsOrder }
+    ensures abort { AbortBringsOrder }
+    ensures alike { AlikeStayInOrder }
+    ensures begin { BeginKeepsOrder }
+    ensures commit { CommitStaysInOrder }
+    ensures finish { FinishStaysInOrder }
+    ensures leaving { LeavingKeepsOrder }
+    ensures trim { TrimKeepsOrder }
+    ensures removal { RemovalKeepsOrder }
+    ensures unheld { UnheldStaysInOrder }
+    ensures single { SingleStandInOrder }
+    ensures opening { OpeningStandsInOrder }
+    ensures numbers { FrontsKeepNumbers }
+    ensures among { NumbersAreAmong }
+    ensures holes { HolesAreFresh }
+    ensures added { AddedIsNow }
+    ensures changed { ChangedIsNow }
+{}
+
+/// The laws of the list of versions that a transaction has put or ended, in the order of writing:
+/// in which order they come to the front as it draws its end. The call does nothing.
+pub fn laws_of_written_versions()
+    ensures nothing { NothingIsWritten }
+    ensures insert { InsertIsWritten }
+    ensures delete { DeleteIsWritten }
+    ensures update { UpdateIsWritten }
+    ensures others { OthersKeepWritten }
 {}

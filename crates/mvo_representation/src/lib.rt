@@ -4,4 +4,4 @@
 
 mod laws;
 
-pub use laws::laws_of_representation;
+pub use laws::{laws_of_representation, laws_of_standing_order, laws_of_written_versions};
