@@ -1,11 +1,9 @@
 -- An abort, a begin, a commit and a leaving keep the versions of each key in order.
-use Rattle.std.proofs.Common.{◌≡◌, ◌≢◌, ℕ, ◌<◌, ◌≤◌, Bool, true, false, cond, ◌||◌, List, [], ◌∷◌, ◌++◌, Option, None, Some, refl, sym, ap, ◌∙◌, subst, arith, ◌⊎◌, inl, inr}
+use Rattle.std.proofs.Common.{◌≡◌, ◌≢◌, ℕ, Bool, true, false, ◌||◌, List, [], ◌∷◌, Option, None, Some, refl, sym, ap, ◌∙◌, subst, inl, inr}
 use Rattle.std.specs.Prelude.{⊤, ◌==◌}
 use Rattle.std.specs.List.{AllByRecursion}
 use Rattle.std.specs.Option.{option_or}
-use Rattle.std.proofs.lemmas.Bool.{eqb-true, eqb-false, eq-eqb, false≢true, true≢false, cases_Bool, cases_eq}
-use Rattle.mvo_types.specs.declared.row.RowKey.{RowKey}
-use Rattle.mvo_types.specs.declared.ids.Stamp.{Stamp}
+use Rattle.std.proofs.lemmas.Bool.{eqb-true, eq-eqb, false≢true, cases_Bool, cases_eq}
 use Rattle.mvo_model.specs.Trace.{Phase}
 use Rattle.mvo_model.specs.Trace.Phase.{Absent, Active, Preparing, Committed, Aborted}
 use Rattle.mvo_theory.specs.State.{State, StampedTx, preparing_of}
@@ -16,24 +14,19 @@ use Rattle.mvo_theory.proofs.OriginEnds.{alone_at}
 use Rattle.mvo_word.specs.declared.held.Held.{Held}
 use Rattle.mvo_word.specs.declared.held.Held.TheVariants.{At, By, Infinity}
 use Rattle.mvo_chain.specs.declared.version.Version.{Version}
-use Rattle.mvo_chain.specs.declared.version.VersionNo.{VersionNo}
-use Rattle.mvo_chain.specs.Slots.{Slots, version_at}
-use Rattle.mvo_hash.specs.Lists.{Lists, number, numbers_of}
-use Rattle.mvo_txn.specs.declared.state.TxState.{TxState}
-use Rattle.mvo_txn.specs.declared.state.TxState.TheVariants as state
+use Rattle.mvo_hash.specs.Lists.{numbers_of}
 use Rattle.mvo_visible.specs.Words.{States, names}
 use Rattle.mvo_visible.specs.Versions.{versions_at}
 use Rattle.mvo_visible.specs.Fronts.{DifferAt}
-use Rattle.mvo_representation.specs.Words.{Phases, Ends, end_in, ends_of, stamp_in, is_stamp, has_stamp}
+use Rattle.mvo_representation.specs.Words.{Phases, end_in, ends_of, stamp_in, is_stamp}
 use Rattle.mvo_representation.specs.Versions.{IsKnown, IsKnownStamp, AreVersionsOf}
 use Rattle.mvo_representation.specs.Indexes.{all_versions}
-use Rattle.mvo_representation.specs.Steps.{IsUnnamed}
 use Rattle.mvo_representation.specs.Table.{phase_as, phases_of}
-use Rattle.mvo_representation.specs.Order.{IsUpTo, first_stamp, is_written_by, MayPrecede, StandInOrder, AllStandInOrder, EachPair, with_fronts, is_put_by, MayAbort, HasSameWords, IsSeenAlike}
-use Rattle.mvo_representation.specs.Order.HasSameWords.{Same, Nothing}
+use Rattle.mvo_representation.specs.Order.{IsUpTo, is_written_by, MayPrecede, StandInOrder, EachPair, is_put_by, MayAbort, IsSeenAlike}
+use Rattle.mvo_representation.specs.Order.HasSameWords.{Same, Unnamed}
 use Rattle.mvo_representation.specs.OrderLaws.{AbortBringsOrder, BeginKeepsOrder, CommitStaysInOrder, LeavingKeepsOrder}
 use Rattle.mvo_representation.proofs.Facts.{preparing_is, found_holds}
-use Rattle.mvo_representation.proofs.OrderPairs.{is_the_stamp, has_the_stamp, unstamped_pair}
+use Rattle.mvo_representation.proofs.OrderPairs.{is_the_stamp, unstamped_pair}
 use Rattle.mvo_representation.proofs.OrderLists.{keyed, with_keyed, fronts_keyed}
 use Rattle.mvo_representation.proofs.OrderSteps.{order_to, order_from, live, alike_stay_in_order}
 use Rattle.mvo_representation.proofs.OrderFronts.{StandsLater, fronts_in_order, written_numbers}
@@ -143,10 +136,14 @@ abort_brings_order opening steps s states states' slots lists places t ns h may 
 -- ---- steps that others don't see
 -- only the phase of t differs, with the same end, and no word names it if it is Active then
 unseen : (states states' : States) (t : ℕ) → DifferAt t states states' → end_in (phases_of states' t) ≡ end_in (phases_of states t) → (v : Version) → (phases_of states' t ≡ Active → (names t v.begin ≡ false) × (names t v.end ≡ false)) → IsSeenAlike states states' v v
-unseen states states' t d ends v free = record { begin = word v.begin; end = word v.end; active = λ u act. elim (cases_eq u t) [
-  | inl same ↦ let none = free (ap (phases_of states') (sym same) ∙ act) in Nothing (ap (λ (i : ℕ). names i v.begin) same ∙ none.0) (ap (λ (i : ℕ). names i v.end) same ∙ none.1)
-  | inr other ↦ Same (ap phase_as (sym (d u other)) ∙ act) refl refl
-] }
+unseen states states' t d ends v free = record {
+  begin = word v.begin;
+  end = word v.end;
+  active = λ u act. elim (cases_eq u t) [
+    | inl same ↦ let none = free (ap (phases_of states') (sym same) ∙ act) in Unnamed (ap (λ (i : ℕ). names i v.begin) same ∙ none.0) (ap (λ (i : ℕ). names i v.end) same ∙ none.1)
+    | inr other ↦ Same (ap phase_as (sym (d u other)) ∙ act) refl refl
+  ];
+}
   where
     word : (w : Held) → stamp_in (ends_of (phases_of states')) w ≡ stamp_in (ends_of (phases_of states)) w
     word w = elim (cases_Bool (names t w)) [
@@ -174,8 +171,15 @@ begin_keeps_order opening steps s states states' slots lists places t h was d no
 
 pub leaving_keeps_order : LeavingKeepsOrder
 leaving_keeps_order start states states' slots lists t d now free order = alike_stay_in_order start states states' slots slots lists (λ m w e.
-    let n = live slots (λ x. (names t x.begin ≡ false) × (names t x.end ≡ false)) free m.0 w e in
-    (w, e, record { begin = other_stamp t states states' d w.begin n.0; end = other_stamp t states states' d w.end n.1; active = λ u act. elim (cases_eq u t) [
-      | inl same ↦ Nothing (ap (λ (i : ℕ). names i w.begin) same ∙ n.0) (ap (λ (i : ℕ). names i w.end) same ∙ n.1)
-      | inr other ↦ Same (ap phase_as (sym (d u other)) ∙ act) refl refl
-    ] })) order
+    let n = live slots (λ x. (names t x.begin ≡ false) × (names t x.end ≡ false)) free m.0 w e in (
+      w,
+      e,
+      record {
+        begin = other_stamp t states states' d w.begin n.0;
+        end = other_stamp t states states' d w.end n.1;
+        active = λ u act. elim (cases_eq u t) [
+          | inl same ↦ Unnamed (ap (λ (i : ℕ). names i w.begin) same ∙ n.0) (ap (λ (i : ℕ). names i w.end) same ∙ n.1)
+          | inr other ↦ Same (ap phase_as (sym (d u other)) ∙ act) refl refl
+        ];
+      },
+    )) order

@@ -1,12 +1,12 @@
 -- A version that stands at the start, or that a settled one put, is the one that the next one claims.
-use Rattle.std.proofs.Common.{◌≡◌, ◌≢◌, ℕ, ◌<◌, ◌≤◌, suc, Bool, true, false, cond, List, [], ◌∷◌, ◌++◌, Option, None, Some, refl, sym, ap, ◌∙◌, subst, arith, ◌⊎◌, inl, inr}
+use Rattle.std.proofs.Common.{◌≡◌, ◌≢◌, ℕ, ◌<◌, ◌≤◌, suc, Bool, true, false, cond, List, [], ◌∷◌, ◌++◌, Option, None, Some, refl, sym, ap, ◌∙◌, subst, arith, inl, inr}
 use Rattle.std.specs.Prelude.{is_some, nat_lt, ◌==◌, ◌&&◌}
 use Rattle.std.specs.List.{AllByRecursion}
 use Rattle.std.specs.Option.{option_map}
 use Rattle.std.specs.Ordering.{eq_by_cmp}
 use Rattle.std.specs.Cmp.{eq_by_cmp_equiv}
 use Rattle.std.specs.FinMap as fin
-use Rattle.std.proofs.lemmas.Bool.{eq-eqb, eqb-true, ne_eqb, false≢true, true≢false, cases_order, cases_lt, lt-ltb, le-ltb, ltb-true, and_from}
+use Rattle.std.proofs.lemmas.Bool.{eq-eqb, eqb-true, ne_eqb, false≢true, true≢false, cases_lt, lt-ltb, le-ltb, and_from}
 use Rattle.mvo_types.proofs.Maps.{keys_total}
 use Rattle.mvo_types.specs.declared.row.RowKey.{RowKey}
 use Rattle.mvo_types.specs.RowData.{ContentData, content_of}
@@ -25,9 +25,8 @@ use Rattle.mvo_theory.proofs.Footprints.{key_same, none_unless}
 use Rattle.mvo_theory.proofs.LastWriter.{last_is, none_writes, after_last}
 use Rattle.mvo_theory.proofs.OriginEnds.{clear_pairs}
 use Rattle.mvo_theory.proofs.Stamped.{each_part, rising_filter}
-use Rattle.mvo_word.specs.declared.held.Held.{Held}
 use Rattle.mvo_chain.specs.declared.version.Version.{Version}
-use Rattle.mvo_representation.specs.Words.{Phases, Ends, ends_of, stamp_in, is_stamp, has_stamp, NetEffect, with_effect, net_effect, as_net_effect, last_change, change_below, standing, standing_after, is_up_to, is_standing, standing_effect_of, standing_effect}
+use Rattle.mvo_representation.specs.Words.{Phases, Ends, ends_of, stamp_in, is_stamp, has_stamp, NetEffect, with_effect, net_effect, as_net_effect, change_below, standing, is_up_to, is_standing, standing_effect_of, standing_effect}
 use Rattle.mvo_representation.specs.Words.NetEffect.{Untouched, Removed, Puts, Clash}
 use Rattle.mvo_representation.specs.Versions.{history_at, origin_at_start, IsForward, AreVersionsOf}
 use Rattle.mvo_representation.proofs.Collect.{leaves_row, leaves_put, PutAt, put_at_stamp}
@@ -35,7 +34,7 @@ use Rattle.mvo_representation.proofs.Conflict.{end_has_effect}
 use Rattle.mvo_representation.proofs.Kept.{standing_effect-at}
 use Rattle.mvo_representation.proofs.Open.{stamp_of}
 use Rattle.mvo_representation.proofs.Version.{IsLastChange, last_change_is_one, no_change}
-use Rattle.mvo_representation.proofs.OrderPairs.{is_the_stamp, has_the_stamp, put_has_effect}
+use Rattle.mvo_representation.proofs.OrderPairs.{has_the_stamp, put_has_effect}
 use Rattle.mvo_representation.proofs.OrderSteps.{stays_put}
 use Rattle.mvo_representation.proofs.OrderClaims.{IsBase}
 
@@ -212,11 +211,11 @@ module _ (s : State) (table : Phases) (xs : List Version) (v : Version) (ys : Li
 
   put_row : (b : ℕ) (q : StampedTx) → last_writer k b (settled_ones s.stamped) ≡ Some q → q.end ≡ a → (r : ContentData) × (net_write k q.history ≡ Some (Put r))
   put_row b q e at = put_in (net_write k q.history) (
-    ap (λ ts. leaves_row (as_net_effect (net_write k ts))) (sym (last_is k b (settled_ones s.stamped) q e (λ x. history_at x.end s.stamped ≡ x.history) (each_part (λ x. x.settled) (λ x. history_at x.end s.stamped ≡ x.history) s.stamped (history_at_each s.stamped sound.rising))))
-    ∙ ap (λ (n : ℕ). leaves_row (as_net_effect (net_write k (history_at n s.stamped)))) at
-    ∙ ap leaves_row (sym ((h.stamped a above).writes k)) ∙ ap leaves_row (stays_put (has_stamp (ends_of table) a) k xs v ys key (has_the_stamp a (stamp_in (ends_of table) v.begin) put) stays)
-    ∙ leaves_put (content_of v.row) (net_effect (has_stamp (ends_of table) a) k (xs ++ ys))
-  )
+      ap (λ ts. leaves_row (as_net_effect (net_write k ts))) (sym (last_is k b (settled_ones s.stamped) q e (λ x. history_at x.end s.stamped ≡ x.history) (each_part (λ x. x.settled) (λ x. history_at x.end s.stamped ≡ x.history) s.stamped (history_at_each s.stamped sound.rising))))
+      ∙ ap (λ (n : ℕ). leaves_row (as_net_effect (net_write k (history_at n s.stamped)))) at
+      ∙ ap leaves_row (sym ((h.stamped a above).writes k)) ∙ ap leaves_row (stays_put (has_stamp (ends_of table) a) k xs v ys key (has_the_stamp a (stamp_in (ends_of table) v.begin) put) stays)
+      ∙ leaves_put (content_of v.row) (net_effect (has_stamp (ends_of table) a) k (xs ++ ys))
+      )
 
   pub base_of_settled : IsBase s k a
   base_of_settled = record {

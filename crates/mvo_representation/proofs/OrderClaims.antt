@@ -1,27 +1,27 @@
 -- Nobody ends a version behind one that settled and wrote its key later.
-use Rattle.std.proofs.Common.{◌≡◌, ◌≢◌, ℕ, ◌+◌, ◌<◌, ◌≤◌, suc, zero, Bool, true, false, cond, List, [], ◌∷◌, ◌++◌, Option, None, Some, refl, sym, ap, ◌∙◌, subst, arith, ◌⊎◌, inl, inr}
+use Rattle.std.proofs.Common.{◌≡◌, ◌≢◌, ℕ, ◌+◌, ◌<◌, ◌≤◌, suc, zero, Bool, true, false, cond, List, [], ◌∷◌, ◌++◌, Option, None, Some, refl, sym, ap, ◌∙◌, arith, inl, inr}
 use Rattle.std.specs.Prelude.{is_some}
-use Rattle.std.specs.List.{AllByRecursion, filter}
+use Rattle.std.specs.List.{AllByRecursion}
 use Rattle.std.specs.FinMap as fin
-use Rattle.std.proofs.lemmas.Bool.{false≢true, true≢false, cases_order, cases_lt}
+use Rattle.std.proofs.lemmas.Bool.{false≢true, cases_order}
 use Rattle.mvo_types.specs.declared.row.RowKey.{RowKey}
 use Rattle.mvo_types.specs.RowData.{ContentData}
 use Rattle.mvo_types.specs.Keys.{Map}
 use Rattle.mvo_types.specs.Write.{Effect, content_after_last}
-use Rattle.mvo_types.specs.Write.Effect.{Put, Delete as Gone}
+use Rattle.mvo_types.specs.Write.Effect.{Put}
 use Rattle.mvo_model.specs.History.{net_write}
 use Rattle.mvo_model.specs.Trace.{Step}
 use Rattle.mvo_model.proofs.Serials.{get-after_history}
-use Rattle.mvo_theory.specs.State.{State, StampedTx, ActiveTx, timeline, seen_by, history_below}
-use Rattle.mvo_theory.specs.Dependencies.{is_writer, or_later, last_writer}
+use Rattle.mvo_theory.specs.State.{State, StampedTx, timeline, seen_by, history_below}
+use Rattle.mvo_theory.specs.Dependencies.{or_later, last_writer}
 use Rattle.mvo_theory.specs.Claims.{end_or, has_claim}
-use Rattle.mvo_theory.specs.Sound.{IsSound, IsStarted, IsPast, how_many}
+use Rattle.mvo_theory.specs.Sound.{IsStarted, IsPast, how_many}
 use Rattle.mvo_theory.specs.Origins.{settled_ones, settled_origin, settled_rows}
 use Rattle.mvo_theory.specs.StandingClaims.{ClaimsIfStanding}
 use Rattle.mvo_theory.specs.Calls.{IsKept}
 use Rattle.mvo_theory.proofs.Apart.{IsIn}
 use Rattle.mvo_theory.proofs.Depends.{below_last}
-use Rattle.mvo_theory.proofs.Each.{each_weaker, each_both, each_back, each_filter}
+use Rattle.mvo_theory.proofs.Each.{each_weaker, each_both, each_back}
 use Rattle.mvo_theory.proofs.LastWriter.{last_is, counted}
 use Rattle.mvo_theory.proofs.Stamped.{each_part}
 use Rattle.mvo_theory.proofs.StandingClaims.{settled_claim}
@@ -130,8 +130,8 @@ module _ (opening : Map) (steps : List Step) (s : State) (k : RowKey) (a : ℕ) 
         | inl same ↦ not_next z m o w below (stands_by opening steps s k a z.end q h started e (sym same) (base.put z.end q e (sym same)))
         | inr r ↦ elim r [
           | inl lt ↦ let under = below_last k z.end (settled_ones s.stamped) q e in
-            let i = last_is k z.end (settled_ones s.stamped) q e in
-            again q (in_stamped q i) (i (λ x. x.settled ≡ true) (is_settled s.stamped)) (last_writes k z.end (settled_ones s.stamped) q e) lt (omega (arith, under, below)) (omega (arith, under, le))
+              let i = last_is k z.end (settled_ones s.stamped) q e in
+              again q (in_stamped q i) (i (λ x. x.settled ≡ true) (is_settled s.stamped)) (last_writes k z.end (settled_ones s.stamped) q e) lt (omega (arith, under, below)) (omega (arith, under, le))
           | inr gt ↦ let l = base.least z.end q above e in omega (arith, gt, l)
         ]
       ]

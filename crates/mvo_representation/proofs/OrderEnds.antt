@@ -1,39 +1,31 @@
 -- A draw of an end and an abort keep the versions of each key in order.
-use Rattle.std.proofs.Common.{◌≡◌, ◌≢◌, ℕ, ◌+◌, ◌<◌, ◌≤◌, Bool, true, false, cond, ◌||◌, List, [], ◌∷◌, ◌++◌, Option, None, Some, refl, sym, ap, ◌∙◌, subst, arith, ◌⊎◌, inl, inr}
-use Rattle.std.specs.Prelude.{⊤, ◌==◌, ◌&&◌, is_none}
+use Rattle.std.proofs.Common.{◌≡◌, ◌≢◌, ℕ, ◌+◌, ◌≤◌, Bool, true, false, ◌||◌, List, Option, None, Some, refl, sym, ap, ◌∙◌, subst, arith, ◌⊎◌, inl, inr}
+use Rattle.std.specs.Prelude.{◌&&◌, is_none}
 use Rattle.std.specs.List.{AllByRecursion}
 use Rattle.std.specs.Option.{option_or}
-use Rattle.std.proofs.lemmas.Bool.{eqb-true, eqb-false, eq-eqb, false≢true, true≢false, cases_Bool, or_parts}
-use Rattle.mvo_types.specs.declared.row.RowKey.{RowKey}
-use Rattle.mvo_types.specs.declared.ids.Stamp.{Stamp}
-use Rattle.mvo_types.specs.declared.ids.TxId.{TxId}
-use Rattle.mvo_model.specs.Trace.{Phase}
-use Rattle.mvo_model.specs.Trace.Phase.{Absent, Active, Preparing, Committed, Aborted}
-use Rattle.mvo_theory.specs.State.{State, StampedTx, ActiveTx, active_of, preparing_of}
-use Rattle.mvo_theory.specs.Phases.{phase_in}
-use Rattle.mvo_theory.specs.Sound.{IsSound, IsActive, IsRising}
-use Rattle.mvo_theory.proofs.Commits.{split_at}
-use Rattle.mvo_theory.proofs.Each.{each_weaker, each_back}
-use Rattle.mvo_theory.proofs.OriginEnds.{alone_at}
+use Rattle.std.proofs.lemmas.Bool.{eqb-true, eqb-false, false≢true, true≢false, cases_Bool, or_parts}
+use Rattle.mvo_model.specs.Trace.Phase.{Active, Preparing}
+use Rattle.mvo_theory.specs.State.{State}
+use Rattle.mvo_theory.specs.Sound.{IsSound, IsActive}
 use Rattle.mvo_theory.proofs.Who.{active_holds}
 use Rattle.mvo_word.specs.declared.held.Held.{Held}
 use Rattle.mvo_word.specs.declared.held.Held.TheVariants.{At, By, Infinity}
 use Rattle.mvo_chain.specs.declared.version.Version.{Version}
 use Rattle.mvo_chain.specs.Slots.{Slots, version_at}
-use Rattle.mvo_hash.specs.Lists.{Lists, number, numbers_of}
+use Rattle.mvo_hash.specs.Lists.{number, numbers_of}
 use Rattle.mvo_txn.specs.declared.state.TxState.{TxState}
 use Rattle.mvo_txn.specs.declared.state.TxState.TheVariants as state
-use Rattle.mvo_visible.specs.Words.{States, names}
+use Rattle.mvo_visible.specs.Words.{States, seen_in, names}
 use Rattle.mvo_visible.specs.Versions.{versions_at}
 use Rattle.mvo_visible.specs.Fronts.{DifferAt}
 use Rattle.mvo_representation.specs.Words.{Phases, Ends, end_in, ends_of, stamp_in, is_stamp, has_stamp}
-use Rattle.mvo_representation.specs.Versions.{IsKnown, IsKnownStamp, IsInside, AreVersionsOf}
+use Rattle.mvo_representation.specs.Versions.{IsKnown, IsInside, AreVersionsOf}
 use Rattle.mvo_representation.specs.Indexes.{all_versions}
 use Rattle.mvo_representation.specs.Table.{phase_as, phases_of}
-use Rattle.mvo_representation.specs.Order.{IsUpTo, first_stamp, is_written_by, MayPrecede, StandInOrder, AllStandInOrder, with_fronts, comes_forward, HasEndedItsOwn}
-use Rattle.mvo_representation.specs.OrderLaws.{DrawKeepsOrder}
-use Rattle.mvo_representation.proofs.Facts.{preparing_is, found_holds, IsDrawn, stamp_drawn}
-use Rattle.mvo_representation.proofs.OrderPairs.{is_the_stamp, has_the_stamp, unstamped_pair, active_is, inside_is}
+use Rattle.mvo_representation.specs.Order.{IsUpTo, first_stamp, is_written_by, MayPrecede, StandInOrder, comes_forward, HasEndedItsOwn, is_nothing}
+use Rattle.mvo_representation.specs.OrderLaws.{DrawKeepsOrder, ForwardIsSame, UnstampedIsUnseen}
+use Rattle.mvo_representation.proofs.Facts.{stamp_drawn}
+use Rattle.mvo_representation.proofs.OrderPairs.{is_the_stamp, has_the_stamp, active_is, inside_is}
 use Rattle.mvo_representation.proofs.OrderLists.{keyed, with_keyed, fronts_keyed}
 use Rattle.mvo_representation.proofs.OrderSteps.{order_to, order_from, live}
 use Rattle.mvo_representation.proofs.OrderFronts.{fronts_in_order, written_numbers, written_order}
@@ -228,3 +220,22 @@ draw_keeps_order opening steps s states states' slots lists places t end' ns h a
     (λ w v lw lv. drawn_front s states states' (all_versions slots) t end'.0 h.kept.sound h.kept.started.drawn h.versions was now drawn d w v lw lv)
     (λ w v lv f p q. absurd (true≢false (sym q ∙ unput s states states' (all_versions slots) t end'.0 h.kept.sound h.kept.started.drawn h.versions was now drawn d v f))) key
     (order_to s.start (phases_of states) slots (numbers_of lists key) (order key))))
+
+-- ---- what comes forward, as code tells it
+pub forward_is_same : ForwardIsSame
+forward_is_same states states' t v d = elim (cases_Bool (names t v.begin)) [
+  | inl n ↦ ap (λ (b : Bool). b || (names t v.end && is_none (stamp_in (ends_of (phases_of states')) v.begin))) n ∙ sym (ap (λ (b : Bool). b || (names t v.end && is_none (stamp_in (ends_of (phases_of states)) v.begin))) n)
+  | inr n ↦ ap (λ (o : Option ℕ). names t v.begin || (names t v.end && is_none o)) (other_stamp t states states' d v.begin n)
+]
+
+pub unstamped_is_unseen : UnstampedIsUnseen
+unstamped_is_unseen states (At s) = refl
+unstamped_is_unseen states Infinity = refl
+unstamped_is_unseen states (By t) = go (states t.0)
+  where
+    go : (o : Option TxState) → is_none (end_in (phase_as o)) ≡ is_nothing (seen_in t o)
+    go None = refl
+    go (Some state.Active) = refl
+    go (Some (state.Preparing e)) = refl
+    go (Some (state.Committed e)) = refl
+    go (Some state.Aborted) = refl

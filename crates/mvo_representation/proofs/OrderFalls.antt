@@ -1,44 +1,38 @@
 -- Versions that stand in order have falling stamps, and what an Active transaction wrote in front.
-use Rattle.std.proofs.Common.{◌≡◌, ◌≢◌, ℕ, ◌<◌, ◌≤◌, suc, Bool, true, false, cond, ◌||◌, List, [], ◌∷◌, ◌++◌, Option, None, Some, refl, sym, ap, ◌∙◌, subst, arith, ◌⊎◌, inl, inr}
+use Rattle.std.proofs.Common.{◌≡◌, ◌≢◌, ℕ, ◌<◌, ◌≤◌, Bool, true, false, List, [], ◌∷◌, ◌++◌, Option, None, Some, refl, sym, ap, ◌∙◌, subst, arith, ◌⊎◌, inl, inr}
 use Rattle.std.specs.Prelude.{⊤, is_some}
 use Rattle.std.specs.List.{AllByRecursion}
 use Rattle.std.specs.Option.{option_or}
-use Rattle.std.proofs.lemmas.Bool.{ne_eqb, false≢true, true≢false, cases_order, cases_lt, cases_eq}
+use Rattle.std.proofs.lemmas.Bool.{ne_eqb, cases_lt, cases_eq}
 use Rattle.mvo_types.specs.declared.row.RowKey.{RowKey}
 use Rattle.mvo_types.specs.declared.ids.Stamp.{Stamp}
-use Rattle.mvo_types.specs.declared.ids.TxId.{TxId}
 use Rattle.mvo_types.specs.Keys.{Map}
 use Rattle.mvo_model.specs.History.{net_write}
 use Rattle.mvo_model.specs.Trace.{Step, Phase}
 use Rattle.mvo_model.specs.Trace.Phase.{Absent, Active, Preparing, Committed, Aborted}
 use Rattle.mvo_theory.specs.State.{State, StampedTx}
 use Rattle.mvo_theory.specs.Claims.{has_claim}
-use Rattle.mvo_theory.specs.Sound.{IsSound, IsStarted}
 use Rattle.mvo_theory.specs.Calls.{IsKept}
 use Rattle.mvo_theory.proofs.Apart.{IsIn}
-use Rattle.mvo_theory.proofs.Each.{each_weaker, each_both, each_back}
+use Rattle.mvo_theory.proofs.Each.{each_weaker, each_back}
 use Rattle.mvo_theory.proofs.Trim.{IsTrim}
 use Rattle.mvo_theory.proofs.Trimmed.{may_trim}
 use Rattle.mvo_word.specs.declared.held.Held.{Held}
 use Rattle.mvo_word.specs.declared.held.Held.TheVariants.{At, By, Infinity}
 use Rattle.mvo_chain.specs.declared.version.Version.{Version}
-use Rattle.mvo_chain.specs.Slots.{Slots, version_at}
-use Rattle.mvo_hash.specs.Lists.{Lists, number, numbers_of}
+use Rattle.mvo_hash.specs.Lists.{numbers_of}
 use Rattle.mvo_txn.specs.declared.state.TxState.{TxState}
 use Rattle.mvo_txn.specs.declared.state.TxState.TheVariants as state
-use Rattle.mvo_visible.specs.declared.seen.Seen.{Seen}
 use Rattle.mvo_visible.specs.declared.seen.Seen.TheVariants.{Nothing, Settled, Speculative}
-use Rattle.mvo_visible.specs.Words.{States, seen_in, seen_of, names}
-use Rattle.mvo_visible.specs.Versions.{Numbered, is_own}
-use Rattle.mvo_visible.proofs.Behind.{Behind, IsUnder, AreUnder, IsOthersBelow, to_falling, to_front}
-use Rattle.mvo_representation.specs.Words.{Phases, Ends, end_in, ends_of, stamp_in, is_stamp, has_stamp, net_effect}
+use Rattle.mvo_visible.specs.Words.{States, seen_in, seen_of}
+use Rattle.mvo_visible.specs.Versions.{Numbered}
+use Rattle.mvo_visible.proofs.Behind.{Behind, IsUnder, to_falling, to_front}
+use Rattle.mvo_representation.specs.Words.{Phases, end_in, ends_of, stamp_in, is_stamp, has_stamp, net_effect}
 use Rattle.mvo_representation.specs.Words.NetEffect.{Untouched}
 use Rattle.mvo_representation.specs.Versions.{IsClaimed, IsKnown, IsKnownStamp, HasItsClaims, AreVersionsOf}
 use Rattle.mvo_representation.specs.Indexes.{all_versions}
-use Rattle.mvo_representation.specs.Steps.{IsOneMore}
 use Rattle.mvo_representation.specs.Table.{phase_as, phases_of}
-use Rattle.mvo_representation.specs.Laws.{StandsFor}
-use Rattle.mvo_representation.specs.Order.{EachPair, IsUpTo, first_stamp, is_written_by, MayPrecede, AllStandInOrder}
+use Rattle.mvo_representation.specs.Order.{EachPair, IsUpTo, is_written_by, MayPrecede}
 use Rattle.mvo_representation.specs.OrderLaws.{OrderFalls, OrderHasOwnInFront, TrimKeepsOrder}
 use Rattle.mvo_representation.proofs.Conflict.{end_has_effect}
 use Rattle.mvo_representation.proofs.Facts.{preparing_is, found_holds}

@@ -1,9 +1,9 @@
 -- Versions that come to the front of their keys keep them in order, as their transaction goes on.
-use Rattle.std.proofs.Common.{◌≡◌, ◌≢◌, ℕ, ◌||◌, Bool, true, false, cond, eqb, List, [], ◌∷◌, map, Option, None, Some, refl, sym, ap, ◌∙◌, subst, ◌⊎◌, inl, inr}
+use Rattle.std.proofs.Common.{◌≡◌, ◌≢◌, ℕ, ◌||◌, Bool, true, false, cond, eqb, List, [], ◌∷◌, map, Option, None, Some, refl, sym, ap, ◌∙◌, subst}
 use Rattle.std.specs.List.{AllByRecursion}
 use Rattle.std.specs.Ordering.{eq_by_cmp}
 use Rattle.std.specs.Cmp.{eq_by_cmp_equiv}
-use Rattle.std.proofs.lemmas.Bool.{eqb-true, eqb-false, eq-eqb, false≢true, true≢false, or_parts}
+use Rattle.std.proofs.lemmas.Bool.{eqb-true, false≢true, true≢false}
 use Rattle.mvo_types.proofs.Maps.{keys_total}
 use Rattle.mvo_types.specs.declared.row.RowKey.{RowKey}
 use Rattle.mvo_types.specs.Keys.{key_cmp}
@@ -14,8 +14,8 @@ use Rattle.mvo_chain.specs.Slots.{Slots, version_at}
 use Rattle.mvo_hash.specs.Lists.{Lists, number, numbers_of, is_among}
 use Rattle.mvo_visible.specs.Words.{names}
 use Rattle.mvo_representation.specs.Indexes.{HasNumbers}
-use Rattle.mvo_representation.specs.Order.{EachPair, with_fronts, HasEndedItsOwn, is_written_by, IsEndedBefore, IsWritten}
-use Rattle.mvo_representation.proofs.OrderLists.{On, OnOne, fronted, EachLater, pairs_fronted, of_key, and_key, keyed, with_keyed, fronts_keyed, numbers_fronted, no_version, some_version, pairs_weaker}
+use Rattle.mvo_representation.specs.Order.{EachPair, HasEndedItsOwn, is_written_by, IsEndedBefore, IsWritten}
+use Rattle.mvo_representation.proofs.OrderLists.{On, OnOne, EachLater, pairs_fronted, of_key, and_key, keyed, with_keyed, numbers_fronted, some_version, pairs_weaker}
 use Rattle.mvo_representation.proofs.OrderSteps.{at_key, none_of, IsOther}
 
 abbrev pub IsNumberOf : Slots → (Version → Bool) → RowKey × ℕ → Type 0

@@ -1,14 +1,14 @@
 -- Pairs of a list, and lists of numbers of which some come to the front.
-use Rattle.std.proofs.Common.{◌≡◌, ◌≢◌, ℕ, ◌||◌, Bool, true, false, cond, not, eqb, List, [], ◌∷◌, map, Option, None, Some, refl, sym, ap, ◌∙◌, subst, ◌⊎◌, inl, inr}
+use Rattle.std.proofs.Common.{◌≡◌, ℕ, ◌||◌, Bool, true, false, cond, not, eqb, List, [], ◌∷◌, map, Option, None, Some, refl, sym, ap, ◌∙◌, subst}
 use Rattle.std.specs.Prelude.{⊤}
 use Rattle.std.specs.List.{AllByRecursion}
 use Rattle.std.specs.Ordering.{eq_by_cmp}
-use Rattle.std.proofs.lemmas.Bool.{cases_Bool, eqb-true, eqb-false, eq-eqb, or_parts, false≢true, true≢false}
+use Rattle.std.proofs.lemmas.Bool.{eqb-true, eq-eqb, true≢false}
 use Rattle.mvo_types.specs.declared.row.RowKey.{RowKey}
 use Rattle.mvo_types.specs.Keys.{key_cmp}
 use Rattle.mvo_chain.specs.declared.version.Version.{Version}
 use Rattle.mvo_chain.specs.Slots.{Slots, version_at}
-use Rattle.mvo_hash.specs.Lists.{Lists, number, numbers_of, is_among, with_numbers, without}
+use Rattle.mvo_hash.specs.Lists.{Lists, number, numbers_of, is_among, without}
 use Rattle.mvo_hash.proofs.Views.{numbers_put}
 use Rattle.mvo_visible.specs.Versions.{Numbered, and_version, versions_by}
 use Rattle.mvo_visible.specs.Fronts.{with_front}
@@ -114,9 +114,10 @@ pairs_fronted R [] ns h k l = pairs_weaker (λ n. ⊤) (λ a b. is_among a [] �
     always : (xs : List ℕ) → AllByRecursion (λ n. ⊤) xs
     always [] = tt
     always (x ∷ xs) = (tt, always xs)
-pairs_fronted R (m ∷ ms) ns h k l = pairs_fronted R ms (m ∷ without m ns)
-    (all_without m (λ b. is_among m ms ≡ false → is_among b ms ≡ false → R m b) ns (each_weaker (λ b. is_among b (m ∷ ms) ≡ false → AllByRecursion (λ a. R a b) (m ∷ ms)) (λ b. eqb m b ≡ false → is_among m ms ≡ false → is_among b ms ≡ false → R m b) (λ b f e p q. (f (none_among b m ms e q)).0) ns k),
-    pairs_without m (λ a b. is_among a ms ≡ false → is_among b ms ≡ false → R a b) ns (pairs_weaker (λ n. ⊤) (λ a b. is_among a (m ∷ ms) ≡ false → is_among b (m ∷ ms) ≡ false → R a b) (λ a b. eqb m a ≡ false → eqb m b ≡ false → is_among a ms ≡ false → is_among b ms ≡ false → R a b) (λ a b p q f d e u v. f (none_among a m ms d u) (none_among b m ms e v)) ns (always ns) h))
+pairs_fronted R (m ∷ ms) ns h k l = pairs_fronted R ms (m ∷ without m ns) (
+  all_without m (λ b. is_among m ms ≡ false → is_among b ms ≡ false → R m b) ns (each_weaker (λ b. is_among b (m ∷ ms) ≡ false → AllByRecursion (λ a. R a b) (m ∷ ms)) (λ b. eqb m b ≡ false → is_among m ms ≡ false → is_among b ms ≡ false → R m b) (λ b f e p q. (f (none_among b m ms e q)).0) ns k),
+  pairs_without m (λ a b. is_among a ms ≡ false → is_among b ms ≡ false → R a b) ns (pairs_weaker (λ n. ⊤) (λ a b. is_among a (m ∷ ms) ≡ false → is_among b (m ∷ ms) ≡ false → R a b) (λ a b. eqb m a ≡ false → eqb m b ≡ false → is_among a ms ≡ false → is_among b ms ≡ false → R a b) (λ a b p q f d e u v. f (none_among a m ms d u) (none_among b m ms e v)) ns (always ns) h),
+)
     ((λ f. l.0 f), all_without m (λ b. is_among b ms ≡ false → AllByRecursion (λ a. R a b) ms) ns (each_weaker (λ b. is_among b (m ∷ ms) ≡ false → AllByRecursion (λ a. R a b) (m ∷ ms)) (λ b. eqb m b ≡ false → is_among b ms ≡ false → AllByRecursion (λ a. R a b) ms) (λ b f e q. (f (none_among b m ms e q)).1) ns k)) l.1
   where
     always : (xs : List ℕ) → AllByRecursion (λ n. ⊤) xs

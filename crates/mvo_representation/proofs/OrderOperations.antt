@@ -1,45 +1,40 @@
 -- An insert, a delete and an update keep the versions of each key in order.
-use Rattle.std.proofs.Common.{◌≡◌, ◌≢◌, ℕ, ◌+◌, ◌<◌, ◌≤◌, Bool, true, false, cond, ◌||◌, List, [], ◌∷◌, ◌++◌, Option, None, Some, refl, sym, ap, ◌∙◌, subst, arith, ◌⊎◌, inl, inr}
-use Rattle.std.specs.Prelude.{slice_index_or, slice_set, length}
+use Rattle.std.proofs.Common.{◌≡◌, ◌≢◌, ℕ, ◌<◌, Bool, true, false, ◌||◌, List, ◌++◌, Option, None, Some, refl, sym, ap, ◌∙◌, subst, ◌⊎◌, inl, inr}
+use Rattle.std.specs.Prelude.{slice_set}
 use Rattle.std.specs.List.{AllByRecursion}
 use Rattle.std.specs.FinMap as fin
-use Rattle.std.proofs.lemmas.Bool.{cases_eq, cases_Bool, eq-eqb, false≢true, true≢false}
+use Rattle.std.proofs.lemmas.Bool.{cases_eq, false≢true, true≢false}
 use Rattle.std.proofs.lemmas.List.{get_or-set_other}
 use Rattle.mvo_types.specs.declared.row.RowKey.{RowKey}
-use Rattle.mvo_types.specs.RowData.{RowData, ContentData, content_of}
-use Rattle.mvo_types.specs.Keys.{Map}
+use Rattle.mvo_types.specs.RowData.{ContentData, content_of}
 use Rattle.mvo_types.specs.Write.{Effect, content_after_last}
 use Rattle.mvo_types.specs.Write.Effect.{Put, Delete as Gone}
 use Rattle.mvo_model.specs.History.{net_write, after_history}
-use Rattle.mvo_model.specs.Trace.{Phase}
 use Rattle.mvo_model.specs.Trace.Phase.{Absent, Active, Preparing, Committed, Aborted}
 use Rattle.mvo_model.proofs.Serials.{get-after_history}
-use Rattle.mvo_theory.specs.State.{State, ActiveTx, active_of, snapshot, history_of_active, seen_by}
-use Rattle.mvo_theory.specs.Phases.{phase_in}
+use Rattle.mvo_theory.specs.State.{State, ActiveTx, active_of, seen_by}
 use Rattle.mvo_theory.proofs.Cases.{found_is}
 use Rattle.mvo_theory.proofs.Who.{active_holds}
-use Rattle.mvo_theory.proofs.Each.{each_weaker, each_both}
-use Rattle.mvo_word.specs.declared.held.Held.{Held}
+use Rattle.mvo_theory.proofs.Each.{each_weaker}
 use Rattle.mvo_chain.specs.declared.version.Version.{Version}
 use Rattle.mvo_chain.specs.Slots.{Slots, version_at}
-use Rattle.mvo_hash.specs.Lists.{Lists, number, numbers_of}
+use Rattle.mvo_hash.specs.Lists.{number, numbers_of}
 use Rattle.mvo_txn.specs.declared.state.TxState.{TxState}
 use Rattle.mvo_txn.specs.declared.state.TxState.TheVariants as state
 use Rattle.mvo_visible.specs.Words.{States, names}
-use Rattle.mvo_representation.specs.Words.{Phases, Ends, ends_of, stamp_in, has_stamp, NetEffect, with_effect, net_effect, as_net_effect, is_clash, IsShownAt}
+use Rattle.mvo_representation.specs.Words.{Phases, ends_of, stamp_in, NetEffect, with_effect, net_effect, as_net_effect, is_clash, IsShownAt}
 use Rattle.mvo_representation.specs.Words.NetEffect.{Untouched, Removed, Puts, Clash}
 use Rattle.mvo_representation.specs.Versions.{IsInside, AreVersionsOf, Say}
-use Rattle.mvo_representation.specs.Indexes.{all_versions, HasNumbers}
-use Rattle.mvo_representation.specs.Steps.{fresh, ended_by, MayEnd, IsOwnNewest, IsFreeToEnd, IsOneMore}
+use Rattle.mvo_representation.specs.Indexes.{all_versions}
+use Rattle.mvo_representation.specs.Steps.{ended_by, MayEnd, IsOneMore}
 use Rattle.mvo_representation.specs.Steps.MayEnd.{Own, Other}
 use Rattle.mvo_representation.specs.Table.{phase_as, phases_of}
-use Rattle.mvo_representation.specs.Laws.{StandsFor}
-use Rattle.mvo_representation.specs.Order.{MayPrecede, StandInOrder, AllStandInOrder, EachPair}
+use Rattle.mvo_representation.specs.Order.{MayPrecede}
 use Rattle.mvo_representation.specs.OrderLaws.{HaveNow, InsertKeepsOrder, DeleteKeepsOrder, UpdateKeepsOrder}
 use Rattle.mvo_representation.proofs.Collect.{leaves_row, leaves_put}
 use Rattle.mvo_representation.proofs.Facts.{phase_active}
 use Rattle.mvo_representation.proofs.Own.{own_id, not_clash}
-use Rattle.mvo_representation.proofs.OrderLists.{On, OnOne, versions, no_version, some_version, pairs_weaker}
+use Rattle.mvo_representation.proofs.OrderLists.{On, OnOne, some_version, pairs_weaker}
 use Rattle.mvo_representation.proofs.OrderPairs.{ended_pair, loose_end, none_before_shown, put_has_effect}
 use Rattle.mvo_representation.proofs.OrderSteps.{order_to, order_from, new_in_order, stays_put, more_at, live, at_key, ended_where_none, is_false}
 

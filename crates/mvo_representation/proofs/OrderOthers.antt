@@ -1,6 +1,6 @@
 -- The opening and a finished word keep the versions of each key in order; versions at the front keep their numbers.
-use Rattle.std.proofs.Common.{◌≡◌, ◌≢◌, ℕ, ◌+◌, ◌<◌, ◌≤◌, suc, Bool, true, false, cond, not, eqb, length, ◌||◌, List, [], ◌∷◌, ◌++◌, Option, None, Some, refl, sym, ap, ◌∙◌, subst, arith, ◌⊎◌, inl, inr}
-use Rattle.std.specs.Prelude.{⊤, ◌==◌, ◌&&◌, slice_index_or, slice_set}
+use Rattle.std.proofs.Common.{◌≡◌, ◌≢◌, ℕ, ◌+◌, ◌≤◌, suc, Bool, true, false, cond, eqb, ◌||◌, List, [], ◌∷◌, ◌++◌, Option, None, Some, refl, sym, ap, ◌∙◌, subst, arith, ◌⊎◌, inl, inr}
+use Rattle.std.specs.Prelude.{◌==◌, ◌&&◌, slice_index_or, slice_set}
 use Rattle.std.specs.List.{AllByRecursion}
 use Rattle.std.specs.Option.{option_map}
 use Rattle.std.specs.FinMap as fin
@@ -11,33 +11,28 @@ use Rattle.std.proofs.lemmas.List.{get_or-set_other}
 use Rattle.mvo_types.proofs.Maps.{keys_total}
 use Rattle.mvo_types.specs.declared.row.RowKey.{RowKey}
 use Rattle.mvo_types.specs.RowData.{ContentData, content_of}
-use Rattle.mvo_types.specs.Keys.{Map, key_cmp}
-use Rattle.mvo_types.specs.Write.{Effect}
+use Rattle.mvo_types.specs.Keys.{key_cmp}
 use Rattle.mvo_types.specs.Write.Effect.{Put}
 use Rattle.mvo_model.specs.Trace.Phase.{Active}
-use Rattle.mvo_theory.specs.State.{opened}
 use Rattle.mvo_theory.specs.Sound.{how_many}
-use Rattle.mvo_theory.proofs.Each.{each_weaker, each_back}
-use Rattle.mvo_theory.proofs.Footprints.{key_same, or_left, or_right}
+use Rattle.mvo_theory.proofs.Footprints.{or_left, or_right}
 use Rattle.mvo_word.specs.declared.held.Held.{Held}
-use Rattle.mvo_word.specs.declared.held.Held.TheVariants.{At, By, Infinity}
+use Rattle.mvo_word.specs.declared.held.Held.TheVariants.{At, Infinity}
 use Rattle.mvo_chain.specs.declared.version.Version.{Version}
 use Rattle.mvo_chain.specs.Slots.{Slots, version_at}
-use Rattle.mvo_hash.specs.Lists.{Lists, IsFresh, is_among, number, numbers_of, with_numbers, without}
+use Rattle.mvo_hash.specs.Lists.{Lists, is_among, number, numbers_of, without}
 use Rattle.mvo_visible.specs.Words.{States, names}
 use Rattle.mvo_visible.specs.Fronts.{with_front}
-use Rattle.mvo_representation.specs.Words.{Phases, Ends, ends_of, stamp_in, is_stamp, NetEffect, with_effect, is_clash, as_net_effect, is_up_to, is_standing, standing_effect_of, standing_effect}
+use Rattle.mvo_representation.specs.Words.{Ends, ends_of, stamp_in, NetEffect, with_effect, is_clash, as_net_effect, is_up_to, is_standing, standing_effect}
 use Rattle.mvo_representation.specs.Words.NetEffect.{Untouched, Removed, Puts, Clash}
-use Rattle.mvo_representation.specs.Versions.{AreVersionsOf}
 use Rattle.mvo_representation.specs.Indexes.{all_versions, is_of_key, HasNumbers}
-use Rattle.mvo_representation.specs.Steps.{IsOneMore}
 use Rattle.mvo_representation.specs.Table.{phases_of}
-use Rattle.mvo_representation.specs.Order.{EachPair, MayPrecede, StandInOrder, AllStandInOrder, IsSeenAlike, HasSameWords, with_front_if, with_fronts, word_of_stamp, IsFinished}
-use Rattle.mvo_representation.specs.Order.HasSameWords.{Same, Nothing}
-use Rattle.mvo_representation.specs.OrderLaws.{HaveNow, OpeningStandsInOrder, FinishStaysInOrder, FrontsKeepNumbers, NumbersAreAmong, HolesAreFresh}
+use Rattle.mvo_representation.specs.Order.{EachPair, MayPrecede, IsSeenAlike, with_front_if, word_of_stamp, IsFinished}
+use Rattle.mvo_representation.specs.Order.HasSameWords.{Same}
+use Rattle.mvo_representation.specs.OrderLaws.{OpeningStandsInOrder, FinishStaysInOrder, FrontsKeepNumbers, NumbersAreAmong, HolesAreFresh}
 use Rattle.mvo_representation.proofs.Kept.{standing_effect-at}
 use Rattle.mvo_representation.proofs.Numbers.{without_same, without_other}
-use Rattle.mvo_representation.proofs.OrderLists.{On, OnOne, versions, some_version, pairs_weaker}
+use Rattle.mvo_representation.proofs.OrderLists.{On, OnOne, some_version, pairs_weaker}
 use Rattle.mvo_representation.proofs.OrderSteps.{at_each, order_from, live, more_at, at_key, alike_stay_in_order}
 use Rattle.mvo_representation.proofs.OrderEnds.{own_stamp, one_name}
 use Rattle.mvo_representation.proofs.OrderBases.{stands_here}
@@ -87,8 +82,10 @@ front_counts n j ns e le = elim (cases_eq j n) [
 ]
 
 pub front_keeps_numbers : (slots : Slots) (lists : Lists) (n : ℕ) (v : Version) → version_at slots (number n) ≡ Some v → HasNumbers slots lists → HasNumbers slots (with_front lists v.row.key n)
-front_keeps_numbers slots lists n v e h = record { at = λ k j. at_each (λ ns. how_many (λ m. m == j) ns ≡ one (is_of_key k (slice_index_or slots j None))) lists v.row.key (n ∷ without n (numbers_of lists v.row.key)) k
-    (λ same. front_counts n j (numbers_of lists v.row.key) (numbers_are_among slots lists n v h e) (at_most n) ∙ h.at v.row.key j ∙ ap (λ (q : RowKey). one (is_of_key q (slice_index_or slots j None))) same) (h.at k j) }
+front_keeps_numbers slots lists n v e h = record {
+  at = λ k j. at_each (λ ns. how_many (λ m. m == j) ns ≡ one (is_of_key k (slice_index_or slots j None))) lists v.row.key (n ∷ without n (numbers_of lists v.row.key)) k
+      (λ same. front_counts n j (numbers_of lists v.row.key) (numbers_are_among slots lists n v h e) (at_most n) ∙ h.at v.row.key j ∙ ap (λ (q : RowKey). one (is_of_key q (slice_index_or slots j None))) same) (h.at k j);
+}
   where
     at_one : (b : Bool) → one b ≤ 1
     at_one true = omega arith

@@ -1,5 +1,5 @@
 -- Two versions of a key, one in front of the other, as words and transactions change.
-use Rattle.std.proofs.Common.{◌≡◌, ◌≢◌, ℕ, ◌<◌, ◌≤◌, suc, Bool, true, false, cond, ◌||◌, List, [], ◌∷◌, ◌++◌, Option, None, Some, refl, sym, ap, ◌∙◌, subst, arith, ◌⊎◌, inl, inr}
+use Rattle.std.proofs.Common.{◌≡◌, ℕ, ◌<◌, ◌≤◌, Bool, true, false, cond, ◌||◌, List, ◌∷◌, ◌++◌, Option, None, Some, refl, sym, ap, ◌∙◌, subst, arith, ◌⊎◌, inl, inr}
 use Rattle.std.specs.Prelude.{◌==◌}
 use Rattle.std.specs.List.{AllByRecursion}
 use Rattle.std.specs.Option.{option_or}
@@ -9,11 +9,10 @@ use Rattle.std.proofs.lemmas.Bool.{eqb-true, eq-eqb, ne_eqb, false≢true, true�
 use Rattle.mvo_types.proofs.Maps.{keys_total}
 use Rattle.mvo_types.specs.declared.row.RowKey.{RowKey}
 use Rattle.mvo_types.specs.declared.cause.Cause.{Cause}
-use Rattle.mvo_types.specs.RowData.{RowData, ContentData, content_of}
+use Rattle.mvo_types.specs.RowData.{RowData, content_of}
 use Rattle.mvo_types.specs.Keys.{key_cmp}
 use Rattle.mvo_model.specs.Trace.{Phase}
 use Rattle.mvo_model.specs.Trace.Phase.{Absent, Active, Preparing, Committed, Aborted}
-use Rattle.mvo_model.specs.History.{net_write}
 use Rattle.mvo_theory.specs.State.{State, ActiveTx, StampedTx, EndedTx, Outcome, active_of, preparing_of, ended_of}
 use Rattle.mvo_theory.specs.State.Outcome.{Committed as WasCommitted, Aborted as WasAborted}
 use Rattle.mvo_theory.specs.Phases.{phase_by, phase_in, ended_as}
@@ -22,25 +21,25 @@ use Rattle.mvo_word.specs.declared.held.Held.{Held}
 use Rattle.mvo_word.specs.declared.held.Held.TheVariants.{At, By, Infinity}
 use Rattle.mvo_chain.specs.declared.version.Version.{Version}
 use Rattle.mvo_visible.specs.Words.{States, names}
-use Rattle.mvo_representation.specs.Words.{Phases, Ends, end_in, ends_of, stamp_in, is_stamp, has_stamp, cause_of_phase, cause_at_end, NetEffect, with_effect, effect_by, effect_of, net_effect, IsShownAt}
+use Rattle.mvo_representation.specs.Words.{Phases, end_in, ends_of, stamp_in, is_stamp, has_stamp, cause_of_phase, cause_at_end, NetEffect, with_effect, effect_by, net_effect, IsShownAt}
 use Rattle.mvo_representation.specs.Words.NetEffect.{Untouched, Removed, Puts, Clash}
-use Rattle.mvo_representation.specs.Versions.{IsInside, AreVersionsOf}
-use Rattle.mvo_representation.specs.Steps.{fresh, ended_by, MayEnd, IsOwnNewest, IsFreeToEnd}
+use Rattle.mvo_representation.specs.Versions.{IsInside}
+use Rattle.mvo_representation.specs.Steps.{fresh, ended_by, MayEnd}
 use Rattle.mvo_representation.specs.Steps.MayEnd.{Own, Other}
 use Rattle.mvo_representation.specs.Table.{phases_of}
-use Rattle.mvo_representation.specs.Order.{IsUpTo, first_stamp, is_written_by, MayPrecede, HasSameWords, IsSeenAlike}
-use Rattle.mvo_representation.specs.Order.HasSameWords.{Same, Nothing}
+use Rattle.mvo_representation.specs.Order.{IsUpTo, is_written_by, MayPrecede, HasSameWords, IsSeenAlike}
+use Rattle.mvo_representation.specs.Order.HasSameWords.{Same, Unnamed}
 use Rattle.mvo_representation.proofs.Effects.{net_effect-at}
 use Rattle.mvo_representation.proofs.Version.{IsLastChange, last_change_is_one}
 
 -- ---- others see the same
 alike_own : (states states' : States) (t : ℕ) (w v w' v' : Version) → HasSameWords states t w w' → HasSameWords states t v v' → (phases_of states t ≡ Active → names t w.begin ≡ true → names t v.begin ≡ true → names t v.end ≡ true) → names t w'.begin ≡ true → names t v'.begin ≡ true → names t v'.end ≡ true
-alike_own states states' t w v w' v' (Nothing a b) q h p r = absurd (false≢true (sym a ∙ p))
-alike_own states states' t w v w' v' (Same act a b) (Nothing c d) h p r = absurd (false≢true (sym c ∙ r))
+alike_own states states' t w v w' v' (Unnamed a b) q h p r = absurd (false≢true (sym a ∙ p))
+alike_own states states' t w v w' v' (Same act a b) (Unnamed c d) h p r = absurd (false≢true (sym c ∙ r))
 alike_own states states' t w v w' v' (Same act a b) (Same act' c d) h p r = d ∙ h act (sym a ∙ p) (sym c ∙ r)
 
 alike_writes : (states : States) (t : ℕ) (v v' : Version) → HasSameWords states t v v' → (phases_of states t ≡ Active → is_written_by t v ≡ false) → is_written_by t v' ≡ false
-alike_writes states t v v' (Nothing a b) h = ap (λ (c : Bool). c || names t v'.end) a ∙ b
+alike_writes states t v v' (Unnamed a b) h = ap (λ (c : Bool). c || names t v'.end) a ∙ b
 alike_writes states t v v' (Same act a b) h = ap (λ (c : Bool). c || names t v'.end) a ∙ ap (λ (c : Bool). names t v.begin || c) b ∙ h act
 
 pub alike_pair : (start : ℕ) (states states' : States) (w v w' v' : Version) → IsSeenAlike states states' w w' → IsSeenAlike states states' v v' → MayPrecede start (phases_of states) w v → MayPrecede start (phases_of states') w' v'

@@ -1,55 +1,38 @@
 -- What keeps the versions of each key in order: steps that move none, and operations.
-use Rattle.std.proofs.Common.{◌≡◌, ◌≢◌, ℕ, ◌+◌, ◌<◌, ◌≤◌, Bool, true, false, cond, eqb, ◌||◌, length, List, [], ◌∷◌, ◌++◌, map, Option, None, Some, refl, sym, ap, ◌∙◌, subst, arith, ◌⊎◌, inl, inr}
-use Rattle.std.specs.Prelude.{⊤, ◌==◌, slice_index_or, slice_set}
+use Rattle.std.proofs.Common.{◌≡◌, ◌≢◌, ℕ, ◌≤◌, Bool, true, false, cond, eqb, length, List, [], ◌∷◌, ◌++◌, None, Some, refl, sym, ap, ◌∙◌, subst, arith}
+use Rattle.std.specs.Prelude.{⊤, slice_set}
 use Rattle.std.specs.List.{AllByRecursion}
-use Rattle.std.specs.FinMap as fin
 use Rattle.std.specs.Ordering.{eq_by_cmp}
 use Rattle.std.specs.Cmp.{eq_by_cmp_equiv}
-use Rattle.std.proofs.lemmas.Bool.{cases_eq, eqb-true, eqb-false, eq-eqb, ne_eqb, false≢true, true≢false, or_parts}
+use Rattle.std.proofs.lemmas.Bool.{eqb-false, false≢true, or_parts}
 use Rattle.mvo_types.proofs.Maps.{keys_total}
 use Rattle.mvo_types.specs.declared.row.RowKey.{RowKey}
-use Rattle.mvo_types.specs.RowData.{RowData, ContentData, content_of}
+use Rattle.mvo_types.specs.RowData.{RowData, content_of}
 use Rattle.mvo_types.specs.Keys.{key_cmp}
-use Rattle.mvo_types.specs.Write.{Effect, content_after_last}
-use Rattle.mvo_types.specs.Write.Effect.{Put, Delete as Gone}
-use Rattle.mvo_model.specs.History.{net_write, after_history}
-use Rattle.mvo_model.specs.Trace.Phase.{Active}
-use Rattle.mvo_model.proofs.Serials.{get-after_history}
-use Rattle.mvo_theory.specs.State.{State, ActiveTx, active_of, snapshot, history_of_active, seen_by}
-use Rattle.mvo_theory.proofs.Cases.{found_is}
-use Rattle.mvo_theory.proofs.Who.{active_holds}
 use Rattle.mvo_theory.proofs.Each.{each_weaker, each_both, each_back}
 use Rattle.mvo_theory.proofs.Footprints.{key_same}
 use Rattle.mvo_word.specs.declared.held.Held.{Held}
 use Rattle.mvo_chain.specs.declared.version.Version.{Version}
-use Rattle.mvo_chain.specs.declared.version.VersionNo.{VersionNo}
 use Rattle.mvo_chain.specs.Slots.{Slots, version_at}
 use Rattle.mvo_hash.specs.Lists.{Lists, IsFresh, number, numbers_of, is_among, with_numbers, without}
 use Rattle.mvo_hash.proofs.Views.{numbers_put}
 use Rattle.mvo_txn.specs.declared.state.TxState.TheVariants as state
 use Rattle.mvo_visible.specs.Words.{States, names}
-use Rattle.mvo_visible.specs.Versions.{versions_at}
-use Rattle.mvo_visible.specs.Fronts.{DifferAt, with_new, with_less}
+use Rattle.mvo_visible.specs.Fronts.{with_new}
 use Rattle.mvo_visible.specs.Laws.{SlotsDifferAt}
-use Rattle.mvo_representation.specs.Words.{Phases, Ends, ends_of, stamp_in, has_stamp, NetEffect, with_effect, effect_by, effect_of, net_effect, as_net_effect, IsShownAt}
-use Rattle.mvo_representation.specs.Words.NetEffect.{Untouched, Removed, Puts, Clash}
-use Rattle.mvo_representation.specs.Versions.{IsInside, AreVersionsOf, Say}
+use Rattle.mvo_representation.specs.Words.{Phases, with_effect, effect_by, net_effect}
+use Rattle.mvo_representation.specs.Words.NetEffect.{Untouched, Puts}
 use Rattle.mvo_representation.specs.Indexes.{all_versions, HasNumbers}
-use Rattle.mvo_representation.specs.Steps.{fresh, ended_by, MayEnd, IsUnnamed, IsOneMore}
-use Rattle.mvo_representation.specs.Steps.MayEnd.{Own, Other}
+use Rattle.mvo_representation.specs.Steps.{fresh, IsOneMore}
 use Rattle.mvo_representation.specs.Table.{phase_as, phases_of}
-use Rattle.mvo_representation.specs.Laws.{StandsFor}
-use Rattle.mvo_representation.specs.Order.{MayPrecede, StandInOrder, AllStandInOrder, EachPair, IsSeenAlike, HasSameWords}
-use Rattle.mvo_representation.specs.Order.HasSameWords.{Same, Nothing}
-use Rattle.mvo_representation.specs.OrderLaws.{HaveNow, InsertKeepsOrder, DeleteKeepsOrder, UpdateKeepsOrder, AlikeStayInOrder, RemovalKeepsOrder, UnheldStaysInOrder, SingleStandInOrder}
+use Rattle.mvo_representation.specs.Order.{MayPrecede, StandInOrder, AllStandInOrder, EachPair}
+use Rattle.mvo_representation.specs.OrderLaws.{HaveNow, AlikeStayInOrder, RemovalKeepsOrder, UnheldStaysInOrder, SingleStandInOrder}
 use Rattle.mvo_representation.proofs.Effects.{net_effect-at}
 use Rattle.mvo_representation.proofs.Slots.{slot_emptied}
-use Rattle.mvo_representation.proofs.Facts.{phase_active}
-use Rattle.mvo_representation.proofs.Decided.{AreOfKey}
 use Rattle.mvo_representation.proofs.Collect.{leaves_row, leaves_put}
 use Rattle.mvo_representation.proofs.ShownTo.{of_key}
-use Rattle.mvo_representation.proofs.OrderLists.{On, OnOne, versions, no_version, some_version, all_to, all_from, pairs_weaker, pairs_to, pairs_from, all_without, pairs_without}
-use Rattle.mvo_representation.proofs.OrderPairs.{alike_pair, fresh_pair, ended_pair, loose_end, none_before_shown}
+use Rattle.mvo_representation.proofs.OrderLists.{On, OnOne, versions, some_version, all_to, pairs_weaker, pairs_to, pairs_from, pairs_without}
+use Rattle.mvo_representation.proofs.OrderPairs.{alike_pair, fresh_pair}
 
 -- ---- numbers of a key in order
 abbrev pub InOrder : ℕ → Phases → Slots → List ℕ → Type 0

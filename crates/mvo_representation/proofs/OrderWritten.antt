@@ -1,26 +1,25 @@
 -- The list of the versions that a transaction has put or ended is kept.
-use Rattle.std.proofs.Common.{◌≡◌, ◌≢◌, ℕ, Bool, true, false, cond, eqb, ◌||◌, List, [], ◌∷◌, ◌++◌, Option, None, Some, refl, sym, ap, ◌∙◌, subst, ◌⊎◌, inl, inr}
-use Rattle.std.specs.List.{AllByRecursion, list_any}
+use Rattle.std.proofs.Common.{◌≡◌, ◌≢◌, ℕ, Bool, true, false, cond, eqb, ◌||◌, List, [], ◌∷◌, ◌++◌, Option, None, Some, refl, sym, ap, ◌∙◌, ◌⊎◌, inl, inr}
+use Rattle.std.specs.List.{AllByRecursion}
 use Rattle.std.specs.FinMap as fin
-use Rattle.std.proofs.lemmas.Bool.{cases_eq, eqb-true, eq-eqb, false≢true, true≢false}
+use Rattle.std.proofs.lemmas.Bool.{cases_eq, eq-eqb, false≢true}
 use Rattle.std.proofs.lemmas.List.Folds.{list_any-append}
 use Rattle.mvo_types.specs.declared.row.RowKey.{RowKey}
 use Rattle.mvo_types.specs.RowData.{RowData, content_of}
 use Rattle.mvo_model.specs.History.{net_write, after_history}
 use Rattle.mvo_model.proofs.Serials.{get-after_history}
-use Rattle.mvo_theory.specs.State.{State, ActiveTx, active_of, seen_by}
+use Rattle.mvo_theory.specs.State.{seen_by}
 use Rattle.mvo_theory.proofs.Cases.{found_is}
-use Rattle.mvo_theory.proofs.Each.{each_weaker, each_both, each_append}
+use Rattle.mvo_theory.proofs.Each.{each_weaker, each_append}
 use Rattle.mvo_theory.proofs.Footprints.{or_left, or_right}
 use Rattle.mvo_word.specs.declared.held.Held.{Held}
 use Rattle.mvo_chain.specs.declared.version.Version.{Version}
 use Rattle.mvo_chain.specs.Slots.{Slots, version_at}
 use Rattle.mvo_hash.specs.Lists.{number, is_among}
-use Rattle.mvo_visible.specs.Words.{States, names}
+use Rattle.mvo_visible.specs.Words.{names}
 use Rattle.mvo_representation.specs.Words.{net_effect}
-use Rattle.mvo_representation.specs.Versions.{AreVersionsOf}
 use Rattle.mvo_representation.specs.Indexes.{all_versions}
-use Rattle.mvo_representation.specs.Steps.{MayEnd, fresh, ended_by}
+use Rattle.mvo_representation.specs.Steps.{fresh, ended_by}
 use Rattle.mvo_representation.specs.Table.{phases_of}
 use Rattle.mvo_representation.specs.Order.{EachPair, is_written_by, IsEndedBefore, IsWritten, own_words}
 use Rattle.mvo_representation.specs.OrderLaws.{HaveNow}
@@ -29,7 +28,7 @@ use Rattle.mvo_representation.proofs.Collect.{leaves_row, leaves_put}
 use Rattle.mvo_representation.proofs.Own.{own_id}
 use Rattle.mvo_representation.proofs.OrderLists.{no_version, some_version, pairs_weaker}
 use Rattle.mvo_representation.proofs.OrderSteps.{stays_put, more_at, live, is_false}
-use Rattle.mvo_representation.proofs.OrderOperations.{own_words as says, unput, WasBefore, was_before, other_ended}
+use Rattle.mvo_representation.proofs.OrderOperations.{own_words as says, unput, was_before, other_ended}
 
 pub nothing_is_written : NothingIsWritten
 nothing_is_written t slots h = record {

@@ -9,6 +9,8 @@ use Rattle.mvo_chain.specs.declared.version.Version.{Version}
 use Rattle.mvo_chain.specs.Slots.{Slots, version_at}
 use Rattle.mvo_hash.specs.Lists.{Lists, number, is_among}
 use Rattle.mvo_model.specs.Trace.Phase.{Active, Preparing}
+use Rattle.mvo_visible.specs.declared.seen.Seen.{Seen}
+use Rattle.mvo_visible.specs.declared.seen.Seen.TheVariants.{Nothing, Settled, Speculative}
 use Rattle.mvo_visible.specs.Words.{States, names}
 use Rattle.mvo_visible.specs.Versions.{Numbered, versions_at}
 use Rattle.mvo_visible.specs.Fronts.{with_front}
@@ -29,12 +31,13 @@ IsUpTo s (Some e) = e ≤ s
 abbrev pub first_stamp : Ends → Version → Option ℕ
 first_stamp ends v = option_or (stamp_in ends v.begin) (stamp_in ends v.end)
 
--- behind a put with a stamp no put has a greater one, and no removal of what has no stamp itself
+-- behind a put with a stamp no put has a greater one, nor has the removal of a version whose put
+-- has none
 abbrev pub HasFallingPut : Ends → Version → Version → Type 0
 HasFallingPut ends w v =
     (s : ℕ) → stamp_in ends w.begin ≡ Some s → IsUpTo s (first_stamp ends v)
 
--- nor has any removal up to the start
+-- up to the start, no removal has a greater one either
 abbrev pub HasFallingRemoval : Ends → ℕ → Version → Version → Type 0
 HasFallingRemoval ends start w v =
     (s e : ℕ) → stamp_in ends w.begin ≡ Some s → stamp_in ends v.end ≡ Some e
@@ -96,7 +99,8 @@ IsEndedBefore t slots m n =
     (v w : Version) → version_at slots (number m) ≡ Some v → version_at slots (number n) ≡ Some w
     → v.row.key ≡ w.row.key → m ≢ n → HasEndedItsOwn (names t) w v
 
--- these are the numbers of the versions that t put or ended, in the order of writing
+-- these are the numbers of the versions that t put or ended, in the order of writing as far as it
+-- counts
 pub record IsWritten (t : ℕ) (slots : Slots) (ns : List ℕ) : Type 0 where
   pub all : (n : ℕ) (v : Version) → version_at slots (number n) ≡ Some v
       → is_written_by t v ≡ true → is_among n ns ≡ true
@@ -114,7 +118,7 @@ MayAbort table t = (table t ≡ Active) ⊎ ((e : ℕ) × (table t ≡ Preparing
 pub data HasSameWords (states : States) (t : ℕ) (v w : Version) : Type 0 where
   Same : phases_of states t ≡ Active → names t w.begin ≡ names t v.begin
       → names t w.end ≡ names t v.end → HasSameWords states t v w
-  Nothing : names t w.begin ≡ false → names t w.end ≡ false → HasSameWords states t v w
+  Unnamed : names t w.begin ≡ false → names t w.end ≡ false → HasSameWords states t v w
 
 -- the version has become w, and the table the other one
 pub record IsSeenAlike (states states' : States) (v w : Version) : Type 0 where
@@ -140,3 +144,9 @@ abbrev pub own_words : ℕ → Option Version → Option (RowKey × Bool × Bool
 own_words t None = None
 own_words t (Some v) =
     cond (is_written_by t v) (Some (v.row.key, names t v.begin, names t v.end)) None
+
+-- ---- what others see in a word
+abbrev pub is_nothing : Seen → Bool
+is_nothing Nothing = true
+is_nothing (Settled s) = false
+is_nothing (Speculative s t) = false

@@ -1,5 +1,5 @@
 -- What keeps the versions of each key in order, and what follows.
-use Rattle.std.specs.Prelude.{ℕ, ◌≡◌, ◌≢◌, ◌+◌, ◌≤◌, true, Bool, length, List, Option, None, Some}
+use Rattle.std.specs.Prelude.{ℕ, ◌≡◌, ◌≢◌, ◌+◌, ◌≤◌, true, Bool, is_none, length, List, None, Some}
 use Rattle.std.specs.List.{AllByRecursion}
 use Rattle.std.specs.FinMap as fin
 use Rattle.mvo_types.specs.declared.row.RowKey.{RowKey}
@@ -10,6 +10,7 @@ use Rattle.mvo_model.specs.Trace.{Step}
 use Rattle.mvo_model.specs.Trace.Phase.{Active as IsActive}
 use Rattle.mvo_theory.specs.State.{State, ActiveTx, opened, active_of, snapshot}
 use Rattle.mvo_theory.specs.Causes.{why_not_trim}
+use Rattle.mvo_word.specs.declared.held.Held.{Held}
 use Rattle.mvo_word.specs.declared.held.Held.TheVariants.{At, Infinity}
 use Rattle.mvo_chain.specs.declared.version.Version.{Version}
 use Rattle.mvo_chain.specs.declared.version.VersionNo.{VersionNo}
@@ -17,17 +18,17 @@ use Rattle.mvo_chain.specs.Slots.{Slots, version_at, IsHole, with_room, with_slo
 use Rattle.mvo_hash.specs.Lists.{Lists, IsFresh, is_among, number, numbers_of}
 use Rattle.mvo_range.specs.Place.{Map as Places}
 use Rattle.mvo_txn.specs.declared.state.TxState.TheVariants.{Active, Preparing, Committed, Aborted}
-use Rattle.mvo_visible.specs.Words.{States}
+use Rattle.mvo_visible.specs.Words.{States, seen_of}
 use Rattle.mvo_visible.specs.Shown.{AllHaveFallingStamps}
 use Rattle.mvo_visible.specs.Fronts.{AllOwnInFront, DifferAt, with_new, with_less}
 use Rattle.mvo_visible.specs.Laws.{SlotsDifferAt}
-use Rattle.mvo_representation.specs.Words.{ends_of}
+use Rattle.mvo_representation.specs.Words.{ends_of, stamp_in}
 use Rattle.mvo_representation.specs.Versions.{AreVersionsOf}
 use Rattle.mvo_representation.specs.Indexes.{all_versions, HasNumbers}
 use Rattle.mvo_representation.specs.Steps.{MayEnd, IsUnnamed, fresh, ended_by}
 use Rattle.mvo_representation.specs.Table.{phases_of}
 use Rattle.mvo_representation.specs.Laws.{StandsFor}
-use Rattle.mvo_representation.specs.Order.{AllStandInOrder, with_fronts, comes_forward, is_put_by, IsWritten, MayAbort, IsSeenAlike, IsFinished}
+use Rattle.mvo_representation.specs.Order.{AllStandInOrder, with_fronts, comes_forward, is_put_by, IsWritten, is_nothing, MayAbort, IsSeenAlike, IsFinished}
 
 -- ---- what follows
 -- Versions that stand in order have falling stamps, as a walk over them asks.
@@ -93,8 +94,8 @@ UpdateKeepsOrder = (opening : Map) (steps : List Step) (s : State) (states : Sta
     → AllStandInOrder s.start states slots' (with_new lists row.key m)
 
 -- ---- a draw of an end, and an abort
--- As a transaction draws its end, what it put, and what it ended whose put has no stamp, comes to the
--- front, in the order of writing.
+-- As a transaction draws its end, what it put, and what it ended whose put has no stamp, comes to
+-- the front, in the order of writing.
 abbrev pub DrawKeepsOrder : Type 0
 DrawKeepsOrder = (opening : Map) (steps : List Step) (s : State) (states states' : States)
     (slots : Slots) (lists : Lists) (places : Places) (t : ℕ) (end' : Stamp) (ns : List ℕ)
@@ -103,6 +104,17 @@ DrawKeepsOrder = (opening : Map) (steps : List Step) (s : State) (states states'
     → IsWritten t slots ns → AllStandInOrder s.start states slots lists
     → AllStandInOrder s.start states' slots
     (with_fronts (comes_forward (ends_of (phases_of states)) t) slots lists ns)
+
+-- It is the same whether that is told before the draw or after it.
+abbrev pub ForwardIsSame : Type 0
+ForwardIsSame = (states states' : States) (t : ℕ) (v : Version) → DifferAt t states states'
+    → comes_forward (ends_of (phases_of states')) t v
+    ≡ comes_forward (ends_of (phases_of states)) t v
+
+-- A word has no stamp just where others see nothing in it.
+abbrev pub UnstampedIsUnseen : Type 0
+UnstampedIsUnseen = (states : States) (w : Held)
+    → is_none (stamp_in (ends_of (phases_of states)) w) ≡ is_nothing (seen_of states w)
 
 -- As an Active or Preparing one is aborted, what it put comes to the front.
 abbrev pub AbortBringsOrder : Type 0
@@ -180,7 +192,8 @@ OpeningStandsInOrder = (rows : Map) (mark : ℕ) (states : States) (slots : Slot
 abbrev pub FinishStaysInOrder : Type 0
 FinishStaysInOrder = (start : ℕ) (states : States) (slots slots' : Slots) (lists : Lists)
     (t n : ℕ) (v w : Version)
-    → phases_of states t ≢ IsActive → version_at slots (number n) ≡ Some v → HaveNow slots slots' n w
+    → phases_of states t ≢ IsActive → version_at slots (number n) ≡ Some v
+    → HaveNow slots slots' n w
     → IsFinished (ends_of (phases_of states)) t v.begin w.begin
     → IsFinished (ends_of (phases_of states)) t v.end w.end
     → AllStandInOrder start states slots lists → AllStandInOrder start states slots' lists

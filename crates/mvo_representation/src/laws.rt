@@ -12,6 +12,7 @@ ghost use Rattle.mvo_representation.specs.OrderLaws.{UnheldStaysInOrder, SingleS
 ghost use Rattle.mvo_representation.specs.OrderLaws.{OpeningStandsInOrder, FrontsKeepNumbers};
 ghost use Rattle.mvo_representation.specs.OrderLaws.{NumbersAreAmong, HolesAreFresh};
 ghost use Rattle.mvo_representation.specs.OrderLaws.{AddedIsNow, ChangedIsNow};
+ghost use Rattle.mvo_representation.specs.OrderLaws.{ForwardIsSame, UnstampedIsUnseen};
 ghost use Rattle.mvo_representation.specs.WrittenLaws.{NothingIsWritten, InsertIsWritten};
 ghost use Rattle.mvo_representation.specs.WrittenLaws.{DeleteIsWritten, UpdateIsWritten};
 ghost use Rattle.mvo_representation.specs.WrittenLaws.{OthersKeepWritten};
@@ -62,6 +63,8 @@ pub fn laws_of_standing_order()
     ensures holes { HolesAreFresh }
     ensures added { AddedIsNow }
     ensures changed { ChangedIsNow }
+    ensures forward { ForwardIsSame }
+    ensures unseen { UnstampedIsUnseen }
 {}
 
 /// The laws of the list of versions that a transaction has put or ended, in the order of writing:

@@ -1,6 +1,6 @@
 use Rattle.mvo_representation.proofs.OrderFalls.{order_falls, order_has_own_in_front, trim_keeps_order}
 use Rattle.mvo_representation.proofs.OrderOperations.{insert_keeps_order, delete_keeps_order, update_keeps_order}
-use Rattle.mvo_representation.proofs.OrderEnds.{draw_keeps_order}
+use Rattle.mvo_representation.proofs.OrderEnds.{draw_keeps_order, forward_is_same, unstamped_is_unseen}
 use Rattle.mvo_representation.proofs.OrderAborts.{abort_brings_order, begin_keeps_order, commit_stays_in_order, leaving_keeps_order}
 use Rattle.mvo_representation.proofs.OrderSteps.{alike_stay_in_order, removal_keeps_order, unheld_stays_in_order, single_stand_in_order}
 use Rattle.mvo_representation.proofs.OrderOthers.{finish_stays_in_order, opening_stands_in_order, fronts_keep_numbers, numbers_are_among, holes_are_fresh}
@@ -72,3 +72,9 @@ returns-clause-added c = added_is_now
 
 pub returns-clause-changed : goal.returns-clause-changed
 returns-clause-changed c = changed_is_now
+
+pub returns-clause-forward : goal.returns-clause-forward
+returns-clause-forward c = forward_is_same
+
+pub returns-clause-unseen : goal.returns-clause-unseen
+returns-clause-unseen c = unstamped_is_unseen
