@@ -1,0 +1,6 @@
+pub mod NetWrites
+pub mod LastWrites
+pub mod Rising
+pub mod Backs
+pub mod DueCommits
+pub mod Grouping

@@ -1,0 +1,6 @@
+pub mod Stored
+pub mod Limits
+pub mod Records
+pub mod Slots
+pub mod Next
+pub mod Walk
