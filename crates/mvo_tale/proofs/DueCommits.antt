@@ -15,7 +15,7 @@ use Rattle.mvo_tale.specs.Stored.{StoredCommit, commit_of}
 use Rattle.mvo_tale.specs.Slots.{ends, open_ends, commits, AreRising}
 use Rattle.mvo_tale.specs.Next.{due_in, NoneIsDue}
 use Rattle.mvo_tale.specs.Walk.{IsStop, IsPassed, IsDueAt}
-use Rattle.mvo_tale.proofs.Rising.{commits-append, rising_drop, open_drop}
+use Rattle.mvo_tale.proofs.Rising.{commits-append, open_ends-append, rising_drop, open_drop}
 
 abbrev is_up_to : ℕ → Commit → Bool
 is_up_to low c = nat_le c.0 low
@@ -63,6 +63,9 @@ due_more prev low xs p x lt is = ap (due_in prev low) (taken_more xs p x lt is) 
 pub none_more : (mark : ℕ) (xs : List Slot) (p : ℕ) (x : Slot) → p < length xs → x ≡ get_or xs p x → NoneIsDue mark (commits (take p xs)) → NoneIsDue mark (commits (x ∷ [])) → NoneIsDue mark (commits (take (p + 1) xs))
 none_more mark xs p x lt is h k =
     subst (NoneIsDue mark) (sym (ap commits (taken_more xs p x lt is) ∙ commits-append (take p xs) (x ∷ []))) (each_append (λ c. is_due mark c ≡ false) (commits (take p xs)) (commits (x ∷ [])) h k)
+
+pub opens_more : (xs : List Slot) (p : ℕ) (x : Slot) → p < length xs → x ≡ get_or xs p x → open_ends (take p xs) ≡ [] → open_ends (x ∷ []) ≡ [] → open_ends (take (p + 1) xs) ≡ []
+opens_more xs p x lt is h k = ap open_ends (taken_more xs p x lt is) ∙ open_ends-append (take p xs) (x ∷ []) ∙ ap (λ es. es ++ open_ends (x ∷ [])) h ∙ k
 
 pub left_from : (xs : List Slot) (p : ℕ) (x : Slot) → p < length xs → x ≡ get_or xs p x → drop p xs ≡ x ∷ drop (p + 1) xs
 left_from xs p x lt is =

@@ -21,18 +21,19 @@ use Rattle.mvo_tale.specs.declared.slot.Slot.{Slot}
 use Rattle.mvo_tale.specs.declared.slot.Slot.TheVariants.{Settled}
 use Rattle.mvo_tale.specs.declared.next_records.NextRecords.{NextRecords}
 use Rattle.mvo_tale.specs.Stored.{StoredCommit, commit_of}
-use Rattle.mvo_tale.specs.Slots.{ends, commits, AreRising, stored_of}
+use Rattle.mvo_tale.specs.Slots.{ends, open_ends, commits, AreRising, stored_of}
 use Rattle.mvo_tale.specs.Records.{IsRecordOf, AreRecordsOf, commit_len, fits}
 use Rattle.mvo_tale.specs.Next.{due_in, NoneIsDue, IsBehindStored, AreGroupedTo, AreNextRecords}
 use Rattle.mvo_tale.specs.Walk.{IsDueAt, AreFitting, IsOneMore, IsTooMuch, end_behind}
-use Rattle.mvo_tale.proofs.Rising.{RisingCommits, commits-append, rising_filter, rising_taken}
-use Rattle.mvo_tale.proofs.DueCommits.{within_not_due, not_due_later, none_later, none_due, due_more, none_more, left_from, due_parts, due_first, passed_within}
+use Rattle.mvo_tale.proofs.Rising.{RisingCommits, commits-append, open_ends-append, rising_filter, rising_taken}
+use Rattle.mvo_tale.proofs.DueCommits.{within_not_due, not_due_later, none_later, none_due, due_more, none_more, opens_more, left_from, due_parts, due_first, passed_within}
 
 -- ---- what the walk has gathered before a place
 pub record IsWalked (slots : List Slot) (prev low place next : ℕ) (rs : List RecordData) : Type 0 where
   pub records : AreRecordsOf (due_in prev low (take place slots)) rs
   pub len : sum_by record_len rs ≡ sum_by commit_len (due_in prev low (take place slots))
   pub passed : NoneIsDue low (commits (take place slots))
+  pub settled : open_ends (take place slots) ≡ []
   pub behind : IsBehindStored slots next
   pub below : next ≤ place
 
@@ -43,18 +44,20 @@ walked_first slots prev low from lt h =
       records = subst (λ cs. AreRecordsOf cs []) (sym none) tt;
       len = ap (λ cs. sum_by commit_len cs) (sym none);
       passed = none_later prev low (commits (take from slots)) (omega arith) h.grouped;
+      settled = h.settled;
       behind = h.behind;
       below = omega arith;
     }
 
 -- no commit is at the place
-pub walked_over : (slots : List Slot) (prev low place next : ℕ) (rs : List RecordData) (x : Slot) → place < length slots → x ≡ get_or slots place x → due_in prev low (x ∷ []) ≡ [] → NoneIsDue low (commits (x ∷ [])) → (new : ℕ) → IsBehindStored slots new → new ≤ place + 1 → IsWalked slots prev low place next rs → IsWalked slots prev low (place + 1) new rs
-walked_over slots prev low place next rs x lt is none not new b le h =
+pub walked_over : (slots : List Slot) (prev low place next : ℕ) (rs : List RecordData) (x : Slot) → place < length slots → x ≡ get_or slots place x → due_in prev low (x ∷ []) ≡ [] → NoneIsDue low (commits (x ∷ [])) → open_ends (x ∷ []) ≡ [] → (new : ℕ) → IsBehindStored slots new → new ≤ place + 1 → IsWalked slots prev low place next rs → IsWalked slots prev low (place + 1) new rs
+walked_over slots prev low place next rs x lt is none not opens new b le h =
     let same : due_in prev low (take (place + 1) slots) ≡ due_in prev low (take place slots) = due_more prev low slots place x lt is ∙ ap (λ cs. due_in prev low (take place slots) ++ cs) none ∙ append-nil (due_in prev low (take place slots)) in
     record {
       records = subst (λ cs. AreRecordsOf cs rs) (sym same) h.records;
       len = h.len ∙ ap (λ cs. sum_by commit_len cs) (sym same);
       passed = none_more low slots place x lt is h.passed not;
+      settled = opens_more slots place x lt is h.settled opens;
       behind = b;
       below = le;
     }
@@ -77,6 +80,7 @@ walked_more slots prev low place next rs rs' x commit lt is due one b h =
           ∙ omega (arith, h.len, one.len)
           ∙ sym (ap (λ cs. sum_by commit_len cs) more ∙ sum_by_push commit_len d c);
       passed = none_more low slots place x lt is h.passed (passed_within low x commit due.at due.within);
+      settled = opens_more slots place x lt is h.settled (ap (λ y. open_ends (y ∷ [])) due.at);
       behind = b;
       below = omega arith;
     }
@@ -226,13 +230,23 @@ keeps_rules prev mark cs rs lt le rising above below h f = record {
 rising_due : (slots : List Slot) (prev low place : ℕ) → AreRising (ends slots) → RisingCommits (due_in prev low (take place slots))
 rising_due slots prev low place r = rising_filter (is_due prev) (filter (λ c. nat_le c.0 low) (commits (take place slots))) (rising_filter (λ c. nat_le c.0 low) (commits (take place slots)) (rising_taken place slots r))
 
+taken_parts : (p n : ℕ) (xs : List Slot) → n ≤ p → take p xs ≡ take n xs ++ take (p - n) (drop n xs)
+taken_parts p n xs le = let both : n + (p - n) ≡ p = omega arith in ap (λ (m : ℕ). take m xs) (sym both) ∙ take-add n (p - n) xs
+
 up_to_next : (slots : List Slot) (place next mark : ℕ) → next ≤ place → NoneIsDue mark (commits (take place slots)) → NoneIsDue mark (commits (take next slots))
 up_to_next slots place next mark le h =
     each_front (λ c. is_due mark c ≡ false) (commits (take next slots)) (commits (take (place - next) (drop next slots)))
-    (subst (NoneIsDue mark) (ap commits (parts place next slots le) ∙ commits-append (take next slots) (take (place - next) (drop next slots))) h)
+    (subst (NoneIsDue mark) (ap commits (taken_parts place next slots le) ∙ commits-append (take next slots) (take (place - next) (drop next slots))) h)
+
+opens_to_next : (slots : List Slot) (place next : ℕ) → next ≤ place → open_ends (take place slots) ≡ [] → open_ends (take next slots) ≡ []
+opens_to_next slots place next le h = front (open_ends (take next slots)) (open_ends (take (place - next) (drop next slots))) (sym (ap open_ends (taken_parts place next slots le) ∙ open_ends-append (take next slots) (take (place - next) (drop next slots))) ∙ h)
   where
-    parts : (p n : ℕ) (xs : List Slot) → n ≤ p → take p xs ≡ take n xs ++ take (p - n) (drop n xs)
-    parts p n xs l = let both : n + (p - n) ≡ p = omega arith in ap (λ (m : ℕ). take m xs) (sym both) ∙ take-add n (p - n) xs
+    none : (e : ℕ) (es : List ℕ) → ◌≡◌ {A = List ℕ} (e ∷ es) [] → ⊥
+    none e es k = cc
+
+    front : (es fs : List ℕ) → es ++ fs ≡ [] → es ≡ []
+    front [] fs k = refl
+    front (e ∷ es) fs k = absurd (none e (es ++ fs) k)
 
 -- where all that are due fit
 pub next_whole : (slots : List Slot) (prev low place next : ℕ) (rs : List RecordData) (n : NextRecords) → AreFitting rs → IsWalked slots prev low place next rs → due_in prev low (drop place slots) ≡ [] → n.records.items ≡ rs → n.mark.0 ≡ low → n.next ≡ next → AreNextRecords slots prev low n
@@ -247,6 +261,7 @@ next_whole slots prev low place next rs n f h none e m x =
       mark = m ∙ sym (ap (mark_by low prev d) (rest_is (due_in prev low slots) d (due_in prev low (drop place slots)) parts ∙ none));
       next = record {
         behind = subst (IsBehindStored slots) (sym x) h.behind;
+        settled = subst (λ (i : ℕ). open_ends (take i slots) ≡ []) (sym x) (opens_to_next slots place next h.below h.settled);
         grouped = subst (λ (i : ℕ). NoneIsDue i (commits (take n.next slots))) (sym m) (subst (λ (i : ℕ). NoneIsDue low (commits (take i slots))) (sym x) (up_to_next slots place next low h.below h.passed));
       };
     }
@@ -274,6 +289,7 @@ next_cut slots prev low place next rs n x commit lt is due too rising f h e m y 
       mark = mark ∙ sym (ap (mark_by low prev d) (rest_is (due_in prev low slots) d (c ∷ ds) parts));
       next = record {
         behind = subst (IsBehindStored slots) (sym y) h.behind;
+        settled = subst (λ (i : ℕ). open_ends (take i slots) ≡ []) (sym y) (opens_to_next slots place next h.below h.settled);
         grouped = subst (λ (i : ℕ). NoneIsDue i (commits (take n.next slots))) (sym mark) (subst (λ (i : ℕ). NoneIsDue (last_of prev d) (commits (take i slots))) (sym y) (up_to_next slots place next (last_of prev d) h.below
             (none_behind_mark prev low (last_of prev d) (commits (take place slots)) last.from h.passed last.below)));
       };

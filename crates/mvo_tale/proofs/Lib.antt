@@ -4,3 +4,4 @@ pub mod Rising
 pub mod Backs
 pub mod DueCommits
 pub mod Grouping
+pub mod Moving

@@ -1,11 +1,11 @@
 -- The records of the next group, and where the group after it goes on.
-use Rattle.std.specs.Prelude.{ℕ, zero, suc, ◌≡◌, nat_le, false, List, filter, drop, take, length, IsSome, ⊤}
+use Rattle.std.specs.Prelude.{ℕ, zero, suc, ◌≡◌, nat_le, false, List, [], filter, drop, take, length, IsSome, ⊤}
 use Rattle.std.specs.List.{AllByRecursion}
 use Rattle.mvo_theory.specs.Marks.{Commit}
 use Rattle.mvo_theory.specs.Groups.{is_due, IsLongest, mark_by}
 use Rattle.mvo_tale.specs.declared.slot.Slot.{Slot}
 use Rattle.mvo_tale.specs.declared.next_records.NextRecords.{NextRecords}
-use Rattle.mvo_tale.specs.Slots.{commits, stored_at}
+use Rattle.mvo_tale.specs.Slots.{open_ends, commits, stored_at}
 use Rattle.mvo_tale.specs.Records.{AreRecordsOf, fits}
 
 -- the commits that the next group may take: with a net write, above prev and at most the low-water
@@ -21,9 +21,11 @@ abbrev pub IsBehindStored : List Slot → ℕ → Type 0
 IsBehindStored slots zero = ⊤
 IsBehindStored slots (suc place) = IsSome (stored_at slots place)
 
--- the commits before the place are in groups up to the mark, as far as they wrote
+-- before the place none is Preparing, and each commit that wrote is in a group up to the mark. The
+-- place is right behind a commit, so that it stays one where empty places at the back go
 pub record AreGroupedTo (slots : List Slot) (place mark : ℕ) : Type 0 where
   pub behind : IsBehindStored slots place
+  pub settled : open_ends (take place slots) ≡ []
   pub grouped : NoneIsDue mark (commits (take place slots))
 
 -- the group takes the longest beginning of the commits that fits, with its mark

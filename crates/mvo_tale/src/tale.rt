@@ -84,7 +84,7 @@ impl Tale {
     pub fn len(&self) -> usize
         ensures { result ≡ length self.now }
     {
-        self.slots.len()
+        self.slots().len()
     }
 
     /// The stored commit at a place, if one is there.

@@ -3,7 +3,7 @@ use Rattle.std.specs.Bool.{MatchBool}
 use Rattle.mvo_group.specs.Data.{RecordData}
 use Rattle.mvo_tale.specs.declared.slot.Slot.{Slot}
 use Rattle.mvo_tale.specs.Stored.{commit_of}
-use Rattle.mvo_tale.specs.Slots.{commits}
+use Rattle.mvo_tale.specs.Slots.{open_ends, commits}
 use Rattle.mvo_tale.specs.Next.{due_in, NoneIsDue}
 use Rattle.mvo_tale.specs.Walk.{IsOneMore, IsTooMuch}
 use Rattle.mvo_tale.proofs.DueCommits.{none_left, none_behind, due_passed, passed_within}
@@ -58,9 +58,9 @@ loop-place-preserved c =
     let h = c.loop-place.invariant in
     elim c.match-step_at.branch [
       | in-Skipped w ↦ moved slots prev low (place + 1) next c.match-step_at.next rs c.match-step_at.gathered w.next-is w.gathered-is
-          (walked_over slots prev low place next rs x lt is (ap (λ y. due_in prev low (y ∷ [])) w.in-Skipped.ensures) (subst (λ y. NoneIsDue low (commits (y ∷ []))) (sym w.in-Skipped.ensures) tt) next h.behind (let b = h.below in omega arith) h)
+          (walked_over slots prev low place next rs x lt is (ap (λ y. due_in prev low (y ∷ [])) w.in-Skipped.ensures) (subst (λ y. NoneIsDue low (commits (y ∷ []))) (sym w.in-Skipped.ensures) tt) (ap (λ y. open_ends (y ∷ [])) w.in-Skipped.ensures) next h.behind (let b = h.below in omega arith) h)
       | in-Passed w ↦ moved slots prev low (place + 1) (place + 1) c.match-step_at.next rs c.match-step_at.gathered w.next-is w.gathered-is
-          (walked_over slots prev low place next rs x lt is (due_passed prev low x w.in-Passed.ensures) (passed_within low x w.in-Passed.ensures.commit w.in-Passed.ensures.at w.in-Passed.ensures.within) (place + 1) (behind_stored slots place x w.in-Passed.ensures.commit lt is w.in-Passed.ensures.at) (omega arith) h)
+          (walked_over slots prev low place next rs x lt is (due_passed prev low x w.in-Passed.ensures) (passed_within low x w.in-Passed.ensures.commit w.in-Passed.ensures.at w.in-Passed.ensures.within) (ap (λ y. open_ends (y ∷ [])) w.in-Passed.ensures.at) (place + 1) (behind_stored slots place x w.in-Passed.ensures.commit lt is w.in-Passed.ensures.at) (omega arith) h)
       | in-Due+in_ok-add-in-Due+else-not-branch w ↦ moved slots prev low (place + 1) (place + 1) c.match-step_at.next w.add.new.self c.match-step_at.gathered w.next-is w.gathered-is
           (walked_more slots prev low place next rs w.add.new.self x w.in-Due.entry.now lt is w.in-Due.ensures
           (subst (λ (b : Bool). MatchBool b (IsOneMore (commit_of w.in-Due.entry.now) rs w.add.new.self) ((w.add.new.self ≡ rs) × IsTooMuch (commit_of w.in-Due.entry.now) rs)) w.if-not-branch.false w.in_ok-add-in-Due.ensures)
