@@ -5,3 +5,4 @@ pub mod Backs
 pub mod DueCommits
 pub mod Grouping
 pub mod Moving
+pub mod NextGroups

@@ -4,3 +4,4 @@ pub mod Records
 pub mod Slots
 pub mod Next
 pub mod Walk
+pub mod Timeline
