@@ -17,7 +17,7 @@ impl Slot {
     ghost use Rattle.mvo_tale.specs.Slots.{is_empty};
 
     /// Whether it is an empty place.
-    pub fn is_empty(&self) -> bool
+    pub(crate) fn is_empty(&self) -> bool
         ensures { result ≡ is_empty self.now }
     {
         matches!(self, Slot::Empty)

@@ -46,7 +46,7 @@ impl TaleEntry {
     }
 
     /// Whether it ends above the mark.
-    pub fn is_above(&self, mark: Stamp) -> bool
+    pub(crate) fn is_above(&self, mark: Stamp) -> bool
         ensures { result ≡ nat_lt mark.0 self.now.end }
     {
         mark.0 < self.end.0
