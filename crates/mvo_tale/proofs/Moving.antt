@@ -1,12 +1,12 @@
 -- What is grouped up to a place stays so where others are opened, settled and left.
-use Rattle.std.proofs.Common.{◌≡◌, ℕ, zero, suc, ◌+◌, ◌<◌, ◌≤◌, Bool, true, false, cond, List, [], ◌∷◌, ◌++◌, Option, None, Some, length, take, refl, sym, ap, ◌∙◌, subst, arith}
-use Rattle.std.specs.Prelude.{slice_get, slice_set, IsSome}
+use Rattle.std.proofs.Common.{◌≡◌, ℕ, zero, suc, ◌≤◌, Bool, true, false, List, [], ◌∷◌, ◌++◌, take, refl, sym, ap, ◌∙◌, subst, arith}
+use Rattle.std.specs.Prelude.{slice_set, IsSome}
 use Rattle.std.proofs.lemmas.Bool.{false≢true}
 use Rattle.mvo_types.specs.declared.ids.Stamp.{Stamp}
 use Rattle.mvo_tale.specs.declared.slot.Slot.{Slot}
 use Rattle.mvo_tale.specs.declared.slot.Slot.TheVariants.{Open, Settled, Empty}
 use Rattle.mvo_tale.specs.Stored.{StoredCommit}
-use Rattle.mvo_tale.specs.Slots.{open_ends, commits, open_end_of, open_end_at, stored_of, stored_at, is_empty, and_place, without_empty_back}
+use Rattle.mvo_tale.specs.Slots.{open_ends, commits, open_end_at, stored_of, stored_at, and_place, without_empty_back}
 use Rattle.mvo_tale.specs.Next.{NoneIsDue, IsBehindStored, AreGroupedTo}
 
 -- ---- where the places before it are the same
