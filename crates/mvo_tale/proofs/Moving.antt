@@ -1,0 +1,101 @@
+-- What is grouped up to a place stays so where others are opened, settled and left.
+use Rattle.std.proofs.Common.{◌≡◌, ℕ, zero, suc, ◌≤◌, Bool, true, false, List, [], ◌∷◌, ◌++◌, take, refl, sym, ap, ◌∙◌, subst, arith}
+use Rattle.std.specs.Prelude.{slice_set, IsSome}
+use Rattle.std.proofs.lemmas.Bool.{false≢true}
+use Rattle.mvo_types.specs.declared.ids.Stamp.{Stamp}
+use Rattle.mvo_tale.specs.declared.slot.Slot.{Slot}
+use Rattle.mvo_tale.specs.declared.slot.Slot.TheVariants.{Open, Settled, Empty}
+use Rattle.mvo_tale.specs.Stored.{StoredCommit}
+use Rattle.mvo_tale.specs.Slots.{open_ends, commits, open_end_at, stored_of, stored_at, and_place, without_empty_back}
+use Rattle.mvo_tale.specs.Next.{NoneIsDue, IsBehindStored, AreGroupedTo}
+
+-- ---- where the places before it are the same
+taken_at : (xs : List Slot) (n : ℕ) → stored_at (take (suc n) xs) n ≡ stored_at xs n
+taken_at [] n = refl
+taken_at (x ∷ xs) zero = refl
+taken_at (x ∷ xs) (suc n) = taken_at xs n
+
+behind_same : (xs ys : List Slot) (place : ℕ) → take place ys ≡ take place xs → IsBehindStored xs place → IsBehindStored ys place
+behind_same xs ys zero e h = tt
+behind_same xs ys (suc n) e h = subst (λ o. IsSome o) (sym (taken_at xs n) ∙ sym (ap (λ zs. stored_at zs n) e) ∙ taken_at ys n) h
+
+grouped_same : (xs ys : List Slot) (place mark : ℕ) → take place ys ≡ take place xs → AreGroupedTo xs place mark → AreGroupedTo ys place mark
+grouped_same xs ys place mark e h = record {
+  behind = behind_same xs ys place e h.behind;
+  settled = ap open_ends e ∙ h.settled;
+  grouped = subst (λ zs. NoneIsDue mark (commits zs)) (sym e) h.grouped;
+}
+
+pub grouped_new : (mark : ℕ) → AreGroupedTo [] 0 mark
+grouped_new mark = record { behind = tt; settled = refl; grouped = tt }
+
+-- ---- a place is opened
+none_there : (n : ℕ) → IsSome (stored_at [] n) → ⊥
+none_there n h = false≢true h
+
+front_same : (xs ys : List Slot) (place : ℕ) → IsBehindStored xs place → take place (xs ++ ys) ≡ take place xs
+front_same xs ys zero h = refl
+front_same [] ys (suc n) h = absurd (none_there n h)
+front_same (x ∷ xs) ys (suc zero) h = refl
+front_same (x ∷ xs) ys (suc (suc n)) h = ap (λ zs. x ∷ zs) (front_same xs ys (suc n) h)
+
+pub grouped_opened : (slots : List Slot) (place mark : ℕ) (e : Stamp) → AreGroupedTo slots place mark → AreGroupedTo (slots ++ Open e ∷ []) place mark
+grouped_opened slots place mark e h = grouped_same slots (slots ++ Open e ∷ []) place mark (front_same slots (Open e ∷ []) place h.behind) h
+
+-- ---- an open place, which is none of those before, becomes another
+cons_nil : (e : ℕ) (es : List ℕ) → ◌≡◌ {A = List ℕ} (e ∷ es) [] → ⊥
+cons_nil e es h = cc
+
+none_open : ◌≡◌ {A = Bool} false true → ⊥
+none_open h = false≢true h
+
+open_behind : (xs : List Slot) (place p : ℕ) → open_ends (take place xs) ≡ [] → IsSome (open_end_at xs p) → place ≤ p
+open_behind xs zero p h k = omega arith
+open_behind [] (suc n) p h k = absurd (none_open k)
+open_behind (Open e ∷ xs) (suc n) p h k = absurd (cons_nil e.0 (open_ends (take n xs)) h)
+open_behind (Settled x ∷ xs) (suc n) zero h k = absurd (none_open k)
+open_behind (Settled x ∷ xs) (suc n) (suc p) h k = let le = open_behind xs n p h k in omega arith
+open_behind (Empty ∷ xs) (suc n) zero h k = absurd (none_open k)
+open_behind (Empty ∷ xs) (suc n) (suc p) h k = let le = open_behind xs n p h k in omega arith
+
+front_set : (xs : List Slot) (place p : ℕ) (y : Slot) → place ≤ p → take place (slice_set xs p y) ≡ take place xs
+front_set xs zero p y le = refl
+front_set [] (suc n) p y le = refl
+front_set (x ∷ xs) (suc n) zero y le = absurd (omega arith)
+front_set (x ∷ xs) (suc n) (suc p) y le = ap (λ zs. x ∷ zs) (front_set xs n p y (omega arith))
+
+grouped_set : (slots : List Slot) (place mark p : ℕ) (y : Slot) → IsSome (open_end_at slots p) → AreGroupedTo slots place mark → AreGroupedTo (slice_set slots p y) place mark
+grouped_set slots place mark p y k h = grouped_same slots (slice_set slots p y) place mark (front_set slots place p y (open_behind slots place p h.settled k)) h
+
+-- ---- it is settled
+pub grouped_settled : (slots : List Slot) (place mark p : ℕ) (x : StoredCommit) → IsSome (open_end_at slots p) → AreGroupedTo slots place mark → AreGroupedTo (slice_set slots p (Settled x)) place mark
+grouped_settled slots place mark p x k h = grouped_set slots place mark p (Settled x) k h
+
+-- ---- it is left
+and_kept : (x : Slot) (ys : List Slot) → IsSome (stored_of x) → and_place x ys ≡ x ∷ ys
+and_kept (Open e) ys h = absurd (none_open h)
+and_kept (Settled c) [] h = refl
+and_kept (Settled c) (y ∷ ys) h = refl
+and_kept Empty ys h = absurd (none_open h)
+
+nil_cons : (x : Slot) (xs : List Slot) → ◌≡◌ {A = List Slot} [] (x ∷ xs) → ⊥
+nil_cons x xs h = cc
+
+front_kept : (xs : List Slot) (n : ℕ) → IsSome (stored_at xs n) → take (suc n) (without_empty_back xs) ≡ take (suc n) xs
+front_kept [] n h = absurd (none_there n h)
+front_kept (x ∷ xs) zero h = ap (take 1) (and_kept x (without_empty_back xs) h)
+front_kept (x ∷ []) (suc n) h = absurd (none_there n h)
+front_kept (x ∷ z ∷ zs) (suc n) h = go (without_empty_back (z ∷ zs)) (front_kept (z ∷ zs) n h)
+  where
+    go : (ys : List Slot) → take (suc n) ys ≡ take (suc n) (z ∷ zs) → take (suc (suc n)) (and_place x ys) ≡ take (suc (suc n)) (x ∷ z ∷ zs)
+    go [] e = absurd (nil_cons z (take n zs) e)
+    go (y ∷ ys) e = ap (λ ws. x ∷ ws) e
+
+front_without : (xs : List Slot) (place : ℕ) → IsBehindStored xs place → take place (without_empty_back xs) ≡ take place xs
+front_without xs zero h = refl
+front_without xs (suc n) h = front_kept xs n h
+
+pub grouped_left : (slots : List Slot) (place mark p : ℕ) → IsSome (open_end_at slots p) → AreGroupedTo slots place mark → AreGroupedTo (without_empty_back (slice_set slots p Empty)) place mark
+grouped_left slots place mark p k h =
+    let emptied = grouped_set slots place mark p Empty k h in
+    grouped_same (slice_set slots p Empty) (without_empty_back (slice_set slots p Empty)) place mark (front_without (slice_set slots p Empty) place emptied.behind) emptied

@@ -1,0 +1,7 @@
+pub mod Stored
+pub mod Limits
+pub mod Records
+pub mod Slots
+pub mod Next
+pub mod Walk
+pub mod Timeline

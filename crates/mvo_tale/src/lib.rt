@@ -1,0 +1,20 @@
+//! The stored commits in the order of their ends, with a place for each end that was drawn, and
+//! the records of the next group of them.
+#![tactic(auto)]
+
+mod commit_record;
+mod effect;
+mod gathering;
+mod next_records;
+mod slot;
+mod step;
+mod tale;
+mod tale_entry;
+mod walk;
+mod writes;
+
+pub use commit_record::record_of;
+pub use next_records::NextRecords;
+pub use slot::Slot;
+pub use tale::Tale;
+pub use tale_entry::TaleEntry;
