@@ -1,28 +1,21 @@
 -- A trim, where the rows at the new start stand as intervals.
-use Rattle.std.proofs.Common.{◌≡◌, ◌≢◌, ℕ, ◌<◌, ◌≤◌, suc, Bool, true, false, cond, not, List, [], ◌∷◌, ◌++◌, refl, sym, ap, ◌∙◌, arith, ◌⊎◌, inl, inr}
-use Rattle.std.specs.Prelude.{⊤, ◌==◌}
+use Rattle.std.proofs.Common.{◌≡◌, ◌≢◌, ℕ, ◌<◌, ◌≤◌, Bool, true, false, cond, not, List, [], ◌∷◌, ◌++◌, refl, sym, ap, ◌∙◌, arith, ◌⊎◌, inl, inr}
+use Rattle.std.specs.Prelude.{◌==◌}
 use Rattle.std.specs.List.{AllByRecursion, filter, list_any}
-use Rattle.mvo_types.specs.Write.{content_after_last}
 use Rattle.std.specs.Option.{option_map}
 use Rattle.std.specs.FinMap as fin
-use Rattle.std.proofs.lemmas.Bool.{leb-true, leb-false, ne_eqb, false≢true, cases_order}
+use Rattle.std.proofs.lemmas.Bool.{leb-true, ne_eqb, cases_order}
 use Rattle.mvo_types.specs.declared.row.RowKey.{RowKey}
 use Rattle.mvo_model.specs.History.{net_write}
-use Rattle.mvo_model.proofs.Serials.{get-after_history}
-use Rattle.mvo_theory.specs.State.{State, StampedTx, seen_by, history_below, after_settled}
-use Rattle.mvo_theory.specs.Dependencies.{last_writer, or_later}
-use Rattle.mvo_theory.specs.Claims.{origin, end_or}
+use Rattle.mvo_theory.specs.State.{State, StampedTx}
 use Rattle.mvo_theory.specs.Changes.{is_to, after_trim}
 use Rattle.mvo_theory.specs.Phases.{phase_in}
-use Rattle.mvo_theory.specs.Sound.{IsSound, IsStarted, IsPast, IsActive}
-use Rattle.mvo_theory.proofs.Each.{each_weaker, each_both, each_filter, each_append, each_always}
-use Rattle.mvo_theory.proofs.Trim.{IsTrim, is_after, parted, seen_trimmed}
+use Rattle.mvo_theory.specs.Sound.{IsSound, IsStarted, IsActive}
+use Rattle.mvo_theory.proofs.Each.{each_weaker, each_both, each_filter, each_append}
+use Rattle.mvo_theory.proofs.Trim.{IsTrim, is_after}
 use Rattle.mvo_chain.specs.declared.version.Version.{Version}
 use Rattle.mvo_representation.specs.Words.{Phases, ends_of, has_stamp, as_net_effect, standing_effect}
-use Rattle.mvo_representation.specs.Words.NetEffect.{Puts}
 use Rattle.mvo_representation.specs.Versions.{history_at, rows_at, rows_by, IsKnownStamp, IsKnown, IsClaimed, HasItsClaims, AreDrawn, AreVersionsOf}
-use Rattle.mvo_representation.proofs.LastChanges.{history_below_last, write_by, last_none_above}
-use Rattle.mvo_representation.proofs.Shown.{last_writer-append, stands_below}
 use Rattle.mvo_representation.proofs.Quiet.{known_next}
 use Rattle.mvo_representation.proofs.TrimChanges.{opened_at_trim}
 use Rattle.mvo_types.specs.Write.Effect.{Put}

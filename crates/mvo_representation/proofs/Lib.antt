@@ -60,3 +60,4 @@ pub mod OrderOthers
 pub mod OrderWritten
 pub mod OrderSlots
 pub mod TrimRows
+pub mod TableDiffers

@@ -1,5 +1,5 @@
 -- As the start of the tale moves on, just the rows at the new start stand up to it.
-use Rattle.std.proofs.Common.{◌≡◌, ◌≢◌, ℕ, ◌<◌, ◌≤◌, suc, zero, Bool, true, false, cond, List, [], ◌∷◌, ◌++◌, Option, None, Some, refl, sym, ap, ◌∙◌, subst, arith, ◌⊎◌, inl, inr, append_assoc}
+use Rattle.std.proofs.Common.{◌≡◌, ℕ, ◌<◌, ◌≤◌, suc, zero, Bool, true, false, cond, List, [], ◌∷◌, ◌++◌, Option, None, Some, refl, sym, ap, ◌∙◌, subst, arith, inl, inr, append_assoc}
 use Rattle.std.specs.Prelude.{is_some, ◌&&◌}
 use Rattle.std.specs.List.{AllByRecursion}
 use Rattle.std.specs.Option.{option_map}
@@ -15,18 +15,18 @@ use Rattle.mvo_model.specs.Trace.{Step}
 use Rattle.mvo_theory.specs.State.{State, StampedTx}
 use Rattle.mvo_theory.specs.Changes.{after_trim}
 use Rattle.mvo_theory.specs.Claims.{has_claim}
+use Rattle.mvo_theory.specs.Causes.{why_not_trim}
 use Rattle.mvo_theory.specs.Calls.{IsKept}
 use Rattle.mvo_theory.proofs.Apart.{IsIn}
-use Rattle.mvo_theory.proofs.Each.{each_weaker, each_both, each_back}
+use Rattle.mvo_theory.proofs.Each.{each_both, each_back}
 use Rattle.mvo_theory.proofs.Footprints.{key_same}
 use Rattle.mvo_theory.proofs.Trim.{IsTrim}
 use Rattle.mvo_theory.proofs.Trimmed.{may_trim}
 use Rattle.mvo_word.specs.declared.held.Held.{Held}
 use Rattle.mvo_chain.specs.declared.version.Version.{Version}
-use Rattle.mvo_representation.specs.Words.{Phases, Ends, ends_of, stamp_in, is_stamp, has_stamp, NetEffect, with_effect, net_effect, as_net_effect, last_change, or_change_at, change_below, standing, is_up_to, is_standing, standing_effect_of, standing_effect}
+use Rattle.mvo_representation.specs.Words.{Phases, Ends, ends_of, stamp_in, is_stamp, has_stamp, NetEffect, with_effect, net_effect, as_net_effect, last_change, or_change_at, change_below, standing, is_up_to, is_standing, standing_effect}
 use Rattle.mvo_representation.specs.Words.NetEffect.{Untouched, Removed, Puts, Clash}
 use Rattle.mvo_representation.specs.Versions.{IsClaimed, HasItsClaims, AreVersionsOf, HoldsRows, origin_at_start}
-use Rattle.mvo_representation.specs.Laws.{TrimHoldsRows}
 use Rattle.mvo_representation.proofs.Collect.{each_drop, leaves_row, leaves_put, PutAt, put_at_stamp}
 use Rattle.mvo_representation.proofs.Kept.{standing_effect-at}
 use Rattle.mvo_representation.proofs.TrimChanges.{opened_at_trim}
@@ -34,7 +34,7 @@ use Rattle.mvo_representation.proofs.Version.{IsLastChange, last_change_is_one, 
 use Rattle.mvo_representation.proofs.OrderPairs.{is_the_stamp, has_the_stamp}
 use Rattle.mvo_representation.proofs.OrderSteps.{stays_put}
 use Rattle.mvo_representation.proofs.OrderClaims.{IsBase, none_wrote}
-use Rattle.mvo_representation.proofs.OrderBases.{writer_at, leaves_none, first_alone, stamp_standing, stands_here, standing_put, StandsAtStart, stands_at_start, base_at_start, base_of_settled}
+use Rattle.mvo_representation.proofs.OrderBases.{writer_at, first_alone, stands_here, standing_put, StandsAtStart, stands_at_start, base_at_start, base_of_settled}
 
 -- ---- lists
 -- what holds of each at its place
@@ -277,5 +277,5 @@ module _ (opening : Map) (steps : List Step) (s : State) (table : Phases) (vs : 
   pub rows_held : standing_effect (ends_of table) m k vs ≡ as_net_effect (option_map (λ h. Put h) (fin.get (after_trim s m).base k))
   rows_held = held (fin.get (after_trim s m).base k) refl
 
-pub trim_holds_rows : TrimHoldsRows
+pub trim_holds_rows : (opening : Map) (steps : List Step) (s : State) (table : Phases) (vs : List Version) (m : ℕ) → IsKept opening steps s → AreVersionsOf s table vs → why_not_trim s m ≡ None → HoldsRows (ends_of table) m (after_trim s m).base vs
 trim_holds_rows opening steps s table vs m h versions w k = rows_held opening steps s table vs m h versions (may_trim s m w h.sound) k

@@ -13,8 +13,7 @@ use Rattle.mvo_theory.specs.State.{State, ActiveTx, opened, active_of, history_o
 use Rattle.mvo_theory.specs.Ranges.{shows, is_row_of}
 use Rattle.mvo_theory.specs.Dependencies.{dependencies, counts_for}
 use Rattle.mvo_theory.specs.Phases.{phase_in}
-use Rattle.mvo_theory.specs.Causes.{change_of, conflict, why_not_trim}
-use Rattle.mvo_theory.specs.Changes.{after_trim}
+use Rattle.mvo_theory.specs.Causes.{change_of, conflict}
 use Rattle.mvo_theory.specs.Calls.{Call, Result, IsKept, MayCome, after_call}
 use Rattle.mvo_chain.specs.declared.version.Version.{Version}
 use Rattle.mvo_chain.specs.declared.version.VersionNo.{VersionNo}
@@ -29,8 +28,8 @@ use Rattle.mvo_visible.specs.Shown.{shown_to}
 use Rattle.mvo_validate.specs.declared.entry.Entry.{Entry}
 use Rattle.mvo_validate.specs.Between.{stamp_between}
 use Rattle.mvo_validate.specs.Entries.{versions_in}
-use Rattle.mvo_representation.specs.Words.{Phases, ends_of, with_open, IsShownAt, is_met}
-use Rattle.mvo_representation.specs.Versions.{AreVersionsOf, HoldsRows, loaded}
+use Rattle.mvo_representation.specs.Words.{ends_of, with_open, IsShownAt, is_met}
+use Rattle.mvo_representation.specs.Versions.{AreVersionsOf, loaded}
 use Rattle.mvo_representation.specs.Indexes.{all_versions, HasNumbers, HasPlaces}
 use Rattle.mvo_representation.specs.Steps.{MayEnd, IsAfterCall}
 use Rattle.mvo_representation.specs.Table.{phases_of, content_shown, place_with, end_awaited, entry_as, IsShown}
@@ -124,9 +123,3 @@ MeetsWhatCounts = (opening : Map) (steps : List Step) (s : State) (states : Stat
     → is_met (ends_of (phases_of states)) s.start r.id
     (is_row_of (shows (theory.Entry.Range table lo hi)) q) (all_versions slots)
     ≡ counts_for (theory.Entry.Range table lo hi) q r.id s.base s.stamped
-
--- As the start of the tale moves on, just the rows at the new start stand up to it.
-abbrev pub TrimHoldsRows : Type 0
-TrimHoldsRows = (opening : Map) (steps : List Step) (s : State) (table : Phases)
-    (vs : List Version) (m : ℕ) → IsKept opening steps s → AreVersionsOf s table vs
-    → why_not_trim s m ≡ None → HoldsRows (ends_of table) m (after_trim s m).base vs

@@ -13,9 +13,10 @@ ghost use Rattle.mvo_representation.specs.OrderLaws.{OpeningStandsInOrder, Front
 ghost use Rattle.mvo_representation.specs.OrderLaws.{NumbersAreAmong, HolesAreFresh};
 ghost use Rattle.mvo_representation.specs.OrderLaws.{AddedIsNow, ChangedIsNow};
 ghost use Rattle.mvo_representation.specs.OrderLaws.{ForwardIsSame, UnstampedIsUnseen};
+ghost use Rattle.mvo_representation.specs.OrderLaws.{SameStayInOrder};
 ghost use Rattle.mvo_representation.specs.WrittenLaws.{NothingIsWritten, InsertIsWritten};
 ghost use Rattle.mvo_representation.specs.WrittenLaws.{DeleteIsWritten, UpdateIsWritten};
-ghost use Rattle.mvo_representation.specs.WrittenLaws.{OthersKeepWritten};
+ghost use Rattle.mvo_representation.specs.WrittenLaws.{OthersKeepWritten, AbsentIsUnnamed};
 
 /// The laws of the representation. What versions, the transaction table and the indexes say is a
 /// state of the theory: when a core opens, and after each call, whatever it comes to. And what the
@@ -49,6 +50,7 @@ pub fn laws_of_standing_order()
     ensures draw { DrawKeepsOrder }
     ensures abort { AbortBringsOrder }
     ensures alike { AlikeStayInOrder }
+    ensures same { SameStayInOrder }
     ensures begin { BeginKeepsOrder }
     ensures commit { CommitStaysInOrder }
     ensures finish { FinishStaysInOrder }
@@ -71,6 +73,7 @@ pub fn laws_of_standing_order()
 /// in which order they come to the front as it draws its end. The call does nothing.
 pub fn laws_of_written_versions()
     ensures nothing { NothingIsWritten }
+    ensures absent { AbsentIsUnnamed }
     ensures insert { InsertIsWritten }
     ensures delete { DeleteIsWritten }
     ensures update { UpdateIsWritten }
