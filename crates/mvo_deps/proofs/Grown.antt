@@ -12,7 +12,7 @@ use Rattle.mvo_deps.specs.Data.{DependencyData, is_among, with_dependency, with_
 use Rattle.mvo_deps.specs.Nodes.{data_of, after_change, changed_if, after_register, after_register_all, noted_on, noted_all}
 use Rattle.mvo_deps.specs.Graph.{is_preparing, IsDependencyGraph}
 use Rattle.mvo_deps.proofs.Apart.{front_of}
-use Rattle.mvo_deps.proofs.Changes.{change_taken_back, dependent_taken_back}
+use Rattle.mvo_deps.proofs.Changes.{clock_changed, change_taken_back, dependent_taken_back}
 use Rattle.mvo_deps.proofs.Looks.{state_changed, there_changed, data_changed, no_data}
 use Rattle.mvo_deps.proofs.Registered.{kept_noted}
 
@@ -124,6 +124,14 @@ module _ {P : Type 0} where
       go true b = refl
       go false true = refl
       go false false = state_changed (after_change t on.0 (with_dependent tx)) tx.0 (with_dependency on) q ∙ state_changed t on.0 (with_dependent tx) q
+
+  pub clock_registered : (t : Txns (Node P)) (tx on : TxId) → (after_register t tx on).clock ≡ t.clock
+  clock_registered t tx on = go (is_among on (data_of t tx).on) (is_among tx (data_of t on).dependents)
+    where
+      go : (a b : Bool) → (cond a t (cond b t (noted_on t tx on))).clock ≡ t.clock
+      go true b = refl
+      go false true = refl
+      go false false = clock_changed (after_change t on.0 (with_dependent tx)) tx.0 (with_dependency on) ∙ clock_changed t on.0 (with_dependent tx)
 
   pub there_registered : (t : Txns (Node P)) (tx on : TxId) (q : ℕ) → is_some (get (after_register t tx on).seats q) ≡ is_some (get t.seats q)
   there_registered t tx on q = go (is_among on (data_of t tx).on) (is_among tx (data_of t on).dependents)

@@ -45,3 +45,10 @@ pub mod WordSteps
 pub mod RowsPlaced
 pub mod Proved
 pub mod OutOfOrder
+pub mod Tabled
+pub mod TableNodes
+pub mod TableSteps
+pub mod Unsettled
+pub mod TableTells
+pub mod Members
+pub mod TableRegistered

@@ -6,3 +6,5 @@ pub mod WordLists
 pub mod Steps
 pub mod Table
 pub mod Laws
+pub mod Dependencies
+pub mod DependencyLaws

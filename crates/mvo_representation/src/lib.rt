@@ -2,6 +2,8 @@
 //! indexes stand for: the abstract state of the version core.
 #![tactic(auto)]
 
+mod dependency_laws;
 mod laws;
 
+pub use dependency_laws::laws_of_dependencies;
 pub use laws::laws_of_representation;

@@ -1,0 +1,88 @@
+-- Those that are Preparing: each is found by its id, and who is waited for.
+use Rattle.std.proofs.Common.{◌≡◌, ℕ, ◌+◌, ◌<◌, ◌≤◌, Bool, true, false, cond, not, List, [], ◌∷◌, Option, None, Some, refl, sym, ap, ◌∙◌, subst, arith}
+use Rattle.std.specs.Prelude.{◌&&◌}
+use Rattle.std.specs.List.{AllByRecursion}
+use Rattle.std.proofs.lemmas.Bool.{eq-eqb, false≢true}
+use Rattle.mvo_theory.specs.State.{State, StampedTx, preparing_of, is_preparing_as}
+use Rattle.mvo_theory.specs.Causes.{waiting_for}
+use Rattle.mvo_theory.specs.Dependencies.{has_end}
+use Rattle.mvo_theory.specs.Sound.{IsRising, IsSingle, how_many}
+use Rattle.mvo_theory.proofs.Each.{each_weaker}
+use Rattle.mvo_theory.proofs.Finds.{count_some}
+use Rattle.mvo_theory.proofs.Single.{preparing_found}
+use Rattle.mvo_representation.specs.Nodes.{is_open_in}
+use Rattle.mvo_representation.proofs.Waited.{one}
+
+some_none : (x : StampedTx) → ◌≡◌ {A = Option StampedTx} (Some x) None → ⊥
+some_none x q = cc
+
+none_some : (x : StampedTx) → ◌≡◌ {A = Option StampedTx} None (Some x) → ⊥
+none_some x q = cc
+
+some_same : (x y : StampedTx) → ◌≡◌ {A = Option StampedTx} (Some x) (Some y) → x ≡ y
+some_same x y q = cc
+
+-- ---- by its id
+abbrev AreOnce : List StampedTx → Type 0
+AreOnce xs = (t : ℕ) → how_many (is_preparing_as t) xs ≤ 1
+
+found_in : (xs : List StampedTx) → AreOnce xs → AllByRecursion (λ y. y.settled ≡ false → preparing_of y.id xs ≡ Some y) xs
+found_in [] once = tt
+found_in (z ∷ xs) once = (
+  (λ o. ap (λ b. cond b (Some z) (preparing_of z.id xs)) (ap (λ b. b && not z.settled) (eq-eqb z.id z.id refl) ∙ ap not o)),
+  each_weaker (λ y. y.settled ≡ false → preparing_of y.id xs ≡ Some y) (λ y. y.settled ≡ false → preparing_of y.id (z ∷ xs) ≡ Some y) (λ y f o. go y (f o) (is_preparing_as y.id z) refl) xs (found_in xs (λ t. let n = once t in fewer (is_preparing_as t z) (how_many (is_preparing_as t) xs) n)),
+)
+  where
+    fewer : (b : Bool) (n : ℕ) → cond b 1 0 + n ≤ 1 → n ≤ 1
+    fewer true n h = omega arith
+    fewer false n h = omega arith
+
+    go : (y : StampedTx) → preparing_of y.id xs ≡ Some y → (b : Bool) → is_preparing_as y.id z ≡ b → cond b (Some z) (preparing_of y.id xs) ≡ Some y
+    go y f false e = f
+    go y f true e = absurd (
+        let n = once y.id in
+        let k = count_some (is_preparing_as y.id) xs y (sym (preparing_found y.id xs) ∙ f) in
+        let m : one (is_preparing_as y.id z) ≡ 1 = ap one e in
+        omega (arith, n, k, m))
+
+pub found_itself : (s : State) → IsSingle s → AllByRecursion (λ y. y.settled ≡ false → preparing_of y.id s.stamped ≡ Some y) s.stamped
+found_itself s sg = found_in s.stamped (λ t. let n = sg.once t in omega arith)
+
+-- ---- who is waited for
+pub waiting_holds : (P : StampedTx → Type 0) (ds : List ℕ) (xs : List StampedTx) (y : StampedTx) → waiting_for ds xs ≡ Some y → AllByRecursion P xs → P y × (is_open_in ds y ≡ true)
+waiting_holds P ds [] y w h = absurd (none_some y w)
+waiting_holds P ds (x ∷ xs) y w h = go (is_open_in ds x) refl w (λ v. waiting_holds P ds xs y v h.1)
+  where
+    go : (b : Bool) → is_open_in ds x ≡ b → cond b (Some x) (waiting_for ds xs) ≡ Some y → (waiting_for ds xs ≡ Some y → P y × (is_open_in ds y ≡ true)) → P y × (is_open_in ds y ≡ true)
+    go true e v again = let q = some_same x y v in (subst P q h.0, subst (λ (z : StampedTx). is_open_in ds z ≡ true) q e)
+    go false e v again = again v
+
+pub waiting_none : (ds : List ℕ) (xs : List StampedTx) → waiting_for ds xs ≡ None → AllByRecursion (λ x. is_open_in ds x ≡ false) xs
+waiting_none ds [] w = tt
+waiting_none ds (x ∷ xs) w = go (is_open_in ds x) refl w (λ v. waiting_none ds xs v)
+  where
+    go : (b : Bool) → is_open_in ds x ≡ b → cond b (Some x) (waiting_for ds xs) ≡ None → (waiting_for ds xs ≡ None → AllByRecursion (λ y. is_open_in ds y ≡ false) xs) → (is_open_in ds x ≡ false) × AllByRecursion (λ y. is_open_in ds y ≡ false) xs
+    go true e v again = absurd (some_none x v)
+    go false e v again = (e, again v)
+
+-- it has the least end
+pub waiting_first : (ds : List ℕ) (xs : List StampedTx) (y : StampedTx) → IsRising xs → waiting_for ds xs ≡ Some y → AllByRecursion (λ z. is_open_in ds z ≡ true → y.end ≤ z.end) xs
+waiting_first ds [] y r w = tt
+waiting_first ds (x ∷ xs) y r w = go (is_open_in ds x) refl w (λ v. waiting_first ds xs y r.1 v)
+  where
+    go : (b : Bool) → is_open_in ds x ≡ b → cond b (Some x) (waiting_for ds xs) ≡ Some y → (waiting_for ds xs ≡ Some y → AllByRecursion (λ z. is_open_in ds z ≡ true → y.end ≤ z.end) xs) → (is_open_in ds x ≡ true → y.end ≤ x.end) × AllByRecursion (λ z. is_open_in ds z ≡ true → y.end ≤ z.end) xs
+    go true e v again =
+        let q : x.end ≡ y.end = ap (λ (z : StampedTx). z.end) (some_same x y v) in
+        ((λ _. omega (arith, q)), each_weaker (λ z. x.end < z.end) (λ z. is_open_in ds z ≡ true → y.end ≤ z.end) (λ z lt _. omega (arith, lt, q)) xs r.0)
+    go false e v again = ((λ o. absurd (false≢true (sym e ∙ o))), again v)
+
+-- ---- one that waits, or is waited for, isn't settled
+pub open_parts : (ds : List ℕ) (y : StampedTx) → is_open_in ds y ≡ true → (y.settled ≡ false) × (has_end ds y.end ≡ true)
+open_parts ds y e = go y.settled refl e
+  where
+    go : (b : Bool) → y.settled ≡ b → (not b && has_end ds y.end) ≡ true → (y.settled ≡ false) × (has_end ds y.end ≡ true)
+    go true o h = absurd (false≢true h)
+    go false o h = (o, h)
+
+pub open_from : (ds : List ℕ) (y : StampedTx) → y.settled ≡ false → has_end ds y.end ≡ true → is_open_in ds y ≡ true
+open_from ds y o h = ap (λ b. not b && has_end ds y.end) o ∙ h
