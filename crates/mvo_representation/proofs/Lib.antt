@@ -52,3 +52,4 @@ pub mod Unsettled
 pub mod TableTells
 pub mod Members
 pub mod TableRegistered
+pub mod OnWhom

@@ -1,10 +1,10 @@
 -- An operation is answered, and those are registered on whom it lets the transaction depend.
 use Rattle.std.proofs.Common.{◌≡◌, ◌≢◌, ◌⊎◌, inl, inr, ℕ, ◌≤◌, Bool, true, false, cond, eqb, ◌||◌, List, [], ◌∷◌, Option, None, Some, refl, sym, ap, ◌∙◌, subst, arith}
-use Rattle.std.specs.Prelude.{◌==◌, IsSome, ⊤}
+use Rattle.std.specs.Prelude.{◌==◌, IsSome}
 use Rattle.std.specs.List.{AllByRecursion}
 use Rattle.std.specs.Option.{is_some}
 use Rattle.std.specs.FinMap.{get}
-use Rattle.std.proofs.lemmas.Bool.{cases_eq, eq-eqb, eqb-true, true≢false, false≢true}
+use Rattle.std.proofs.lemmas.Bool.{cases_eq, eqb-true, false≢true}
 use Rattle.mvo_types.specs.declared.ids.TxId.{TxId}
 use Rattle.mvo_types.specs.declared.op.Op.{Op}
 use Rattle.mvo_types.specs.AnswerData.{AnswerData}
@@ -22,7 +22,6 @@ use Rattle.mvo_theory.proofs.Each.{each_both, each_map, each_weaker, each_always
 use Rattle.mvo_theory.proofs.Finds.{find_none}
 use Rattle.mvo_theory.proofs.Phases.{leads_after_operation}
 use Rattle.mvo_theory.proofs.Single.{active_found, preparing_found, active_alone, preparing_alone}
-use Rattle.mvo_theory.proofs.Traced.{ends_differ}
 use Rattle.mvo_theory.proofs.Who.{active_holds}
 use Rattle.mvo_txn.specs.Txns.{Txns, state_of}
 use Rattle.mvo_deps.specs.declared.node.Node.{Node}
@@ -35,7 +34,7 @@ use Rattle.mvo_representation.specs.Nodes.{Nodes, nodes_of, HasNodes, HasDrawnDe
 use Rattle.mvo_representation.specs.Table.{phase_as}
 use Rattle.mvo_representation.specs.Dependencies.{HasDependencies, AreDependencies, tx_id}
 use Rattle.mvo_representation.proofs.Answers.{only_mine}
-use Rattle.mvo_representation.proofs.Facts.{found_holds, phase_active, phase_preparing}
+use Rattle.mvo_representation.proofs.Facts.{phase_active, phase_preparing}
 use Rattle.mvo_representation.proofs.Members.{with_ends, active_with_ends, after_ends, has_with_ends, after_no_ends, after_one_more, nodes_by_members, drawn_by_members}
 use Rattle.mvo_representation.proofs.NodesRegistered.{MayRegister, dependency_registered, dependency_drawn}
 use Rattle.mvo_representation.proofs.NodesReported.{active_none, preparing_none, is_open_phase, seated}
@@ -43,7 +42,7 @@ use Rattle.mvo_representation.proofs.Reported.{IsNew, its_dependents, its_open, 
 use Rattle.mvo_representation.proofs.Tabled.{table_alike, phase_taken_over}
 use Rattle.mvo_representation.proofs.TableSteps.{nodes_beside, drawn_beside}
 use Rattle.mvo_representation.proofs.TableTells.{open_phase}
-use Rattle.mvo_representation.proofs.Unsettled.{found_itself}
+use Rattle.mvo_representation.proofs.Unsettled.{alone}
 
 some_same : (x y : StampedTx) → ◌≡◌ {A = Option StampedTx} (Some x) (Some y) → x ≡ y
 some_same x y q = cc
@@ -80,23 +79,8 @@ module _ {P : Type 0} (opening : Map) (steps : List Step) (s : State) (old : Txn
 
   -- of a Preparing one
   module _ (id : TxId) (x : StampedTx) (g : preparing_of id.0 s.stamped ≡ Some x) where
-    alone_by : (y : StampedTx) → y.settled ≡ false → preparing_of y.id s.stamped ≡ Some y → (y.end ≡ x.end → y.id ≡ x.id) → (b : Bool) → (y.id == id.0) ≡ b → (c : Bool) → (y.end == x.end) ≡ c → b ≡ c
-    alone_by y o m d true p true q = refl
-    alone_by y o m d false p false q = refl
-    alone_by y o m d true p false q =
-        let same : y ≡ x = some_same y x (sym m ∙ ap (λ (n : ℕ). preparing_of n s.stamped) (eqb-true y.id id.0 p) ∙ g) in
-        absurd (true≢false (sym (eq-eqb y.end x.end (ap (λ (z : StampedTx). z.end) same)) ∙ q))
-    alone_by y o m d false p true q =
-        let is = (found_holds (λ z. ⊤) id.0 s.stamped x g (each_always (λ z. ⊤) (λ z. tt) s.stamped)).1 in
-        absurd (true≢false (sym (eq-eqb y.id id.0 (d (eqb-true y.end x.end q) ∙ is)) ∙ p))
-
-    pub alone : AllByRecursion (λ y. y.settled ≡ false → (y.id == id.0) ≡ (y.end == x.end)) s.stamped
-    alone = each_both (λ y. y.settled ≡ false → preparing_of y.id s.stamped ≡ Some y) (λ y. y.end ≡ x.end → y.id ≡ x.id) (λ y. y.settled ≡ false → (y.id == id.0) ≡ (y.end == x.end))
-        (λ y m d o. alone_by y o (m o) d (y.id == id.0) refl (y.end == x.end) refl) s.stamped (found_itself s k.single)
-        (found_holds (λ z. AllByRecursion (λ y. y.end ≡ z.end → y.id ≡ z.id) s.stamped) id.0 s.stamped x g (ends_differ s.stamped k.sound.rising)).0
-
     new : (es : List ℕ) → IsNew (after_ends s r.id es) r.id id.0 x.end
-    new es = record { there = its_open s id.0 x k.sound g; alone = alone; apart = preparing_none r.id s.stamped nobody }
+    new es = record { there = its_open s id.0 x k.sound g; alone = alone s k.single k.sound.rising id.0 x g; apart = preparing_none r.id s.stamped nobody }
 
     away : AllByRecursion (λ q. q.id ≢ id.0) s.active
     away = active_none id.0 s.active (active_found id.0 s.active ∙ find_none (is_active_as id.0) s.active (let l = preparing_alone s id.0 x g k.single in omega arith))
@@ -157,7 +141,7 @@ module _ {P : Type 0} (opening : Map) (steps : List Step) (s : State) (old : Txn
                 (λ y a b o.
                 a o
                 ∙ ap (λ c. is_among (tx_id y.id) ids || (c || has_end es y.end)) (swap_eq x.end y.end ∙ sym (b o) ∙ swap_eq y.id id.0)
-                ∙ or_passed (is_among (tx_id y.id) ids) (eqb id.0 y.id) (has_end es y.end)) s.stamped rest.2 (alone id x g),
+                ∙ or_passed (is_among (tx_id y.id) ids) (eqb id.0 y.id) (has_end es y.end)) s.stamped rest.2 (alone s k.single k.sound.rising id.0 x g),
           )
 
   -- ---- the answer

@@ -42,7 +42,7 @@ open_phase (Some (Preparing n)) e q = cc
 open_phase (Some (Committed n)) e q = cc
 open_phase (Some Aborted) e q = cc
 
-phase_open : (o : Option TxState) (e : ℕ) → open_end o ≡ Some e → phase_as o ≡ PreparingPhase e
+pub phase_open : (o : Option TxState) (e : ℕ) → open_end o ≡ Some e → phase_as o ≡ PreparingPhase e
 phase_open None e q = cc
 phase_open (Some Active) e q = cc
 phase_open (Some (Preparing n)) e q = cc

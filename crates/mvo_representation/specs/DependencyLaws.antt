@@ -4,10 +4,14 @@ use Rattle.std.specs.Prelude.{ℕ, ◌≡◌, ◌+◌, nat_lt, true, false, is_s
 use Rattle.std.specs.Option.{option_map}
 use Rattle.mvo_types.specs.declared.ids.TxId.{TxId}
 use Rattle.mvo_types.specs.declared.ids.Stamp.{Stamp}
+use Rattle.mvo_types.specs.declared.row.RowKey.{RowKey}
 use Rattle.mvo_types.specs.declared.op.Op.{Op}
+use Rattle.mvo_types.specs.declared.op.Op.TheVariants.{Scan}
 use Rattle.mvo_types.specs.AnswerData.{AnswerData}
 use Rattle.mvo_types.specs.Keys.{Map}
 use Rattle.mvo_model.specs.Trace.{Step}
+use Rattle.mvo_theory.specs.Entries.{entry_of}
+use Rattle.mvo_theory.specs.Entries.Entry.{Key}
 use Rattle.mvo_theory.specs.State.{State, ActiveTx, opened, active_of, preparing_of}
 use Rattle.mvo_theory.specs.Causes.{flag_of_active, flag_of_preparing, awaited, why_not_trim}
 use Rattle.mvo_theory.specs.Changes.{after_begin, after_answer, after_finish, after_trim, after_close}
@@ -17,13 +21,18 @@ use Rattle.mvo_theory.specs.Calls.{IsKept}
 use Rattle.mvo_txn.specs.declared.state.TxState.TheVariants.{Active, Preparing, Committed, Aborted}
 use Rattle.mvo_txn.specs.Txns as txns
 use Rattle.mvo_txn.specs.Txns.{Txns, no_txns, state_of, kept_of, IsPreparing, IsUnended, IsEnded}
+use Rattle.mvo_chain.specs.Slots.{Slots}
+use Rattle.mvo_hash.specs.Lists.{Lists}
+use Rattle.mvo_range.specs.Place.{Map as Places}
+use Rattle.mvo_visible.specs.Words.{States}
 use Rattle.mvo_deps.specs.declared.node.Node.{Node}
 use Rattle.mvo_deps.specs.Data as deps
 use Rattle.mvo_deps.specs.Data.{no_dependencies}
 use Rattle.mvo_deps.specs.Nodes.{data_of, after_register_all, IsReported}
 use Rattle.mvo_deps.specs.Graph.{KeepsGraphAtCommit, KeepsGraphAtAbort}
 use Rattle.mvo_deps.specs.Waiting.{IsLeastOpen, HasNoneOpen}
-use Rattle.mvo_representation.specs.Dependencies.{HasDependencies, AreDependencies, tx_id}
+use Rattle.mvo_representation.specs.Laws.{StandsFor}
+use Rattle.mvo_representation.specs.Dependencies.{HasDependencies, AreDependencies, tx_id, named, named_at, AreNamedByScan}
 
 -- ---- what each call leaves
 -- a core is opened with an empty table
@@ -52,6 +61,21 @@ AnswerInTable P = (opening : Map) (steps : List Step) (s : State) (old : Txns (N
     → IsKept opening steps s → HasDependencies s old → active_of r.id s.active ≡ Some r
     → AreDependencies s op r ids
     → HasDependencies (after_answer s r.id op a) (after_register_all old (tx_id r.id) ids)
+
+-- those are whom the rules name at the key of an operation
+abbrev pub KeyNames : Type 0
+KeyNames = (opening : Map) (steps : List Step) (s : State) (states : States) (slots : Slots)
+    (lists : Lists) (places : Places) (op : Op) (r : ActiveTx) (k : RowKey)
+    → StandsFor opening steps s states slots lists places → active_of r.id s.active ≡ Some r
+    → entry_of op ≡ Key k → AreDependencies s op r (named (named_at states slots lists r.id k))
+
+-- and of a scan, whom they name at the keys that it meets
+abbrev pub ScanNames : Type 0
+ScanNames = (opening : Map) (steps : List Step) (s : State) (states : States) (slots : Slots)
+    (lists : Lists) (places : Places) (r : ActiveTx) (table lo hi : ℕ) (ids : List TxId)
+    → StandsFor opening steps s states slots lists places → active_of r.id s.active ≡ Some r
+    → AreNamedByScan s states slots lists r.id table lo hi ids
+    → AreDependencies s (Scan table lo hi) r ids
 
 -- an Active transaction draws its end
 abbrev pub PrecommitInTable : Type 0 → Type 0

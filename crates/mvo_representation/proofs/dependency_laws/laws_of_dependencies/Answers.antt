@@ -1,4 +1,5 @@
 use Rattle.mvo_representation.proofs.TableSteps.{table_opened, table_begun, table_written, table_prepared, table_checked, table_committed, table_aborted, table_word, table_left, table_trimmed, table_closed}
+use Rattle.mvo_representation.proofs.OnWhom.{key_named, scan_named}
 use Rattle.mvo_representation.proofs.TableRegistered.{table_answered}
 use Rattle.mvo_representation.proofs.TableTells.{flag_of_active_is, flag_of_preparing_is, awaited_is, counted_is}
 use Rattle.mvo_representation.proofs.dependency_laws.laws_of_dependencies.Goals as goal
@@ -14,6 +15,12 @@ returns-clause-write g c = table_written
 
 pub returns-clause-answer : goal.returns-clause-answer
 returns-clause-answer g c = table_answered
+
+pub returns-clause-key : goal.returns-clause-key
+returns-clause-key g c = λ opening steps s states slots lists places op r k w f e. key_named opening steps s states slots lists places w r f op k e
+
+pub returns-clause-scan : goal.returns-clause-scan
+returns-clause-scan g c = λ opening steps s states slots lists places r table lo hi ids w f h. scan_named opening steps s states slots lists places w r f table lo hi ids h
 
 pub returns-clause-precommit : goal.returns-clause-precommit
 returns-clause-precommit g c = table_prepared
