@@ -17,6 +17,7 @@ use Rattle.mvo_theory.specs.Entries.Entry.{Key}
 use Rattle.mvo_theory.specs.State.{State, StampedTx, ActiveTx, active_of, preparing_of}
 use Rattle.mvo_theory.specs.Dependencies.{has_end, with_end, last_writer, depend_on, dependencies, keys_for, unwritten}
 use Rattle.mvo_theory.proofs.Depends.{depends_more}
+use Rattle.mvo_theory.proofs.Who.{id_of}
 use Rattle.mvo_theory.proofs.Each.{each_append, each_both, each_weaker}
 use Rattle.mvo_txn.specs.declared.state.TxState.{TxState}
 use Rattle.mvo_txn.specs.declared.state.TxState.TheVariants as state
@@ -173,8 +174,8 @@ module _ (opening : Map) (steps : List Step) (s : State) (states : States) (slot
   by_rule op k en = depends_is opening steps s states slots lists op r k w.kept w.versions w.numbers f en
 
   -- ---- an operation on one key
-  pub key_named : (op : Op) (k : RowKey) → entry_of op ≡ Key k → AreDependencies s op r (named (named_at states slots lists r.id k))
-  key_named op k en = go (named_at states slots lists r.id k) refl (by_rule op k en)
+  key_by_id : (op : Op) (k : RowKey) → entry_of op ≡ Key k → AreDependencies s op r (named (named_at states slots lists r.id k))
+  key_by_id op k en = go (named_at states slots lists r.id k) refl (by_rule op k en)
     where
       go : (o : Option TxId) → named_at states slots lists r.id k ≡ o → dependencies s op r ≡ with_open r.depends_on (end_awaited states o) → AreDependencies s op r (named o)
       go None e d = record {
@@ -264,10 +265,23 @@ module _ (opening : Map) (steps : List Step) (s : State) (states : States) (slot
           | inr q ↦ from_these y m q
         ])
 
-    pub scan_named : AreDependencies s (Scan table lo hi) r ids
-    scan_named = record {
+    scan_by_id : AreDependencies s (Scan table lo hi) r ids
+    scan_by_id = record {
       preparing = each_weaker (λ id. (q : RowKey) × (is_met_at states s slots r.id table lo hi q ≡ true) × (named_at states slots lists r.id q ≡ Some id)) (λ id. IsSome (preparing_of id.0 s.stamped))
           (λ id n. subst IsSome (sym (named_by n.0 id n.2).found) refl) ids h.only;
       just = each_weaker (λ y. y.settled ≡ false → preparing_of y.id s.stamped ≡ Some y) (λ y. y.settled ≡ false → has_end (dependencies s (Scan table lo hi) r) y.end ≡ (has_end r.depends_on y.end || is_among (tx_id y.id) ids))
           (λ y m o. just_these y o (m o)) s.stamped (found_itself s w.kept.single);
     }
+
+-- ---- the same, of the transaction t
+pub key_named : (opening : Map) (steps : List Step) (s : State) (states : States) (slots : Slots) (lists : Lists) (places : Places) (t : ℕ) (op : Op) (r : ActiveTx) (k : RowKey) → StandsFor opening steps s states slots lists places → active_of t s.active ≡ Some r → entry_of op ≡ Key k → AreDependencies s op r (named (named_at states slots lists t k))
+key_named opening steps s states slots lists places t op r k w f en =
+    let is : r.id ≡ t = id_of t s.active r f in
+    subst (λ (u : ℕ). AreDependencies s op r (named (named_at states slots lists u k))) is
+    (key_by_id opening steps s states slots lists places w r (subst (λ (u : ℕ). active_of u s.active ≡ Some r) (sym is) f) op k en)
+
+pub scan_named : (opening : Map) (steps : List Step) (s : State) (states : States) (slots : Slots) (lists : Lists) (places : Places) (t : ℕ) (r : ActiveTx) (table lo hi : ℕ) (ids : List TxId) → StandsFor opening steps s states slots lists places → active_of t s.active ≡ Some r → AreNamedByScan s states slots lists t table lo hi ids → AreDependencies s (Scan table lo hi) r ids
+scan_named opening steps s states slots lists places t r table lo hi ids w f h =
+    let is : r.id ≡ t = id_of t s.active r f in
+    scan_by_id opening steps s states slots lists places w r (subst (λ (u : ℕ). active_of u s.active ≡ Some r) (sym is) f) table lo hi ids
+    (subst (λ (u : ℕ). AreNamedByScan s states slots lists u table lo hi ids) (sym is) h)

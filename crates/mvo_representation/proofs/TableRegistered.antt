@@ -22,7 +22,7 @@ use Rattle.mvo_theory.proofs.Each.{each_both, each_map, each_weaker, each_always
 use Rattle.mvo_theory.proofs.Finds.{find_none}
 use Rattle.mvo_theory.proofs.Phases.{leads_after_operation}
 use Rattle.mvo_theory.proofs.Single.{active_found, preparing_found, active_alone, preparing_alone}
-use Rattle.mvo_theory.proofs.Who.{active_holds}
+use Rattle.mvo_theory.proofs.Who.{active_holds, id_of}
 use Rattle.mvo_txn.specs.Txns.{Txns, state_of}
 use Rattle.mvo_deps.specs.declared.node.Node.{Node}
 use Rattle.mvo_deps.specs.Data.{is_among}
@@ -201,5 +201,8 @@ module _ {P : Type 0} (opening : Map) (steps : List Step) (s : State) (old : Txn
         graph = w.graph;
       }
 
-pub table_answered : {P : Type 0} (opening : Map) (steps : List Step) (s : State) (old : Txns (Node P)) (op : Op) (a : AnswerData) (r : ActiveTx) (ids : List TxId) → IsKept opening steps s → HasDependencies s old → active_of r.id s.active ≡ Some r → AreDependencies s op r ids → HasDependencies (after_answer s r.id op a) (after_register_all old (tx_id r.id) ids)
-table_answered opening steps s old op a r ids k h f d = answered opening steps s old r k h f op a ids d
+pub table_answered : {P : Type 0} (opening : Map) (steps : List Step) (s : State) (old : Txns (Node P)) (t : TxId) (op : Op) (a : AnswerData) (r : ActiveTx) (ids : List TxId) → IsKept opening steps s → HasDependencies s old → active_of t.0 s.active ≡ Some r → AreDependencies s op r ids → HasDependencies (after_answer s t.0 op a) (after_register_all old t ids)
+table_answered opening steps s old t op a r ids k h f d =
+    let is : r.id ≡ t.0 = id_of t.0 s.active r f in
+    subst (λ (u : ℕ). HasDependencies (after_answer s u op a) (after_register_all old (tx_id u) ids)) is
+    (answered opening steps s old r k h (subst (λ (u : ℕ). active_of u s.active ≡ Some r) (sym is) f) op a ids d)

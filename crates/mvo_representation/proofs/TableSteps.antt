@@ -166,9 +166,9 @@ module _ {P : Type 0} where
       drawn_at (Some x) = drawn_by x _ x.valid
 
   -- ---- a commit
-  pub table_committed : (opening : Map) (steps : List Step) (s : State) (old new : Txns (Node P)) (t : TxId) (end : Stamp) → IsKept opening steps s → HasDependencies s old → state_of old t.0 ≡ Some (Preparing end)
+  committed : (opening : Map) (steps : List Step) (s : State) (old new : Txns (Node P)) (t : TxId) (end : Stamp) → IsKept opening steps s → HasDependencies s old → state_of old t.0 ≡ Some (Preparing end)
       → IsReported deps.after_commit (txns.after_change old t.0 (Committed end)) new t → KeepsGraphAtCommit (txns.after_change old t.0 (Committed end)) new t → HasDependencies (after_commit_of s t.0 (preparing_of t.0 s.stamped)) new
-  table_committed opening steps s old new t end k h was told keeps = subst (λ o. HasDependencies (after_commit_of s t.0 o) new) (sym f) (record {
+  committed opening steps s old new t end k h was told keeps = subst (λ o. HasDependencies (after_commit_of s t.0 o) new) (sym f) (record {
     stands = table_leads s (after_commit s t.0 x.end) (Commits t.0 x.end) old new (Some (Committed end)) h.stands (leads_after_commit s t.0 x f k.sound k.single)
         (reported_clock deps.after_commit now new t told ∙ h.stands.clock)
         (reported_state deps.after_commit now new t told t.0 ∙ state_now old.seats t.0 (Committed end) (Preparing end) t.0 refl was)
@@ -197,6 +197,11 @@ module _ {P : Type 0} where
 
       nodes_are : nodes_of old ≡ nodes_of now
       nodes_are = restated_nodes old old.clock t.0 (Committed end)
+
+  pub table_committed : (opening : Map) (steps : List Step) (s : State) (old untold new : Txns (Node P)) (t : TxId) (end : Stamp) → IsKept opening steps s → HasDependencies s old → state_of old t.0 ≡ Some (Preparing end)
+      → untold ≡ txns.after_change old t.0 (Committed end) → IsReported deps.after_commit untold new t → KeepsGraphAtCommit untold new t → HasDependencies (after_commit_of s t.0 (preparing_of t.0 s.stamped)) new
+  table_committed opening steps s old untold new t end k h was e told keeps =
+      committed opening steps s old new t end k h was (subst (λ table. IsReported deps.after_commit table new t) e told) (subst (λ table. KeepsGraphAtCommit table new t) e keeps)
 
   -- ---- an abort
   abbrev fallen : Txns (Node P) → ℕ → Txns (Node P)
@@ -270,9 +275,9 @@ module _ {P : Type 0} where
       seats : AreSeated s (fallen old t.0)
       seats = λ u o. there_restated old.seats t.0 Aborted u ∙ seated s old u (h.stands.phases u) o
 
-  pub table_aborted : (opening : Map) (steps : List Step) (s : State) (old new : Txns (Node P)) (t : TxId) → IsKept opening steps s → HasDependencies s old → IsUnended (state_of old t.0)
+  aborted : (opening : Map) (steps : List Step) (s : State) (old new : Txns (Node P)) (t : TxId) → IsKept opening steps s → HasDependencies s old → IsUnended (state_of old t.0)
       → IsReported (deps.after_abort t) (txns.after_change old t.0 Aborted) new t → KeepsGraphAtAbort (txns.after_change old t.0 Aborted) new t → HasDependencies (after_abort_of s t.0 (preparing_of t.0 s.stamped)) new
-  table_aborted opening steps s old new t k h unended told keeps = go (state_of old t.0) refl unended
+  aborted opening steps s old new t k h unended told keeps = go (state_of old t.0) refl unended
     where
       go : (o : Option TxState) → state_of old t.0 ≡ o → IsUnended o → HasDependencies (after_abort_of s t.0 (preparing_of t.0 s.stamped)) new
       go None e u = absurd u
@@ -280,6 +285,11 @@ module _ {P : Type 0} where
       go (Some (Preparing end)) e u = failed opening steps s old new t end k h e told keeps
       go (Some (Committed end)) e u = absurd u
       go (Some Aborted) e u = absurd u
+
+  pub table_aborted : (opening : Map) (steps : List Step) (s : State) (old untold new : Txns (Node P)) (t : TxId) → IsKept opening steps s → HasDependencies s old → IsUnended (state_of old t.0)
+      → untold ≡ txns.after_change old t.0 Aborted → IsReported (deps.after_abort t) untold new t → KeepsGraphAtAbort untold new t → HasDependencies (after_abort_of s t.0 (preparing_of t.0 s.stamped)) new
+  table_aborted opening steps s old untold new t k h unended e told keeps =
+      aborted opening steps s old new t k h unended (subst (λ table. IsReported (deps.after_abort t) table new t) e told) (subst (λ table. KeepsGraphAtAbort table new t) e keeps)
 
   -- ---- finishing
   pub table_worded : (s : State) (old : Txns (Node P)) (f : EndedTx → List Word) → HasDependencies s old → HasDependencies (with_words f s) old

@@ -57,24 +57,25 @@ WriteInTable P = (s : State) (old : Txns (Node P)) (t : ℕ) (node written : Nod
 -- an operation is answered, and those are registered on whom it lets the transaction depend
 abbrev pub AnswerInTable : Type 0 → Type 0
 AnswerInTable P = (opening : Map) (steps : List Step) (s : State) (old : Txns (Node P))
-    (op : Op) (a : AnswerData) (r : ActiveTx) (ids : List TxId)
-    → IsKept opening steps s → HasDependencies s old → active_of r.id s.active ≡ Some r
+    (t : TxId) (op : Op) (a : AnswerData) (r : ActiveTx) (ids : List TxId)
+    → IsKept opening steps s → HasDependencies s old → active_of t.0 s.active ≡ Some r
     → AreDependencies s op r ids
-    → HasDependencies (after_answer s r.id op a) (after_register_all old (tx_id r.id) ids)
+    → HasDependencies (after_answer s t.0 op a) (after_register_all old t ids)
 
 -- those are whom the rules name at the key of an operation
 abbrev pub KeyNames : Type 0
 KeyNames = (opening : Map) (steps : List Step) (s : State) (states : States) (slots : Slots)
-    (lists : Lists) (places : Places) (op : Op) (r : ActiveTx) (k : RowKey)
-    → StandsFor opening steps s states slots lists places → active_of r.id s.active ≡ Some r
-    → entry_of op ≡ Key k → AreDependencies s op r (named (named_at states slots lists r.id k))
+    (lists : Lists) (places : Places) (t : ℕ) (op : Op) (r : ActiveTx) (k : RowKey)
+    → StandsFor opening steps s states slots lists places → active_of t s.active ≡ Some r
+    → entry_of op ≡ Key k → AreDependencies s op r (named (named_at states slots lists t k))
 
 -- and of a scan, whom they name at the keys that it meets
 abbrev pub ScanNames : Type 0
 ScanNames = (opening : Map) (steps : List Step) (s : State) (states : States) (slots : Slots)
-    (lists : Lists) (places : Places) (r : ActiveTx) (table lo hi : ℕ) (ids : List TxId)
-    → StandsFor opening steps s states slots lists places → active_of r.id s.active ≡ Some r
-    → AreNamedByScan s states slots lists r.id table lo hi ids
+    (lists : Lists) (places : Places) (t : ℕ) (r : ActiveTx) (table lo hi : ℕ)
+    (ids : List TxId)
+    → StandsFor opening steps s states slots lists places → active_of t s.active ≡ Some r
+    → AreNamedByScan s states slots lists t table lo hi ids
     → AreDependencies s (Scan table lo hi) r ids
 
 -- an Active transaction draws its end
@@ -90,20 +91,21 @@ CheckInTable P = (s : State) (old : Txns (Node P)) (t : ℕ)
 
 -- a Preparing transaction is committed in the table, and then reported
 abbrev pub CommitInTable : Type 0 → Type 0
-CommitInTable P = (opening : Map) (steps : List Step) (s : State) (old new : Txns (Node P))
-    (t : TxId) (end : Stamp) → IsKept opening steps s → HasDependencies s old
+CommitInTable P = (opening : Map) (steps : List Step) (s : State)
+    (old untold new : Txns (Node P)) (t : TxId) (end : Stamp)
+    → IsKept opening steps s → HasDependencies s old
     → state_of old t.0 ≡ Some (Preparing end)
-    → IsReported deps.after_commit (txns.after_change old t.0 (Committed end)) new t
-    → KeepsGraphAtCommit (txns.after_change old t.0 (Committed end)) new t
+    → untold ≡ txns.after_change old t.0 (Committed end)
+    → IsReported deps.after_commit untold new t → KeepsGraphAtCommit untold new t
     → HasDependencies (after_commit_now s t.0) new
 
 -- an Active or a Preparing transaction is aborted in the table, and then reported
 abbrev pub AbortInTable : Type 0 → Type 0
-AbortInTable P = (opening : Map) (steps : List Step) (s : State) (old new : Txns (Node P))
-    (t : TxId) → IsKept opening steps s → HasDependencies s old
-    → IsUnended (state_of old t.0)
-    → IsReported (deps.after_abort t) (txns.after_change old t.0 Aborted) new t
-    → KeepsGraphAtAbort (txns.after_change old t.0 Aborted) new t
+AbortInTable P = (opening : Map) (steps : List Step) (s : State)
+    (old untold new : Txns (Node P)) (t : TxId)
+    → IsKept opening steps s → HasDependencies s old → IsUnended (state_of old t.0)
+    → untold ≡ txns.after_change old t.0 Aborted
+    → IsReported (deps.after_abort t) untold new t → KeepsGraphAtAbort untold new t
     → HasDependencies (after_abort s t.0) new
 
 -- a word that is replaced, but for the last, changes nothing

@@ -17,10 +17,10 @@ pub returns-clause-answer : goal.returns-clause-answer
 returns-clause-answer g c = table_answered
 
 pub returns-clause-key : goal.returns-clause-key
-returns-clause-key g c = λ opening steps s states slots lists places op r k w f e. key_named opening steps s states slots lists places w r f op k e
+returns-clause-key g c = key_named
 
 pub returns-clause-scan : goal.returns-clause-scan
-returns-clause-scan g c = λ opening steps s states slots lists places r table lo hi ids w f h. scan_named opening steps s states slots lists places w r f table lo hi ids h
+returns-clause-scan g c = scan_named
 
 pub returns-clause-precommit : goal.returns-clause-precommit
 returns-clause-precommit g c = table_prepared
