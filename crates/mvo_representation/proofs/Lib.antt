@@ -53,3 +53,5 @@ pub mod TableTells
 pub mod Members
 pub mod TableRegistered
 pub mod OnWhom
+pub mod TableCounts
+pub mod TableMarks

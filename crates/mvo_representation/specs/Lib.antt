@@ -8,3 +8,4 @@ pub mod Table
 pub mod Laws
 pub mod Dependencies
 pub mod DependencyLaws
+pub mod TableLaws

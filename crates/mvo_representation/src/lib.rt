@@ -4,6 +4,8 @@
 
 mod dependency_laws;
 mod laws;
+mod table_laws;
 
 pub use dependency_laws::laws_of_dependencies;
 pub use laws::laws_of_representation;
+pub use table_laws::laws_of_table;
