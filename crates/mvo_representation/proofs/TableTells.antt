@@ -12,6 +12,7 @@ use Rattle.mvo_theory.specs.State.{State, StampedTx, active_of, preparing_of}
 use Rattle.mvo_theory.specs.Causes.{flag_of_active, flag_of_preparing, waiting_for, awaited_by, awaited}
 use Rattle.mvo_theory.specs.Dependencies.{has_end}
 use Rattle.mvo_theory.specs.Calls.{IsKept}
+use Rattle.mvo_theory.proofs.Causes.{waiting_none, waiting_is, waiting_least}
 use Rattle.mvo_theory.proofs.Each.{each_both}
 use Rattle.mvo_theory.proofs.Traced.{ends_differ}
 use Rattle.mvo_theory.proofs.Who.{active_holds}
@@ -25,14 +26,14 @@ use Rattle.mvo_deps.specs.Nodes.{data_of}
 use Rattle.mvo_deps.specs.Waiting.{IsOpen, HasNoneOpen, IsLeastOpen}
 use Rattle.mvo_deps.proofs.Counter.{waits_by_counter}
 use Rattle.mvo_deps.proofs.Registered.{there_if_preparing}
-use Rattle.mvo_representation.specs.Nodes.{nodes_of, is_open_in, IsNode, AreDependents}
+use Rattle.mvo_representation.specs.Nodes.{nodes_of, IsNode, AreDependents}
 use Rattle.mvo_representation.specs.Table.{phase_as}
 use Rattle.mvo_representation.specs.Dependencies.{HasDependencies, tx_id}
 use Rattle.mvo_representation.proofs.Facts.{found_holds, preparing_is, phase_preparing}
 use Rattle.mvo_representation.proofs.NodesReported.{among_is}
 use Rattle.mvo_representation.proofs.Tabled.{active_is}
 use Rattle.mvo_representation.proofs.TableNodes.{preparing_state}
-use Rattle.mvo_representation.proofs.Unsettled.{found_itself, waiting_holds, waiting_none, waiting_first, open_parts, open_from}
+use Rattle.mvo_representation.proofs.Unsettled.{found_itself, waiting_holds}
 
 -- one that is Preparing in a phase is so in the table
 pub open_phase : (o : Option TxState) (e : ℕ) → phase_as o ≡ PreparingPhase e → open_end o ≡ Some e
@@ -93,30 +94,44 @@ module _ {P : Type 0} where
     all_on = each_both (λ y. y.settled ≡ false → preparing_of y.id s.stamped ≡ Some y) (λ y. y.settled ≡ false → AreDependents s (nodes_of table y.id).dependents y.end) (λ y. y.settled ≡ false → IsOn y) (λ y a b o. it y o (a o) (b o)) s.stamped (found_itself s k.single) h.nodes.dependents
 
     -- who is open in the table is open in the state
-    open_there : (id : TxId) (e : ℕ) → IsOpen table (data_of table t).on id e → (y : StampedTx) × (preparing_of id.0 s.stamped ≡ Some y) × (y.end ≡ e) × (y.id ≡ id.0) × (is_open_in x.depends_on y ≡ true)
+    record IsOpenThere (id : TxId) (e : ℕ) : Type 0 where
+      pub it : StampedTx
+      pub found : preparing_of id.0 s.stamped ≡ Some it
+      pub ends : it.end ≡ e
+      pub is : it.id ≡ id.0
+      pub waits : it.settled ≡ false
+      pub on : has_end x.depends_on it.end ≡ true
+
+    open_there : (id : TxId) (e : ℕ) → IsOpen table (data_of table t).on id e → IsOpenThere id e
     open_there id e o =
         let g = preparing_is s id.0 e (sym (h.stands.phases id.0) ∙ phase_open (state_of table id.0) e o.open_end_is) in
         let w = found_holds (λ y. y.settled ≡ false → IsOn y) id.0 s.stamped g.0 g.1 all_on in
-        let m : has_end x.depends_on g.0.end ≡ true = sym (w.0 w.2).on_is ∙ ap (λ (u : ℕ). is_among (tx_id u) (data_of table t).on) w.1 ∙ o.among in
-        (g.0, g.1, g.2, w.1, open_from x.depends_on g.0 w.2 m)
+        record {
+          it = g.0;
+          found = g.1;
+          ends = g.2;
+          is = w.1;
+          waits = w.2;
+          on = sym (w.0 w.2).on_is ∙ ap (λ (u : ℕ). is_among (tx_id u) (data_of table t).on) w.1 ∙ o.among;
+        }
 
     least_in : (o : Option StampedTx) → waiting_for x.depends_on s.stamped ≡ o → MatchOption (option_map (λ y. tx_id y.id) o) (HasNoneOpen table (data_of table t).on) (IsLeastOpen table (data_of table t).on)
     least_in None w = record {
       none = λ id e o.
           let g = open_there id e o in
-          let n = found_holds (λ y. is_open_in x.depends_on y ≡ false) id.0 s.stamped g.0 g.1 (waiting_none x.depends_on s.stamped w) in
-          true≢false (sym g.4 ∙ n.0);
+          let n = found_holds (λ y. y.settled ≡ false → has_end x.depends_on y.end ≡ false) id.0 s.stamped g.it g.found (waiting_none x.depends_on s.stamped w) in
+          true≢false (sym g.on ∙ n.0 g.waits);
     }
     least_in (Some y) w =
         let q = waiting_holds (λ z. z.settled ≡ false → IsOn z) x.depends_on s.stamped y w all_on in
-        let p = open_parts x.depends_on y q.1 in
+        let p = waiting_is x.depends_on s.stamped y w in
         record {
           end = y.end;
-          is_open = record { among = (q.0 p.0).on_is ∙ p.1; open_end_is = (q.0 p.0).open_end_is };
+          is_open = record { among = (q p.0).on_is ∙ p.1; open_end_is = (q p.0).open_end_is };
           least = λ other later o.
               let g = open_there other later o in
-              let n = found_holds (λ z. is_open_in x.depends_on z ≡ true → y.end ≤ z.end) other.0 s.stamped g.0 g.1 (waiting_first x.depends_on s.stamped y k.sound.rising w) in
-              subst (λ (e : ℕ). y.end ≤ e) g.2 (n.0 g.4);
+              let n = found_holds (λ z. z.settled ≡ false → has_end x.depends_on z.end ≡ true → y.end ≤ z.end) other.0 s.stamped g.it g.found (waiting_least x.depends_on s.stamped y k.sound.rising w) in
+              subst (λ (e : ℕ). y.end ≤ e) g.ends (n.0 g.waits g.on);
         }
 
     -- who has the least end is the one
@@ -124,9 +139,9 @@ module _ {P : Type 0} where
     same_ids a b e o p =
         let g = open_there a e o in
         let m = open_there b e p in
-        let d = found_holds (λ y. AllByRecursion (λ z. z.end ≡ y.end → z.id ≡ y.id) s.stamped) b.0 s.stamped m.0 m.1 (ends_differ s.stamped k.sound.rising) in
-        let c = found_holds (λ z. z.end ≡ m.0.end → z.id ≡ m.0.id) a.0 s.stamped g.0 g.1 d.0 in
-        sym g.3 ∙ c.0 (g.2 ∙ sym m.2) ∙ m.3
+        let d = found_holds (λ y. AllByRecursion (λ z. z.end ≡ y.end → z.id ≡ y.id) s.stamped) b.0 s.stamped m.it m.found (ends_differ s.stamped k.sound.rising) in
+        let c = found_holds (λ z. z.end ≡ m.it.end → z.id ≡ m.it.id) a.0 s.stamped g.it g.found d.0 in
+        sym g.is ∙ c.0 (g.ends ∙ sym m.ends) ∙ m.is
 
     same_least : (a b : Option TxId) → MatchOption a (HasNoneOpen table (data_of table t).on) (IsLeastOpen table (data_of table t).on) → MatchOption b (HasNoneOpen table (data_of table t).on) (IsLeastOpen table (data_of table t).on) → option_map (λ id. id.0) a ≡ option_map (λ id. id.0) b
     same_least None None n m = refl

@@ -1,8 +1,8 @@
 -- Those that are Preparing: each is found by its id, and who is waited for.
-use Rattle.std.proofs.Common.{◌≡◌, ℕ, ◌+◌, ◌<◌, ◌≤◌, Bool, true, false, cond, not, List, [], ◌∷◌, Option, None, Some, refl, sym, ap, ◌∙◌, subst, arith}
+use Rattle.std.proofs.Common.{◌≡◌, ℕ, ◌+◌, ◌≤◌, Bool, true, false, cond, not, List, [], ◌∷◌, Option, None, Some, refl, sym, ap, ◌∙◌, subst, arith}
 use Rattle.std.specs.Prelude.{◌==◌, ◌&&◌, ⊤}
 use Rattle.std.specs.List.{AllByRecursion}
-use Rattle.std.proofs.lemmas.Bool.{eq-eqb, eqb-true, true≢false, false≢true}
+use Rattle.std.proofs.lemmas.Bool.{eq-eqb, eqb-true, true≢false}
 use Rattle.mvo_theory.specs.State.{State, StampedTx, preparing_of, is_preparing_as}
 use Rattle.mvo_theory.specs.Causes.{waiting_for}
 use Rattle.mvo_theory.specs.Dependencies.{has_end}
@@ -12,7 +12,6 @@ use Rattle.mvo_theory.proofs.Finds.{count_some}
 use Rattle.mvo_theory.proofs.Single.{preparing_found}
 use Rattle.mvo_theory.proofs.Traced.{ends_differ}
 use Rattle.mvo_representation.proofs.Facts.{found_holds}
-use Rattle.mvo_representation.specs.Nodes.{is_open_in}
 use Rattle.mvo_representation.proofs.Waited.{one}
 
 some_none : (x : StampedTx) → ◌≡◌ {A = Option StampedTx} (Some x) None → ⊥
@@ -68,40 +67,10 @@ alone s sg rising id x g = each_both (λ y. y.settled ≡ false → preparing_of
     by y m d false p true q = absurd (true≢false (sym (eq-eqb y.id id (d (eqb-true y.end x.end q) ∙ its_id)) ∙ p))
 
 -- ---- who is waited for
-pub waiting_holds : (P : StampedTx → Type 0) (ds : List ℕ) (xs : List StampedTx) (y : StampedTx) → waiting_for ds xs ≡ Some y → AllByRecursion P xs → P y × (is_open_in ds y ≡ true)
+pub waiting_holds : (P : StampedTx → Type 0) (ds : List ℕ) (xs : List StampedTx) (y : StampedTx) → waiting_for ds xs ≡ Some y → AllByRecursion P xs → P y
 waiting_holds P ds [] y w h = absurd (none_some y w)
-waiting_holds P ds (x ∷ xs) y w h = go (is_open_in ds x) refl w (λ v. waiting_holds P ds xs y v h.1)
+waiting_holds P ds (x ∷ xs) y w h = go (not x.settled && has_end ds x.end) w (λ v. waiting_holds P ds xs y v h.1)
   where
-    go : (b : Bool) → is_open_in ds x ≡ b → cond b (Some x) (waiting_for ds xs) ≡ Some y → (waiting_for ds xs ≡ Some y → P y × (is_open_in ds y ≡ true)) → P y × (is_open_in ds y ≡ true)
-    go true e v again = let q = some_same x y v in (subst P q h.0, subst (λ (z : StampedTx). is_open_in ds z ≡ true) q e)
-    go false e v again = again v
-
-pub waiting_none : (ds : List ℕ) (xs : List StampedTx) → waiting_for ds xs ≡ None → AllByRecursion (λ x. is_open_in ds x ≡ false) xs
-waiting_none ds [] w = tt
-waiting_none ds (x ∷ xs) w = go (is_open_in ds x) refl w (λ v. waiting_none ds xs v)
-  where
-    go : (b : Bool) → is_open_in ds x ≡ b → cond b (Some x) (waiting_for ds xs) ≡ None → (waiting_for ds xs ≡ None → AllByRecursion (λ y. is_open_in ds y ≡ false) xs) → (is_open_in ds x ≡ false) × AllByRecursion (λ y. is_open_in ds y ≡ false) xs
-    go true e v again = absurd (some_none x v)
-    go false e v again = (e, again v)
-
--- it has the least end
-pub waiting_first : (ds : List ℕ) (xs : List StampedTx) (y : StampedTx) → IsRising xs → waiting_for ds xs ≡ Some y → AllByRecursion (λ z. is_open_in ds z ≡ true → y.end ≤ z.end) xs
-waiting_first ds [] y r w = tt
-waiting_first ds (x ∷ xs) y r w = go (is_open_in ds x) refl w (λ v. waiting_first ds xs y r.1 v)
-  where
-    go : (b : Bool) → is_open_in ds x ≡ b → cond b (Some x) (waiting_for ds xs) ≡ Some y → (waiting_for ds xs ≡ Some y → AllByRecursion (λ z. is_open_in ds z ≡ true → y.end ≤ z.end) xs) → (is_open_in ds x ≡ true → y.end ≤ x.end) × AllByRecursion (λ z. is_open_in ds z ≡ true → y.end ≤ z.end) xs
-    go true e v again =
-        let q : x.end ≡ y.end = ap (λ (z : StampedTx). z.end) (some_same x y v) in
-        ((λ _. omega (arith, q)), each_weaker (λ z. x.end < z.end) (λ z. is_open_in ds z ≡ true → y.end ≤ z.end) (λ z lt _. omega (arith, lt, q)) xs r.0)
-    go false e v again = ((λ o. absurd (false≢true (sym e ∙ o))), again v)
-
--- ---- one that waits, or is waited for, isn't settled
-pub open_parts : (ds : List ℕ) (y : StampedTx) → is_open_in ds y ≡ true → (y.settled ≡ false) × (has_end ds y.end ≡ true)
-open_parts ds y e = go y.settled refl e
-  where
-    go : (b : Bool) → y.settled ≡ b → (not b && has_end ds y.end) ≡ true → (y.settled ≡ false) × (has_end ds y.end ≡ true)
-    go true o h = absurd (false≢true h)
-    go false o h = (o, h)
-
-pub open_from : (ds : List ℕ) (y : StampedTx) → y.settled ≡ false → has_end ds y.end ≡ true → is_open_in ds y ≡ true
-open_from ds y o h = ap (λ b. not b && has_end ds y.end) o ∙ h
+    go : (b : Bool) → cond b (Some x) (waiting_for ds xs) ≡ Some y → (waiting_for ds xs ≡ Some y → P y) → P y
+    go true v again = subst P (some_same x y v) h.0
+    go false v again = again v
