@@ -205,30 +205,34 @@ module _ {P : Type 0} where
   kept_undone t id ab active h = kept_active t t.clock id Aborted ab (omega arith) active h
 
   -- ---- what the caller keeps
-  -- whom a table that looks the same tells of
-  kept_alike : (t u : Txns (Node P)) (ab : List TxId) → u.clock ≡ t.clock → ((q : TxId) → is_some (get u.seats q.0) ≡ is_some (get t.seats q.0))
-      → ((q : TxId) → state_of u q.0 ≡ state_of t q.0) → ((q : TxId) → data_of u q ≡ data_of t q) → IsDependencyGraph t ab → IsDependencyGraph u ab
-  kept_alike t u ab clock there_is state_is data_is h = record {
-    counter = λ q. ap (λ d. d.unsettled) (data_is q) ∙ h.counter q ∙ sym (ap (λ d. preparing_count u d.on) (data_is q) ∙ count_same (is_preparing t) (is_preparing u) (data_of t q).on (λ x e. prep_is x));
-    flag = λ q. ap (λ d. d.aborted) (data_is q) ∙ h.flag q ∙ sym (ap (λ d. first_among ab d.on) (data_is q));
-    on_once = λ q. subst (λ d. IsApart d.on) (sym (data_is q)) (h.on_once q);
-    dependents_once = λ q. subst (λ d. IsApart d.dependents) (sym (data_is q)) (h.dependents_once q);
+  -- a table that looks the same, to those that ask where each stands and for its dependencies
+  pub record LooksSame (t u : Txns (Node P)) : Type 0 where
+    pub clock : u.clock ≡ t.clock
+    pub there_is : (q : TxId) → is_some (get u.seats q.0) ≡ is_some (get t.seats q.0)
+    pub state_is : (q : TxId) → state_of u q.0 ≡ state_of t q.0
+    pub data_is : (q : TxId) → data_of u q ≡ data_of t q
+
+  kept_alike : (t u : Txns (Node P)) (ab : List TxId) → LooksSame t u → IsDependencyGraph t ab → IsDependencyGraph u ab
+  kept_alike t u ab same h = record {
+    counter = λ q. ap (λ d. d.unsettled) (same.data_is q) ∙ h.counter q ∙ sym (ap (λ d. preparing_count u d.on) (same.data_is q) ∙ count_same (is_preparing t) (is_preparing u) (data_of t q).on (λ x e. prep_is x));
+    flag = λ q. ap (λ d. d.aborted) (same.data_is q) ∙ h.flag q ∙ sym (ap (λ d. first_among ab d.on) (same.data_is q));
+    on_once = λ q. subst (λ d. IsApart d.on) (sym (same.data_is q)) (h.on_once q);
+    dependents_once = λ q. subst (λ d. IsApart d.dependents) (sym (same.data_is q)) (h.dependents_once q);
     both_sides = λ a b there e.
-        ap (λ d. is_among a d.dependents) (data_is b) ∙ h.both_sides a b (sym (there_is a) ∙ there) (sym (prep_is b) ∙ e) ∙ sym (ap (λ d. is_among b d.on) (data_is a));
-    settled = λ q e. ap (λ d. d.dependents) (data_is q) ∙ h.settled q (sym (prep_is q) ∙ e);
+        ap (λ d. is_among a d.dependents) (same.data_is b) ∙ h.both_sides a b (sym (same.there_is a) ∙ there) (sym (prep_is b) ∙ e) ∙ sym (ap (λ d. is_among b d.on) (same.data_is a));
+    settled = λ q e. ap (λ d. d.dependents) (same.data_is q) ∙ h.settled q (sym (prep_is q) ∙ e);
     stopped = λ a b e.
-        let s = h.stopped a b (sym (ap (λ d. is_among b d.on) (data_is a)) ∙ e) in record { drawn = subst (λ c. b.0 ≤ c) (sym clock) s.drawn; stopped = λ g. s.stopped (sym (state_is b) ∙ g) };
-    known = λ a b e. subst (λ c. a.0 ≤ c) (sym clock) (h.known a b (sym (ap (λ d. is_among a d.dependents) (data_is b)) ∙ e));
-    drawn = λ q there. subst (λ c. q.0 ≤ c) (sym clock) (h.drawn q (sym (there_is q) ∙ there));
-    fallen = λ q e. record { drawn = subst (λ c. q.0 ≤ c) (sym clock) (h.fallen q e).drawn; fallen = subst IsAbortedOrGone (sym (state_is q)) (h.fallen q e).fallen };
+        let s = h.stopped a b (sym (ap (λ d. is_among b d.on) (same.data_is a)) ∙ e) in record { drawn = subst (λ c. b.0 ≤ c) (sym same.clock) s.drawn; stopped = λ g. s.stopped (sym (same.state_is b) ∙ g) };
+    known = λ a b e. subst (λ c. a.0 ≤ c) (sym same.clock) (h.known a b (sym (ap (λ d. is_among a d.dependents) (same.data_is b)) ∙ e));
+    drawn = λ q there. subst (λ c. q.0 ≤ c) (sym same.clock) (h.drawn q (sym (same.there_is q) ∙ there));
+    fallen = λ q e. record { drawn = subst (λ c. q.0 ≤ c) (sym same.clock) (h.fallen q e).drawn; fallen = subst IsAbortedOrGone (sym (same.state_is q)) (h.fallen q e).fallen };
   } where
     prep_is : (q : TxId) → is_preparing u q ≡ is_preparing t q
-    prep_is q = ap (λ o. is_some (open_end o)) (state_is q)
+    prep_is q = ap (λ o. is_some (open_end o)) (same.state_is q)
 
   -- the caller writes what it keeps of one, and not its dependencies
-  pub kept_written : (t : Txns (Node P)) (id : TxId) (node new : Node P) (ab : List TxId) → kept_of t id.0 ≡ Some node → new.dependencies ≡ node.dependencies
-      → IsDependencyGraph t ab → IsDependencyGraph (after_write t id.0 new) ab
-  kept_written t id node new ab was same h = kept_alike t (after_write t id.0 new) ab refl there_is state_is data_is h
+  pub written_alike : (t : Txns (Node P)) (id : TxId) (node new : Node P) → kept_of t id.0 ≡ Some node → new.dependencies ≡ node.dependencies → LooksSame t (after_write t id.0 new)
+  written_alike t id node new was same = record { clock = refl; there_is = there_is; state_is = state_is; data_is = data_is }
     where
       rewritten : Bool → Seat (Node P) → Seat (Node P)
       rewritten true s = record s { kept = new }
@@ -285,6 +289,10 @@ module _ {P : Type 0} where
           (λ is. ap (λ b. data_in (option_map (λ s. s.kept) (option_map (rewritten b) (get t.seats q.0)))) (eq-eqb q.0 id.0 is) ∙ data_here (get t.seats q.0) (ap (kept_of t) is ∙ was))
           (λ ne. ap (λ b. data_in (option_map (λ s. s.kept) (option_map (rewritten b) (get t.seats q.0)))) (ne_eqb q.0 id.0 ne) ∙ data_other (get t.seats q.0))
           (cases_eq q.0 id.0)
+
+  pub kept_written : (t : Txns (Node P)) (id : TxId) (node new : Node P) (ab : List TxId) → kept_of t id.0 ≡ Some node → new.dependencies ≡ node.dependencies
+      → IsDependencyGraph t ab → IsDependencyGraph (after_write t id.0 new) ab
+  kept_written t id node new ab was same h = kept_alike t (after_write t id.0 new) ab (written_alike t id node new was same) h
 
   -- nobody has begun
   pub graph_of_none : (mark : ℕ) → IsDependencyGraph (no_txns {P = Node P} mark) []

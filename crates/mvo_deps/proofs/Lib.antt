@@ -7,3 +7,4 @@ pub mod Registered
 pub mod Reported
 pub mod Calls
 pub mod Counter
+pub mod Grown

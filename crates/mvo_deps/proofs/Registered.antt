@@ -12,7 +12,7 @@ use Rattle.mvo_txn.specs.Txns.{Txns, state_of}
 use Rattle.mvo_txn.specs.Queue.{open_end}
 use Rattle.mvo_deps.specs.declared.node.Node.{Node}
 use Rattle.mvo_deps.specs.Data.{DependencyData, is_among, IsApart, with_dependency, with_dependent}
-use Rattle.mvo_deps.specs.Nodes.{after_change, changed_if, data_of}
+use Rattle.mvo_deps.specs.Nodes.{after_change, changed_if, data_of, noted_on}
 use Rattle.mvo_deps.specs.Graph.{is_preparing, first_among, HasStopped, IsAbortedOrGone, IsDependencyGraph}
 use Rattle.mvo_deps.proofs.Apart.{apart_behind, among_behind}
 use Rattle.mvo_deps.proofs.Changes.{clock_changed}
@@ -114,9 +114,6 @@ module _ {P : Type 0} where
   not_fallen t ab on e h = not_true (is_among on ab) (λ a. open_not_fallen (state_of t on.0) e (h.fallen on a).fallen)
 
   -- ---- both changes
-  abbrev noted_on : Txns (Node P) → TxId → TxId → Txns (Node P)
-  noted_on t tx on = after_change (after_change t on.0 (with_dependent tx)) tx.0 (with_dependency on)
-
   data_both : (t : Txns (Node P)) (tx on : TxId) → is_some (get t.seats tx.0) ≡ true → is_some (get t.seats on.0) ≡ true → (q : TxId)
       → data_of (noted_on t tx on) q ≡ both tx on (eqb q.0 tx.0) (eqb q.0 on.0) (data_of t q)
   data_both t tx on tx_there on_there q = go (is_some (get t.seats q.0)) refl

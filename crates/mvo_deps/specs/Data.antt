@@ -1,5 +1,5 @@
 -- What is kept of a transaction's dependencies.
-use Rattle.std.specs.Prelude.{ℕ, ◌≡◌, ◌+◌, ◌-◌, ◌≤◌, Bool, false, eqb, length, take, List, [], ◌∷◌, ◌++◌, Option, None, Some}
+use Rattle.std.specs.Prelude.{ℕ, ◌≡◌, ◌+◌, ◌-◌, ◌<◌, ◌≤◌, Bool, false, eqb, length, take, List, [], ◌∷◌, ◌++◌, Option, None, Some}
 use Rattle.std.specs.List.{list_any}
 use Rattle.mvo_types.specs.declared.ids.TxId.{TxId}
 use Rattle.mvo_deps.specs.declared.outcome.Outcome.{Outcome}
@@ -33,6 +33,11 @@ with_dependency on d = record d { unsettled = d.unsettled + 1; on = d.on ++ on �
 abbrev pub with_dependent : TxId → DependencyData → DependencyData
 with_dependent id d = record d { dependents = d.dependents ++ id ∷ [] }
 
+-- the one that it came to depend on last is taken back
+abbrev pub without_last_dependency : DependencyData → DependencyData
+without_last_dependency d =
+    record d { unsettled = d.unsettled - 1; on = take (length d.on - 1) d.on }
+
 abbrev pub without_last_dependent : DependencyData → DependencyData
 without_last_dependent d = record d { dependents = take (length d.dependents - 1) d.dependents }
 
@@ -55,6 +60,12 @@ after_abort by d =
 abbrev pub noted : Outcome → DependencyData → DependencyData
 noted Committed d = after_commit d
 noted (Aborted by) d = after_abort by d
+
+-- it is the last of these, which are more than so many
+pub record IsLastBeyond (count : ℕ) (ids : List TxId) (id : TxId) : Type 0 where
+  pub more : count < length ids
+  pub front : List TxId
+  pub is : ids ≡ front ++ id ∷ []
 
 -- the counter counts some of those it depends on, and each dependent stands there once
 pub record IsSound (unsettled : ℕ) (on dependents : List TxId) : Type 0 where

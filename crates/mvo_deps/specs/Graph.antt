@@ -1,5 +1,6 @@
 -- What holds of the dependencies over a whole table.
 use Rattle.std.specs.Prelude.{ℕ, ◌≡◌, ◌≤◌, ◌++◌, Bool, true, false, if◌then◌else◌, nat_lt, count_by, List, [], ◌∷◌, Option, None, Some, IsSome, is_some}
+use Rattle.std.specs.List.{AllByRecursion}
 use Rattle.std.specs.FinMap as map
 use Rattle.mvo_types.specs.declared.ids.TxId.{TxId}
 use Rattle.mvo_types.specs.declared.ids.Stamp.{Stamp}
@@ -66,6 +67,13 @@ pub record IsDependencyGraph {P : Type 0} (t : Txns (Node P)) (aborted : List Tx
 abbrev pub KeepsGraph : {P : Type 0} → Txns (Node P) → Txns (Node P) → TxId → TxId → Type 0
 KeepsGraph old new tx on = (aborted : List TxId)
     → IsUnfinished old tx → IsPreparing (state_of old on.0)
+    → IsDependencyGraph old aborted → IsDependencyGraph new aborted
+
+-- and on each of several
+abbrev pub KeepsGraphOverAll : {P : Type 0} → Txns (Node P) → Txns (Node P)
+    → TxId → List TxId → Type 0
+KeepsGraphOverAll old new tx ons = (aborted : List TxId)
+    → IsUnfinished old tx → AllByRecursion (λ on. IsPreparing (state_of old on.0)) ons
     → IsDependencyGraph old aborted → IsDependencyGraph new aborted
 
 -- and depends on it then

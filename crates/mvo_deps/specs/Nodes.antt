@@ -1,5 +1,5 @@
 -- A table of transactions with their dependencies.
-use Rattle.std.specs.Prelude.{ℕ, ◌≡◌, Bool, true, false, cond, List, Option, None, Some}
+use Rattle.std.specs.Prelude.{ℕ, ◌≡◌, Bool, true, false, cond, length, List, [], ◌∷◌, Option, None, Some, IsSome}
 use Rattle.std.specs.Option.{option_map}
 use Rattle.std.specs.FinMap as map
 use Rattle.mvo_types.specs.declared.ids.TxId.{TxId}
@@ -28,12 +28,42 @@ abbrev pub after_change : {P : Type 0} → Txns (Node P) → ℕ
     → (DependencyData → DependencyData) → Txns (Node P)
 after_change t id change = after_change_at (kept_of t id) t id change
 
+-- both sides note that the one depends on the other
+abbrev pub noted_on : {P : Type 0} → Txns (Node P) → TxId → TxId → Txns (Node P)
+noted_on t tx on =
+    after_change (after_change t on.0 (with_dependent tx)) tx.0 (with_dependency on)
+
 -- it depends on the other, where it did not yet
 abbrev pub after_register : {P : Type 0} → Txns (Node P) → TxId → TxId → Txns (Node P)
 after_register t tx on =
     cond (is_among on (data_of t tx).on) t
-    (cond (is_among tx (data_of t on).dependents) t
-    (after_change (after_change t on.0 (with_dependent tx)) tx.0 (with_dependency on)))
+    (cond (is_among tx (data_of t on).dependents) t (noted_on t tx on))
+
+-- it depends on each of these, one after another
+abbrev pub after_register_all : {P : Type 0} → Txns (Node P) → TxId → List TxId → Txns (Node P)
+after_register_all t tx [] = t
+after_register_all t tx (on ∷ ons) = after_register_all (after_register t tx on) tx ons
+
+-- both sides note it of each of these, of which the first was noted last
+abbrev pub noted_all : {P : Type 0} → Txns (Node P) → TxId → List TxId → Txns (Node P)
+noted_all t tx [] = t
+noted_all t tx (on ∷ ons) = noted_on (noted_all t tx ons) tx on
+
+-- the table is as before but for some that were noted; before, the transaction depended on so many
+pub record IsNoted {P : Type 0} (before t : Txns (Node P)) (tx : TxId) (count : ℕ) : Type 0 where
+  pub there : IsSome (map.get before.seats tx.0)
+  pub counted : length (data_of before tx).on ≡ count
+  pub noted : List TxId
+  pub is : t ≡ noted_all before tx noted
+
+-- those that were noted are taken back, all or some of them
+abbrev pub TakesBack : {P : Type 0} → Txns (Node P) → Txns (Node P) → TxId → ℕ → Type 0
+TakesBack {P} old new tx count =
+    (before : Txns (Node P)) → IsNoted before old tx count → new ≡ before
+
+abbrev pub TakesSomeBack : {P : Type 0} → Txns (Node P) → Txns (Node P) → TxId → ℕ → Type 0
+TakesSomeBack {P} old new tx count =
+    (before : Txns (Node P)) → IsNoted before old tx count → IsNoted before new tx count
 
 abbrev pub changed_if : Bool → (DependencyData → DependencyData) → DependencyData → DependencyData
 changed_if true change d = change d

@@ -1,7 +1,7 @@
-ghost use Rattle.std.specs.Prelude.{◌≡◌, false, OnOk, OnErr};
-ghost use Rattle.mvo_deps.specs.Data.{no_dependencies, is_among, IsApart};
+ghost use Rattle.std.specs.Prelude.{◌≡◌, ◌≤◌, length, false, OnOk, OnErr, MatchOption};
+ghost use Rattle.mvo_deps.specs.Data.{no_dependencies, is_among, IsApart, IsLastBeyond};
 ghost use Rattle.mvo_deps.specs.Data.{with_dependency, with_dependent, without_dependents};
-ghost use Rattle.mvo_deps.specs.Data.{without_last_dependent, noted};
+ghost use Rattle.mvo_deps.specs.Data.{without_last_dependency, without_last_dependent, noted};
 
 use crate::outcome::Outcome;
 use mvo_types::TxId;
@@ -83,6 +83,16 @@ impl Dependencies {
         &self.on
     }
 
+    /// The last of those it depends on, where they are more than so many.
+    pub(crate) fn last_beyond(&self, count: usize) -> Option<TxId>
+        ensures { MatchOption result (length self.now.on ≤ count) (IsLastBeyond count self.now.on) }
+    {
+        if self.on.len() <= count {
+            return None;
+        }
+        self.on.last().copied()
+    }
+
     /// It depends on one more, which isn't settled.
     pub(crate) fn add(&mut self, on: TxId) -> Result<(), AllocError>
         ensures ok { OnOk result (self.new ≡ with_dependency on self.old) }
@@ -102,6 +112,16 @@ impl Dependencies {
     {
         self.dependents.push(id)?;
         Ok(())
+    }
+
+    /// Takes back the one that it came to depend on last.
+    pub(crate) fn drop_last(&mut self)
+        ensures { self.new ≡ without_last_dependency self.old }
+    {
+        self.on.pop();
+        if self.unsettled > 0 {
+            self.unsettled -= 1;
+        }
     }
 
     /// Takes back the dependent that was added last.

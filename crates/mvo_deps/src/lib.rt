@@ -13,7 +13,7 @@ mod waiting;
 
 pub use dependencies::Dependencies;
 pub use node::Node;
-pub use registration::register;
+pub use registration::{register, register_all};
 pub use report::{report_abort, report_commit};
 pub use waiting::waiting_for;
 

@@ -1,8 +1,9 @@
-ghost use Rattle.std.specs.Prelude.{◌≡◌, false, OnOk, OnErr};
-ghost use Rattle.mvo_deps.specs.Data.{is_among, with_dependency, with_dependent};
-ghost use Rattle.mvo_deps.specs.Data.{without_last_dependent};
+ghost use Rattle.std.specs.Prelude.{◌≡◌, ◌≤◌, length, false, OnOk, OnErr, MatchOption};
+ghost use Rattle.mvo_deps.specs.Data.{is_among, with_dependency, with_dependent, IsLastBeyond};
+ghost use Rattle.mvo_deps.specs.Data.{without_last_dependency, without_last_dependent};
 ghost use Rattle.mvo_deps.specs.Nodes.{data_of, after_change, after_register};
-ghost use Rattle.mvo_deps.specs.Graph.{KeepsGraph, Depends};
+ghost use Rattle.mvo_deps.specs.Nodes.{after_register_all, TakesBack};
+ghost use Rattle.mvo_deps.specs.Graph.{KeepsGraph, KeepsGraphOverAll, Depends, IsUnfinished};
 
 use crate::node::Node;
 use mvo_txn::TxnTable;
@@ -32,6 +33,60 @@ pub fn register<P>(table: &mut TxnTable<Node<P>>, tx: TxId, on: TxId) -> Result<
         return Err(refused);
     }
     Ok(())
+}
+
+/// Lets an unfinished transaction depend on each of the others, as `register` does it, one after
+/// another. Refused, none is registered. That one stands twice changes nothing.
+///
+/// Takes time as so many calls of `register`, and twice that where it is refused.
+pub fn register_all<P>(
+    table: &mut TxnTable<Node<P>>,
+    tx: TxId,
+    on: &[TxId],
+) -> Result<(), AllocError>
+    requires { IsUnfinished table.old tx }
+    ensures ok { OnOk result (table.new ≡ after_register_all table.old tx on.now) }
+    ensures err { OnErr result (table.new ≡ table.old) }
+    ensures graph { KeepsGraphOverAll table.old table.new tx on.now }
+{
+    let count = dependency_count(table, tx);
+    for id in on {
+        if let Err(refused) = register(table, tx, *id) {
+            take_back(table, tx, count);
+            return Err(refused);
+        }
+    }
+    Ok(())
+}
+
+// Takes back those that it came to depend on last, until it depends on so many.
+fn take_back<P>(table: &mut TxnTable<Node<P>>, tx: TxId, count: usize)
+    ensures { TakesBack table.old table.new tx count }
+{
+    while let Some(on) = last_beyond(table, tx, count) {
+        drop_last_dependency(table, tx);
+        drop_last_dependent(table, on);
+    }
+}
+
+fn dependency_count<P>(table: &TxnTable<Node<P>>, tx: TxId) -> usize
+    ensures { result ≡ length (data_of table.now tx).on }
+{
+    match table.get(tx) {
+        Some(seat) => seat.kept.dependencies.on().len(),
+        None => 0,
+    }
+}
+
+// The last that it came to depend on, where it depends on more than so many.
+fn last_beyond<P>(table: &TxnTable<Node<P>>, tx: TxId, count: usize) -> Option<TxId>
+    ensures { MatchOption result (length (data_of table.now tx).on ≤ count)
+        (IsLastBeyond count (data_of table.now tx).on) }
+{
+    match table.get(tx) {
+        Some(seat) => seat.kept.dependencies.last_beyond(count),
+        None => None,
+    }
 }
 
 fn depends_on<P>(table: &TxnTable<Node<P>>, tx: TxId, on: TxId) -> bool
@@ -68,6 +123,14 @@ fn drop_last_dependent<P>(table: &mut TxnTable<Node<P>>, on: TxId)
 {
     if let Some(node) = table.get_mut(on) {
         node.dependencies.drop_last_dependent();
+    }
+}
+
+fn drop_last_dependency<P>(table: &mut TxnTable<Node<P>>, tx: TxId)
+    ensures { table.new ≡ after_change table.old tx.0 without_last_dependency }
+{
+    if let Some(node) = table.get_mut(tx) {
+        node.dependencies.drop_last();
     }
 }
 

@@ -1,4 +1,4 @@
-use crate::{Dependencies, Node, register, report_abort, report_commit, waiting_for};
+use crate::{Dependencies, Node, register, register_all, report_abort, report_commit, waiting_for};
 use mvo_txn::{TxState, TxnTable};
 use mvo_types::{Refusal, Stamp, TxId};
 use std::alloc::{AllocError, Global};
@@ -151,5 +151,31 @@ fn is_as_a_plain_list(rt: HostRuntime) -> Result<(), Fail> {
     for seed in 1..=5 {
         walk(&rt, rt.alloc(), seed)?;
     }
+    Ok(())
+}
+
+#[test]
+fn registers_several(rt: HostRuntime) -> Result<(), Fail> {
+    let mut table = TxnTable::new(rt.alloc(), Stamp(0))?;
+    for _ in 0..5 {
+        begin(&mut table, rt.alloc())?;
+    }
+    for id in 1..=4 {
+        prepare(&mut table, TxId(id))?;
+    }
+    register(&mut table, TxId(5), TxId(3))?;
+    register_all(&mut table, TxId(5), &[TxId(4), TxId(2), TxId(4), TxId(3)])?;
+    let on = [TxId(2), TxId(3), TxId(4)];
+    for (settled, id) in on.iter().enumerate() {
+        assert_eq!(rt; waiting_for(&table, TxId(5)), Some(*id));
+        if let Some(seat) = table.get(TxId(5)) {
+            assert_eq!(rt;
+                seat.kept.dependencies.unsettled(),
+                3usize.saturating_sub(settled)
+            );
+        }
+        settle(&mut table, *id, false);
+    }
+    assert_eq!(rt; waiting_for(&table, TxId(5)), None);
     Ok(())
 }

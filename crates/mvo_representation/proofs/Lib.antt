@@ -61,3 +61,13 @@ pub mod OrderWritten
 pub mod OrderSlots
 pub mod TrimRows
 pub mod TableDiffers
+pub mod Tabled
+pub mod TableNodes
+pub mod TableSteps
+pub mod Unsettled
+pub mod TableTells
+pub mod Members
+pub mod TableRegistered
+pub mod OnWhom
+pub mod TableCounts
+pub mod TableMarks

@@ -14,7 +14,7 @@ use Rattle.mvo_representation.specs.Nodes.{Nodes, IsNode, AreDependents, HasNode
 use Rattle.mvo_representation.proofs.Answers.{only_mine}
 
 -- what holds of each of a mapped list
-unmapped : (f : ActiveTx → ActiveTx) (P : ActiveTx → Type 0) (rs : List ActiveTx) → AllByRecursion P (map f rs) → AllByRecursion (λ r. P (f r)) rs
+pub unmapped : (f : ActiveTx → ActiveTx) (P : ActiveTx → Type 0) (rs : List ActiveTx) → AllByRecursion P (map f rs) → AllByRecursion (λ r. P (f r)) rs
 unmapped f P [] h = tt
 unmapped f P (r ∷ rs) h = (h.0, unmapped f P rs h.1)
 

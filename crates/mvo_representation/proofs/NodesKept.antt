@@ -12,6 +12,11 @@ use Rattle.mvo_representation.specs.Nodes.{with_listed, NodeData, Nodes, is_open
 use Rattle.mvo_representation.proofs.Waited.{one}
 
 -- ---- what others keep doesn't matter
+-- the nodes of those that are Active or Preparing are the same
+pub record AreAlike (s : State) (nodes nodes' : Nodes) : Type 0 where
+  pub active : AllByRecursion (λ r. nodes' r.id ≡ nodes r.id) s.active
+  pub preparing : AllByRecursion (λ x. x.settled ≡ false → nodes' x.id ≡ nodes x.id) s.stamped
+
 -- other marks, other ended ones, and other nodes of those that are neither Active nor Preparing
 pub nodes_elsewhere : (s : State) (marks : Marks) (ended : List EndedTx) (nodes nodes' : Nodes) → AllByRecursion (λ r. nodes' r.id ≡ nodes r.id) s.active → AllByRecursion (λ x. x.settled ≡ false → nodes' x.id ≡ nodes x.id) s.stamped → HasNodes s nodes → HasNodes (record s { marks = marks; ended = ended }) nodes'
 nodes_elsewhere s marks ended nodes nodes' a p h = record {

@@ -1,20 +1,22 @@
 -- What the table keeps after a dependency was registered is right.
-use Rattle.std.proofs.Common.{◌≡◌, ◌≢◌, ℕ, ◌+◌, Bool, true, false, cond, eqb, not, List, [], ◌∷◌, ◌++◌, map, Option, None, Some, refl, sym, ap, ◌∙◌, subst}
+use Rattle.std.proofs.Common.{◌≡◌, ◌≢◌, ℕ, ◌+◌, ◌≤◌, Bool, true, false, cond, eqb, not, List, [], ◌∷◌, ◌++◌, map, Option, None, Some, refl, sym, ap, ◌∙◌, subst}
 use Rattle.std.specs.Prelude.{◌==◌, ◌&&◌, is_some}
+use Rattle.std.specs.List.{AllByRecursion}
 use Rattle.std.specs.Option.{option_map}
 use Rattle.std.specs.FinMap as fin
 use Rattle.std.proofs.lemmas.Bool.{eqb-true, false≢true}
 use Rattle.mvo_types.specs.declared.ids.TxId.{TxId}
 use Rattle.mvo_theory.specs.State.{State}
 use Rattle.mvo_theory.specs.Dependencies.{has_end}
-use Rattle.mvo_theory.specs.Sound.{IsSound}
+use Rattle.mvo_theory.specs.Sound.{IsRising}
 use Rattle.mvo_txn.specs.declared.seat.Seat.{Seat}
 use Rattle.mvo_txn.specs.Txns.{Txns}
 use Rattle.mvo_deps.specs.declared.node.Node.{Node}
 use Rattle.mvo_deps.specs.Data.{is_among, with_dependency, with_dependent}
 use Rattle.mvo_deps.specs.Nodes.{data_in, data_of, after_change, changed_if, with_data, after_register as after_registration}
 use Rattle.mvo_deps.proofs.Changes.{get_changed}
-use Rattle.mvo_representation.specs.Nodes.{NodeData, node_as, nodes_of, with_listed, AreDependents, HasNodes, nodes_after_register, after_dependency}
+use Rattle.mvo_representation.specs.Nodes.{NodeData, node_as, nodes_of, with_listed, AreDependents, HasNodes, HasDrawnDependents, nodes_after_register, after_dependency}
+use Rattle.mvo_representation.proofs.NodesKept.{drawn_registered}
 use Rattle.mvo_representation.proofs.NodesReported.{among_is}
 use Rattle.mvo_representation.proofs.Reported.{IsNew, kept_registered}
 
@@ -83,7 +85,11 @@ module _ {P : Type 0} where
       go false i false j = new_node (listed false j)
 
   -- one dependency more
-  pub dependency_registered : (s : State) (old : Txns (Node P)) (t x e : ℕ) → IsSound s → IsNew s t x e → AreDependents s (nodes_of old x).dependents e → MayRegister old (record { 0 = t }) (record { 0 = x }) → HasNodes s (nodes_of old) → HasNodes (after_dependency s t e) (nodes_of (after_registration old (record { 0 = t }) (record { 0 = x })))
-  dependency_registered s old t x e sd new deps m h =
-      let same : nodes_after_register t x (nodes_of old) ≡ nodes_of (after_registration old (record { 0 = t }) (record { 0 = x })) = λ i u. sym (registered_is old (record { 0 = t }) (record { 0 = x }) m u) i in
-      subst (HasNodes (after_dependency s t e)) same (kept_registered s (nodes_of old) t x e sd new deps h)
+  same_nodes : (old : Txns (Node P)) (tx on : TxId) → MayRegister old tx on → nodes_after_register tx.0 on.0 (nodes_of old) ≡ nodes_of (after_registration old tx on)
+  same_nodes old tx on m = λ i u. sym (registered_is old tx on m u) i
+
+  pub dependency_registered : (s : State) (old : Txns (Node P)) (t x : TxId) (e : ℕ) → IsRising s.stamped → IsNew s t.0 x.0 e → AreDependents s (nodes_of old x.0).dependents e → MayRegister old t x → HasNodes s (nodes_of old) → HasNodes (after_dependency s t.0 e) (nodes_of (after_registration old t x))
+  dependency_registered s old t x e rising new deps m h = subst (HasNodes (after_dependency s t.0 e)) (same_nodes old t x m) (kept_registered s (nodes_of old) t.0 x.0 e rising new deps h)
+
+  pub dependency_drawn : (s : State) (old : Txns (Node P)) (t x : TxId) (e : ℕ) → t.0 ≤ s.clock → AllByRecursion (λ r. r.id ≢ x.0) s.active → MayRegister old t x → HasDrawnDependents s (nodes_of old) → HasDrawnDependents (after_dependency s t.0 e) (nodes_of (after_registration old t x))
+  dependency_drawn s old t x e le apart m g = subst (HasDrawnDependents (after_dependency s t.0 e)) (same_nodes old t x m) (drawn_registered s (nodes_of old) t.0 x.0 e le apart g)

@@ -21,13 +21,13 @@ use Rattle.mvo_deps.specs.declared.node.Node.{Node}
 use Rattle.mvo_deps.specs.Data.{DependencyData, is_among, after_commit, first_of, after_abort, without_dependents}
 use Rattle.mvo_deps.specs.Nodes.{data_in, data_of, changed_if, with_data, IsReported}
 use Rattle.mvo_deps.proofs.Changes.{get_changed}
-use Rattle.mvo_representation.specs.Nodes.{node_as, nodes_of, HasNodes, nodes_after_commit, or_flag, nodes_after_abort}
+use Rattle.mvo_representation.specs.Nodes.{node_as, nodes_of, HasNodes, HasDrawnDependents, nodes_after_commit, or_flag, nodes_after_abort}
 use Rattle.mvo_representation.specs.Table.{phase_as, phases_of}
-use Rattle.mvo_representation.proofs.NodesKept.{nodes_elsewhere}
+use Rattle.mvo_representation.proofs.NodesKept.{AreAlike, nodes_elsewhere, drawn_elsewhere, drawn_committed, drawn_reported}
 use Rattle.mvo_representation.proofs.Reported.{kept_commit, kept_abort}
 
 -- ---- one that is neither Active nor Preparing has no place there
-active_none : (t : ℕ) (rs : List ActiveTx) → active_of t rs ≡ None → AllByRecursion (λ r. r.id ≢ t) rs
+pub active_none : (t : ℕ) (rs : List ActiveTx) → active_of t rs ≡ None → AllByRecursion (λ r. r.id ≢ t) rs
 active_none t [] e = tt
 active_none t (r ∷ rs) e = go (r.id == t) refl e (λ q. active_none t rs q)
   where
@@ -38,7 +38,7 @@ active_none t (r ∷ rs) e = go (r.id == t) refl e (λ q. active_none t rs q)
     go true q e again = absurd (found e)
     go false q e again = ((λ i. true≢false (sym (eq-eqb r.id t i) ∙ q)), again e)
 
-preparing_none : (t : ℕ) (xs : List StampedTx) → preparing_of t xs ≡ None → AllByRecursion (λ x. x.settled ≡ false → x.id ≢ t) xs
+pub preparing_none : (t : ℕ) (xs : List StampedTx) → preparing_of t xs ≡ None → AllByRecursion (λ x. x.settled ≡ false → x.id ≢ t) xs
 preparing_none t [] e = tt
 preparing_none t (x ∷ xs) e = go ((x.id == t) && not x.settled) refl e (λ q. preparing_none t xs q)
   where
@@ -53,7 +53,7 @@ preparing_none t (x ∷ xs) e = go ((x.id == t) && not x.settled) refl e (λ q. 
     go false q e again = ((λ o i. true≢false (sym (here o i) ∙ q)), again e)
 
 -- where it stands tells so
-abbrev is_open_phase : Phase → Bool
+abbrev pub is_open_phase : Phase → Bool
 is_open_phase Active = true
 is_open_phase (Preparing e) = true
 is_open_phase p = false
@@ -154,33 +154,75 @@ module _ {P : Type 0} where
       go (Some s) e false = refl
 
   -- ---- the reports
-  pub commit_reported : (s : State) (old new : Txns (Node P)) (t : ℕ) (x : StampedTx) → IsSound s → IsSingle s → preparing_of t s.stamped ≡ Some x → HasNodes s (nodes_of old) → IsReported after_commit old new (record { 0 = t }) → HasNodes (committed s t x.end) (nodes_of new)
-  commit_reported s old new t x sd sg f h r =
-      nodes_elsewhere (committed s t x.end) (committed s t x.end).marks (committed s t x.end).ended (nodes_after_commit (nodes_of old t).dependents (nodes_of old)) (nodes_of new)
-      (each_weaker (λ q. q.id ≢ t) (λ q. nodes_of new q.id ≡ nodes_after_commit (nodes_of old t).dependents (nodes_of old) q.id) (λ q n. commit_at old new (record { 0 = t }) q.id n r) (committed s t x.end).active gone.active)
-      (each_weaker (λ y. y.settled ≡ false → y.id ≢ t) (λ y. y.settled ≡ false → nodes_of new y.id ≡ nodes_after_commit (nodes_of old t).dependents (nodes_of old) y.id) (λ y n o. commit_at old new (record { 0 = t }) y.id (n o) r) (committed s t x.end).stamped gone.preparing)
-      (kept_commit s (nodes_of old) t x sd f h)
+  pub commit_alike : (s : State) (old new : Txns (Node P)) (t : ℕ) (x : StampedTx) → IsSound s → IsSingle s → preparing_of t s.stamped ≡ Some x → IsReported after_commit old new (record { 0 = t }) → AreAlike (committed s t x.end) (nodes_after_commit (nodes_of old t).dependents (nodes_of old)) (nodes_of new)
+  commit_alike s old new t x sd sg f r = record {
+    active = each_weaker (λ q. q.id ≢ t) (λ q. nodes_of new q.id ≡ nodes_after_commit (nodes_of old t).dependents (nodes_of old) q.id) (λ q n. commit_at old new (record { 0 = t }) q.id n r) (committed s t x.end).active gone.active;
+    preparing = each_weaker (λ y. y.settled ≡ false → y.id ≢ t) (λ y. y.settled ≡ false → nodes_of new y.id ≡ nodes_after_commit (nodes_of old t).dependents (nodes_of old) y.id) (λ y n o. commit_at old new (record { 0 = t }) y.id (n o) r) (committed s t x.end).stamped gone.preparing;
+  }
     where
       gone : IsNowhere (committed s t x.end) t
       gone = nowhere (committed s t x.end) t (ap is_open_phase (leads_after_commit s t x f sd sg).own)
 
+  pub commit_reported : (s : State) (old new : Txns (Node P)) (t : ℕ) (x : StampedTx) → IsSound s → IsSingle s → preparing_of t s.stamped ≡ Some x → HasNodes s (nodes_of old) → IsReported after_commit old new (record { 0 = t }) → HasNodes (committed s t x.end) (nodes_of new)
+  commit_reported s old new t x sd sg f h r =
+      let a = commit_alike s old new t x sd sg f r in
+      nodes_elsewhere (committed s t x.end) (committed s t x.end).marks (committed s t x.end).ended (nodes_after_commit (nodes_of old t).dependents (nodes_of old)) (nodes_of new) a.active a.preparing (kept_commit s (nodes_of old) t x sd f h)
+
+  pub commit_drawn : (s : State) (old new : Txns (Node P)) (t : ℕ) (x : StampedTx) → IsSound s → IsSingle s → preparing_of t s.stamped ≡ Some x → HasDrawnDependents s (nodes_of old) → IsReported after_commit old new (record { 0 = t }) → HasDrawnDependents (committed s t x.end) (nodes_of new)
+  commit_drawn s old new t x sd sg f g r =
+      let a = commit_alike s old new t x sd sg f r in
+      drawn_elsewhere (committed s t x.end) (committed s t x.end).marks (committed s t x.end).ended (nodes_after_commit (nodes_of old t).dependents (nodes_of old)) (nodes_of new) a.active a.preparing (drawn_committed s (nodes_of old) t x.end (nodes_of old t).dependents g)
+
   -- who is in the table
-  seated : (s : State) (old : Txns (Node P)) (u : ℕ) → phases_of (state_of old) u ≡ phase_in s u → is_open_phase (phase_in s u) ≡ true → is_some (fin.get old.seats u) ≡ true
+  pub seated : (s : State) (old : Txns (Node P)) (u : ℕ) → phases_of (state_of old) u ≡ phase_in s u → is_open_phase (phase_in s u) ≡ true → is_some (fin.get old.seats u) ≡ true
   seated s old u p o = go (fin.get old.seats u) refl
     where
       go : (w : Option (Seat (Node P))) → fin.get old.seats u ≡ w → is_some w ≡ true
       go (Some seat) e = refl
       go None e = absurd (false≢true (sym (ap (λ x. is_open_phase (phase_as (option_map (λ seat. seat.state) x))) e) ∙ ap is_open_phase p ∙ o))
 
-  pub abort_reported : (s : State) (old new : Txns (Node P)) (t : ℕ) (x : StampedTx) → IsSound s → IsSingle s → preparing_of t s.stamped ≡ Some x → ((u : ℕ) → phases_of (state_of old) u ≡ phase_in s u) → HasNodes s (nodes_of old) → IsReported (after_abort (record { 0 = t })) old new (record { 0 = t }) → HasNodes (after_abort_of_preparing s t x.end) (nodes_of new)
-  abort_reported s old new t x sd sg f ph h r =
-      nodes_elsewhere (after_abort_of_preparing s t x.end) (after_abort_of_preparing s t x.end).marks (after_abort_of_preparing s t x.end).ended (nodes_after_abort t (nodes_of old t).dependents (nodes_of old)) (nodes_of new)
-      (each_both (λ q. q.id ≢ t) (λ q. is_some (fin.get old.seats q.id) ≡ true) (λ q. nodes_of new q.id ≡ nodes_after_abort t (nodes_of old t).dependents (nodes_of old) q.id) (λ q n i. abort_at old new (record { 0 = t }) q.id n i r) (after_abort_of_preparing s t x.end).active gone.active
-      (each_map (active_with_flag t x.end) (λ q. is_some (active_of q.id s.active) ≡ true) (λ q. is_some (fin.get old.seats q.id) ≡ true) (λ q e. seated s old q.id (ph q.id) (open_active s q.id e)) s.active (active_there s.active)))
-      (each_both (λ y. y.settled ≡ false → y.id ≢ t) (λ y. y.settled ≡ false → is_some (fin.get old.seats y.id) ≡ true) (λ y. y.settled ≡ false → nodes_of new y.id ≡ nodes_after_abort t (nodes_of old t).dependents (nodes_of old) y.id) (λ y n i o. abort_at old new (record { 0 = t }) y.id (n o) (i o) r) (after_abort_of_preparing s t x.end).stamped gone.preparing
-      (each_map (with_flag t x.end) (λ y. y.settled ≡ false → is_some (preparing_of y.id s.stamped) ≡ true) (λ y. y.settled ≡ false → is_some (fin.get old.seats y.id) ≡ true) (λ y e o. seated s old y.id (ph y.id) (open_preparing s y.id (e o))) (filter (not_at x.end) s.stamped)
-      (each_filter (not_at x.end) (λ y. y.settled ≡ false → is_some (preparing_of y.id s.stamped) ≡ true) (λ y. y.settled ≡ false → is_some (preparing_of y.id s.stamped) ≡ true) (λ y _ e. e) s.stamped (preparing_there s.stamped))))
-      (kept_abort s (nodes_of old) t x f h)
+  -- each that is Active or Preparing is in the table
+  abbrev pub AreSeated : State → Txns (Node P) → Type 0
+  AreSeated s t = (u : ℕ) → is_open_phase (phase_in s u) ≡ true → is_some (fin.get t.seats u) ≡ true
+
+  pub abort_alike : (s : State) (old new : Txns (Node P)) (t : ℕ) (x : StampedTx) → IsSound s → IsSingle s → preparing_of t s.stamped ≡ Some x → AreSeated s old → IsReported (after_abort (record { 0 = t })) old new (record { 0 = t }) → AreAlike (after_abort_of_preparing s t x.end) (nodes_after_abort t (nodes_of old t).dependents (nodes_of old)) (nodes_of new)
+  abort_alike s old new t x sd sg f seats r = record {
+    active = each_both (λ q. q.id ≢ t) (λ q. is_some (fin.get old.seats q.id) ≡ true) (λ q. nodes_of new q.id ≡ nodes_after_abort t (nodes_of old t).dependents (nodes_of old) q.id) (λ q n i. abort_at old new (record { 0 = t }) q.id n i r) (after_abort_of_preparing s t x.end).active gone.active
+        (each_map (active_with_flag t x.end) (λ q. is_some (active_of q.id s.active) ≡ true) (λ q. is_some (fin.get old.seats q.id) ≡ true) (λ q e. seats q.id (open_active s q.id e)) s.active (active_there s.active));
+    preparing = each_both (λ y. y.settled ≡ false → y.id ≢ t) (λ y. y.settled ≡ false → is_some (fin.get old.seats y.id) ≡ true) (λ y. y.settled ≡ false → nodes_of new y.id ≡ nodes_after_abort t (nodes_of old t).dependents (nodes_of old) y.id) (λ y n i o. abort_at old new (record { 0 = t }) y.id (n o) (i o) r) (after_abort_of_preparing s t x.end).stamped gone.preparing
+        (each_map (with_flag t x.end) (λ y. y.settled ≡ false → is_some (preparing_of y.id s.stamped) ≡ true) (λ y. y.settled ≡ false → is_some (fin.get old.seats y.id) ≡ true) (λ y e o. seats y.id (open_preparing s y.id (e o))) (filter (not_at x.end) s.stamped)
+        (each_filter (not_at x.end) (λ y. y.settled ≡ false → is_some (preparing_of y.id s.stamped) ≡ true) (λ y. y.settled ≡ false → is_some (preparing_of y.id s.stamped) ≡ true) (λ y _ e. e) s.stamped (preparing_there s.stamped)));
+  }
     where
       gone : IsNowhere (after_abort_of_preparing s t x.end) t
       gone = nowhere (after_abort_of_preparing s t x.end) t (ap is_open_phase (leads_after_abort_of_preparing s t x f sd sg).own)
+
+  pub abort_reported : (s : State) (old new : Txns (Node P)) (t : ℕ) (x : StampedTx) → IsSound s → IsSingle s → preparing_of t s.stamped ≡ Some x → AreSeated s old → HasNodes s (nodes_of old) → IsReported (after_abort (record { 0 = t })) old new (record { 0 = t }) → HasNodes (after_abort_of_preparing s t x.end) (nodes_of new)
+  abort_reported s old new t x sd sg f seats h r =
+      let a = abort_alike s old new t x sd sg f seats r in
+      nodes_elsewhere (after_abort_of_preparing s t x.end) (after_abort_of_preparing s t x.end).marks (after_abort_of_preparing s t x.end).ended (nodes_after_abort t (nodes_of old t).dependents (nodes_of old)) (nodes_of new) a.active a.preparing (kept_abort s (nodes_of old) t x f h)
+
+  pub abort_drawn : (s : State) (old new : Txns (Node P)) (t : ℕ) (x : StampedTx) → IsSound s → IsSingle s → preparing_of t s.stamped ≡ Some x → AreSeated s old → HasDrawnDependents s (nodes_of old) → IsReported (after_abort (record { 0 = t })) old new (record { 0 = t }) → HasDrawnDependents (after_abort_of_preparing s t x.end) (nodes_of new)
+  abort_drawn s old new t x sd sg f seats g r =
+      let a = abort_alike s old new t x sd sg f seats r in
+      drawn_elsewhere (after_abort_of_preparing s t x.end) (after_abort_of_preparing s t x.end).marks (after_abort_of_preparing s t x.end).ended (nodes_after_abort t (nodes_of old t).dependents (nodes_of old)) (nodes_of new) a.active a.preparing (drawn_reported s (nodes_of old) t x.end (nodes_of old t).dependents g)
+
+  -- an Active one: nobody depended on it, so that nobody is told
+  pub undone_at : (old new : Txns (Node P)) (t : ℕ) → (nodes_of old t).dependents ≡ [] → IsReported (after_abort (record { 0 = t })) old new (record { 0 = t }) → (u : ℕ) → u ≢ t → nodes_of new u ≡ nodes_of old u
+  undone_at old new t none r u ne =
+      ap (λ o. node_as (data_in (option_map (λ s. s.kept) o))) (reported_at (after_abort (record { 0 = t })) old new (record { 0 = t }) u ne r)
+      ∙ ap (λ b. node_as (data_in (option_map (λ s. s.kept) (option_map (with_data (changed_if b (after_abort (record { 0 = t })))) (fin.get old.seats u))))) (among_is (record { 0 = u }) (data_of old (record { 0 = t })).dependents ∙ ap (λ ds. has_end ds u) none)
+      ∙ same (fin.get old.seats u)
+    where
+      same : (o : Option (Seat (Node P))) → node_as (data_in (option_map (λ s. s.kept) (option_map (with_data (changed_if false (after_abort (record { 0 = t })))) o))) ≡ node_as (data_in (option_map (λ s. s.kept) o))
+      same None = refl
+      same (Some s) = refl
+
+  -- what one keeps that isn't Active or Preparing doesn't matter
+  pub left_alike : (s : State) (old new : Txns (Node P)) (t : ℕ) → is_open_phase (phase_in s t) ≡ false → ((u : ℕ) → u ≢ t → nodes_of new u ≡ nodes_of old u) → AreAlike s (nodes_of old) (nodes_of new)
+  left_alike s old new t closed same =
+      let gone = nowhere s t closed in
+      record {
+        active = each_weaker (λ q. q.id ≢ t) (λ q. nodes_of new q.id ≡ nodes_of old q.id) (λ q n. same q.id n) s.active gone.active;
+        preparing = each_weaker (λ y. y.settled ≡ false → y.id ≢ t) (λ y. y.settled ≡ false → nodes_of new y.id ≡ nodes_of old y.id) (λ y n o. same y.id (n o)) s.stamped gone.preparing;
+      }

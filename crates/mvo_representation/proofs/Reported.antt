@@ -17,12 +17,12 @@ or_no : (a b : Bool) → (a || b) ≡ false → (a ≡ false) × (b ≡ false)
 or_no true b h = absurd (true≢false h)
 or_no false b h = (refl, h)
 
-its_dependents : (s : State) (nodes : Nodes) (t : ℕ) (x : StampedTx) → HasNodes s nodes → preparing_of t s.stamped ≡ Some x → AreDependents s (nodes t).dependents x.end
+pub its_dependents : (s : State) (nodes : Nodes) (t : ℕ) (x : StampedTx) → HasNodes s nodes → preparing_of t s.stamped ≡ Some x → AreDependents s (nodes t).dependents x.end
 its_dependents s nodes t x h f =
     let w = found_holds (λ y. y.settled ≡ false → AreDependents s (nodes y.id).dependents y.end) t s.stamped x f h.dependents in
     subst (λ (u : ℕ). AreDependents s (nodes u).dependents x.end) w.1 (w.0 w.2)
 
-its_open : (s : State) (t : ℕ) (x : StampedTx) → IsSound s → preparing_of t s.stamped ≡ Some x → is_open x.end s.stamped ≡ true
+pub its_open : (s : State) (t : ℕ) (x : StampedTx) → IsSound s → preparing_of t s.stamped ≡ Some x → is_open x.end s.stamped ≡ true
 its_open s t x sd f = let w = found_holds (λ y. is_open y.end s.stamped ≡ not y.settled) t s.stamped x f (open_each s.stamped sd.rising) in w.0 ∙ ap not w.2
 
 -- ---- a commit
@@ -104,7 +104,7 @@ pub record IsNew (s : State) (t x e : ℕ) : Type 0 where
   pub alone : AllByRecursion (λ y. y.settled ≡ false → (y.id == x) ≡ (y.end == e)) s.stamped
   pub apart : AllByRecursion (λ y. y.settled ≡ false → y.id ≢ t) s.stamped
 
-swap_eq : (a b : ℕ) → eqb a b ≡ eqb b a
+pub swap_eq : (a b : ℕ) → eqb a b ≡ eqb b a
 swap_eq a b = go (cases_eq a b)
   where
     go : (a ≡ b) ⊎ (a ≡ b → ⊥) → eqb a b ≡ eqb b a
@@ -144,10 +144,10 @@ added_node xs t e deps r n ri o q h = record { flag = h.flag; waits = λ d. go (
     go false i w = w
 
 -- add a dependency
-pub kept_registered : (s : State) (nodes : Nodes) (t x e : ℕ) → IsSound s → IsNew s t x e → AreDependents s (nodes x).dependents e → HasNodes s nodes → HasNodes (after_dependency s t e) (nodes_after_register t x nodes)
-kept_registered s nodes t x e sd new deps h = record {
+pub kept_registered : (s : State) (nodes : Nodes) (t x e : ℕ) → IsRising s.stamped → IsNew s t x e → AreDependents s (nodes x).dependents e → HasNodes s nodes → HasNodes (after_dependency s t e) (nodes_after_register t x nodes)
+kept_registered s nodes t x e rising new deps h = record {
   active = each_map (active_with_dependency t e) (λ r. (has_end (nodes x).dependents r.id ≡ has_end r.depends_on e) × IsNode s.stamped r.depends_on r.aborted_dependency (nodes r.id)) (λ r. IsNode s.stamped r.depends_on r.aborted_dependency (nodes_after_register t x nodes r.id))
-      (λ r g. let n = added_node s.stamped t e (nodes x).dependents r (nodes r.id) sd.rising new.there g.0 g.1 in record { flag = n.flag; waits = n.waits }) s.active
+      (λ r g. let n = added_node s.stamped t e (nodes x).dependents r (nodes r.id) rising new.there g.0 g.1 in record { flag = n.flag; waits = n.waits }) s.active
       (each_both (λ r. has_end (nodes x).dependents r.id ≡ has_end r.depends_on e) (λ r. IsNode s.stamped r.depends_on r.aborted_dependency (nodes r.id)) (λ r. (has_end (nodes x).dependents r.id ≡ has_end r.depends_on e) × IsNode s.stamped r.depends_on r.aborted_dependency (nodes r.id)) (λ r a b. (a, b)) s.active deps.active h.active);
   preparing = each_both (λ y. y.settled ≡ false → y.id ≢ t) (λ y. y.settled ≡ false → IsNode s.stamped y.depends_on y.aborted_dependency (nodes y.id)) (λ y. y.settled ≡ false → IsNode s.stamped y.depends_on y.aborted_dependency (nodes_after_register t x nodes y.id))
       (λ y n g o. let w = g o in record { flag = w.flag; waits = λ d. ap (λ c. cond (c && not (has_end (nodes x).dependents t)) ((nodes y.id).waits + 1) (nodes y.id).waits) (ne_eqb y.id t (n o)) ∙ w.waits d }) s.stamped new.apart h.preparing;

@@ -9,3 +9,6 @@ pub mod Laws
 pub mod Order
 pub mod OrderLaws
 pub mod WrittenLaws
+pub mod Dependencies
+pub mod DependencyLaws
+pub mod TableLaws
