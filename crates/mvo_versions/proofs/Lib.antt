@@ -1,0 +1,4 @@
+pub mod Indexing
+pub mod Putting
+pub mod Going
+pub mod Walked
