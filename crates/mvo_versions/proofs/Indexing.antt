@@ -106,7 +106,7 @@ inside_of (x ∷ xs) zero v e = omega arith
 inside_of (x ∷ xs) (suc n) v e = let h = inside_of xs n v e in omega (arith, h)
 
 -- ---- numbers
-room_numbers : (slots : Slots) (lists : Lists) → HasNumbers slots lists → HasNumbers (with_room slots) lists
+pub room_numbers : (slots : Slots) (lists : Lists) → HasNumbers slots lists → HasNumbers (with_room slots) lists
 room_numbers slots lists h = record { at = λ k n. h.at k n ∙ ap (λ x. one (is_of_key k x)) (sym (room_same slots n)) }
 
 none_of : (n : ℕ) (ns : List ℕ) → how_many (λ m. m == n) ns ≡ 0 → is_among n ns ≡ false

@@ -16,10 +16,9 @@ use Rattle.mvo_representation.specs.Indexes.{all_versions, is_at_place}
 use Rattle.mvo_representation.specs.Versions.{loaded}
 use Rattle.mvo_versions.specs.Data.{VersionsData}
 
--- the versions of these rows, put at the mark, of which each key has one at most
-pub record AreLoaded (rows : Map) (mark : ℕ) (v : VersionsData) : Type 0 where
-  pub versions : all_versions v.slots ≡ loaded rows mark
-  pub one : (key : RowKey) → length (numbers_of v.lists key) ≤ 1
+-- the versions of these rows, put at the mark
+abbrev pub AreLoaded : Map → ℕ → VersionsData → Type 0
+AreLoaded rows mark v = all_versions v.slots ≡ loaded rows mark
 
 -- the transaction puts the row: a version with a new number, in front of those of its key
 pub record IsPut (old new : VersionsData) (row : RowData) (t : ℕ) (n : VersionNo) : Type 0 where

@@ -1,5 +1,6 @@
 //! What is found among the versions.
 use crate::versions::Versions;
+use mvo_hash::Versions as Numbers;
 use mvo_range::Walk;
 use mvo_txn::TxnTable;
 use mvo_types::{RowKey, Stamp, TxId};
@@ -7,8 +8,9 @@ use mvo_validate::{Check, Entry, check_entry};
 use mvo_visible::{Shown, shown};
 
 impl Versions {
-    ghost use Rattle.std.specs.Prelude.{◌≡◌, filter};
-    ghost use Rattle.std.specs.FinMap as map;
+    ghost use Rattle.std.specs.Prelude.{◌≡◌, filter, map};
+    ghost use Rattle.std.specs.FinMap as fin;
+    ghost use Rattle.mvo_hash.specs.Lists.{number, numbers_of};
     ghost use Rattle.mvo_txn.specs.Txns.{state_of};
     ghost use Rattle.mvo_range.specs.Place.{is_between};
     ghost use Rattle.mvo_visible.specs.Versions.{versions_at};
@@ -53,10 +55,17 @@ impl Versions {
         )
     }
 
+    /// A walk over the versions of a key, newest first.
+    pub fn walk(&self, key: RowKey) -> Numbers<'_>
+        ensures { result ≡ map number (numbers_of self.now.lists key) }
+    {
+        self.index.walk(key)
+    }
+
     /// A walk over the places of a table whose sort is at least `lo` and at most `hi`, in the order
     /// of sort and key.
     pub fn between(&self, table: u8, lo: u64, hi: u64) -> Walk<'_>
-        ensures { result ≡ filter (is_between table lo hi) (map.entries self.now.places) }
+        ensures { result ≡ filter (is_between table lo hi) (fin.entries self.now.places) }
     {
         self.order.between(table, lo, hi)
     }

@@ -9,7 +9,7 @@ ghost use Rattle.mvo_versions.specs.Changes.{is_number_at, and_place, less_place
 use mvo_chain::{Chains, Version, VersionNo};
 use mvo_hash::HashIndex;
 use mvo_range::{Place, RangeIndex};
-use mvo_types::{MAX_STAMP, Row, RowKey, Rows, Stamp, TxId};
+use mvo_types::{Row, RowKey, Rows, Stamp, TxId};
 use mvo_word::Word;
 use std::alloc::{AllocError, Global};
 use std::marker::Model;
@@ -50,8 +50,36 @@ impl Versions {
     ghost use Rattle.mvo_chain.specs.Slots.{version_at};
     ghost use Rattle.mvo_word.specs.declared.held.Held.TheVariants.{By};
     ghost use Rattle.mvo_representation.specs.Steps.{ended_by};
-    ghost use Rattle.mvo_versions.specs.Changes.{IsPut, IsRoomed, IsReworded, IsInFront};
-    ghost use Rattle.mvo_versions.specs.Changes.{IsTakenOut};
+    ghost use Rattle.mvo_types.specs.declared.limits.TheConstants.{MAX_STAMP as LIMIT};
+    ghost use Rattle.mvo_versions.specs.Changes.{AreLoaded, IsPut, IsRoomed, IsReworded};
+    ghost use Rattle.mvo_versions.specs.Changes.{IsInFront, IsTakenOut};
+
+    /// The versions of these rows, put at the mark. Both indexes are built in one go. The seed
+    /// decides where keys stand in memory: who chooses the keys must not know it.
+    pub fn load(alloc: Global, seed: u64, rows: Rows, mark: Stamp) -> Result<Versions, AllocError>
+        requires { mark.0 ≤ LIMIT }
+        ensures { IfOk result (AreLoaded rows mark.0) }
+    {
+        let rows = rows.into_rows(alloc)?;
+        let mut chains = Chains::new(alloc);
+        let mut index = HashIndex::new(alloc, seed);
+        let mut places = Vec::new(alloc);
+        index.reserve(rows.len())?;
+        places.reserve(rows.len())?;
+        for row in rows {
+            let key = row.row_key();
+            let place = Place::new(key, row.sort);
+            let number = chains.add(row, Word::stamp(mark))?;
+            index.add(key, number)?;
+            places.push((place, number.0))?;
+        }
+        let order = RangeIndex::from_entries(alloc, places)?;
+        Ok(Versions {
+            chains,
+            index,
+            order,
+        })
+    }
 
     /// The version with the number, if there is one.
     pub fn get(&self, number: VersionNo) -> Option<&Version>
