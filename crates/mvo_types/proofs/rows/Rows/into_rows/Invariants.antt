@@ -1,0 +1,7 @@
+use Rattle.std.proofs.Common.{◌≡◌, ◌++◌, map}
+use Rattle.mvo_types.specs.RowData.{row_with}
+use Rattle.mvo_types.proofs.Ordered.{Entries, all_rows}
+use Rattle.mvo_types.proofs.rows.Rows.into_rows.Given as goal
+
+abbrev pub invariant-loop-key : goal.invariant-loop-key
+invariant-loop-key l = l.rows.items ++ all_rows l.key-iterator ≡ all_rows l.initial.key-iterator

@@ -1,0 +1,7 @@
+//! The versions of all rows, by number, by key and by sort.
+#![tactic(auto)]
+
+mod looking;
+mod versions;
+
+pub use versions::Versions;

@@ -1,0 +1,72 @@
+//! What is found among the versions.
+use crate::versions::Versions;
+use mvo_hash::Versions as Numbers;
+use mvo_range::Walk;
+use mvo_txn::TxnTable;
+use mvo_types::{RowKey, Stamp, TxId};
+use mvo_validate::{Check, Entry, check_entry};
+use mvo_visible::{Shown, shown};
+
+impl Versions {
+    ghost use Rattle.std.specs.Prelude.{◌≡◌, filter, map};
+    ghost use Rattle.std.specs.FinMap as fin;
+    ghost use Rattle.mvo_hash.specs.Lists.{number, numbers_of};
+    ghost use Rattle.mvo_txn.specs.Txns.{state_of};
+    ghost use Rattle.mvo_range.specs.Place.{is_between};
+    ghost use Rattle.mvo_visible.specs.Versions.{versions_at};
+    ghost use Rattle.mvo_visible.specs.Changes.{changes_of};
+    ghost use Rattle.mvo_visible.specs.Shown.{AllHaveFallingStamps, IsInOrder, shown_to};
+    ghost use Rattle.mvo_validate.specs.Between.{checked_by, stamp_between};
+    ghost use Rattle.mvo_validate.specs.Entries.{versions_in};
+
+    /// The version of a key that the transaction is shown, where the versions stand in order.
+    pub fn shown<P>(&self, table: &TxnTable<P>, reader: TxId, key: RowKey) -> Shown
+        ensures { let vs = versions_at self.now.slots self.now.lists key in
+            IsInOrder (state_of table.now) reader.0 reader.0 vs →
+            result ≡ shown_to (state_of table.now) reader.0 reader.0 vs }
+    {
+        shown(
+            &self.chains,
+            &self.index,
+            table,
+            Stamp(reader.0),
+            reader,
+            key,
+        )
+    }
+
+    /// Whether others have changed what an entry looks at, between a begin and an end, where the
+    /// versions stand in order.
+    pub fn check<P>(&self, table: &TxnTable<P>, begin: Stamp, end: Stamp, entry: Entry) -> Check
+        ensures { let states = state_of table.now in
+            let lists = self.now.lists in
+            AllHaveFallingStamps states self.now.slots lists →
+            result ≡ checked_by (stamp_between begin.0 end.0
+            (changes_of states (versions_in self.now.slots lists self.now.places entry))) }
+    {
+        check_entry(
+            &self.chains,
+            &self.index,
+            &self.order,
+            table,
+            begin,
+            end,
+            entry,
+        )
+    }
+
+    /// A walk over the versions of a key, newest first.
+    pub fn walk(&self, key: RowKey) -> Numbers<'_>
+        ensures { result ≡ map number (numbers_of self.now.lists key) }
+    {
+        self.index.walk(key)
+    }
+
+    /// A walk over the places of a table whose sort is at least `lo` and at most `hi`, in the order
+    /// of sort and key.
+    pub fn between(&self, table: u8, lo: u64, hi: u64) -> Walk<'_>
+        ensures { result ≡ filter (is_between table lo hi) (fin.entries self.now.places) }
+    {
+        self.order.between(table, lo, hi)
+    }
+}

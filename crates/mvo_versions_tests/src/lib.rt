@@ -1,0 +1,5 @@
+//! Tests of `mvo_versions`.
+#![tactic(auto)]
+
+#[cfg(test)]
+mod tests;
