@@ -94,7 +94,8 @@ impl Engine {
     }
 
     fn look(&mut self, tx: &mut Open, key: RowKey) -> Result<Option<VersionNo>, AllocError> {
-        tx.entries.note(Entry::Key(key))?;
+        tx.entries.make_room()?;
+        tx.entries.note(Entry::Key(key));
         let found = self.shown_to(tx.id, key);
         tx.depend(found)?;
         Ok(found.version)
@@ -106,7 +107,8 @@ impl Engine {
     }
 
     fn scan(&mut self, tx: &mut Open, lo: u64, hi: u64) -> Result<(), AllocError> {
-        tx.entries.note(Entry::Range(3, lo, hi))?;
+        tx.entries.make_room()?;
+        tx.entries.note(Entry::Range(3, lo, hi));
         for (place, _) in self.ranges.between(3, lo, hi) {
             tx.depend(self.shown_to(tx.id, place.row_key()))?;
         }

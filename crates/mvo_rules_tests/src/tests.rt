@@ -186,8 +186,16 @@ fn entries_stand_in_the_order_of_their_first_use(rt: HostRuntime) -> Result<(), 
     let empty = Entry::Range(3, 9, 7);
     let mut entries = Entries::new(rt.alloc());
     assert_eq!(rt; entries.at(0), None);
-    for entry in [range, key, range, empty, key] {
-        entries.note(entry)?;
+    let calls = [
+        (range, true),
+        (key, true),
+        (range, false),
+        (empty, true),
+        (key, false),
+    ];
+    for (entry, is_new) in calls {
+        entries.make_room()?;
+        assert_eq!(rt; entries.note(entry), is_new, "{entry:?}");
     }
     assert_eq!(rt; entries.len(), 3);
     let want = [Some(range), Some(key), Some(empty), None];

@@ -1,8 +1,13 @@
 -- Entries in the order of their first use.
-use Rattle.std.specs.Prelude.{◌==◌, ◌&&◌, Bool, false, if◌then◌else◌, List, [], ◌∷◌, ◌++◌}
+use Rattle.std.specs.Prelude.{ℕ, ◌==◌, ◌&&◌, Bool, false, if◌then◌else◌, List, [], ◌∷◌, ◌++◌}
 use Rattle.std.specs.List.{list_any}
 use Rattle.mvo_validate.specs.declared.entry.Entry.{Entry}
 use Rattle.mvo_validate.specs.declared.entry.Entry.TheVariants.{Key, Range}
+
+-- entries, and how many more can be noted without memory
+pub record EntriesData : Type 0 where
+  pub noted : List Entry
+  pub room : ℕ
 
 -- of one kind, with the same numbers
 abbrev pub is_same : Entry → Entry → Bool

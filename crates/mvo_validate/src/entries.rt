@@ -1,4 +1,4 @@
-ghost use Rattle.std.specs.Prelude.{◌≡◌, [], false, OnOk, OnErr, length, slice_get};
+ghost use Rattle.std.specs.Prelude.{◌≡◌, ◌<◌, ◌≤◌, ◌+◌, [], not, OnOk, OnErr, length, slice_get};
 ghost use Rattle.mvo_validate.specs.Noted.{has_entry, with_entry};
 
 use crate::entry::Entry;
@@ -7,25 +7,25 @@ use std::alloc::{AllocError, Global};
 use std::marker::Model;
 
 /// The entries of a transaction, in the order in which they were first noted, without repeats.
-/// Contracts see that list.
+/// Contracts see that list, and the room: how many more can be noted without memory.
 #[derive(Drop)]
 pub struct Entries {
     set: IndexSet<Entry>,
 }
 
 impl Model for Entries {
-    ghost use Rattle.std.specs.Prelude.{List};
-    ghost use Rattle.mvo_validate.specs.declared.entry.Entry.{Entry as TheEntry};
+    ghost use Rattle.indexmap.specs.IndexSet.{spare};
+    ghost use Rattle.mvo_validate.specs.Noted.{EntriesData};
 
-    ghost Value = { List TheEntry };
+    ghost Value = { EntriesData };
 
-    ghost view = { λ e. e.set.keys };
+    ghost view = { λ e. record { noted = e.set.keys; room = spare e.set } };
 }
 
 impl Entries {
     /// No entries. It takes no memory.
     pub fn new(alloc: Global) -> Entries
-        ensures { result ≡ [] }
+        ensures { result.noted ≡ [] }
     {
         Entries {
             set: IndexSet::new(alloc),
@@ -34,31 +34,42 @@ impl Entries {
 
     /// How many there are.
     pub fn len(&self) -> usize
-        ensures { result ≡ length self.now }
+        ensures { result ≡ length self.now.noted }
     {
         self.set.len()
     }
 
     /// Whether the entry is among them.
     pub fn contains(&self, entry: Entry) -> bool
-        ensures { result ≡ has_entry self.now entry }
+        ensures { result ≡ has_entry self.now.noted entry }
     {
         self.set.contains(&entry)
     }
 
-    /// Notes an entry. One that is there isn't added again, and takes no memory.
-    pub fn note(&mut self, entry: Entry) -> Result<(), AllocError>
-        ensures ok { OnOk result (self.new ≡ with_entry self.old entry) }
-        ensures err { OnErr result (self.new ≡ self.old) }
-        ensures absent { OnErr result (has_entry self.old entry ≡ false) }
+    /// Sees to it that one more can be noted. It takes memory where there is no room, and alone
+    /// does.
+    pub fn make_room(&mut self) -> Result<(), AllocError>
+        ensures same { self.new.noted ≡ self.old.noted }
+        ensures ok { OnOk result (0 < self.new.room) }
+        ensures err { OnErr result (self.old.room ≡ 0) }
+        ensures more { self.old.room ≤ self.new.room }
     {
-        self.set.insert(entry)?;
-        Ok(())
+        self.set.reserve(1)
+    }
+
+    /// Notes an entry, and answers whether it is a new one. One that is there isn't added again.
+    pub fn note(&mut self, entry: Entry) -> bool
+        requires { 0 < self.old.room }
+        ensures noted { self.new.noted ≡ with_entry self.old.noted entry }
+        ensures fresh { result ≡ not (has_entry self.old.noted entry) }
+        ensures room { self.old.room ≤ self.new.room + 1 }
+    {
+        self.set.insert(entry).unwrap()
     }
 
     /// The entry at a place, from 0 on.
     pub fn at(&self, place: usize) -> Option<Entry>
-        ensures { result ≡ slice_get self.now place }
+        ensures { result ≡ slice_get self.now.noted place }
     {
         self.set.get_index(place).copied()
     }

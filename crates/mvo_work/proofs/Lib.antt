@@ -1,0 +1,4 @@
+pub mod Same
+pub mod Written
+pub mod OneMore
+pub mod Follows

@@ -1,0 +1,95 @@
+-- One operation more.
+use Rattle.std.proofs.Common.{◌≡◌, ◌≤◌, Bool, true, false, cond, not, List, [], ◌∷◌, ◌++◌, Option, None, Some, map, length, refl, sym, ap, ◌∙◌, subst, arith}
+use Rattle.std.specs.Prelude.{◌&&◌, nat_le}
+use Rattle.std.specs.Option.{option_map}
+use Rattle.std.proofs.lemmas.Bool.{not-true, le-leb, leb-false}
+use Rattle.std.proofs.lemmas.List.{map-append, length-append, length-map}
+use Rattle.mvo_types.specs.declared.limits.TheConstants.{MAX_WRITES, MAX_ENTRIES}
+use Rattle.mvo_types.specs.declared.row.RowKey.{RowKey}
+use Rattle.mvo_types.specs.declared.op.Op.{Op}
+use Rattle.mvo_types.specs.declared.answer.Answer.{Answer}
+use Rattle.mvo_types.specs.AnswerData.{AnswerData, answer_data}
+use Rattle.mvo_types.specs.Write.{Write}
+use Rattle.mvo_model.specs.History.{History, write_of}
+use Rattle.mvo_theory.specs.Causes.{is_entry_too_many, is_write_too_many}
+use Rattle.mvo_theory.specs.Entries as theory
+use Rattle.mvo_theory.specs.Entries.{entry_of, entries_from, entries, is_noted, noted_key, written_from, written_keys}
+use Rattle.mvo_theory.proofs.Each.{each_append}
+use Rattle.mvo_theory.proofs.Looks.{write_entry}
+use Rattle.mvo_validate.specs.declared.entry.Entry.{Entry}
+use Rattle.mvo_validate.specs.Noted.{has_entry, with_entry}
+use Rattle.mvo_work.specs.History.{history_as, entry_as, key_written}
+use Rattle.mvo_work.specs.Limits.{IsInLimits, AreLimited, MayFollow}
+use Rattle.mvo_work.specs.Work.{IsSound}
+use Rattle.mvo_work.proofs.Same.{has_as, with_as}
+use Rattle.mvo_work.proofs.Written.{unwritten}
+
+history_more : (told : List (Op × Answer)) (op : Op) (a : Answer) → history_as (told ++ (op, a) ∷ []) ≡ history_as told ++ (op, answer_data a) ∷ []
+history_more told op a = map-append (λ t. (t.0, answer_data t.1)) told ((op, a) ∷ [])
+
+entries_more : (es : List theory.Entry) (ts : History) (t : Op × AnswerData) → entries_from es (ts ++ t ∷ []) ≡ theory.with_entry (entries_from es ts) (entry_of t.0)
+entries_more es [] t = refl
+entries_more es (u ∷ us) t = entries_more (theory.with_entry es (entry_of u.0)) us t
+
+written_more : (ks : List RowKey) (ts : History) (t : Op × AnswerData) → written_from ks (ts ++ t ∷ []) ≡ noted_key (written_from ks ts) (key_written t.0 t.1)
+written_more ks [] t = refl
+written_more ks (u ∷ us) t = written_more (noted_key ks (key_written u.0 u.1)) us t
+
+-- ---- the keys written stay few
+noted_few : (b : Bool) (ks : List RowKey) (k : RowKey) → (not b && nat_le MAX_WRITES (length ks)) ≡ false → length ks ≤ MAX_WRITES → length (cond b ks (ks ++ k ∷ [])) ≤ MAX_WRITES
+noted_few true ks k e le = le
+noted_few false ks k e le = let lt = leb-false MAX_WRITES (length ks) e in omega (arith, length-append ks (k ∷ []))
+
+still_few : (ts : History) (w : Option RowKey) → ((k : RowKey) → w ≡ Some k → is_write_too_many ts k ≡ false) → length (written_keys ts) ≤ MAX_WRITES → length (noted_key (written_keys ts) w) ≤ MAX_WRITES
+still_few ts None f le = le
+still_few ts (Some k) f le = noted_few (is_noted (written_keys ts) k) (written_keys ts) k (f k refl) le
+
+limited_more : (ts : History) (op : Op) (a : AnswerData) → AreLimited ts → MayFollow ts op a → AreLimited (ts ++ (op, a) ∷ [])
+limited_more ts op a h m = record {
+  each = each_append (λ t. IsInLimits t.0) ts ((op, a) ∷ []) h.each (m.row, tt);
+  few = subst (λ (ks : List RowKey). length ks ≤ MAX_WRITES) (sym (written_more [] ts (op, a))) (still_few ts (key_written op a) m.write h.few);
+}
+
+-- ---- a key that was looked at first now isn't written
+pub key_looked : (op : Op) (a : AnswerData) (w : Option Write) (k : RowKey) → write_of op a ≡ w → option_map (λ v. v.0) w ≡ Some k → entry_of op ≡ theory.Entry.Key k
+key_looked op a None k e f = cc
+key_looked op a (Some v) k e f = write_entry op a v e ∙ ap theory.Entry.Key (cc f)
+
+pub unwritten_yet : (told : List (Op × Answer)) (es : List Entry) (ks : List RowKey) (e : Entry) (op : Op) (a : AnswerData) (k : RowKey) → IsSound told es ks → entry_as e ≡ entry_of op → not (has_entry es e) ≡ true → key_written op a ≡ Some k → is_noted ks k ≡ false
+unwritten_yet told es ks e op a k h is fresh w =
+    let is_key : entry_as e ≡ theory.Entry.Key k = is ∙ key_looked op a (write_of op a) k refl w in
+    let none : theory.has_entry (entries (history_as told)) (theory.Entry.Key k) ≡ false =
+    ap (λ d. theory.has_entry (entries (history_as told)) d) (sym is_key)
+    ∙ ap (λ ds. theory.has_entry ds (entry_as e)) (sym h.entries)
+    ∙ has_as es e ∙ not-true (has_entry es e) fresh in
+    ap (λ js. is_noted js k) h.written ∙ unwritten (history_as told) k none
+
+-- ---- entries, keys and limits with one operation more
+pub sound_more : (told : List (Op × Answer)) (es : List Entry) (ks : List RowKey) (e : Entry) (op : Op) (a : Answer) → IsSound told es ks → entry_as e ≡ entry_of op → MayFollow (history_as told) op (answer_data a) → IsSound (told ++ (op, a) ∷ []) (with_entry es e) (noted_key ks (key_written op (answer_data a)))
+sound_more told es ks e op a h is m = record {
+  entries =
+      with_as es e
+      ∙ ap (λ ds. theory.with_entry ds (entry_as e)) h.entries
+      ∙ ap (theory.with_entry (entries (history_as told))) is
+      ∙ sym (entries_more [] (history_as told) (op, answer_data a))
+      ∙ ap entries (sym (history_more told op a));
+  written =
+      ap (λ js. noted_key js (key_written op (answer_data a))) h.written
+      ∙ sym (written_more [] (history_as told) (op, answer_data a))
+      ∙ ap written_keys (sym (history_more told op a));
+  limits = subst AreLimited (sym (history_more told op a)) (limited_more (history_as told) op (answer_data a) h.limits m);
+}
+
+-- ---- the entries are as many as there may be
+and_true : (a b : Bool) → b ≡ true → a ≡ (a && b)
+and_true true b e = sym e
+and_true false b e = refl
+
+pub full_of_entries : (told : List (Op × Answer)) (es : List Entry) (ks : List RowKey) (e : Entry) → IsSound told es ks → MAX_ENTRIES ≤ length es → not (has_entry es e) ≡ is_entry_too_many (history_as told) (entry_as e)
+full_of_entries told es ks e h le =
+    let same : has_entry es e ≡ theory.has_entry (entries (history_as told)) (entry_as e) =
+    sym (has_as es e) ∙ ap (λ ds. theory.has_entry ds (entry_as e)) h.entries in
+    let many : length es ≡ length (entries (history_as told)) = sym (length-map es entry_as) ∙ ap length h.entries in
+    ap not same
+    ∙ and_true (not (theory.has_entry (entries (history_as told)) (entry_as e))) (nat_le MAX_ENTRIES (length (entries (history_as told))))
+    (le-leb MAX_ENTRIES (length (entries (history_as told))) (omega arith))

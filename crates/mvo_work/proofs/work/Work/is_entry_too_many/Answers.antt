@@ -1,0 +1,14 @@
+use Rattle.std.proofs.Common.{◌≤◌, ap, ◌∙◌, length, not, arith}
+use Rattle.mvo_types.specs.declared.limits.TheConstants.{MAX_ENTRIES}
+use Rattle.mvo_theory.specs.Causes.{is_entry_too_many}
+use Rattle.mvo_work.specs.History.{entry_as}
+use Rattle.mvo_work.specs.Work.{WorkData}
+use Rattle.mvo_work.proofs.OneMore.{full_of_entries}
+use Rattle.mvo_work.proofs.work.Work.is_entry_too_many.Goals as goal
+
+pub returns-then-len-ge-MAX_ENTRIES : goal.returns-then-len-ge-MAX_ENTRIES
+returns-then-len-ge-MAX_ENTRIES c =
+    let full : MAX_ENTRIES ≤ length c.self.inside.looked_at.noted = omega arith in
+    ap not c.contains.ensures
+    ∙ full_of_entries _ _ _ c.args.entry c.self.invariant full
+    ∙ ap (λ (w : WorkData). is_entry_too_many w.history (entry_as c.args.entry)) c.self.view_is

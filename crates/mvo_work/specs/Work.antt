@@ -1,0 +1,35 @@
+-- What an unfinished transaction has done, and the room for more.
+use Rattle.std.specs.Prelude.{◌≡◌, ℕ, ◌<◌, ◌≤◌, List, map, min}
+use Rattle.mvo_types.specs.declared.row.RowKey.{RowKey}
+use Rattle.mvo_types.specs.declared.op.Op.{Op}
+use Rattle.mvo_types.specs.declared.answer.Answer.{Answer}
+use Rattle.mvo_model.specs.History.{History}
+use Rattle.mvo_theory.specs.Entries.{entries, written_keys}
+use Rattle.mvo_validate.specs.declared.entry.Entry.{Entry}
+use Rattle.mvo_work.specs.declared.word_place.WordPlace.{WordPlace}
+use Rattle.mvo_work.specs.History.{history_as, entry_as}
+use Rattle.mvo_work.specs.Limits.{AreLimited}
+
+-- the operations with their answers, the words that are still to be replaced, in order of writing,
+-- and for how many operations and words more there is room
+pub record WorkData : Type 0 where
+  pub history : History
+  pub words : List WordPlace
+  pub room : ℕ
+  pub word_room : ℕ
+
+-- room for an operation and the two words that it may put
+pub record HasRoom (work : WorkData) : Type 0 where
+  pub operation : 0 < work.room
+  pub words : 2 ≤ work.word_room
+
+-- an operation takes a place on each of three lists
+abbrev pub room_of : ℕ → ℕ → ℕ → ℕ
+room_of operations entries written = min operations (min entries written)
+
+-- the entries and the written keys are those of the operations, which are in the limits
+pub record IsSound (told : List (Op × Answer)) (looked_at : List Entry)
+    (keys : List RowKey) : Type 0 where
+  pub entries : map entry_as looked_at ≡ entries (history_as told)
+  pub written : keys ≡ written_keys (history_as told)
+  pub limits : AreLimited (history_as told)

@@ -1,0 +1,172 @@
+use crate::numbers::Numbers;
+use mvo_chain::VersionNo;
+use mvo_types::{Answer, Op, Row, RowKey};
+use mvo_validate::Entry;
+use mvo_work::WordPlace;
+use std::alloc::{AllocError, Global};
+
+/// An operation with all that is to be kept of it.
+#[derive(Drop)]
+pub struct Asked {
+    pub op: Op,
+    pub answer: Answer,
+    pub entry: Entry,
+    pub written: Option<RowKey>,
+    pub words: Vec<WordPlace>,
+}
+
+/// What a transaction has done, in plain lists.
+#[derive(Drop)]
+pub struct Plain {
+    /// What each operation looked at.
+    pub looks: Vec<Entry>,
+    pub entries: Vec<Entry>,
+    pub written: Vec<RowKey>,
+    pub words: Vec<WordPlace>,
+}
+
+impl Plain {
+    pub fn new(alloc: Global) -> Plain {
+        Plain {
+            looks: Vec::new(alloc),
+            entries: Vec::new(alloc),
+            written: Vec::new(alloc),
+            words: Vec::new(alloc),
+        }
+    }
+
+    pub fn tell(&mut self, asked: &Asked) -> Result<(), AllocError> {
+        let looked_at = asked.entry;
+        self.looks.push(looked_at)?;
+        if !self.entries.iter().any(|entry| *entry == looked_at) {
+            self.entries.push(looked_at)?;
+        }
+        if let Some(key) = asked.written {
+            if !self.has_written(key) {
+                self.written.push(key)?;
+            }
+        }
+        for word in asked.words.as_slice() {
+            self.words.push(*word)?;
+        }
+        Ok(())
+    }
+
+    pub fn has_written(&self, key: RowKey) -> bool {
+        self.written.iter().any(|other| *other == key)
+    }
+
+    pub fn drop_word(&mut self) {
+        if !self.words.is_empty() {
+            self.words.remove(0);
+        }
+    }
+}
+
+fn row(alloc: Global, key: RowKey) -> Result<Row, AllocError> {
+    Ok(Row {
+        key,
+        sort: key.key / 2,
+        bytes: [7, 8].to_vec(alloc)?,
+    })
+}
+
+fn some_number(numbers: &mut Numbers) -> VersionNo {
+    VersionNo(numbers.below(1000).min(1000) as u32)
+}
+
+pub fn some_key(numbers: &mut Numbers, keys: u64) -> RowKey {
+    let table = if numbers.below(2) == 0 { 0 } else { 15 };
+    let key = numbers.below(keys);
+    RowKey { table, key }
+}
+
+fn looking(op: Op, answer: Answer, entry: Entry, alloc: Global) -> Asked {
+    Asked {
+        op,
+        answer,
+        entry,
+        written: None,
+        words: Vec::new(alloc),
+    }
+}
+
+fn read(alloc: Global, key: RowKey) -> Asked {
+    looking(Op::Read(key), Answer::Found(None), Entry::Key(key), alloc)
+}
+
+fn scan(alloc: Global, numbers: &mut Numbers) -> Asked {
+    let lo = numbers.below(4);
+    let hi = numbers.below(4);
+    let answer = Answer::Rows(Vec::new(alloc));
+    looking(Op::Scan(3, lo, hi), answer, Entry::Range(3, lo, hi), alloc)
+}
+
+fn insert(alloc: Global, numbers: &mut Numbers, key: RowKey) -> Result<Asked, AllocError> {
+    let op = Op::Insert(row(alloc, key)?);
+    let entry = Entry::Key(key);
+    if numbers.below(3) == 0 {
+        return Ok(looking(op, Answer::Exists, entry, alloc));
+    }
+    let words = [WordPlace::Begin(some_number(numbers))].to_vec(alloc)?;
+    let written = Some(key);
+    Ok(Asked {
+        op,
+        answer: Answer::Inserted,
+        entry,
+        written,
+        words,
+    })
+}
+
+fn update(alloc: Global, numbers: &mut Numbers, key: RowKey) -> Result<Asked, AllocError> {
+    let op = Op::Update(row(alloc, key)?);
+    let entry = Entry::Key(key);
+    if numbers.below(3) == 0 {
+        return Ok(looking(op, Answer::Absent, entry, alloc));
+    }
+    let ended = WordPlace::End(some_number(numbers));
+    let put = WordPlace::Begin(some_number(numbers));
+    let words = [ended, put].to_vec(alloc)?;
+    let written = Some(key);
+    Ok(Asked {
+        op,
+        answer: Answer::Updated,
+        entry,
+        written,
+        words,
+    })
+}
+
+fn delete(alloc: Global, numbers: &mut Numbers, key: RowKey) -> Result<Asked, AllocError> {
+    let op = Op::Delete(key);
+    let entry = Entry::Key(key);
+    if numbers.below(3) == 0 {
+        return Ok(looking(op, Answer::Absent, entry, alloc));
+    }
+    let words = [WordPlace::End(some_number(numbers))].to_vec(alloc)?;
+    let written = Some(key);
+    Ok(Asked {
+        op,
+        answer: Answer::Deleted,
+        entry,
+        written,
+        words,
+    })
+}
+
+/// An operation on one of so many keys.
+pub fn some_operation(
+    alloc: Global,
+    numbers: &mut Numbers,
+    keys: u64,
+) -> Result<Asked, AllocError> {
+    let key = some_key(numbers, keys);
+    match numbers.below(6) {
+        0 => Ok(read(alloc, key)),
+        1 => Ok(scan(alloc, numbers)),
+        2 | 3 => insert(alloc, numbers, key),
+        4 => update(alloc, numbers, key),
+        _ => delete(alloc, numbers, key),
+    }
+}
