@@ -41,7 +41,16 @@ pub mod NodesKept
 pub mod NodesReported
 pub mod NodesAnswered
 pub mod NodesRegistered
-pub mod WordSteps
+pub mod WordPlaces
+pub mod WordPairs
+pub mod WordsOf
+pub mod WordsKept
+pub mod WordsSaid
+pub mod WordPuts
+pub mod WordsEnded
+pub mod WordsFinished
+pub mod WordsAround
+pub mod WordsWritten
 pub mod RowsPlaced
 pub mod Proved
 pub mod OutOfOrder

@@ -4,4 +4,6 @@
 
 mod laws;
 
-pub use laws::{laws_of_representation, laws_of_standing_order, laws_of_written_versions};
+pub use laws::{
+    laws_of_representation, laws_of_standing_order, laws_of_words, laws_of_written_versions,
+};
