@@ -1,29 +1,23 @@
 -- A trim, where the rows at the new start stand as intervals.
-use Rattle.std.proofs.Common.{◌≡◌, ◌≢◌, ℕ, ◌<◌, ◌≤◌, suc, Bool, true, false, cond, not, List, [], ◌∷◌, ◌++◌, refl, sym, ap, ◌∙◌, arith, ◌⊎◌, inl, inr}
-use Rattle.std.specs.Prelude.{⊤, ◌==◌}
+use Rattle.std.proofs.Common.{◌≡◌, ◌≢◌, ℕ, ◌<◌, ◌≤◌, Bool, true, false, cond, not, List, [], ◌∷◌, ◌++◌, refl, sym, ap, ◌∙◌, arith, ◌⊎◌, inl, inr}
+use Rattle.std.specs.Prelude.{◌==◌}
 use Rattle.std.specs.List.{AllByRecursion, filter, list_any}
-use Rattle.mvo_types.specs.Write.{content_after_last}
 use Rattle.std.specs.Option.{option_map}
 use Rattle.std.specs.FinMap as fin
-use Rattle.std.proofs.lemmas.Bool.{leb-true, leb-false, ne_eqb, false≢true, cases_order}
+use Rattle.std.proofs.lemmas.Bool.{leb-true, ne_eqb, cases_order}
 use Rattle.mvo_types.specs.declared.row.RowKey.{RowKey}
 use Rattle.mvo_model.specs.History.{net_write}
-use Rattle.mvo_model.proofs.Serials.{get-after_history}
-use Rattle.mvo_theory.specs.State.{State, StampedTx, seen_by, history_below, after_settled}
-use Rattle.mvo_theory.specs.Dependencies.{last_writer, or_later}
-use Rattle.mvo_theory.specs.Claims.{origin, end_or}
+use Rattle.mvo_theory.specs.State.{State, StampedTx}
 use Rattle.mvo_theory.specs.Changes.{is_to, after_trim}
 use Rattle.mvo_theory.specs.Phases.{phase_in}
-use Rattle.mvo_theory.specs.Sound.{IsSound, IsStarted, IsPast, IsActive}
-use Rattle.mvo_theory.proofs.Each.{each_weaker, each_both, each_filter, each_append, each_always}
-use Rattle.mvo_theory.proofs.Trim.{IsTrim, is_after, parted, seen_trimmed}
+use Rattle.mvo_theory.specs.Sound.{IsSound, IsStarted, IsActive}
+use Rattle.mvo_theory.proofs.Each.{each_weaker, each_both, each_filter, each_append}
+use Rattle.mvo_theory.proofs.Trim.{IsTrim, is_after}
 use Rattle.mvo_chain.specs.declared.version.Version.{Version}
 use Rattle.mvo_representation.specs.Words.{Phases, ends_of, has_stamp, as_net_effect, standing_effect}
-use Rattle.mvo_representation.specs.Words.NetEffect.{Puts}
 use Rattle.mvo_representation.specs.Versions.{history_at, rows_at, rows_by, IsKnownStamp, IsKnown, IsClaimed, HasItsClaims, AreDrawn, AreVersionsOf}
-use Rattle.mvo_representation.proofs.LastChanges.{history_below_last, write_by, last_none_above}
-use Rattle.mvo_representation.proofs.Shown.{last_writer-append, stands_below}
 use Rattle.mvo_representation.proofs.Quiet.{known_next}
+use Rattle.mvo_representation.proofs.TrimChanges.{opened_at_trim}
 use Rattle.mvo_types.specs.Write.Effect.{Put}
 
 history_at-back : (m e : ℕ) (xs : List StampedTx) → m < e → history_at e (filter (is_after m) xs) ≡ history_at e xs
@@ -51,10 +45,7 @@ kept_after_trim s table vs m sd st tr h ph stood = record {
     touches = λ g p. w.touches g p ∙ ap (λ ts. list_any p (rows_by g ts (rows_at e s.stamped))) (sym (history_at-back m e s.stamped gt)) ∙ ap (λ rs. list_any p (rows_by g (history_at e (filter (is_after m) s.stamped)) rs)) (sym (rows_at-back m e s.stamped gt));
   };
   active = h.active;
-  opened = λ k.
-      stands_below s table vs (suc m) k sd st h (record { from = let a = tr.above in omega (arith, a); free = λ q j. absurd (let a = tr.above in omega (arith, a, q)) }) (each_weaker (IsPast s.start) (λ x. x.end < suc m) (λ x p. below x.end p.until) s.past st.past)
-      ∙ ap (λ o. option_map (λ h. (o, Puts h)) (fin.get (seen_by s.base s.stamped (suc m)) k)) (same_origin k)
-      ∙ ap (option_map (λ h. (end_or s.marks.opening (last_writer k (suc m) (s.past ++ front)), Puts h))) (same_row k);
+  opened = opened_at_trim s m sd st tr table vs h;
   stood = stood;
   known = each_weaker (λ v. IsKnown s table v.begin × IsKnown s table v.end) (λ v. IsKnown (after_trim s m) table v.begin × IsKnown (after_trim s m) table v.end) (λ v i. (known_next s (after_trim s m) table table stamp (λ u n. n) v.begin i.0, known_next s (after_trim s m) table table stamp (λ u n. n) v.end i.1)) vs h.known;
   claims = each_weaker (HasItsClaims s (ends_of table)) (HasItsClaims (after_trim s m) (ends_of table)) (λ v g a put stays. let w = g a put stays in record { active = w.active; stamped = part (λ x. IsClaimed v.row.key a (has_stamp (ends_of table) x.end) x.claims v.end) w.stamped }) vs h.claims;
@@ -79,43 +70,7 @@ kept_after_trim s table vs m sd st tr h ph stood = record {
     stamp : (n : ℕ) → IsKnownStamp s n → IsKnownStamp (after_trim s m) n
     stamp n g = record { drawn = g.drawn; apart = g.apart; settled = part (λ x. x.settled ≡ false → x.end ≢ n) g.settled }
 
-    below : (n : ℕ) → n ≤ s.start → n < suc m
-    below n le = let a = tr.above in omega (arith, a, le)
-
     apart : (n i : ℕ) → n ≤ m → m ≤ i → (n ≡ i → ⊥) → (n ≡ i) ⊎ ((n < i) ⊎ (i < n)) → n < i
     apart n i a b d (inl e) = absurd (d e)
     apart n i a b d (inr (inl l)) = l
     apart n i a b d (inr (inr g)) = absurd (omega (arith, a, b, g))
-
-    after : AllByRecursion (λ x. suc m ≤ x.end) (filter (is_after m) s.stamped)
-    after = each_filter (is_after m) (λ _. ⊤) (λ x. suc m ≤ x.end) (λ x q _. above x (is_to m x) refl q) s.stamped (each_always (λ _. ⊤) (λ _. tt) s.stamped)
-      where
-        above : (x : StampedTx) (b : Bool) → is_to m x ≡ b → not b ≡ true → suc m ≤ x.end
-        above x true q g = absurd (false≢true g)
-        above x false q g = let l : m < x.end = leb-false x.end m q in omega (arith, l)
-
-    settled : AllByRecursion (λ x. x.settled ≡ true) front
-    settled = each_filter (is_to m) (λ x. x.settled ≡ false → m < x.end) (λ x. x.settled ≡ true) (λ x q g. is x (leb-true x.end m q) x.settled refl g) s.stamped tr.settled
-      where
-        is : (x : StampedTx) → x.end ≤ m → (b : Bool) → x.settled ≡ b → (x.settled ≡ false → m < x.end) → x.settled ≡ true
-        is x l true e g = e
-        is x l false e g = absurd (let n = g e in omega (arith, n, l))
-
-    under : AllByRecursion (λ x. x.end < suc m) front
-    under = each_filter (is_to m) (λ _. ⊤) (λ x. x.end < suc m) (λ x q _. let l : x.end ≤ m = leb-true x.end m q in omega (arith, l)) s.stamped (each_always (λ _. ⊤) (λ _. tt) s.stamped)
-
-    both : s.stamped ≡ front ++ filter (is_after m) s.stamped
-    both = sym (parted m s.stamped sd.rising)
-
-    last_front : (k : RowKey) → last_writer k (suc m) s.stamped ≡ last_writer k (suc m) front
-    last_front k = ap (last_writer k (suc m)) both ∙ last_writer-append k (suc m) front (filter (is_after m) s.stamped) ∙ ap (or_later (last_writer k (suc m) front)) (last_none_above k (suc m) (filter (is_after m) s.stamped) after)
-
-    same_origin : (k : RowKey) → origin s (suc m) k ≡ end_or s.marks.opening (last_writer k (suc m) (s.past ++ front))
-    same_origin k = ap (end_or s.marks.opening) (last_writer-append k (suc m) s.past s.stamped ∙ ap (or_later (last_writer k (suc m) s.past)) (last_front k) ∙ sym (last_writer-append k (suc m) s.past front))
-
-    same_row : (k : RowKey) → fin.get (seen_by s.base s.stamped (suc m)) k ≡ fin.get (after_settled front s.base) k
-    same_row k =
-        ap (λ xs. fin.get (seen_by s.base xs (suc m)) k) both
-        ∙ ap (λ n. fin.get n k) (seen_trimmed s.base front (filter (is_after m) s.stamped) (suc m) settled under)
-        ∙ get-after_history k (history_below (suc m) (filter (is_after m) s.stamped)) (after_settled front s.base)
-        ∙ ap (λ w. content_after_last w (fin.get (after_settled front s.base) k)) (history_below_last k (suc m) (filter (is_after m) s.stamped) ∙ ap (write_by k) (last_none_above k (suc m) (filter (is_after m) s.stamped) after))

@@ -18,6 +18,7 @@ pub mod Between
 pub mod Scanned
 pub mod Waited
 pub mod Reported
+pub mod TrimChanges
 pub mod Cut
 pub mod Collect
 pub mod Indexed
@@ -67,3 +68,5 @@ pub mod OrderFalls
 pub mod OrderOthers
 pub mod OrderWritten
 pub mod OrderSlots
+pub mod TrimRows
+pub mod TableDiffers

@@ -9,7 +9,7 @@ use Rattle.mvo_model.specs.Trace.Phase.{Absent, Active, Preparing, Committed, Ab
 use Rattle.mvo_theory.specs.State.{State, StampedTx, preparing_of}
 use Rattle.mvo_theory.specs.Sound.{IsSound, IsRising}
 use Rattle.mvo_theory.proofs.Commits.{split_at}
-use Rattle.mvo_theory.proofs.Each.{each_always}
+use Rattle.mvo_theory.proofs.Each.{each_always, each_weaker}
 use Rattle.mvo_theory.proofs.OriginEnds.{alone_at}
 use Rattle.mvo_word.specs.declared.held.Held.{Held}
 use Rattle.mvo_word.specs.declared.held.Held.TheVariants.{At, By, Infinity}
@@ -24,7 +24,8 @@ use Rattle.mvo_representation.specs.Indexes.{all_versions}
 use Rattle.mvo_representation.specs.Table.{phase_as, phases_of}
 use Rattle.mvo_representation.specs.Order.{IsUpTo, is_written_by, MayPrecede, StandInOrder, EachPair, is_put_by, MayAbort, IsSeenAlike}
 use Rattle.mvo_representation.specs.Order.HasSameWords.{Same, Unnamed}
-use Rattle.mvo_representation.specs.OrderLaws.{AbortBringsOrder, BeginKeepsOrder, CommitStaysInOrder, LeavingKeepsOrder}
+use Rattle.mvo_representation.specs.OrderLaws.{AbortBringsOrder, BeginKeepsOrder, CommitStaysInOrder, LeavingKeepsOrder, SameStayInOrder}
+use Rattle.mvo_representation.specs.WrittenLaws.{AbsentIsUnnamed}
 use Rattle.mvo_representation.proofs.Facts.{preparing_is, found_holds}
 use Rattle.mvo_representation.proofs.OrderPairs.{is_the_stamp, unstamped_pair}
 use Rattle.mvo_representation.proofs.OrderLists.{keyed, with_keyed, fronts_keyed}
@@ -183,3 +184,15 @@ leaving_keeps_order start states states' slots lists t d now free order = alike_
         ];
       },
     )) order
+
+pub same_stay_in_order : SameStayInOrder
+same_stay_in_order start states states' slots slots' lists same there order = alike_stay_in_order start states states' slots slots' lists (λ m w e. (w, sym (there m) ∙ e, record { begin = word w.begin; end = word w.end; active = λ u act. Same (ap phase_as (sym (same u)) ∙ act) refl refl })) order
+  where
+    word : (w : Held) → stamp_in (ends_of (phases_of states')) w ≡ stamp_in (ends_of (phases_of states)) w
+    word (At s) = refl
+    word (By u) = ap (λ o. end_in (phase_as o)) (same u.0)
+    word Infinity = refl
+
+pub absent_is_unnamed : AbsentIsUnnamed
+absent_is_unnamed opening steps s states slots lists places t h was = each_weaker (λ x. IsKnown s (phases_of states) x.begin × IsKnown s (phases_of states) x.end) (λ x. (names t x.begin ≡ false) × (names t x.end ≡ false))
+    (λ x k. (known_unnamed s (phases_of states) t (ap phase_as was) x.begin k.0, known_unnamed s (phases_of states) t (ap phase_as was) x.end k.1)) (all_versions slots) h.versions.known

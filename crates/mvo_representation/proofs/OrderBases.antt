@@ -71,7 +71,7 @@ put_in (Some (Put h)) e = (h, refl)
 same_key : (k : RowKey) (v : Version) → v.row.key ≡ k → eq_by_cmp key_cmp k v.row.key ≡ true
 same_key k v e = subst (λ (j : RowKey). eq_by_cmp key_cmp j v.row.key ≡ true) e ((eq_by_cmp_equiv keys_total).refl v.row.key)
 
-leaves_none : (a b : NetEffect) → leaves_row (with_effect a b) ≡ false → (leaves_row a ≡ false) × (leaves_row b ≡ false)
+pub leaves_none : (a b : NetEffect) → leaves_row (with_effect a b) ≡ false → (leaves_row a ≡ false) × (leaves_row b ≡ false)
 leaves_none Untouched b e = (refl, e)
 leaves_none Removed Untouched e = (refl, refl)
 leaves_none Removed Removed e = (refl, refl)
@@ -83,13 +83,13 @@ leaves_none Clash b e = absurd (true≢false e)
 pub stands_here : (ends : Ends) (start : ℕ) (k : RowKey) (y : Version) → y.row.key ≡ k → is_standing ends start y ≡ true → standing_effect_of ends start k y ≡ Puts (content_of y.row)
 stands_here ends start k y key on = ap (λ (b : Bool). cond (b && is_standing ends start y) (Puts (content_of y.row)) Untouched) (same_key k y key) ∙ ap (λ (b : Bool). cond b (Puts (content_of y.row)) Untouched) on
 
-none_standing : (ends : Ends) (start : ℕ) (k : RowKey) (zs : List Version) → leaves_row (standing_effect ends start k zs) ≡ false → AllByRecursion (λ y. y.row.key ≡ k → is_standing ends start y ≡ true → ⊥) zs
+pub none_standing : (ends : Ends) (start : ℕ) (k : RowKey) (zs : List Version) → leaves_row (standing_effect ends start k zs) ≡ false → AllByRecursion (λ y. y.row.key ≡ k → is_standing ends start y ≡ true → ⊥) zs
 none_standing ends start k [] e = tt
 none_standing ends start k (y ∷ ys) e =
     let p = leaves_none (standing_effect_of ends start k y) (standing_effect ends start k ys) e in
     ((λ key on. true≢false (sym (ap leaves_row (stands_here ends start k y key on)) ∙ p.0)), none_standing ends start k ys p.1)
 
-first_alone : (h g : ContentData) (rest : NetEffect) → with_effect (Puts h) rest ≡ Puts g → leaves_row rest ≡ false
+pub first_alone : (h g : ContentData) (rest : NetEffect) → with_effect (Puts h) rest ≡ Puts g → leaves_row rest ≡ false
 first_alone h g Untouched e = refl
 first_alone h g Removed e = refl
 first_alone h g (Puts f) e = absurd (clash e)
@@ -108,7 +108,7 @@ never_nothing h (Puts g) e = cc
 never_nothing h Clash e = cc
 
 -- the change that leaves a row
-stamp_standing : (c : Option (ℕ × NetEffect)) (o : ℕ) (h : ContentData) → standing c ≡ Some (o, Puts h) → (d : NetEffect) × (c ≡ Some (o, d)) × (leaves_row d ≡ true)
+pub stamp_standing : (c : Option (ℕ × NetEffect)) (o : ℕ) (h : ContentData) → standing c ≡ Some (o, Puts h) → (d : NetEffect) × (c ≡ Some (o, d)) × (leaves_row d ≡ true)
 stamp_standing None o h e = absurd (no_change (o, Puts h) e)
 stamp_standing (Some (c, Untouched)) o h e = absurd (no_change (o, Puts h) e)
 stamp_standing (Some (c, Removed)) o h e = absurd (no_change (o, Puts h) e)
@@ -120,15 +120,35 @@ pub record StandsAtStart (s : State) (table : Phases) (vs : List Version) (k : R
   pub row : is_some (fin.get s.base k) ≡ true
   pub last : (c : ℕ) → a < c → c ≤ s.start → net_effect (has_stamp (ends_of table) c) k vs ≡ Untouched
 
-pub stands_at_start : (s : State) (table : Phases) (xs : List Version) (v : Version) (ys : List Version) (k : RowKey) (a x : ℕ) → AreVersionsOf s table (xs ++ v ∷ ys) → v.row.key ≡ k → stamp_in (ends_of table) v.begin ≡ Some a → a ≤ s.start → stamp_in (ends_of table) v.end ≡ Some x → s.start < x → StandsAtStart s table (xs ++ v ∷ ys) k a
-stands_at_start s table xs v ys k a x h key put below end above = go (fin.get s.base k) refl
+-- the last change of a key leaves the version that it put standing
+pub standing_put : (ends : Ends) (m : ℕ) (k : RowKey) (vs : List Version) → AllByRecursion (IsForward ends) vs → (o : ℕ) (d : NetEffect) → IsLastChange (λ e. net_effect (has_stamp ends e) k vs) (suc m) (o, d) → (u : PutAt ends o k vs) → is_standing ends m u.version ≡ true
+standing_put ends m k vs all o d last u =
+    ap (λ (w : Option ℕ). is_up_to m w && cond (is_up_to m (stamp_in ends u.version.end)) false true) u.put
+    ∙ ap (λ (b : Bool). b && cond (is_up_to m (stamp_in ends u.version.end)) false true) (lt-ltb o (suc m) last.within)
+    ∙ stays (stamp_in ends u.version.end) refl
+  where
+    forward : IsForward ends u.version
+    forward = (each_back (IsForward ends) u.before (u.version ∷ u.after) (subst (AllByRecursion (IsForward ends)) u.is all)).0
+
+    stays : (w : Option ℕ) → stamp_in ends u.version.end ≡ w → cond (is_up_to m w) false true ≡ true
+    stays None e = refl
+    stays (Some y) e = elim (cases_lt y (suc m)) [
+      | inr le ↦ ap (λ (b : Bool). cond b false true) (le-ltb y (suc m) le)
+      | inl lt ↦
+          let le = forward o y u.put e in
+          let ne : y ≢ o = λ same. false≢true (sym u.stays ∙ has_the_stamp o (stamp_in ends u.version.end) (e ∙ ap (λ (n : ℕ). Some n) same)) in
+          absurd (end_has_effect (has_stamp ends y) u.before u.version u.after (has_the_stamp y (stamp_in ends u.version.end) e)
+          (ap (λ ws. net_effect (has_stamp ends y) u.version.row.key ws) (sym u.is) ∙ ap (λ (j : RowKey). net_effect (has_stamp ends y) j vs) (key_same k u.version.row.key u.key) ∙ last.last y (omega (arith, le, ne)) lt))
+    ]
+
+pub stands_at_start : (s : State) (table : Phases) (xs : List Version) (v : Version) (ys : List Version) (k : RowKey) (a : ℕ) → AreVersionsOf s table (xs ++ v ∷ ys) → v.row.key ≡ k → stamp_in (ends_of table) v.begin ≡ Some a → a ≤ s.start → is_up_to s.start (stamp_in (ends_of table) v.end) ≡ false → StandsAtStart s table (xs ++ v ∷ ys) k a
+stands_at_start s table xs v ys k a h key put below end = go (fin.get s.base k) refl
   where
     on : is_standing (ends_of table) s.start v ≡ true
     on =
         ap (λ (o : Option ℕ). is_up_to s.start o && cond (is_up_to s.start (stamp_in (ends_of table) v.end)) false true) put
         ∙ ap (λ (b : Bool). b && cond (is_up_to s.start (stamp_in (ends_of table) v.end)) false true) (lt-ltb a (suc s.start) (omega (arith, below)))
-        ∙ ap (λ (o : Option ℕ). cond (is_up_to s.start o) false true) end
-        ∙ ap (λ (b : Bool). cond b false true) (le-ltb x (suc s.start) (omega (arith, above)))
+        ∙ ap (λ (b : Bool). cond b false true) end
 
     rows : with_effect (Puts (content_of v.row)) (standing_effect (ends_of table) s.start k (xs ++ ys)) ≡ as_net_effect (option_map (λ h. Put h) (fin.get s.base k))
     rows = ap (λ d. with_effect d (standing_effect (ends_of table) s.start k (xs ++ ys))) (sym (stands_here (ends_of table) s.start k v key on)) ∙ sym (standing_effect-at (ends_of table) s.start k xs v ys) ∙ h.stood k
@@ -141,27 +161,6 @@ stands_at_start s table xs v ys k a x h key put below end above = go (fin.get s.
         let none = each_weaker (λ y. y.row.key ≡ k → is_standing (ends_of table) s.start y ≡ true → ⊥) OnlyAt (λ y f p q. absurd (f p q)) (xs ++ ys) (none_standing (ends_of table) s.start k (xs ++ ys) e) in
         each_append OnlyAt xs (v ∷ ys) (each_front OnlyAt xs ys none) ((λ _ _. put), each_back OnlyAt xs ys none)
 
-    -- the version that the last change put stands
-    standing_put : (o : ℕ) (d : NetEffect) → IsLastChange (λ e. net_effect (has_stamp (ends_of table) e) k (xs ++ v ∷ ys)) (suc s.start) (o, d) → (u : PutAt (ends_of table) o k (xs ++ v ∷ ys)) → is_standing (ends_of table) s.start u.version ≡ true
-    standing_put o d last u =
-        ap (λ (w : Option ℕ). is_up_to s.start w && cond (is_up_to s.start (stamp_in (ends_of table) u.version.end)) false true) u.put
-        ∙ ap (λ (b : Bool). b && cond (is_up_to s.start (stamp_in (ends_of table) u.version.end)) false true) (lt-ltb o (suc s.start) last.within)
-        ∙ stays (stamp_in (ends_of table) u.version.end) refl
-      where
-        forward : IsForward (ends_of table) u.version
-        forward = (each_back (IsForward (ends_of table)) u.before (u.version ∷ u.after) (subst (AllByRecursion (IsForward (ends_of table))) u.is h.forward)).0
-
-        stays : (w : Option ℕ) → stamp_in (ends_of table) u.version.end ≡ w → cond (is_up_to s.start w) false true ≡ true
-        stays None e = refl
-        stays (Some y) e = elim (cases_lt y (suc s.start)) [
-          | inr le ↦ ap (λ (b : Bool). cond b false true) (le-ltb y (suc s.start) le)
-          | inl lt ↦
-              let le = forward o y u.put e in
-              let ne : y ≢ o = λ same. false≢true (sym u.stays ∙ has_the_stamp o (stamp_in (ends_of table) u.version.end) (e ∙ ap (λ (n : ℕ). Some n) same)) in
-              absurd (end_has_effect (has_stamp (ends_of table) y) u.before u.version u.after (has_the_stamp y (stamp_in (ends_of table) u.version.end) e)
-              (ap (λ vs. net_effect (has_stamp (ends_of table) y) u.version.row.key vs) (sym u.is) ∙ ap (λ (j : RowKey). net_effect (has_stamp (ends_of table) y) j (xs ++ v ∷ ys)) (key_same k u.version.row.key u.key) ∙ last.last y (omega (arith, le, ne)) lt))
-        ]
-
     go : (m : Option ContentData) → fin.get s.base k ≡ m → StandsAtStart s table (xs ++ v ∷ ys) k a
     go None e = absurd (never_nothing (content_of v.row) (standing_effect (ends_of table) s.start k (xs ++ ys)) (rows ∙ ap (λ m. as_net_effect (option_map (λ h. Put h) m)) e))
     go (Some g) e =
@@ -169,12 +168,15 @@ stands_at_start s table xs v ys k a x h key put below end above = go (fin.get s.
         let last = last_change_is_one (λ c. net_effect (has_stamp (ends_of table) c) k (xs ++ v ∷ ys)) (suc s.start) (origin_at_start s k, w.0) w.1 in
         let u = put_at_stamp (ends_of table) (origin_at_start s k) k (xs ++ v ∷ ys) (ap leaves_row last.is ∙ w.2) in
         let all = only (first_alone (content_of v.row) g (standing_effect (ends_of table) s.start k (xs ++ ys)) (rows ∙ ap (λ m. as_net_effect (option_map (λ h. Put h) m)) e)) in
-        let at = (each_back OnlyAt u.before (u.version ∷ u.after) (subst (AllByRecursion OnlyAt) u.is all)).0 (key_same k u.version.row.key u.key) (standing_put (origin_at_start s k) w.0 last u) in
+        let at = at_put u all last in
         let same : origin_at_start s k ≡ a = stamps (origin_at_start s k) a (sym u.put ∙ at) in
         record { origin = same; row = ap is_some e; last = λ c lt le. last.last c (omega (arith, lt, same)) (omega (arith, le)) }
       where
         stamps : (m n : ℕ) → ◌≡◌ {A = Option ℕ} (Some m) (Some n) → m ≡ n
         stamps m n q = cc
+
+        at_put : {o : ℕ} {d : NetEffect} (u : PutAt (ends_of table) o k (xs ++ v ∷ ys)) → AllByRecursion OnlyAt (xs ++ v ∷ ys) → IsLastChange (λ e. net_effect (has_stamp (ends_of table) e) k (xs ++ v ∷ ys)) (suc s.start) (o, d) → stamp_in (ends_of table) u.version.begin ≡ Some a
+        at_put {o = o} {d = d} u all last = (each_back OnlyAt u.before (u.version ∷ u.after) (subst (AllByRecursion OnlyAt) u.is all)).0 (key_same k u.version.row.key u.key) (standing_put (ends_of table) s.start k (xs ++ v ∷ ys) h.forward o d last u)
 
 pub base_at_start : (s : State) (table : Phases) (vs : List Version) (k : RowKey) (a : ℕ) → IsStarted s → a ≤ s.start → StandsAtStart s table vs k a → IsBase s k a
 base_at_start s table vs k a st below h = record {

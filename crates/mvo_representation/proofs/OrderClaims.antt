@@ -96,15 +96,13 @@ two_pass p (x ∷ xs) le = (
     both true one e l = omega (arith, one, l)
     both false one e l = false≢true e
 
--- ---- who claims the version is the next one that settled
-module _ (opening : Map) (steps : List Step) (s : State) (k : RowKey) (a : ℕ) (h : IsKept opening steps s) (base : IsBase s k a) (y : StampedTx) (my : IsIn y s.stamped) (claims : has_claim y.claims k a ≡ true) where
-  not_next : (z : StampedTx) → IsIn z s.stamped → z.settled ≡ true → is_some (net_write k z.history) ≡ true → z.end < y.end → StandsSo opening s k a z.end → ⊥
+-- ---- the next one that settled claims the version
+-- where nobody with an end below the limit claims it, nobody that settled there wrote the key later
+module _ (opening : Map) (steps : List Step) (s : State) (k : RowKey) (a : ℕ) (h : IsKept opening steps s) (base : IsBase s k a) (limit : ℕ) (unclaimed : (z : StampedTx) → IsIn z s.stamped → z.end < limit → has_claim z.claims k a ≡ true → ⊥) where
+  not_next : (z : StampedTx) → IsIn z s.stamped → z.settled ≡ true → is_some (net_write k z.history) ≡ true → z.end < limit → StandsSo opening s k a z.end → ⊥
   not_next z m o w lt st =
       let claim : has_claim z.claims k (settled_origin s z.end k) ≡ true = m (ClaimsIfStanding opening s k) (each_back (ClaimsIfStanding opening s k) s.past s.stamped (settled_claim opening steps s k h)) o w st.1 in
-      let le = h.exclusive k a in
-      m (λ x. has_claim x.claims k a ≡ true → has_claim y.claims k a ≡ true → x.end ≢ y.end → ⊥)
-      (my (λ x. AllByRecursion (λ z. has_claim z.claims k a ≡ true → has_claim x.claims k a ≡ true → z.end ≢ x.end → ⊥) s.stamped) (two_pass (λ x. has_claim x.claims k a) s.stamped (omega (arith, le))))
-      (sym (ap (λ (n : ℕ). has_claim z.claims k n) st.0) ∙ claim) claims (λ e. omega (arith, lt, e))
+      unclaimed z m lt (sym (ap (λ (n : ℕ). has_claim z.claims k n) st.0) ∙ claim)
 
   in_stamped : (q : StampedTx) → IsIn q (settled_ones s.stamped) → IsIn q s.stamped
   in_stamped q m = λ P f. m P (each_part (λ x. x.settled) P s.stamped f)
@@ -117,14 +115,14 @@ module _ (opening : Map) (steps : List Step) (s : State) (k : RowKey) (a : ℕ) 
       go true e r = (e, r)
       go false e r = r
 
-  descend : (n : ℕ) (z : StampedTx) → IsIn z s.stamped → z.settled ≡ true → is_some (net_write k z.history) ≡ true → a < z.end → z.end < y.end → z.end < n → ⊥
+  descend : (n : ℕ) (z : StampedTx) → IsIn z s.stamped → z.settled ≡ true → is_some (net_write k z.history) ≡ true → a < z.end → z.end < limit → z.end < n → ⊥
   descend zero z m o w above below le = omega (arith, le)
   descend (suc n) z m o w above below le = go (last_writer k z.end (settled_ones s.stamped)) refl (λ q i p. descend n q i p)
     where
       started : s.start < z.end
       started = m (λ x. s.start < x.end) h.started.later
 
-      go : (v : Option StampedTx) → last_writer k z.end (settled_ones s.stamped) ≡ v → ((q : StampedTx) → IsIn q s.stamped → q.settled ≡ true → is_some (net_write k q.history) ≡ true → a < q.end → q.end < y.end → q.end < n → ⊥) → ⊥
+      go : (v : Option StampedTx) → last_writer k z.end (settled_ones s.stamped) ≡ v → ((q : StampedTx) → IsIn q s.stamped → q.settled ≡ true → is_some (net_write k q.history) ≡ true → a < q.end → q.end < limit → q.end < n → ⊥) → ⊥
       go None e again = not_next z m o w below (stands_at_start opening steps s k a z.end h started e (base.none z.end above e))
       go (Some q) e again = elim (cases_order a q.end) [
         | inl same ↦ not_next z m o w below (stands_by opening steps s k a z.end q h started e (sym same) (base.put z.end q e (sym same)))
@@ -136,5 +134,13 @@ module _ (opening : Map) (steps : List Step) (s : State) (k : RowKey) (a : ℕ) 
         ]
       ]
 
-  pub none_later : (z : StampedTx) → IsIn z s.stamped → z.settled ≡ true → is_some (net_write k z.history) ≡ true → a < z.end → z.end < y.end → ⊥
-  none_later z m o w above below = descend (suc z.end) z m o w above below (omega arith)
+  pub none_wrote : (z : StampedTx) → IsIn z s.stamped → z.settled ≡ true → is_some (net_write k z.history) ≡ true → a < z.end → z.end < limit → ⊥
+  none_wrote z m o w above below = descend (suc z.end) z m o w above below (omega arith)
+
+-- where one claims it, none that settled before that one wrote the key later
+pub none_later : (opening : Map) (steps : List Step) (s : State) (k : RowKey) (a : ℕ) → IsKept opening steps s → IsBase s k a → (y : StampedTx) → IsIn y s.stamped → has_claim y.claims k a ≡ true → (z : StampedTx) → IsIn z s.stamped → z.settled ≡ true → is_some (net_write k z.history) ≡ true → a < z.end → z.end < y.end → ⊥
+none_later opening steps s k a h base y my claims = none_wrote opening steps s k a h base y.end (λ z m lt claim.
+    let le = h.exclusive k a in
+    m (λ x. has_claim x.claims k a ≡ true → has_claim y.claims k a ≡ true → x.end ≢ y.end → ⊥)
+    (my (λ x. AllByRecursion (λ v. has_claim v.claims k a ≡ true → has_claim x.claims k a ≡ true → v.end ≢ x.end → ⊥) s.stamped) (two_pass (λ x. has_claim x.claims k a) s.stamped (omega (arith, le))))
+    claim claims (λ e. omega (arith, lt, e)))

@@ -1,9 +1,9 @@
 -- Versions that stand in order have falling stamps, and what an Active transaction wrote in front.
-use Rattle.std.proofs.Common.{◌≡◌, ◌≢◌, ℕ, ◌<◌, ◌≤◌, Bool, true, false, List, [], ◌∷◌, ◌++◌, Option, None, Some, refl, sym, ap, ◌∙◌, subst, arith, ◌⊎◌, inl, inr}
+use Rattle.std.proofs.Common.{◌≡◌, ◌≢◌, ℕ, ◌<◌, ◌≤◌, suc, Bool, true, false, List, [], ◌∷◌, ◌++◌, Option, None, Some, refl, sym, ap, ◌∙◌, subst, arith, ◌⊎◌, inl, inr}
 use Rattle.std.specs.Prelude.{⊤, is_some}
 use Rattle.std.specs.List.{AllByRecursion}
 use Rattle.std.specs.Option.{option_or}
-use Rattle.std.proofs.lemmas.Bool.{ne_eqb, cases_lt, cases_eq}
+use Rattle.std.proofs.lemmas.Bool.{ne_eqb, le-ltb, cases_lt, cases_eq}
 use Rattle.mvo_types.specs.declared.row.RowKey.{RowKey}
 use Rattle.mvo_types.specs.declared.ids.Stamp.{Stamp}
 use Rattle.mvo_types.specs.Keys.{Map}
@@ -27,7 +27,7 @@ use Rattle.mvo_visible.specs.declared.seen.Seen.TheVariants.{Nothing, Settled, S
 use Rattle.mvo_visible.specs.Words.{States, seen_in, seen_of}
 use Rattle.mvo_visible.specs.Versions.{Numbered}
 use Rattle.mvo_visible.proofs.Behind.{Behind, IsUnder, to_falling, to_front}
-use Rattle.mvo_representation.specs.Words.{Phases, end_in, ends_of, stamp_in, is_stamp, has_stamp, net_effect}
+use Rattle.mvo_representation.specs.Words.{Phases, end_in, ends_of, stamp_in, is_stamp, is_up_to, has_stamp, net_effect}
 use Rattle.mvo_representation.specs.Words.NetEffect.{Untouched}
 use Rattle.mvo_representation.specs.Versions.{IsClaimed, IsKnown, IsKnownStamp, HasItsClaims, AreVersionsOf}
 use Rattle.mvo_representation.specs.Indexes.{all_versions}
@@ -79,7 +79,7 @@ module _ (opening : Map) (steps : List Step) (s : State) (table : Phases) (vs : 
         sym (ap (λ (j : RowKey). has_claim y.claims j a) kv) ∙ sym same ∙ has_the_stamp y.end (stamp_in (ends_of table) v.end) (removed ∙ ap (λ (n : ℕ). Some n) (sym e))
 
     at_start : a ≤ s.start → StandsAtStart s table vs k a
-    at_start le = subst (λ us. StandsAtStart s table us k a) v_in (stands_at_start s table vb v va k a x (subst (AreVersionsOf s table) (sym v_in) versions') kv begun le removed late)
+    at_start le = subst (λ us. StandsAtStart s table us k a) v_in (stands_at_start s table vb v va k a (subst (AreVersionsOf s table) (sym v_in) versions') kv begun le (ap (is_up_to s.start) removed ∙ le-ltb x (suc s.start) (omega (arith, late))))
 
     base : (z : StampedTx) → IsIn z s.stamped → z.settled ≡ true → is_some (net_write k z.history) ≡ true → a < z.end → IsBase s k a
     base z m o wrote lt = elim (cases_lt s.start a) [

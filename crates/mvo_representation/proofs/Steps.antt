@@ -27,10 +27,11 @@ use Rattle.mvo_theory.proofs.Kept.{kept_trimmed}
 use Rattle.mvo_theory.proofs.Trimmed.{may_trim}
 use Rattle.mvo_theory.proofs.Who.{active_done, unended_done, unended_after_prepare, unended_after_check, unended_settled, unended_rolled_back, ended_finished}
 use Rattle.mvo_chain.specs.declared.version.Version.{Version}
-use Rattle.mvo_representation.specs.Words.{Phases, ends_of}
-use Rattle.mvo_representation.specs.Versions.{HoldsRows, AreVersionsOf}
+use Rattle.mvo_representation.specs.Words.{Phases}
+use Rattle.mvo_representation.specs.Versions.{AreVersionsOf}
 use Rattle.mvo_representation.specs.Steps.{IsOneMore, fresh, ended_by, IsUnnamed, MayEnd, IsFreeToEnd, IsReplaced, IsRemoved, IsAfterAnswer, IsAfterCall}
 use Rattle.mvo_representation.specs.Steps.MayEnd.{Own, Other}
+use Rattle.mvo_representation.proofs.TrimRows.{trim_holds_rows}
 use Rattle.mvo_representation.proofs.Opened.{kept_moved}
 use Rattle.mvo_representation.proofs.Quiet.{kept_after_termination}
 use Rattle.mvo_representation.proofs.Cut.{kept_after_trim}
@@ -146,10 +147,10 @@ done opening steps s t op vs vs' k h w a =
     let s' = after_answer s t op (answer_in s t op) in
     retabled s' (phase_in s) (phase_in s') vs' (λ _. refl) (answered opening steps s (phase_in s) t r.0 k r.1 vs vs' op h a)
 
-trimmed : (opening : Map) (steps : List Step) (s : State) (m : ℕ) (vs : List Version) → IsKept opening steps s → AreVersionsOf s (phase_in s) vs → why_not_trim s m ≡ None → HoldsRows (ends_of (phase_in s)) m (after_trim s m).base vs → AreVersionsOf (after_trim s m) (phase_in (after_trim s m)) vs
-trimmed opening steps s m vs k h w rows =
+trimmed : (opening : Map) (steps : List Step) (s : State) (m : ℕ) (vs : List Version) → IsKept opening steps s → AreVersionsOf s (phase_in s) vs → why_not_trim s m ≡ None → AreVersionsOf (after_trim s m) (phase_in (after_trim s m)) vs
+trimmed opening steps s m vs k h w =
     retabled (after_trim s m) (phase_in s) (phase_in (after_trim s m)) vs (λ _. refl)
-    (kept_after_trim s (phase_in s) vs m k.sound k.started (may_trim s m w k.sound) h (λ u. sym (k.after_trace.phases u) ∙ (kept_trimmed opening steps s m w k).after_trace.phases u) rows)
+    (kept_after_trim s (phase_in s) vs m k.sound k.started (may_trim s m w k.sound) h (λ u. sym (k.after_trace.phases u) ∙ (kept_trimmed opening steps s m w k).after_trace.phases u) (trim_holds_rows opening steps s (phase_in s) vs m k h w))
 
 validated : (s : State) (t : ℕ) (vs : List Version) → AreVersionsOf s (phase_in s) vs → AreVersionsOf (after_validate s t) (phase_in (after_validate s t)) vs
 validated s t vs h = retabled (after_validate s t) (phase_in s) (phase_in (after_validate s t)) vs (λ _. refl) (kept_by_validate s (phase_in s) vs t h (λ u. same u (cases_eq t u)))
@@ -166,7 +167,7 @@ accepted opening steps s (Validate t) vs vs' k h w a = subst (AreVersionsOf (aft
 accepted opening steps s (Settle t) vs vs' k h w a = subst (AreVersionsOf (after_settle s t) (phase_in (after_settle s t))) (sym a) (settled opening steps s t vs k h w)
 accepted opening steps s (Rollback t) vs vs' k h w a = subst (AreVersionsOf (after_abort s t) (phase_in (after_abort s t))) (sym a) (kept_by_abort opening steps s (phase_in s) (phase_in (after_abort s t)) vs t k h (unended_rolled_back s t w) (λ _. refl))
 accepted opening steps s (Finish t) vs vs' k h w a = subst (AreVersionsOf (after_finish s t) (phase_in (after_finish s t))) (sym a.0) (finished opening steps s t vs k h w a.1)
-accepted opening steps s (Trim m) vs vs' k h w a = subst (AreVersionsOf (after_trim s m) (phase_in (after_trim s m))) (sym a.0) (trimmed opening steps s m vs k h w a.1)
+accepted opening steps s (Trim m) vs vs' k h w a = subst (AreVersionsOf (after_trim s m) (phase_in (after_trim s m))) (sym a) (trimmed opening steps s m vs k h w)
 accepted opening steps s (Close fits g full) vs vs' k h w a = subst (AreVersionsOf (after_close s g.mark) (phase_in (after_close s g.mark))) (sym a) (kept_after_close s (phase_in s) vs g.mark h)
 
 -- each call, whatever it may come to

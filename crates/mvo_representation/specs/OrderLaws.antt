@@ -133,6 +133,13 @@ AlikeStayInOrder = (start : ℕ) (states states' : States) (slots slots' : Slots
     → (v : Version) × (version_at slots m ≡ Some v) × IsSeenAlike states states' v w)
     → AllStandInOrder start states slots lists → AllStandInOrder start states' slots' lists
 
+-- So it is where they are the same.
+abbrev pub SameStayInOrder : Type 0
+SameStayInOrder = (start : ℕ) (states states' : States) (slots slots' : Slots) (lists : Lists)
+    → ((u : ℕ) → states' u ≡ states u)
+    → ((m : VersionNo) → version_at slots' m ≡ version_at slots m)
+    → AllStandInOrder start states slots lists → AllStandInOrder start states' slots' lists
+
 -- A transaction begins.
 abbrev pub BeginKeepsOrder : Type 0
 BeginKeepsOrder = (opening : Map) (steps : List Step) (s : State) (states states' : States)

@@ -8,17 +8,15 @@ use Rattle.mvo_types.specs.AnswerData.{AnswerData}
 use Rattle.mvo_types.specs.AnswerData.AnswerData.{Inserted, Updated, Deleted}
 use Rattle.mvo_model.specs.History.{net_write}
 use Rattle.mvo_theory.specs.State.{State, history_of_active}
-use Rattle.mvo_theory.specs.Changes.{after_trim}
 use Rattle.mvo_theory.specs.Words.{is_done}
 use Rattle.mvo_theory.specs.Calls.{Call, Result, answer_in}
-use Rattle.mvo_theory.specs.Calls.Call.{Do, Finish, Trim}
+use Rattle.mvo_theory.specs.Calls.Call.{Do, Finish}
 use Rattle.mvo_theory.specs.Calls.Result.{Accepted}
 use Rattle.mvo_word.specs.declared.held.Held.TheVariants.{By}
 use Rattle.mvo_chain.specs.declared.version.Version.{Version}
 use Rattle.mvo_chain.specs.Slots.{added}
 use Rattle.mvo_visible.specs.Words.{names}
 use Rattle.mvo_representation.specs.Words.{Phases, ends_of, cause_at_end, IsShownAt}
-use Rattle.mvo_representation.specs.Versions.{HoldsRows}
 
 -- ---- one version
 -- there is one more, anywhere among them: their order is of no matter
@@ -93,13 +91,10 @@ IsAfterAnswer s table t (Delete k) Deleted old new =
 IsAfterAnswer s table t op a old new = new ≡ old
 
 -- ---- a call
--- only operations change them. One that is finished is named by none any more, and up to the new
--- start of the tale just the rows at it stand
+-- only operations change them. One that is finished is named by none any more
 abbrev pub IsAfterCall : State → Phases → Call → Result → List Version → List Version → Type 0
 IsAfterCall s table (Do t op) Accepted old new =
     IsAfterAnswer s table t op (answer_in s t op) old new
 IsAfterCall s table (Finish t) Accepted old new =
     (new ≡ old) × (is_done s t ≡ true → IsUnnamed t old)
-IsAfterCall s table (Trim m) Accepted old new =
-    (new ≡ old) × HoldsRows (ends_of table) m (after_trim s m).base old
 IsAfterCall s table c r old new = new ≡ old

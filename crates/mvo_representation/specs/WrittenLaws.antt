@@ -21,6 +21,13 @@ use Rattle.mvo_representation.specs.OrderLaws.{HaveNow}
 abbrev pub NothingIsWritten : Type 0
 NothingIsWritten = (t : ℕ) (slots : Slots) → IsUnnamed t (all_versions slots) → IsWritten t slots []
 
+-- No word names one that isn't in the table.
+abbrev pub AbsentIsUnnamed : Type 0
+AbsentIsUnnamed = (opening : Map) (steps : List Step) (s : State) (states : States)
+    (slots : Slots) (lists : Lists) (places : Places) (t : ℕ)
+    → StandsFor opening steps s states slots lists places → states t ≡ None
+    → IsUnnamed t (all_versions slots)
+
 -- An insert that is told inserted adds its version.
 abbrev pub InsertIsWritten : Type 0
 InsertIsWritten = (opening : Map) (steps : List Step) (s : State) (states : States)

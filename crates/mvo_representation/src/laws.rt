@@ -13,9 +13,10 @@ ghost use Rattle.mvo_representation.specs.OrderLaws.{OpeningStandsInOrder, Front
 ghost use Rattle.mvo_representation.specs.OrderLaws.{NumbersAreAmong, HolesAreFresh};
 ghost use Rattle.mvo_representation.specs.OrderLaws.{AddedIsNow, ChangedIsNow};
 ghost use Rattle.mvo_representation.specs.OrderLaws.{ForwardIsSame, UnstampedIsUnseen};
+ghost use Rattle.mvo_representation.specs.OrderLaws.{SameStayInOrder};
 ghost use Rattle.mvo_representation.specs.WrittenLaws.{NothingIsWritten, InsertIsWritten};
 ghost use Rattle.mvo_representation.specs.WrittenLaws.{DeleteIsWritten, UpdateIsWritten};
-ghost use Rattle.mvo_representation.specs.WrittenLaws.{OthersKeepWritten};
+ghost use Rattle.mvo_representation.specs.WrittenLaws.{OthersKeepWritten, AbsentIsUnnamed};
 ghost use Rattle.mvo_representation.specs.WordLaws.{OpeningHasLists, BeginKeepsLists};
 ghost use Rattle.mvo_representation.specs.WordLaws.{InsertKeepsLists, DeleteKeepsLists};
 ghost use Rattle.mvo_representation.specs.WordLaws.{UpdateKeepsLists, AnswerKeepsLists};
@@ -62,6 +63,7 @@ pub fn laws_of_standing_order()
     ensures draw { DrawKeepsOrder }
     ensures abort { AbortBringsOrder }
     ensures alike { AlikeStayInOrder }
+    ensures same { SameStayInOrder }
     ensures begin { BeginKeepsOrder }
     ensures commit { CommitStaysInOrder }
     ensures finish { FinishStaysInOrder }
@@ -84,6 +86,7 @@ pub fn laws_of_standing_order()
 /// in which order they come to the front as it draws its end. The call does nothing.
 pub fn laws_of_written_versions()
     ensures nothing { NothingIsWritten }
+    ensures absent { AbsentIsUnnamed }
     ensures insert { InsertIsWritten }
     ensures delete { DeleteIsWritten }
     ensures update { UpdateIsWritten }

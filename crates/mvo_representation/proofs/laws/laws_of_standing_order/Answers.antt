@@ -1,7 +1,7 @@
 use Rattle.mvo_representation.proofs.OrderFalls.{order_falls, order_has_own_in_front, trim_keeps_order}
 use Rattle.mvo_representation.proofs.OrderOperations.{insert_keeps_order, delete_keeps_order, update_keeps_order}
 use Rattle.mvo_representation.proofs.OrderEnds.{draw_keeps_order, forward_is_same, unstamped_is_unseen}
-use Rattle.mvo_representation.proofs.OrderAborts.{abort_brings_order, begin_keeps_order, commit_stays_in_order, leaving_keeps_order}
+use Rattle.mvo_representation.proofs.OrderAborts.{abort_brings_order, begin_keeps_order, commit_stays_in_order, leaving_keeps_order, same_stay_in_order}
 use Rattle.mvo_representation.proofs.OrderSteps.{alike_stay_in_order, removal_keeps_order, unheld_stays_in_order, single_stand_in_order}
 use Rattle.mvo_representation.proofs.OrderOthers.{finish_stays_in_order, opening_stands_in_order, fronts_keep_numbers, numbers_are_among, holes_are_fresh}
 use Rattle.mvo_representation.proofs.OrderSlots.{added_is_now, changed_is_now}
@@ -78,3 +78,6 @@ returns-clause-forward c = forward_is_same
 
 pub returns-clause-unseen : goal.returns-clause-unseen
 returns-clause-unseen c = unstamped_is_unseen
+
+pub returns-clause-same : goal.returns-clause-same
+returns-clause-same c = same_stay_in_order

@@ -1,3 +1,4 @@
+use Rattle.mvo_representation.proofs.OrderAborts.{absent_is_unnamed}
 use Rattle.mvo_representation.proofs.OrderWritten.{nothing_is_written, insert_is_written, delete_is_written, update_is_written, others_keep_written}
 use Rattle.mvo_representation.proofs.laws.laws_of_written_versions.Goals as goal
 
@@ -15,3 +16,6 @@ returns-clause-update c = update_is_written
 
 pub returns-clause-others : goal.returns-clause-others
 returns-clause-others c = others_keep_written
+
+pub returns-clause-absent : goal.returns-clause-absent
+returns-clause-absent c = absent_is_unnamed
