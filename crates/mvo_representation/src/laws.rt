@@ -93,10 +93,11 @@ pub fn laws_of_written_versions()
     ensures others { OthersKeepWritten }
 {}
 
-/// The laws of the words that each transaction still has to replace. Its list names, in the order of
-/// writing, the Begins and Ends that it wrote; an End that another took over stays on the list and
-/// is passed over. Such are the lists when a core opens, and after each call; an ended transaction is
-/// done where at most one place still names it, and no word names it then. The call does nothing.
+/// The laws of the words that each transaction still has to replace. Its list names, in the order
+/// of writing, the Begins and Ends that it wrote; an End that another took over stays on the list
+/// and is passed over. Such are the lists when a core opens, and after each call; an ended
+/// transaction is done where at most one place still names it, and no word names it then. The call
+/// does nothing.
 pub fn laws_of_words()
     ensures opening { OpeningHasLists }
     ensures begin { BeginKeepsLists }
