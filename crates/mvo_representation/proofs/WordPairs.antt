@@ -1,9 +1,7 @@
 -- Words of the state and the places where they stand, pair by pair.
-use Rattle.std.proofs.Common.{◌≡◌, ◌≢◌, ℕ, ◌+◌, ◌≤◌, suc, Bool, true, false, cond, not, List, [], ◌∷◌, ◌++◌, length, Option, None, Some, refl, sym, ap, ◌∙◌, subst, arith, ◌⊎◌, inl, inr}
+use Rattle.std.proofs.Common.{◌≡◌, ℕ, ◌≤◌, suc, Bool, true, false, cond, List, [], ◌∷◌, ◌++◌, length, Some, refl, sym, ap, ◌∙◌, subst, arith, inl, inr}
 use Rattle.std.specs.Prelude.{drop}
 use Rattle.std.specs.List.{AllByRecursion, filter}
-use Rattle.std.proofs.lemmas.Bool.{true≢false, false≢true}
-use Rattle.mvo_types.specs.declared.row.RowKey.{RowKey}
 use Rattle.mvo_theory.specs.State.{State, Claim, Word}
 use Rattle.mvo_theory.specs.State.Word.{Own, Ended}
 use Rattle.mvo_theory.specs.Phases.{phase_in}
@@ -14,7 +12,7 @@ use Rattle.mvo_visible.specs.Words.{names}
 use Rattle.mvo_work.specs.declared.word_place.WordPlace.{WordPlace}
 use Rattle.mvo_work.specs.declared.word_place.WordPlace.TheVariants.{Begin, End}
 use Rattle.mvo_representation.specs.Words.{Ends, ends_of, stamp_in}
-use Rattle.mvo_representation.specs.WordLists.{number_at, word_at, names_at, named, IsGone, IsOfClaim, IsOwnPut, IsWordOf, IsWordAt, StandAt}
+use Rattle.mvo_representation.specs.WordLists.{names_at, named, IsGone, IsWordOf, IsWordAt, StandAt}
 use Rattle.mvo_representation.proofs.WordPlaces.{names_here, filter_all}
 
 abbrev pub ends_in : State → Ends

@@ -1,6 +1,5 @@
 -- Places of words: which name a transaction, and how often one is on a list.
-use Rattle.std.proofs.Common.{◌≡◌, ◌≢◌, ℕ, ◌+◌, ◌≤◌, Bool, true, false, cond, eqb, ◌||◌, List, [], ◌∷◌, ◌++◌, Option, None, Some, refl, sym, ap, ◌∙◌, subst, arith, ◌⊎◌, inl, inr}
-use Rattle.std.specs.Prelude.{◌==◌}
+use Rattle.std.proofs.Common.{◌≡◌, ◌≢◌, ℕ, ◌+◌, Bool, true, false, cond, List, [], ◌∷◌, ◌++◌, Option, None, Some, refl, sym, ap, ◌∙◌, subst, arith, ◌⊎◌, inl, inr}
 use Rattle.std.specs.List.{AllByRecursion, filter}
 use Rattle.std.proofs.lemmas.Bool.{eq-eqb, eqb-true, cases_eq, true≢false, false≢true}
 use Rattle.mvo_theory.specs.Sound.{how_many}
@@ -8,12 +7,11 @@ use Rattle.mvo_theory.proofs.Finds.{count_push}
 use Rattle.mvo_word.specs.declared.held.Held.{Held}
 use Rattle.mvo_word.specs.declared.held.Held.TheVariants.{At, By, Infinity}
 use Rattle.mvo_chain.specs.declared.version.Version.{Version}
-use Rattle.mvo_chain.specs.declared.version.VersionNo.{VersionNo}
 use Rattle.mvo_chain.specs.Slots.{Slots, version_at}
 use Rattle.mvo_visible.specs.Words.{names}
 use Rattle.mvo_work.specs.declared.word_place.WordPlace.{WordPlace}
 use Rattle.mvo_work.specs.declared.word_place.WordPlace.TheVariants.{Begin, End}
-use Rattle.mvo_representation.specs.WordLists.{WordLists, number_at, is_place, word_at, is_named, names_at, named, HaveListNow}
+use Rattle.mvo_representation.specs.WordLists.{WordLists, number_at, is_place, word_at, is_named, names_at, HaveListNow}
 
 -- ---- one place or two
 pub place_same : (p : WordPlace) → is_place p p ≡ true

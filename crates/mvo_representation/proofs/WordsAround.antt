@@ -1,6 +1,5 @@
 -- The lists of all around a transaction that writes, as it puts a version and as it ends one.
-use Rattle.std.proofs.Common.{◌≡◌, ◌≢◌, ℕ, ◌+◌, ◌≤◌, Bool, true, false, cond, eqb, not, ◌||◌, List, [], ◌∷◌, ◌++◌, map, Option, None, Some, refl, sym, ap, ◌∙◌, subst, arith, ◌⊎◌, inl, inr}
-use Rattle.std.specs.Prelude.{◌==◌, ◌&&◌}
+use Rattle.std.proofs.Common.{◌≡◌, ◌≢◌, ℕ, ◌≤◌, Bool, true, false, cond, eqb, not, ◌||◌, List, [], ◌∷◌, ◌++◌, map, Option, None, Some, refl, sym, ap, ◌∙◌, subst, arith, ◌⊎◌, inl, inr}
 use Rattle.std.specs.List.{AllByRecursion, filter}
 use Rattle.std.specs.Ordering.{eq_by_cmp}
 use Rattle.std.specs.Cmp.{eq_by_cmp_equiv}
@@ -9,17 +8,14 @@ use Rattle.mvo_types.proofs.Maps.{keys_total}
 use Rattle.mvo_types.specs.declared.row.RowKey.{RowKey}
 use Rattle.mvo_types.specs.RowData.{RowData}
 use Rattle.mvo_types.specs.Keys.{key_cmp}
-use Rattle.mvo_theory.specs.State.{State, ActiveTx, StampedTx, EndedTx, Outcome, Claim, Word, active_of, is_active_as, is_preparing_as, is_ended_as}
-use Rattle.mvo_theory.specs.State.Outcome.{Committed, Aborted}
+use Rattle.mvo_theory.specs.State.{State, ActiveTx, EndedTx, Claim, Word, active_of, is_active_as, is_preparing_as, is_ended_as}
 use Rattle.mvo_theory.specs.State.Word.{Own, Ended}
-use Rattle.mvo_theory.specs.Words.{words_of, is_end_of, words_without}
+use Rattle.mvo_theory.specs.Words.{words_of, is_end_of}
 use Rattle.mvo_theory.specs.Sound.{IsSingle, how_many}
-use Rattle.mvo_theory.proofs.Each.{each_weaker, each_both, each_map, each_always}
+use Rattle.mvo_theory.proofs.Each.{each_weaker, each_both}
 use Rattle.mvo_theory.proofs.Finds.{count_some}
 use Rattle.mvo_theory.proofs.Footprints.{key_same}
 use Rattle.mvo_theory.proofs.Single.{active_found}
-use Rattle.mvo_word.specs.declared.held.Held.{Held}
-use Rattle.mvo_word.specs.declared.held.Held.TheVariants.{By}
 use Rattle.mvo_chain.specs.declared.version.Version.{Version}
 use Rattle.mvo_chain.specs.declared.version.VersionNo.{VersionNo}
 use Rattle.mvo_chain.specs.Slots.{Slots, version_at}
@@ -31,12 +27,12 @@ use Rattle.mvo_representation.specs.Words.{Ends, stamp_in}
 use Rattle.mvo_representation.specs.Steps.{fresh, ended_by}
 use Rattle.mvo_representation.specs.Order.{own_words}
 use Rattle.mvo_representation.specs.OrderLaws.{HaveNow}
-use Rattle.mvo_representation.specs.WordLists.{WordLists, HaveListNow, number_at, word_at, is_place, names_at, named, IsGone, IsOfClaim, IsWordOf, IsWordAt, StandAt, HasOwnWords, HasWordLists}
+use Rattle.mvo_representation.specs.WordLists.{WordLists, HaveListNow, number_at, word_at, is_place, names_at, named, IsGone, IsOfClaim, IsWordOf, IsWordAt, StandAt, HasOwnWords}
 use Rattle.mvo_representation.proofs.Ending.{named_end}
 use Rattle.mvo_representation.proofs.OrderLists.{some_version, no_version}
 use Rattle.mvo_representation.proofs.OrderWritten.{others_keep_written}
-use Rattle.mvo_representation.proofs.WordPlaces.{AreOnce, IsNewOrOld, one_name, own_name, names_here, names_none, names_like, place_apart, place_cases, filter_always, filter_narrow, each_passes, not_counted, once_pushed}
-use Rattle.mvo_representation.proofs.WordPairs.{ends_in, IsLike, IsLikeVersion, word_like, version_like_self, stand_weaker, stand_kept, stand_push, stand_named, stand_less}
+use Rattle.mvo_representation.proofs.WordPlaces.{AreOnce, IsNewOrOld, own_name, names_here, names_none, names_like, place_apart, place_cases, filter_always, filter_narrow, each_passes, not_counted, once_pushed}
+use Rattle.mvo_representation.proofs.WordPairs.{ends_in, IsLike, word_like, version_like_self, stand_weaker, stand_kept, stand_push, stand_named, stand_less}
 use Rattle.mvo_representation.proofs.WordsKept.{IsActiveListed, IsPreparingListed, IsEndedListed}
 use Rattle.mvo_representation.proofs.WordsSaid.{none_pass, not_the_one, not_preparing_one}
 

@@ -1,19 +1,18 @@
 -- A precommit and an abort keep the lists.
-use Rattle.std.proofs.Common.{◌≡◌, ◌≢◌, ℕ, ◌+◌, ◌<◌, ◌≤◌, Bool, true, false, cond, eqb, not, List, [], ◌∷◌, ◌++◌, map, Option, None, Some, refl, sym, ap, ◌∙◌, subst, arith, ◌⊎◌, inl, inr}
+use Rattle.std.proofs.Common.{◌≡◌, ◌≢◌, ℕ, ◌+◌, ◌≤◌, Bool, true, false, cond, eqb, not, List, [], ◌∷◌, Option, None, Some, refl, sym, ap, ◌∙◌, subst, arith, ◌⊎◌, inl, inr}
 use Rattle.std.specs.Prelude.{◌==◌}
 use Rattle.std.specs.List.{AllByRecursion, filter}
-use Rattle.std.proofs.lemmas.Bool.{cases_eq, eq-eqb, eqb-true, ne_eqb, true≢false, false≢true}
+use Rattle.std.proofs.lemmas.Bool.{cases_eq, eq-eqb, ne_eqb, true≢false, false≢true}
 use Rattle.mvo_types.specs.Keys.{Map}
 use Rattle.mvo_model.specs.Trace.{Step, Phase}
 use Rattle.mvo_model.specs.Trace.Phase.{Absent, Active, Preparing, Committed, Aborted}
 use Rattle.mvo_model.specs.Trace.Step.{Prepares, Aborts}
-use Rattle.mvo_theory.specs.State.{State, ActiveTx, StampedTx, EndedTx, Claim, Word, active_of, preparing_of}
+use Rattle.mvo_theory.specs.State.{State, ActiveTx, StampedTx, Word, active_of, preparing_of}
 use Rattle.mvo_theory.specs.State.Word.{Own, Ended}
 use Rattle.mvo_theory.specs.Words.{words_of, words_now, words_held}
-use Rattle.mvo_theory.specs.Changes.{after_prepare, to_stamped, without, with_flag, active_with_flag, not_at, after_abort_of_active, after_abort_of_preparing, aborted_tx}
-use Rattle.mvo_theory.specs.Steps.{after_abort, after_abort_of}
+use Rattle.mvo_theory.specs.Changes.{after_prepare, to_stamped, with_flag, active_with_flag, not_at, after_abort_of_active, after_abort_of_preparing, aborted_tx}
+use Rattle.mvo_theory.specs.Steps.{after_abort_of}
 use Rattle.mvo_theory.specs.Phases.{phase_in}
-use Rattle.mvo_theory.specs.Sound.{IsSound}
 use Rattle.mvo_theory.specs.Calls.{IsKept}
 use Rattle.mvo_theory.proofs.Each.{each_weaker, each_append, each_map, each_filter}
 use Rattle.mvo_theory.proofs.Phases.{Leads, leads_after_prepare, leads_after_abort_of_active, leads_after_abort_of_preparing}
@@ -30,7 +29,7 @@ use Rattle.mvo_representation.specs.Words.{Ends, end_in, stamp_in}
 use Rattle.mvo_representation.specs.Versions.{IsKnown, IsInside, AreVersionsOf}
 use Rattle.mvo_representation.specs.Indexes.{all_versions}
 use Rattle.mvo_representation.specs.Table.{phases_of}
-use Rattle.mvo_representation.specs.WordLists.{WordLists, number_at, word_at, named, IsGone, IsOfClaim, IsWordOf, IsWordAt, StandAt, HasOwnWords, HasWordLists}
+use Rattle.mvo_representation.specs.WordLists.{WordLists, number_at, word_at, named, IsGone, IsWordOf, IsWordAt, StandAt, HasOwnWords, HasWordLists}
 use Rattle.mvo_representation.specs.WordLaws.{PrecommitKeepsLists, AbortKeepsLists}
 use Rattle.mvo_representation.proofs.Ending.{own_word, named_end, alone_in}
 use Rattle.mvo_representation.proofs.Facts.{found_holds, preparing_is, phase_active, phase_preparing}
@@ -38,7 +37,7 @@ use Rattle.mvo_representation.proofs.OrderSteps.{live}
 use Rattle.mvo_representation.proofs.Quiet.{with_end, ends_turn, ends_stay, stamp_other}
 use Rattle.mvo_representation.proofs.WordPlaces.{one_name}
 use Rattle.mvo_representation.proofs.WordPairs.{ends_in, stand_weaker, stand_all, stand_self}
-use Rattle.mvo_representation.proofs.WordsKept.{IsActiveListed, IsPreparingListed, IsEndedListed, active_self, preparing_self, ended_self, own_self, absent_before, here_versions, words_preparing}
+use Rattle.mvo_representation.proofs.WordsKept.{IsActiveListed, IsPreparingListed, IsEndedListed, active_self, preparing_self, ended_self, absent_before, here_versions, words_preparing}
 use Rattle.mvo_representation.proofs.WordsSaid.{may_abort, unended}
 
 none_end : (e : ℕ) → ◌≡◌ {A = Option ℕ} None (Some e) → ⊥

@@ -1,26 +1,24 @@
 -- Finishing a word, one of several or the last, keeps the lists.
-use Rattle.std.proofs.Common.{◌≡◌, ◌≢◌, ℕ, ◌+◌, ◌<◌, ◌≤◌, zero, suc, Bool, true, false, cond, not, ◌||◌, List, [], ◌∷◌, ◌++◌, length, map, Option, None, Some, refl, sym, ap, ◌∙◌, subst, arith, ◌⊎◌, inl, inr}
-use Rattle.std.specs.Prelude.{◌==◌, ◌&&◌, nat_le, drop, slice_index_or, slice_set}
-use Rattle.std.specs.List.{AllByRecursion, filter, list_any}
-use Rattle.std.proofs.lemmas.Bool.{cases_eq, eq-eqb, eqb-true, ne_eqb, true≢false, false≢true, leb-true}
+use Rattle.std.proofs.Common.{◌≡◌, ◌≢◌, ℕ, ◌+◌, ◌<◌, ◌≤◌, zero, suc, Bool, true, false, cond, ◌||◌, List, [], ◌∷◌, length, map, Option, None, Some, refl, sym, ap, ◌∙◌, subst, arith, ◌⊎◌, inl, inr}
+use Rattle.std.specs.Prelude.{◌==◌, nat_le, drop, slice_index_or, slice_set}
+use Rattle.std.specs.List.{AllByRecursion, list_any}
+use Rattle.std.proofs.lemmas.Bool.{cases_eq, eq-eqb, ne_eqb, true≢false, false≢true, leb-true}
 use Rattle.std.proofs.lemmas.List.{get_or-set_same, get_or-set_other}
 use Rattle.mvo_types.specs.declared.row.RowKey.{RowKey}
-use Rattle.mvo_model.specs.Trace.Phase.{Absent, Active, Preparing, Committed, Aborted}
+use Rattle.mvo_model.specs.Trace.Phase.{Absent, Active}
 use Rattle.mvo_model.specs.Trace.Step.{Terminates}
-use Rattle.mvo_theory.specs.State.{State, ActiveTx, StampedTx, EndedTx, Outcome, Word, active_of, preparing_of, ended_of, is_active_as, is_preparing_as, is_ended_as}
+use Rattle.mvo_theory.specs.State.{State, ActiveTx, StampedTx, EndedTx, Outcome, Word, preparing_of, ended_of, is_active_as, is_preparing_as, is_ended_as}
 use Rattle.mvo_theory.specs.State.Outcome.{Committed as Commits, Aborted as Aborts}
-use Rattle.mvo_theory.specs.Words.{words_of, is_done, words_left}
-use Rattle.mvo_theory.specs.Changes.{with_words, without_ended, after_termination, after_finish}
+use Rattle.mvo_theory.specs.Words.{words_of, words_left}
+use Rattle.mvo_theory.specs.Changes.{with_words, without_ended, after_termination}
 use Rattle.mvo_theory.specs.Phases.{phase_in, phase_by, ended_as}
 use Rattle.mvo_theory.specs.Sound.{IsSingle, how_many}
-use Rattle.mvo_theory.proofs.Each.{each_weaker, each_both, each_map, each_always}
-use Rattle.mvo_theory.proofs.Cases.{is_ended_in}
-use Rattle.mvo_theory.proofs.Finds.{find_none, find_holds, count_some}
+use Rattle.mvo_theory.proofs.Each.{each_weaker, each_both, each_map}
+use Rattle.mvo_theory.proofs.Finds.{find_none, count_some}
 use Rattle.mvo_theory.proofs.Phases.{Leads, leads_after_termination}
 use Rattle.mvo_theory.proofs.Single.{active_found, preparing_found}
 use Rattle.mvo_theory.proofs.Who.{active_holds}
-use Rattle.mvo_word.specs.declared.held.Held.{Held}
-use Rattle.mvo_word.specs.declared.held.Held.TheVariants.{At, By, Infinity}
+use Rattle.mvo_word.specs.declared.held.Held.TheVariants.{Infinity}
 use Rattle.mvo_chain.specs.declared.version.Version.{Version}
 use Rattle.mvo_chain.specs.declared.version.VersionNo.{VersionNo}
 use Rattle.mvo_chain.specs.Slots.{Slots, version_at}
@@ -33,22 +31,22 @@ use Rattle.mvo_representation.specs.Versions.{IsKnown, AreVersionsOf}
 use Rattle.mvo_representation.specs.Indexes.{all_versions}
 use Rattle.mvo_representation.specs.Steps.{IsUnnamed, IsOneChanged}
 use Rattle.mvo_representation.specs.Table.{phases_of}
-use Rattle.mvo_representation.specs.Order.{own_words, word_of_stamp, IsSeenAlike, HasSameWords}
+use Rattle.mvo_representation.specs.Order.{own_words, word_of_stamp}
 use Rattle.mvo_representation.specs.Order.HasSameWords.{Same}
 use Rattle.mvo_representation.specs.OrderLaws.{HaveNow}
-use Rattle.mvo_representation.specs.WordLists.{WordLists, HaveListNow, number_at, word_at, is_place, names_at, named, with_word, finished, IsWordOf, IsWordAt, StandAt, HasOwnWords, HasWordLists}
+use Rattle.mvo_representation.specs.WordLists.{WordLists, HaveListNow, number_at, word_at, is_place, names_at, named, finished, IsWordOf, IsWordAt, StandAt, HasOwnWords, HasWordLists}
 use Rattle.mvo_representation.specs.WordLaws.{FinishKeepsLists, LastIsUnnamed, LastKeepsLists, LeavingKeepsLists, FinishedIsAlike, FinishedStands}
 use Rattle.mvo_representation.proofs.Ending.{named_end}
-use Rattle.mvo_representation.proofs.Finish.{IsAlike, kept_word}
+use Rattle.mvo_representation.proofs.Finish.{kept_word}
 use Rattle.mvo_representation.proofs.OrderLists.{some_version}
 use Rattle.mvo_representation.proofs.OrderSteps.{live}
 use Rattle.mvo_representation.proofs.OrderWritten.{others_keep_written}
 use Rattle.mvo_representation.proofs.Quiet.{with_end, ends_turn, stamp_other}
 use Rattle.mvo_representation.proofs.Reworded.{phase_with_words}
 use Rattle.mvo_representation.proofs.Slots.{slot_changed}
-use Rattle.mvo_representation.proofs.WordPlaces.{one_name, not_other, names_there, names_here, names_like, place_same, place_apart, place_cases, filter_same, filter_always, filter_narrow, each_passes, counted_none, counted_passes}
-use Rattle.mvo_representation.proofs.WordPairs.{ends_in, IsLike, IsLikeVersion, word_like, version_like_self, stand_weaker, stand_kept, stand_named, stand_rest, stand_self}
-use Rattle.mvo_representation.proofs.WordsKept.{IsActiveListed, IsPreparingListed, IsEndedListed, own_self, absent_before, unnamed_at}
+use Rattle.mvo_representation.proofs.WordPlaces.{not_other, names_here, names_like, place_same, place_apart, place_cases, filter_same, filter_always, each_passes, counted_none, counted_passes}
+use Rattle.mvo_representation.proofs.WordPairs.{ends_in, IsLike, IsLikeVersion, word_like, version_like_self, stand_weaker, stand_kept, stand_rest, stand_self}
+use Rattle.mvo_representation.proofs.WordsKept.{IsActiveListed, IsPreparingListed, IsEndedListed, own_self, unnamed_at}
 use Rattle.mvo_representation.proofs.WordsSaid.{not_the_one, ended_not_active, ended_not_preparing, ended_there, active_there, active_beside, preparing_beside, unnamed_where_none, none_is_unnamed, done_is_seen, none_pass}
 
 -- ---- a version with a finished word

@@ -1,51 +1,44 @@
 -- Steps that leave all words as they were keep the lists; and what the lists say.
-use Rattle.std.proofs.Common.{◌≡◌, ◌≢◌, ℕ, ◌+◌, ◌<◌, ◌≤◌, suc, Bool, true, false, cond, not, ◌||◌, List, [], ◌∷◌, ◌++◌, length, map, Option, None, Some, refl, sym, ap, ◌∙◌, subst, arith, ◌⊎◌, inl, inr}
-use Rattle.std.specs.Prelude.{◌==◌, nat_le}
-use Rattle.std.specs.List.{AllByRecursion, filter}
-use Rattle.std.proofs.lemmas.Bool.{cases_eq, true≢false, false≢true, or_parts}
-use Rattle.mvo_types.specs.declared.op.Op.{Op}
-use Rattle.mvo_types.specs.AnswerData.{AnswerData}
+use Rattle.std.proofs.Common.{◌≡◌, ℕ, ◌+◌, ◌≤◌, Bool, true, false, cond, not, List, [], ◌∷◌, Option, None, Some, refl, sym, ap, ◌∙◌, subst, arith, ◌⊎◌, inl, inr}
+use Rattle.std.specs.Prelude.{◌==◌}
+use Rattle.std.specs.List.{AllByRecursion}
+use Rattle.std.proofs.lemmas.Bool.{cases_eq, true≢false, or_parts}
 use Rattle.mvo_types.specs.Keys.{Map}
-use Rattle.mvo_model.specs.History.{write_of}
-use Rattle.mvo_model.specs.Trace.Phase.{Absent, Active, Preparing, Committed, Aborted}
+use Rattle.mvo_model.specs.Trace.Phase.{Absent, Active, Committed}
 use Rattle.mvo_model.specs.Trace.{Step, owner_of}
-use Rattle.mvo_model.specs.Trace.Step.{Begins, Answers, Prepares, Checks, Commits}
-use Rattle.mvo_theory.specs.State.{State, ActiveTx, StampedTx, EndedTx, Claim, Word, history_of_active, active_of, preparing_of, ended_of, opened, is_active_as}
-use Rattle.mvo_theory.specs.Entries.{entries}
-use Rattle.mvo_theory.specs.Words.{words_of, words_now, words_held, is_done, is_last_word}
-use Rattle.mvo_theory.specs.Claims.{new_claim, claim_with}
-use Rattle.mvo_theory.specs.Changes.{new_active, after_begin, after_operation, after_answer, taken_over, with_answer, after_check, with_check, after_commit, committed_tx, with_settled, after_trim, is_to, after_close}
+use Rattle.mvo_model.specs.Trace.Step.{Begins, Answers, Commits}
+use Rattle.mvo_theory.specs.State.{State, ActiveTx, StampedTx, EndedTx, Claim, Word, history_of_active, preparing_of, opened, is_active_as}
+use Rattle.mvo_theory.specs.Words.{words_of, words_now, words_held}
+use Rattle.mvo_theory.specs.Claims.{claim_with}
+use Rattle.mvo_theory.specs.Changes.{new_active, after_begin, after_operation, taken_over, with_answer, after_check, with_check, after_commit, committed_tx, with_settled, after_trim, is_to, after_close}
 use Rattle.mvo_theory.specs.Steps.{after_validate, after_validate_of}
 use Rattle.mvo_theory.specs.Phases.{phase_in}
 use Rattle.mvo_theory.specs.Calls.{IsKept}
-use Rattle.mvo_theory.proofs.Each.{each_weaker, each_append, each_map, each_filter, each_always}
-use Rattle.mvo_theory.proofs.Finds.{find_holds, find_none}
+use Rattle.mvo_theory.proofs.Each.{each_weaker, each_append, each_map, each_filter}
+use Rattle.mvo_theory.proofs.Finds.{find_none}
 use Rattle.mvo_theory.proofs.Kept.{kept_trimmed}
 use Rattle.mvo_theory.proofs.Phases.{Leads, leads_after_begin, leads_after_operation, leads_after_check, leads_after_commit}
 use Rattle.mvo_theory.proofs.Single.{active_found, preparing_alone}
 use Rattle.mvo_chain.specs.declared.version.Version.{Version}
-use Rattle.mvo_chain.specs.Slots.{Slots, version_at}
-use Rattle.mvo_hash.specs.Lists.{number}
+use Rattle.mvo_chain.specs.Slots.{Slots}
 use Rattle.mvo_visible.specs.Words.{names}
 use Rattle.mvo_work.specs.declared.word_place.WordPlace.{WordPlace}
 use Rattle.mvo_work.specs.declared.word_place.WordPlace.TheVariants.{Begin, End}
-use Rattle.mvo_representation.specs.Words.{Phases, Ends, ends_of, end_in, stamp_in}
+use Rattle.mvo_representation.specs.Words.{Phases, end_in}
 use Rattle.mvo_representation.specs.Versions.{IsKnown, AreVersionsOf}
 use Rattle.mvo_representation.specs.Indexes.{all_versions}
 use Rattle.mvo_representation.specs.Steps.{IsUnnamed}
 use Rattle.mvo_representation.specs.Table.{phases_of}
-use Rattle.mvo_representation.specs.Laws.{StandsFor}
-use Rattle.mvo_representation.specs.Order.{IsWritten, MayAbort}
-use Rattle.mvo_representation.specs.WordLists.{WordLists, number_at, word_at, is_place, names_at, named, IsWordAt, StandAt, HasOwnWords, HasWordLists}
+use Rattle.mvo_representation.specs.WordLists.{WordLists, number_at, word_at, names_at, named, StandAt, HasOwnWords, HasWordLists}
 use Rattle.mvo_representation.specs.WordLaws.{OpeningHasLists, BeginKeepsLists, AnswerKeepsLists, CheckKeepsLists, CommitKeepsLists, TrimKeepsLists, CloseKeepsLists}
 use Rattle.mvo_representation.proofs.Facts.{found_holds, phase_absent, phase_preparing}
 use Rattle.mvo_representation.proofs.OrderSteps.{live}
 use Rattle.mvo_representation.proofs.OrderWritten.{nothing_is_written}
-use Rattle.mvo_representation.proofs.Quiet.{ends_stay, own_led, other_stays, still_there, unnamed}
+use Rattle.mvo_representation.proofs.Quiet.{ends_stay, unnamed}
 use Rattle.mvo_representation.proofs.Steps.{retabled}
 use Rattle.mvo_representation.proofs.WordPlaces.{names_there}
 use Rattle.mvo_representation.proofs.WordPairs.{ends_in, stand_self, stand_all}
-use Rattle.mvo_representation.proofs.WordsOf.{words_told, told_nothing, no_end}
+use Rattle.mvo_representation.proofs.WordsOf.{told_nothing, no_end}
 
 pub own_self : (s s' : State) (slots : Slots) (t : ℕ) → s.clock ≤ s'.clock → ends_in s' ≡ ends_in s → (ws : List Word) (ps : List WordPlace) → HasOwnWords s slots t ws ps → HasOwnWords s' slots t ws ps
 own_self s s' slots t le same ws ps h = record { stand = stand_self s s' slots t le same ws ps h.stand; written = h.written }

@@ -1,15 +1,13 @@
 -- What the lists say, places that are passed over, and versions that go.
-use Rattle.std.proofs.Common.{◌≡◌, ◌≢◌, ℕ, ◌+◌, ◌≤◌, Bool, true, false, cond, not, List, [], ◌∷◌, length, map, Option, None, Some, refl, sym, ap, ◌∙◌, subst, arith, ◌⊎◌, inl, inr}
+use Rattle.std.proofs.Common.{◌≡◌, ◌≢◌, ℕ, ◌+◌, ◌≤◌, Bool, true, false, cond, not, List, [], ◌∷◌, map, Option, None, Some, refl, sym, ap, ◌∙◌, subst, arith, ◌⊎◌, inl, inr}
 use Rattle.std.specs.Prelude.{◌==◌, ◌||◌, ◌&&◌, nat_le}
-use Rattle.std.specs.List.{AllByRecursion, filter}
-use Rattle.std.proofs.lemmas.Bool.{cases_eq, eq-eqb, true≢false, false≢true}
+use Rattle.std.specs.List.{AllByRecursion}
+use Rattle.std.proofs.lemmas.Bool.{cases_eq, eq-eqb, true≢false}
 use Rattle.mvo_types.specs.declared.row.RowKey.{RowKey}
-use Rattle.mvo_types.specs.Keys.{Map}
-use Rattle.mvo_model.specs.Trace.{Step, Phase}
-use Rattle.mvo_model.specs.Trace.Phase.{Absent, Active, Preparing, Committed, Aborted}
+use Rattle.mvo_model.specs.Trace.Phase.{Absent, Active, Preparing}
 use Rattle.mvo_theory.specs.State.{State, ActiveTx, StampedTx, EndedTx, Outcome, Word, active_of, preparing_of, ended_of, is_active_as, is_preparing_as, is_ended_as}
 use Rattle.mvo_theory.specs.State.Outcome.{Committed as Commits, Aborted as Aborts}
-use Rattle.mvo_theory.specs.Words.{words_of, is_done, is_last_word}
+use Rattle.mvo_theory.specs.Words.{words_of, is_last_word}
 use Rattle.mvo_theory.specs.Phases.{phase_in, phase_by, ended_as}
 use Rattle.mvo_theory.specs.Sound.{IsSingle, how_many}
 use Rattle.mvo_theory.proofs.Each.{each_weaker, each_both}
@@ -17,26 +15,24 @@ use Rattle.mvo_theory.proofs.Finds.{find_holds, count_some}
 use Rattle.mvo_theory.proofs.Phases.{IsUnended}
 use Rattle.mvo_theory.proofs.Who.{active_holds}
 use Rattle.mvo_chain.specs.declared.version.Version.{Version}
-use Rattle.mvo_chain.specs.declared.version.VersionNo.{VersionNo}
 use Rattle.mvo_chain.specs.Slots.{Slots, version_at}
 use Rattle.mvo_hash.specs.Lists.{number}
 use Rattle.mvo_visible.specs.Words.{names}
-use Rattle.mvo_visible.specs.Laws.{SlotsDifferAt}
 use Rattle.mvo_work.specs.declared.word_place.WordPlace.{WordPlace}
 use Rattle.mvo_work.specs.declared.word_place.WordPlace.TheVariants.{Begin, End}
-use Rattle.mvo_representation.specs.Words.{Phases, stamp_in}
+use Rattle.mvo_representation.specs.Words.{Phases}
 use Rattle.mvo_representation.specs.Indexes.{all_versions}
 use Rattle.mvo_representation.specs.Steps.{IsUnnamed}
 use Rattle.mvo_representation.specs.Table.{phases_of}
-use Rattle.mvo_representation.specs.Order.{is_written_by, own_words, IsWritten, MayAbort}
-use Rattle.mvo_representation.specs.WordLists.{WordLists, HaveListNow, number_at, word_at, is_place, is_named, names_at, named, IsWordAt, StandAt, HasOwnWords, HasWordLists}
+use Rattle.mvo_representation.specs.Order.{own_words, IsWritten, MayAbort}
+use Rattle.mvo_representation.specs.WordLists.{WordLists, HaveListNow, number_at, word_at, is_place, names_at, named, IsWordAt, StandAt, HasOwnWords}
 use Rattle.mvo_representation.specs.WordLaws.{PassingKeepsLists, DoneIsSeen, NoneIsUnnamed, RemovalKeepsLists, RoomKeepsLists, ListsAreWritten}
 use Rattle.mvo_representation.proofs.Done.{each_live}
 use Rattle.mvo_representation.proofs.Facts.{found_holds, preparing_is}
 use Rattle.mvo_representation.proofs.OrderWritten.{others_keep_written}
-use Rattle.mvo_representation.proofs.WordPlaces.{IsNamedAt, names_there, names_here, names_none, names_like, place_cases, filter_always, counted_passes}
-use Rattle.mvo_representation.proofs.WordPairs.{ends_in, IsLike, word_like, stand_weaker, stand_length}
-use Rattle.mvo_representation.proofs.WordsKept.{IsActiveListed, IsPreparingListed, IsEndedListed, here_versions}
+use Rattle.mvo_representation.proofs.WordPlaces.{names_here, names_none, names_like, place_cases, filter_always, counted_passes}
+use Rattle.mvo_representation.proofs.WordPairs.{IsLike, word_like, stand_weaker, stand_length}
+use Rattle.mvo_representation.proofs.WordsKept.{IsActiveListed, IsPreparingListed, IsEndedListed}
 
 -- ---- who is at one place is at no other
 pub none_pass : {X : Type 0} (p : X → Bool) (xs : List X) → how_many p xs ≤ 0 → AllByRecursion (λ x. p x ≡ false) xs

@@ -1,7 +1,7 @@
 -- An insert, a delete and an update keep the lists.
-use Rattle.std.proofs.Common.{◌≡◌, ◌≢◌, ℕ, ◌+◌, ◌≤◌, Bool, true, false, cond, eqb, not, List, [], ◌∷◌, ◌++◌, map, Option, None, Some, refl, sym, ap, ◌∙◌, subst, arith, append_assoc, ◌⊎◌, inl, inr}
-use Rattle.std.specs.Prelude.{◌==◌, ◌&&◌, is_some, slice_set}
-use Rattle.std.specs.List.{AllByRecursion, filter}
+use Rattle.std.proofs.Common.{◌≡◌, ◌≢◌, ℕ, ◌+◌, ◌≤◌, Bool, true, false, cond, List, [], ◌∷◌, ◌++◌, map, Option, None, Some, refl, sym, ap, ◌∙◌, subst, arith, append_assoc, ◌⊎◌, inl, inr}
+use Rattle.std.specs.Prelude.{◌==◌, is_some, slice_set}
+use Rattle.std.specs.List.{AllByRecursion}
 use Rattle.std.specs.Ordering.{eq_by_cmp}
 use Rattle.std.proofs.lemmas.Bool.{cases_eq, eq-eqb, eqb-true, ne_eqb, true≢false, false≢true}
 use Rattle.mvo_types.specs.declared.row.RowKey.{RowKey}
@@ -17,13 +17,12 @@ use Rattle.mvo_types.specs.Write.{Effect}
 use Rattle.mvo_model.specs.History.{History, net_write}
 use Rattle.mvo_model.specs.Trace.{Step, Phase}
 use Rattle.mvo_model.specs.Trace.Phase.{Absent, Active, Preparing, Committed as IsCommitted, Aborted as IsAborted}
-use Rattle.mvo_model.specs.Trace.Step.{Answers}
 use Rattle.mvo_theory.specs.State.{State, ActiveTx, StampedTx, EndedTx, Outcome, Claim, Word, active_of, preparing_of, ended_of, history_of_active, is_ended_as}
 use Rattle.mvo_theory.specs.State.Outcome.{Committed, Aborted}
 use Rattle.mvo_theory.specs.State.Word.{Own, Ended}
 use Rattle.mvo_theory.specs.Words.{end_on, end_word, words_by, words_of, words_without}
 use Rattle.mvo_theory.specs.Claims.{origin, ended_key, claims_with, claim_with, new_claim}
-use Rattle.mvo_theory.specs.Changes.{after_operation, after_answer, with_answer, with_words, taken_over}
+use Rattle.mvo_theory.specs.Changes.{after_operation, after_answer, with_answer, taken_over}
 use Rattle.mvo_theory.specs.Claimed.{HasClaims}
 use Rattle.mvo_theory.specs.Calls.{IsKept}
 use Rattle.mvo_theory.specs.Phases.{phase_in, phase_by, ended_as}
@@ -32,7 +31,7 @@ use Rattle.mvo_theory.proofs.Cases.{found_is}
 use Rattle.mvo_theory.proofs.Each.{each_weaker, each_both, each_map, each_always}
 use Rattle.mvo_theory.proofs.Finds.{count_some}
 use Rattle.mvo_theory.proofs.Footprints.{key_same}
-use Rattle.mvo_theory.proofs.Phases.{Leads, leads_after_operation}
+use Rattle.mvo_theory.proofs.Phases.{leads_after_operation}
 use Rattle.mvo_theory.proofs.Who.{active_holds}
 use Rattle.mvo_word.specs.declared.held.Held.{Held}
 use Rattle.mvo_word.specs.declared.held.Held.TheVariants.{At, By, Infinity}
@@ -53,7 +52,7 @@ use Rattle.mvo_representation.specs.Table.{phases_of}
 use Rattle.mvo_representation.specs.Laws.{StandsFor}
 use Rattle.mvo_representation.specs.Order.{IsWritten}
 use Rattle.mvo_representation.specs.OrderLaws.{HaveNow}
-use Rattle.mvo_representation.specs.WordLists.{WordLists, HaveListNow, number_at, named, IsWordAt, StandAt, HasOwnWords, HasWordLists}
+use Rattle.mvo_representation.specs.WordLists.{WordLists, HaveListNow, number_at, named, StandAt, HasOwnWords, HasWordLists}
 use Rattle.mvo_representation.specs.WordLaws.{InsertKeepsLists, DeleteKeepsLists, UpdateKeepsLists}
 use Rattle.mvo_representation.proofs.Answers.{only_mine}
 use Rattle.mvo_representation.proofs.Collect.{leaves_row, leaves_put}
@@ -63,7 +62,7 @@ use Rattle.mvo_representation.proofs.OrderOperations.{own_words as says}
 use Rattle.mvo_representation.proofs.OrderSteps.{live, more_at, stays_put}
 use Rattle.mvo_representation.proofs.OrderWritten.{insert_is_written, delete_is_written, update_is_written}
 use Rattle.mvo_representation.proofs.Shown.{active_begins, behind_is}
-use Rattle.mvo_representation.proofs.Version.{IsShownRow, version_shown}
+use Rattle.mvo_representation.proofs.Version.{version_shown}
 use Rattle.mvo_representation.proofs.WordPlaces.{own_name}
 use Rattle.mvo_representation.proofs.WordPairs.{ends_in, stand_self}
 use Rattle.mvo_representation.proofs.WordPuts.{one_put_stands}
