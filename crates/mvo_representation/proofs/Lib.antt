@@ -50,6 +50,7 @@ pub mod WordsSaid
 pub mod WordPuts
 pub mod WordsEnded
 pub mod WordsFinished
+pub mod WordsStand
 pub mod WordsAround
 pub mod WordsWritten
 pub mod RowsPlaced

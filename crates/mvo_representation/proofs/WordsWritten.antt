@@ -68,7 +68,7 @@ use Rattle.mvo_representation.proofs.WordPairs.{ends_in, stand_self}
 use Rattle.mvo_representation.proofs.WordPuts.{one_put_stands}
 use Rattle.mvo_representation.proofs.Writing.{IsClaimable, claimable, stamped_unnamed}
 use Rattle.mvo_representation.proofs.WordsAround.{IsListedAround, active_not_preparing, active_not_ended, put_around, end_around, end_ended, taken_ended}
-use Rattle.mvo_representation.proofs.WordsFinished.{ended_phase}
+use Rattle.mvo_representation.proofs.WordsStand.{ended_phase}
 use Rattle.mvo_representation.proofs.WordsKept.{IsActiveListed, IsPreparingListed, IsEndedListed, own_self, here_versions}
 use Rattle.mvo_representation.proofs.WordsOf.{words_told, told_own, told_other, words_claimed, end_on_new}
 use Rattle.mvo_representation.proofs.WordsSaid.{ended_not_preparing}

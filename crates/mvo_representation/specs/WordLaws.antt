@@ -182,7 +182,7 @@ LeavingKeepsLists = (opening : Map) (steps : List Step) (s : State) (states : St
     → named slots u.id (words u.id) ≡ [] → HaveListNow words words' u.id []
     → HasWordLists s slots words → HasWordLists (after_finish s u.id) slots words'
 
--- Once a word is finished, others see the same, and the versions are still those of the state.
+-- Once a word is finished, others see the same, and what the core has stands for the same state.
 abbrev pub FinishedIsAlike : Type 0
 FinishedIsAlike = (opening : Map) (steps : List Step) (s : State) (states : States)
     (slots : Slots) (lists : Lists) (places : Places) (u : EndedTx) (p : WordPlace) (v : Version)
@@ -197,7 +197,7 @@ FinishedStands = (opening : Map) (steps : List Step) (s : State) (states : State
     → StandsFor opening steps s states slots lists places → ended_of u.id s.ended ≡ Some u
     → version_at slots (number_at p) ≡ Some v → names_at slots u.id p ≡ true
     → HaveNow slots slots' (number_at p).0 (finished (ends_of (phases_of states)) u.id p v)
-    → AreVersionsOf s (phases_of states) (all_versions slots')
+    → StandsFor opening steps s states slots' lists places
 
 -- ---- the tale is trimmed, a group is closed, and a version goes
 abbrev pub TrimKeepsLists : Type 0

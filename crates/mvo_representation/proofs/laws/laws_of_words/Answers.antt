@@ -2,7 +2,8 @@ use Rattle.mvo_representation.proofs.WordsKept.{opening_has_lists, begin_keeps_l
 use Rattle.mvo_representation.proofs.WordsSaid.{lists_are_written, done_is_seen, none_is_unnamed, passing_keeps_lists, removal_keeps_lists, room_keeps_lists}
 use Rattle.mvo_representation.proofs.WordsEnded.{precommit_keeps_lists, abort_keeps_lists}
 use Rattle.mvo_representation.proofs.WordsWritten.{insert_keeps_lists, delete_keeps_lists, update_keeps_lists}
-use Rattle.mvo_representation.proofs.WordsFinished.{last_is_unnamed, finish_keeps_lists, last_keeps_lists, leaving_keeps_lists, finished_is_alike, finished_stands}
+use Rattle.mvo_representation.proofs.WordsFinished.{last_is_unnamed, finish_keeps_lists, last_keeps_lists, leaving_keeps_lists}
+use Rattle.mvo_representation.proofs.WordsStand.{finished_is_alike, finished_stands}
 use Rattle.mvo_representation.proofs.WordPuts.{one_put_is_left, one_put_stands}
 use Rattle.mvo_representation.proofs.laws.laws_of_words.Goals as goal
 
