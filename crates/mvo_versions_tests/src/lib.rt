@@ -1,5 +1,0 @@
-//! Tests of `mvo_versions`.
-#![tactic(auto)]
-
-#[cfg(test)]
-mod tests;
