@@ -5,3 +5,10 @@ pub mod Lasts
 pub mod AllMet
 pub mod Held
 pub mod Parts
+pub mod Rows
+pub mod Distinct
+pub mod Staying
+pub mod Naming
+pub mod InOrder
+pub mod Few
+pub mod LastPuts

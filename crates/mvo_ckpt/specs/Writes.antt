@@ -38,6 +38,16 @@ abbrev pub last_writes : List Stamped → List Stamped
 last_writes [] = []
 last_writes (w ∷ ws) = if is_written ws w.1.0 then last_writes ws else (w ∷ last_writes ws)
 
+-- the later one, if there is one
+abbrev pub later_of : Option Stamped → Option Stamped → Option Stamped
+later_of (Some w) first = Some w
+later_of None first = first
+
+-- the last write of a key
+abbrev pub last_write : List Stamped → RowKey → Option Stamped
+last_write [] k = None
+last_write (w ∷ ws) k = later_of (last_write ws k) (if is_at k w then Some w else None)
+
 -- the record of a put: its row, and the end of its transaction
 abbrev pub record_by : ℕ → RowKey → Effect → Option EntryData
 record_by end k (Put h) = Some (record { begin = end; row = row_with k h })

@@ -35,7 +35,8 @@ pub fn no_writes(alloc: Global, seed: u64) -> Newest
 
 /// Appends what the last write of a key leaves there.
 fn add_write(newest: &mut Newest, end: Stamp, write: Write) -> Result<(), AllocError>
-    ensures { OnOk result (walk_of newest.new ≡ with_write (end.0, write_data write) (walk_of newest.old)) }
+    ensures { OnOk result (walk_of newest.new ≡
+        with_write (end.0, write_data write) (walk_of newest.old)) }
 {
     match write {
         Write::Put(row) => newest.records.push(Entry { begin: end, row })?,
