@@ -12,3 +12,4 @@ pub mod Naming
 pub mod InOrder
 pub mod Few
 pub mod LastPuts
+pub mod Growing

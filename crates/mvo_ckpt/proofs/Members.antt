@@ -6,7 +6,7 @@ use Rattle.std.specs.List.Sorted.{IsStrictlySortedBy, IsStrictlyIncreasing}
 use Rattle.std.specs.Ordering.{nat_cmp}
 use Rattle.std.specs.declared.cmp.Ordering.TheVariants.{Less, Equal, Greater}
 use Rattle.std.proofs.lemmas.Bool.{cases_Bool, cond-true, cond-false, cases_lt, cases_eq, ltb-true, le-ltb, eqb-true}
-use Rattle.std.proofs.lemmas.Map.Keys.{sorted_from_strictly_increasing}
+use Rattle.std.proofs.lemmas.Map.Keys.{sorted_from_strictly_increasing, IsStrictlyIncreasing-from_sorted}
 use Rattle.std.proofs.lemmas.Bool.Decides.{nat_tests}
 
 abbrev pub Among : {X : Type 0} → List X → X → Type 0
@@ -125,6 +125,17 @@ rises_sorted (x ∷ xs) s = (all_from (λ y. x < y) xs (λ y a. below_from x y (
 
 pub rises_from : (xs : List ℕ) → IsStrictlyIncreasing xs → Rises xs
 rises_from xs up = rises_sorted xs (sorted_from_strictly_increasing xs up)
+
+sorted_from : (xs : List ℕ) → Rises xs → IsStrictlySortedBy nat_cmp xs
+unfolding IsStrictlySortedBy
+sorted_from [] up = tt
+sorted_from (x ∷ xs) up = (all_from (λ y. nat_cmp x y ≡ Less) xs (λ y a. less x y (all_among (λ z. x < z) xs y up.0 a)), sorted_from xs up.1)
+  where
+    less : (a b : ℕ) → a < b → nat_cmp a b ≡ Less
+    less a b below = grind (arith, nat_tests)
+
+pub increasing_from : (xs : List ℕ) → Rises xs → IsStrictlyIncreasing xs
+increasing_from xs up = IsStrictlyIncreasing-from_sorted xs (sorted_from xs up)
 
 pub rises_filter : (p : ℕ → Bool) (xs : List ℕ) → Rises xs → Rises (filter p xs)
 rises_filter p [] up = tt

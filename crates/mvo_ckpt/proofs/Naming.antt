@@ -1,5 +1,5 @@
 -- The numbers that a delta file gains.
-use Rattle.std.proofs.Common.{◌≡◌, ◌⊎◌, inl, inr, ℕ, ◌+◌, ◌<◌, ◌≤◌, Bool, true, false, cond, List, [], ◌∷◌, ◌++◌, length, refl, sym, ap, subst, ◌∙◌, arith}
+use Rattle.std.proofs.Common.{◌≡◌, ◌⊎◌, inl, inr, ℕ, ◌+◌, ◌<◌, ◌≤◌, Bool, true, false, cond, List, [], ◌∷◌, ◌++◌, length, Result, Ok, Err, refl, sym, ap, subst, ◌∙◌, arith}
 use Rattle.std.specs.Prelude.{map, filter, not, nat_eq, ◌==◌, ◌||◌, All}
 use Rattle.std.specs.List.{enumerate_from, list_any, AllByRecursion, IsDistinct}
 use Rattle.std.proofs.lemmas.Bool.{not-true, false_from_ne_true, eqb-true, eq-eqb}
@@ -8,11 +8,17 @@ use Rattle.std.proofs.lemmas.List.Folds.{list_any-append}
 use Rattle.mvo_group.specs.Data.{GroupData}
 use Rattle.mvo_pair.specs.Data.{EntryData, Numbered, live_of}
 use Rattle.mvo_pair.specs.Files.{AreNumbers}
+use Rattle.mvo_pair.specs.Answers.{Found, Goes, After}
+use Rattle.mvo_pair.specs.Loading.{DataSays, DeltaSays}
+use Rattle.mvo_pair.specs.declared.pair.Pair.{Pair}
+use Rattle.mvo_format.specs.declared.format.Format.{Format}
+use Rattle.mvo_types.specs.declared.refusal.Refusal.{Refusal}
+use Rattle.mvo_ckpt.specs.Places.{Rise}
 use Rattle.mvo_image.specs.Rows.{key_of}
 use Rattle.mvo_ckpt.specs.Writes.{writes_of, is_written}
 use Rattle.mvo_ckpt.specs.Ended.{ended, left_in}
-use Rattle.mvo_ckpt.specs.Laws.{NamesOthers, LeavesOthers}
-use Rattle.mvo_ckpt.proofs.Members.{Among, among_map, among_mapped, among_filter, among_filtered, among_any, any_among, all_among, all_from, Rises}
+use Rattle.mvo_ckpt.specs.Laws.{NamesOthers, LeavesOthers, LiveNumbersRise}
+use Rattle.mvo_ckpt.proofs.Members.{Among, among_map, among_mapped, among_filter, among_filtered, among_any, any_among, all_among, all_from, Rises, increasing_from}
 use Rattle.mvo_ckpt.proofs.Held.{numbers_in, one_numbered}
 use Rattle.mvo_ckpt.proofs.Distinct.{distinct_append, distinct_rising}
 
@@ -119,3 +125,32 @@ leaves_others gs ns es =
     same_filter (λ e. not (names (ns ++ ended gs live) e.0)) (λ e. not (names ns e.0 || names (ended gs live) e.0)) (enumerate_from 0 es) (λ e a. ap not (list_any-append (λ x. x == e.0) ns (ended gs live)))
     ∙ two_filters (λ (e : Numbered). names ns e.0) (λ (e : Numbered). names (ended gs live) e.0) (enumerate_from 0 es)
     ∙ same_filter (λ e. not (names (ended gs live) e.0)) (λ e. not (written gs e)) live (λ l a. ap not (named_written gs live l (live_rises ns es) a (written gs l) refl))
+
+-- ---- the live records of a pair
+
+abbrev HasRising : Pair → List Numbered → Type 0
+HasRising p live = Rise live × All (λ l. l.0 < p.records) live
+
+live_kept : (p : Pair) (ns : List ℕ) (es : List EntryData) → length es ≡ p.records → HasRising p (live_of ns es)
+live_kept p ns es counted = (
+  increasing_from (numbers_in (live_of ns es)) (live_rises ns es),
+  All-from_recursion (λ l. l.0 < p.records) (live_of ns es) (all_from (λ l. l.0 < p.records) (live_of ns es) (λ l a.
+      let f = among_filtered (λ e. not (names ns e.0)) (enumerate_from 0 es) l a in
+      let few : l.0 < 0 + length es = all_among (λ x. x < 0 + length es) (numbers_in (enumerate_from 0 es)) l.0 (counted_below 0 es) (among_map (λ (x : Numbered). x.0) (enumerate_from 0 es) l f.0) in
+      omega (arith, few, counted))),
+)
+
+module _ (f : Format) (p : Pair) (delta : List ℕ) (live : List Numbered) where
+  abbrev Rest : List EntryData → List ℕ → Result (List Numbered) Refusal → Type 0
+  Rest es ns out = out ≡ Ok (live_of ns es)
+
+  of_numbers : (es : List EntryData) → length es ≡ p.records → (found : Found (List ℕ)) → Goes p.delta_file (Rest es) found (Ok live) → HasRising p live
+  of_numbers es counted (Ok ns) is = let same : live ≡ live_of ns es = cc in subst (HasRising p) (sym same) (live_kept p ns es counted)
+  of_numbers es counted (Err e) is = absurd cc
+
+  of_entries : (data_bytes : List ℕ) (found : Found (List EntryData)) → DataSays f p data_bytes found → Goes p.data_file (λ es. After p.delta_file (DeltaSays f p delta) (Rest es)) found (Ok live) → HasRising p live
+  of_entries data_bytes (Ok es) says goes = of_numbers es says.counted goes.0 goes.2
+  of_entries data_bytes (Err e) says goes = absurd cc
+
+pub live_numbers_rise : LiveNumbersRise
+live_numbers_rise f p data_bytes delta live loads = of_entries f p delta live data_bytes loads.0 loads.1 loads.2

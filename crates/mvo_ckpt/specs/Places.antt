@@ -1,5 +1,5 @@
 -- Places of live records, by key.
-use Rattle.std.specs.Prelude.{◌≡◌, ℕ, ◌+◌, ◌*◌, ◌/◌, ◌%◌, ◌<◌, ◌≤◌, List, [], ◌∷◌, ◌++◌, length, map, Some, nat_eq, refl}
+use Rattle.std.specs.Prelude.{◌≡◌, ℕ, ◌+◌, ◌*◌, ◌/◌, ◌%◌, ◌<◌, ◌≤◌, List, [], ◌∷◌, ◌++◌, length, map, fold, Some, nat_eq, refl}
 use Rattle.std.specs.List.{AllByRecursion, IsDistinct}
 use Rattle.std.specs.List.Sorted.{IsStrictlyIncreasing}
 use Rattle.std.specs.Coded.{Coded, code_by, coded×, coded_ℕ}
@@ -91,3 +91,13 @@ pub record ArePlaces (ps : List Pair) (lives : List (List Numbered)) (places : P
   pub apart : AreApart lives
   pub rise : AllByRecursion Rise lives
   pub are : places ≡ map.from_entries (places_of ps lives)
+
+-- ---- changes of places
+
+-- with the places of a pair's live records
+abbrev pub with_live : ℕ → List Numbered → PlaceMap → PlaceMap
+with_live file live at = fold (λ m l. map.insert m (key_of l) (place file l.0)) at live
+
+-- without these keys
+abbrev pub without_keys : List RowKey → PlaceMap → PlaceMap
+without_keys ks at = fold (λ m k. map.remove m k) at ks

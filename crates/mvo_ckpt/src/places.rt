@@ -1,10 +1,11 @@
-ghost use Rattle.std.specs.Prelude.{◌≡◌, ◌<◌, ◌≤◌, ◌+◌, OnOk, OnErr, IfOk, IsSome};
+ghost use Rattle.std.specs.Prelude.{◌≡◌, ◌<◌, ◌≤◌, ◌+◌, All, OnOk, OnErr, IfOk, IsSome};
 ghost use Rattle.std.specs.Option.{option_map};
 ghost use Rattle.std.specs.FinMap as map;
-ghost use Rattle.mvo_ckpt.specs.Places.{no_places, number_of, AreSmall};
+ghost use Rattle.mvo_ckpt.specs.Places.{no_places, number_of, AreSmall, with_live};
 
 use crate::place::Place;
 use mvo_hash::Heads;
+use mvo_pair::Live;
 use mvo_types::{MAX_FILE, MAX_PAIR_RECORDS, RowKey};
 use std::alloc::{AllocError, Global};
 use std::marker::Model;
@@ -106,5 +107,20 @@ impl Places {
         ensures room { self.new.room ≡ self.old.room }
     {
         self.heads.remove(key);
+    }
+
+    /// Puts the places of the live records of a pair. The room for them is made first. Refused, it
+    /// leaves some of them there.
+    pub fn add_pair(&mut self, data_file: u16, live: &[Live]) -> Result<(), AllocError>
+        requires file { data_file ≤ MAX_FILE }
+        requires numbers { All (λ l. l.0 < MAX_PAIR_RECORDS) live.now }
+        ensures { OnOk result (self.new.at ≡ with_live data_file live.now self.old.at) }
+    {
+        self.reserve(live.len())?;
+        for one in live {
+            let number = one.number;
+            self.put(one.entry.row.key, Place { data_file, number })?;
+        }
+        Ok(())
     }
 }
