@@ -58,8 +58,9 @@ fn deltas_by(alloc: Global, pairs: &[Pair], places: &[u32]) -> Result<Vec<DeltaE
 /// its place: the rows that the groups leave, and for each pair with a live record whose key they
 /// write the numbers of those. The rows are moved, not copied.
 ///
-/// Time and memory go with the writes of the groups, but for the sorting of the numbers, and each
-/// write takes one look-up of a place. Nothing is looked at for the other live records.
+/// Memory goes with the writes of the groups. So does the time, with one look-up of a place for
+/// each key, but for the numbers of ended records: they are sorted, and each pair looks at all of
+/// them. The other live records aren't looked at.
 pub fn build(
     alloc: Global,
     places: &Places,
