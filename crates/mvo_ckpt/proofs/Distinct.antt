@@ -1,7 +1,7 @@
 -- Lists of which no two elements are equal.
-use Rattle.std.proofs.Common.{◌≡◌, ◌⊎◌, inl, inr, ⊎_elim, ℕ, ◌<◌, Bool, true, false, cond, List, [], ◌∷◌, ◌++◌, refl, sym, subst, ◌∙◌, arith}
-use Rattle.std.specs.Prelude.{map, filter, nat_eq}
-use Rattle.std.specs.List.{AllByRecursion, IsDistinct}
+use Rattle.std.proofs.Common.{◌≡◌, inl, inr, ⊎_elim, ℕ, ◌<◌, Bool, true, false, cond, List, [], ◌∷◌, ◌++◌, refl, arith}
+use Rattle.std.specs.Prelude.{filter, nat_eq}
+use Rattle.std.specs.List.{IsDistinct}
 use Rattle.std.proofs.lemmas.Bool.{ne_eqb}
 use Rattle.mvo_ckpt.proofs.Members.{Among, among_append, among_filtered, all_among, all_from, Rises}
 

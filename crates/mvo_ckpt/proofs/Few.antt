@@ -1,5 +1,5 @@
 -- The records of a segment's groups are no more than a pair may have.
-use Rattle.std.proofs.Common.{◌≡◌, ℕ, ◌+◌, ◌*◌, ◌<◌, ◌≤◌, Bool, true, false, cond, List, [], ◌∷◌, ◌++◌, length, Option, None, Some, refl, sym, ap, ◌∙◌, arith, length-append}
+use Rattle.std.proofs.Common.{◌≡◌, ℕ, ◌+◌, ◌*◌, ◌<◌, ◌≤◌, Bool, true, false, cond, List, [], ◌∷◌, length, refl, sym, ap, ◌∙◌, arith, length-append}
 use Rattle.std.specs.Prelude.{sum_by}
 use Rattle.std.specs.List.{filter_map}
 use Rattle.std.proofs.lemmas.List.Sums.{sum_by-append, sum_by-cons}
@@ -9,7 +9,7 @@ use Rattle.mvo_types.specs.Write.{Write, Effect}
 use Rattle.mvo_types.specs.Write.Effect.{Put, Delete}
 use Rattle.mvo_group.specs.Data.{RecordData, GroupData}
 use Rattle.mvo_group.specs.Body.{body_of}
-use Rattle.mvo_group.specs.Rules.{write_len, record_len, body_len}
+use Rattle.mvo_group.specs.Rules.{write_len, record_len}
 use Rattle.mvo_group.proofs.Sizes.{length-body_of}
 use Rattle.mvo_frame.specs.Frames.{Frames, sized}
 use Rattle.mvo_format.specs.declared.header.TheConstants.{HEADER_LEN}

@@ -1,8 +1,8 @@
 -- The places of one more pair's live records.
-use Rattle.std.proofs.Common.{◌≡◌, ◌⊎◌, inl, inr, ℕ, Bool, true, false, List, [], ◌∷◌, ◌++◌, length, Option, None, Some, refl, sym, ap, subst, ◌∙◌, append_assoc, arith, length-append}
-use Rattle.std.specs.Prelude.{map, nat_eq}
+use Rattle.std.proofs.Common.{◌≡◌, inl, inr, ℕ, true, false, List, [], ◌∷◌, ◌++◌, length, Option, None, Some, refl, sym, ap, subst, ◌∙◌, append_assoc, arith, length-append}
+use Rattle.std.specs.Prelude.{map}
 use Rattle.std.specs.List.{AllByRecursion, IsDistinct}
-use Rattle.std.specs.FinMap.{find, empty, insert, from_entries, from_entries_push}
+use Rattle.std.specs.FinMap.{find, from_entries, from_entries_push}
 use Rattle.std.proofs.lemmas.List.{map-append, append-nil}
 use Rattle.std.proofs.lemmas.List.Concat.{flat_map-append, flat_map-cons}
 use Rattle.mvo_types.specs.declared.row.RowKey.{RowKey}
@@ -10,11 +10,11 @@ use Rattle.mvo_types.specs.Keys.{key_cmp}
 use Rattle.mvo_types.proofs.Maps.{keys_total, exact_keys}
 use Rattle.mvo_pair.specs.Data.{Numbered}
 use Rattle.mvo_pair.specs.declared.pair.Pair.{Pair}
-use Rattle.mvo_image.specs.Rows.{key_of, keys_of, AreApart}
+use Rattle.mvo_image.specs.Rows.{key_of, keys_of}
 use Rattle.mvo_ckpt.specs.declared.place.Place.{Place}
-use Rattle.mvo_ckpt.specs.Places.{PlaceMap, place, places_in, places_of, file_of, Rise, ArePlaces, with_live}
+use Rattle.mvo_ckpt.specs.Places.{PlaceMap, place, places_in, places_of, Rise, with_live}
 use Rattle.mvo_ckpt.specs.Laws.{NoPlaces, PlacesGrow}
-use Rattle.mvo_ckpt.proofs.Members.{Among, among_map, all_among}
+use Rattle.mvo_ckpt.proofs.Members.{Among, among_map}
 use Rattle.mvo_ckpt.proofs.Lasts.{eq, eq_self}
 use Rattle.mvo_ckpt.proofs.Held.{Entries, first_of, found_among, keys-places_of}
 

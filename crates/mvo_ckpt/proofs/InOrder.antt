@@ -1,14 +1,13 @@
 -- The records of a segment's groups, in their order.
-use Rattle.std.proofs.Common.{◌≡◌, ◌⊎◌, inl, inr, ⊎_elim, ℕ, zero, suc, ◌+◌, ◌<◌, ◌≤◌, Bool, true, false, cond, List, [], ◌∷◌, ◌++◌, length, get_or, Option, None, Some, refl, sym, ap, subst, ◌∙◌, arith}
+use Rattle.std.proofs.Common.{◌≡◌, ◌⊎◌, inl, inr, ⊎_elim, ℕ, ◌+◌, ◌<◌, ◌≤◌, Bool, true, false, cond, List, [], ◌∷◌, ◌++◌, length, Option, None, Some, refl, sym, ap, subst, ◌∙◌, arith}
 use Rattle.std.specs.Prelude.{map, All}
-use Rattle.std.specs.List.{flat_map, filter_map, cons_option, AllByRecursion}
-use Rattle.std.specs.List.Sorted.{IsStrictlySortedBy, IsStrictlyIncreasing}
+use Rattle.std.specs.List.{filter_map, cons_option, AllByRecursion}
+use Rattle.std.specs.List.Sorted.{IsStrictlySortedBy}
 use Rattle.std.specs.Ordering.{nat_cmp, ordering_then}
-use Rattle.std.specs.declared.cmp.Ordering.{Ordering}
-use Rattle.std.specs.declared.cmp.Ordering.TheVariants.{Less, Equal, Greater}
+use Rattle.std.specs.declared.cmp.Ordering.TheVariants.{Less, Equal}
 use Rattle.std.proofs.lemmas.Bool.Decides.{nat_tests}
 use Rattle.std.proofs.lemmas.List.Concat.{flat_map-cons}
-use Rattle.std.proofs.lemmas.List.Elements.{All-from_recursion, recursion_from_All, All-head, All-tail}
+use Rattle.std.proofs.lemmas.List.Elements.{All-from_recursion, recursion_from_All}
 use Rattle.mvo_types.specs.declared.row.RowKey.{RowKey}
 use Rattle.mvo_types.specs.Keys.{key_cmp}
 use Rattle.mvo_types.specs.Write.{Write, Effect}
@@ -16,11 +15,11 @@ use Rattle.mvo_types.specs.Write.Effect.{Put, Delete}
 use Rattle.mvo_group.specs.Data.{RecordData, GroupData}
 use Rattle.mvo_group.specs.Rules.{IsRecord, IsGroup}
 use Rattle.mvo_format.specs.declared.format.Format.{Format}
-use Rattle.mvo_frame.specs.Frames.{Frames, IsSegment, IsAllowed, mark_after, sized}
+use Rattle.mvo_frame.specs.Frames.{Frames, IsAllowed, mark_after, sized}
 use Rattle.mvo_group.specs.Body.{body_of}
 use Rattle.mvo_format.specs.declared.header.TheConstants.{HEADER_LEN}
 use Rattle.mvo_pair.specs.Data.{EntryData, entry_cmp}
-use Rattle.mvo_pair.specs.Files.{IsEntry, AreEntries}
+use Rattle.mvo_pair.specs.Files.{IsEntry}
 use Rattle.mvo_ckpt.specs.Writes.{Stamped, stamped, writes_in, writes_of, is_written, last_writes, record_of, records_of}
 use Rattle.mvo_ckpt.specs.Laws.{GivesEntries}
 use Rattle.mvo_ckpt.proofs.Members.{Among, among_append, among_map, among_mapped, among_filter_mapped, all_among, all_from, Rises, rises_from}

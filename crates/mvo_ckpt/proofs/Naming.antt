@@ -1,13 +1,12 @@
 -- The numbers that a delta file gains.
-use Rattle.std.proofs.Common.{◌≡◌, ◌⊎◌, inl, inr, ℕ, ◌+◌, ◌<◌, ◌≤◌, Bool, true, false, cond, List, [], ◌∷◌, ◌++◌, length, Result, Ok, Err, refl, sym, ap, subst, ◌∙◌, arith}
-use Rattle.std.specs.Prelude.{map, filter, not, nat_eq, ◌==◌, ◌||◌, All}
-use Rattle.std.specs.List.{enumerate_from, list_any, AllByRecursion, IsDistinct}
+use Rattle.std.proofs.Common.{◌≡◌, inl, inr, ℕ, ◌+◌, ◌<◌, ◌≤◌, Bool, true, false, cond, List, [], ◌∷◌, ◌++◌, length, Result, Ok, Err, refl, sym, ap, subst, ◌∙◌, arith}
+use Rattle.std.specs.Prelude.{filter, not, nat_eq, ◌==◌, ◌||◌, All}
+use Rattle.std.specs.List.{enumerate_from, list_any, AllByRecursion}
 use Rattle.std.proofs.lemmas.Bool.{not-true, false_from_ne_true, eqb-true, eq-eqb}
 use Rattle.std.proofs.lemmas.List.Elements.{All-append, All-from_recursion}
 use Rattle.std.proofs.lemmas.List.Folds.{list_any-append}
 use Rattle.mvo_group.specs.Data.{GroupData}
 use Rattle.mvo_pair.specs.Data.{EntryData, Numbered, live_of}
-use Rattle.mvo_pair.specs.Files.{AreNumbers}
 use Rattle.mvo_pair.specs.Answers.{Found, Goes, After}
 use Rattle.mvo_pair.specs.Loading.{DataSays, DeltaSays}
 use Rattle.mvo_pair.specs.declared.pair.Pair.{Pair}
@@ -16,7 +15,7 @@ use Rattle.mvo_types.specs.declared.refusal.Refusal.{Refusal}
 use Rattle.mvo_ckpt.specs.Places.{Rise}
 use Rattle.mvo_image.specs.Rows.{key_of}
 use Rattle.mvo_ckpt.specs.Writes.{writes_of, is_written}
-use Rattle.mvo_ckpt.specs.Ended.{ended, left_in}
+use Rattle.mvo_ckpt.specs.Ended.{ended}
 use Rattle.mvo_ckpt.specs.Laws.{NamesOthers, LeavesOthers, LiveNumbersRise}
 use Rattle.mvo_ckpt.proofs.Members.{Among, among_map, among_mapped, among_filter, among_filtered, among_any, any_among, all_among, all_from, Rises, increasing_from}
 use Rattle.mvo_ckpt.proofs.Held.{numbers_in, one_numbered}

@@ -1,5 +1,5 @@
 -- The numbers in each data file, of the places of the written keys.
-use Rattle.std.proofs.Common.{◌≡◌, ◌≢◌, ◌⊎◌, ◌↔◌, inl, inr, ℕ, ◌+◌, ◌*◌, ◌/◌, ◌%◌, ◌<◌, Bool, true, false, cond, List, [], ◌∷◌, ◌++◌, length, Option, None, Some, refl, sym, ap, subst, ◌∙◌, arith}
+use Rattle.std.proofs.Common.{◌≡◌, inl, inr, ℕ, ◌/◌, ◌%◌, ◌<◌, Bool, true, false, cond, List, [], ◌∷◌, ◌++◌, length, Option, None, Some, refl, sym, ap, subst, ◌∙◌, arith}
 use Rattle.std.specs.Prelude.{map, filter, nat_eq, ◌==◌}
 use Rattle.std.specs.List.{AllByRecursion, IsDistinct, filter_map, cons_option}
 use Rattle.std.specs.Option.{option_map}
@@ -26,7 +26,7 @@ use Rattle.mvo_ckpt.specs.Walk.{part_of, deltas_by}
 use Rattle.mvo_ckpt.proofs.Members.{Among, among_from, contains_from, among_map, among_mapped, among_filter, among_filtered, among_filter_map, among_filter_mapped, among_any, any_among, all_among, all_from, Rises, rises_from, rises_filter, same_rising}
 use Rattle.mvo_ckpt.proofs.Lasts.{eq, key_at, key_same, eq_self, written_last, last_distinct}
 use Rattle.mvo_ckpt.proofs.AllMet.{number_at}
-use Rattle.mvo_ckpt.proofs.Held.{Zips, LiesAt, zips_once, zips_all, numbers_in, at_live, live_at, number_once}
+use Rattle.mvo_ckpt.proofs.Held.{Zips, zips_once, zips_all, numbers_in, at_live, live_at, number_once}
 
 -- ---- numbers of one file
 

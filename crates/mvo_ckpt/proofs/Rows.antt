@@ -1,10 +1,10 @@
 -- The rows of the live records after a checkpoint.
-use Rattle.std.proofs.Common.{◌≡◌, ◌⊎◌, inl, inr, ℕ, ◌+◌, Bool, true, false, cond, List, [], ◌∷◌, ◌++◌, Option, None, Some, refl, sym, ap, subst, ◌∙◌}
+use Rattle.std.proofs.Common.{◌≡◌, ℕ, ◌+◌, Bool, true, false, cond, List, [], ◌∷◌, ◌++◌, Option, None, Some, refl, sym, ap, ◌∙◌}
 use Rattle.std.specs.Prelude.{map, filter, fold, not, ◌||◌}
-use Rattle.std.specs.List.{flat_map, filter_map, cons_option, enumerate_from}
+use Rattle.std.specs.List.{flat_map, filter_map, enumerate_from}
 use Rattle.std.specs.Option.{option_map, is_some}
-use Rattle.std.specs.FinMap.{find, get, from_entries, get-from_entries, get-insert, get-remove, same_map}
-use Rattle.std.proofs.lemmas.List.{map-append, append-nil}
+use Rattle.std.specs.FinMap.{find, get, get-from_entries, get-insert, get-remove, same_map}
+use Rattle.std.proofs.lemmas.List.{append-nil}
 use Rattle.std.proofs.lemmas.List.Concat.{flat_map-append, flat_map-cons}
 use Rattle.std.proofs.lemmas.List.Elements.{filter-append}
 use Rattle.std.proofs.lemmas.Grind.{fold-append}
@@ -16,9 +16,9 @@ use Rattle.mvo_types.specs.Write.Effect.{Put, Delete}
 use Rattle.mvo_types.proofs.Maps.{keys_total, exact_keys}
 use Rattle.mvo_model.specs.History.{after_effect}
 use Rattle.mvo_group.specs.Data.{RecordData, GroupData}
-use Rattle.mvo_pair.specs.Data.{EntryData, Numbered}
+use Rattle.mvo_pair.specs.Data.{Numbered}
 use Rattle.mvo_image.specs.Rows.{key_of, kept_of, kept_in, rows_of, after_record, after_groups}
-use Rattle.mvo_ckpt.specs.Writes.{Stamped, stamped, writes_in, writes_of, is_at, is_written, last_writes, later_of, last_write, record_of, record_by, records_of}
+use Rattle.mvo_ckpt.specs.Writes.{Stamped, stamped, writes_in, writes_of, is_at, is_written, last_writes, later_of, last_write, record_of, records_of}
 use Rattle.mvo_ckpt.specs.Ended.{left_in, lives_after}
 use Rattle.mvo_ckpt.specs.Laws.{KeepsRows}
 use Rattle.mvo_ckpt.proofs.Lasts.{eq, key_at, key_same}

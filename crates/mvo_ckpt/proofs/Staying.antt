@@ -1,7 +1,7 @@
 -- No two live records after a checkpoint have one key.
-use Rattle.std.proofs.Common.{◌≡◌, ◌⊎◌, inl, inr, ℕ, ◌+◌, Bool, true, false, cond, List, [], ◌∷◌, ◌++◌, Option, None, Some, refl, sym, ap, subst, ◌∙◌}
+use Rattle.std.proofs.Common.{◌≡◌, ℕ, ◌+◌, Bool, true, false, cond, List, [], ◌∷◌, ◌++◌, Option, None, Some, refl, sym, ap, subst, ◌∙◌}
 use Rattle.std.specs.Prelude.{map, filter, not}
-use Rattle.std.specs.List.{filter_map, cons_option, enumerate_from, AllByRecursion, IsDistinct}
+use Rattle.std.specs.List.{filter_map, cons_option, enumerate_from, IsDistinct}
 use Rattle.std.proofs.lemmas.Bool.{not-true, false_from_ne_true}
 use Rattle.std.proofs.lemmas.List.{append-nil}
 use Rattle.std.proofs.lemmas.List.Concat.{flat_map-append, flat_map-cons}
