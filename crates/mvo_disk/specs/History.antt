@@ -58,7 +58,8 @@ content_after (e ∷ past) n =
 -- what a stop after a deed may leave, by the content and the images before it
 abbrev pub LeftBy : Deed → List ℕ → (List ℕ → Type 0) → List ℕ → Type 0
 LeftBy (Found bytes) content may image = image ≡ bytes
-LeftBy (Wrote at bytes) content may image = (old : List ℕ) × may old × Torn at (length bytes) old image
+LeftBy (Wrote at bytes) content may image =
+    (old : List ℕ) × may old × Torn at (length bytes) old image
 LeftBy (Shortened n) content may image = (old : List ℕ) × may old × Cut n old image
 LeftBy Settled content may image = image ≡ content
 

@@ -1,6 +1,8 @@
 //! A disk in a folder of the operating system.
-use mvo_disk::{DirDisk, Disk, DiskFault, FolderRefusal, Progress, Silent};
-use mvo_disk::{make_folder, read_whole, write_synced};
+use mvo_disk::{
+    DirDisk, Disk, DiskFault, FolderRefusal, Progress, Silent, make_folder, read_whole,
+    write_synced,
+};
 use std::fs::{self, File};
 use std::test::Fail;
 use std::{env, process};
@@ -19,6 +21,7 @@ fn open(rt: &HostRuntime, path: &str) -> Result<HostDisk, FolderRefusal> {
 }
 
 /// The last that was told.
+#[derive(Drop)]
 struct Told(u64, u64);
 
 impl Progress for Told {
@@ -42,14 +45,20 @@ fn keeps_its_files(rt: HostRuntime) -> Result<(), Fail> {
     assert_eq!(rt; disk.len(3), Ok(5));
     assert_eq!(rt; disk.len(4), Ok(0));
     let file = format!(in alloc; "{path}/0003")?;
-    assert_eq!(rt; fs::read(&rt, file.as_str())?.as_slice(), b"axydz".as_slice());
+    assert_eq!(rt;
+        fs::read(&rt, file.as_str())?.as_slice(),
+        b"axydz".as_slice()
+    );
     let last = format!(in alloc; "{path}/1023")?;
     assert_eq!(rt; fs::metadata(&rt, last.as_str())?.len(), 0);
     drop(disk);
     let mut told = Told(0, 0);
     let mut disk = DirDisk::open(rt.clone()?, alloc, &path, &mut told)?;
     assert_eq!(rt; (told.0, told.1), (5, 5));
-    assert_eq!(rt; read_whole(alloc, &mut disk, 3)?.as_slice(), b"axydz".as_slice());
+    assert_eq!(rt;
+        read_whole(alloc, &mut disk, 3)?.as_slice(),
+        b"axydz".as_slice()
+    );
     let mut part = [0; 2];
     disk.read_at(3, 3, &mut part)?;
     assert_eq!(rt; part, *b"dz");
@@ -105,6 +114,9 @@ fn takes_nothing_after_a_fault(rt: HostRuntime) -> Result<(), Fail> {
     assert_eq!(rt; disk.cut(2, 0), Err(DiskFault));
     assert_eq!(rt; disk.sync(2), Err(DiskFault));
     assert_eq!(rt; disk.faults(), 4);
-    assert_eq!(rt; read_whole(alloc, &mut disk, 2)?.as_slice(), b"ab".as_slice());
+    assert_eq!(rt;
+        read_whole(alloc, &mut disk, 2)?.as_slice(),
+        b"ab".as_slice()
+    );
     Ok(())
 }

@@ -80,10 +80,10 @@ module _ {D : Type 0} (IsStep : WorldData D → Event → Reply → WorldData D 
   IsInserted d tx text r d' = Inserts d tx text r d' ⊎ ((r ≡ Refused OutOfMemory) × (d' ≡ d))
 
   -- the transaction is settled, and its end is noted for the name
-  pub record IsSettled (d : Driver D) (name : List ℕ) (tx : TxId) (r : Reply) (d' : Driver D) : Type 0
-    where
-      pub step : IsStep d.world (event.Core (core.Settle tx)) r d'.world
-      pub names : NotesEnd d.names d'.names name r
+  pub record IsSettled (d : Driver D) (name : List ℕ) (tx : TxId) (r : Reply) (d' : Driver D)
+      : Type 0 where
+    pub step : IsStep d.world (event.Core (core.Settle tx)) r d'.world
+    pub names : NotesEnd d.names d'.names name r
 
   -- so many steps of one event, each answered that more is left
   abbrev pub AreMore : ℕ → Event → Driver D → Driver D → Type 0

@@ -51,10 +51,11 @@ impl<D: Disk> Driver<D> {
         ensures world { result.world ≡ world }
         ensures names { BindsNone result.names }
     {
+        let names = Names::new(alloc);
         Driver {
             alloc,
             world,
-            names: Names::new(alloc),
+            names,
         }
     }
 

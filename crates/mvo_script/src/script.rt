@@ -31,8 +31,8 @@ pub fn run_script<R: Read + Drop, W: Write + Drop>(
 }
 
 /// Runs a script over a world: one reply a line, also to a last line without its line feed. It
-/// keeps no more than a bounded part of a line, however long that is. The replies are written at
-/// the end, and before that as the buffer fills. Nothing is flushed at the end.
+/// keeps no more than a bounded part of a line, however long that is. The replies are written as
+/// the buffer fills, before it waits for more lines, and at the end. No group is flushed then.
 pub fn run_over<D: Disk + Drop, R: Read + Drop, W: Write + Drop>(
     alloc: Global,
     world: World<D>,
@@ -58,14 +58,17 @@ fn run_driver<D: Disk + Drop, R: Read + Drop, W: Write + Drop>(
     flushed
 }
 
-/// Answers each line of the reader.
-fn answer_lines<D: Disk + Drop, R: BufRead, W: Write>(
+/// Answers each line of the reader. Before it waits for one it writes the replies so far.
+fn answer_lines<D: Disk + Drop, R: Read, W: Write>(
     mut driver: Driver<D>,
     mut line: Vec<u8>,
-    reader: &mut R,
+    reader: &mut BufReader<R>,
     writer: &mut W,
 ) -> Result<(), ScriptError> {
     for _ in 0..u64::MAX {
+        if !reader.buffer().contains(&b'\n') {
+            writer.flush().map_err(ScriptError::Write)?;
+        }
         if !read_line(reader, &mut line).map_err(ScriptError::Read)? {
             break;
         }
