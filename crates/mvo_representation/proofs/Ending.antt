@@ -71,12 +71,12 @@ high : (start e : ℕ) → start < e → is_up_to start (Some e) ≡ false
 high start e lt = le-ltb e (suc start) (omega arith)
 
 -- a word that names it has its end
-own_word : (ends : Ends) (t : ℕ) (o : Option ℕ) (w : Held) → names t w ≡ true → stamp_in (with_end t o ends) w ≡ o
+pub own_word : (ends : Ends) (t : ℕ) (o : Option ℕ) (w : Held) → names t w ≡ true → stamp_in (with_end t o ends) w ≡ o
 own_word ends t o (At n) q = absurd (false≢true q)
 own_word ends t o (By u) q = ap (λ b. cond b o (ends u.0)) q
 own_word ends t o Infinity q = absurd (false≢true q)
 
-named_end : (ends : Ends) (t : ℕ) (w : Held) → names t w ≡ true → stamp_in ends w ≡ ends t
+pub named_end : (ends : Ends) (t : ℕ) (w : Held) → names t w ≡ true → stamp_in ends w ≡ ends t
 named_end ends t (At n) q = absurd (false≢true q)
 named_end ends t (By u) q = ap ends (eqb-true u.0 t q)
 named_end ends t Infinity q = absurd (false≢true q)
@@ -277,7 +277,7 @@ alone_at before after x r = each_append (λ y. y.end ≡ x.end → y.id ≡ x.id
     (each_weaker (λ y. y.end < x.end) (λ y. y.end ≡ x.end → y.id ≡ x.id) (λ y lt e. absurd (omega arith)) before (rising_before before after x r))
     (λ _. refl, each_weaker (λ y. x.end < y.end) (λ y. y.end ≡ x.end → y.id ≡ x.id) (λ y lt e. absurd (omega arith)) after (rising_after before after x r))
 
-alone_in : (s : State) (t : ℕ) (x : StampedTx) → preparing_of t s.stamped ≡ Some x → IsSound s → AllByRecursion (λ y. y.end ≡ x.end → y.id ≡ t) s.stamped
+pub alone_in : (s : State) (t : ℕ) (x : StampedTx) → preparing_of t s.stamped ≡ Some x → IsSound s → AllByRecursion (λ y. y.end ≡ x.end → y.id ≡ t) s.stamped
 alone_in s t x f k =
     let p = split_at t s.stamped x f in
     subst (λ (n : ℕ). AllByRecursion (λ y. y.end ≡ x.end → y.id ≡ n) s.stamped) p.3

@@ -113,7 +113,7 @@ or_comm true true c = refl
 or_comm true false c = refl
 or_comm false b c = refl
 
-there-at : (p : Place) (xs : List Version) (v : Version) (ys : List Version) → list_any (is_at_place p) (xs ++ v ∷ ys) ≡ (is_at_place p v || list_any (is_at_place p) (xs ++ ys))
+pub there-at : (p : Place) (xs : List Version) (v : Version) (ys : List Version) → list_any (is_at_place p) (xs ++ v ∷ ys) ≡ (is_at_place p v || list_any (is_at_place p) (xs ++ ys))
 there-at p [] v ys = refl
 there-at p (x ∷ xs) v ys = ap (λ b. is_at_place p x || b) (there-at p xs v ys) ∙ or_comm (is_at_place p x) (is_at_place p v) (list_any (is_at_place p) (xs ++ ys))
 

@@ -111,7 +111,7 @@ new_in_order start states slots slots' lists t row n act free now own h q =
         (λ m x f w v p r. subst (λ (u : Version). MayPrecede start (phases_of states) u v) (some_version (fresh t row) w (sym now.here ∙ p)) (fresh_pair start (phases_of states) t row v (ap phase_as act) (f v (sym (now.others (number m) x) ∙ r)))) (numbers_of lists row.key) (none_of n (numbers_of lists row.key) (free.at row.key)) own
 
 -- ---- what t has put at a key and not ended
-same_key : (k : RowKey) (v : Version) → v.row.key ≡ k → eq_by_cmp key_cmp k v.row.key ≡ true
+pub same_key : (k : RowKey) (v : Version) → v.row.key ≡ k → eq_by_cmp key_cmp k v.row.key ≡ true
 same_key k v e = subst (λ (j : RowKey). eq_by_cmp key_cmp j v.row.key ≡ true) e ((eq_by_cmp_equiv keys_total).refl v.row.key)
 
 -- a version that is put and not ended leaves a row

@@ -243,7 +243,7 @@ stamp_began s t n lt h = record {
 }
 
 -- no word names one that isn't in the table
-unnamed : (s : State) (table : Phases) (t : ℕ) → table t ≡ Absent → (w : Held) → IsKnown s table w → names t w ≡ false
+pub unnamed : (s : State) (table : Phases) (t : ℕ) → table t ≡ Absent → (w : Held) → IsKnown s table w → names t w ≡ false
 unnamed s table t e (At n) k = refl
 unnamed s table t e (By u) k = ne_eqb u.0 t (λ q. k (ap table q ∙ e))
 unnamed s table t e Infinity k = refl

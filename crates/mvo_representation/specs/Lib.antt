@@ -3,6 +3,7 @@ pub mod Versions
 pub mod Nodes
 pub mod Indexes
 pub mod WordLists
+pub mod WordLaws
 pub mod Steps
 pub mod Table
 pub mod Laws

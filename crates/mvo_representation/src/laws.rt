@@ -17,6 +17,19 @@ ghost use Rattle.mvo_representation.specs.OrderLaws.{SameStayInOrder};
 ghost use Rattle.mvo_representation.specs.WrittenLaws.{NothingIsWritten, InsertIsWritten};
 ghost use Rattle.mvo_representation.specs.WrittenLaws.{DeleteIsWritten, UpdateIsWritten};
 ghost use Rattle.mvo_representation.specs.WrittenLaws.{OthersKeepWritten, AbsentIsUnnamed};
+ghost use Rattle.mvo_representation.specs.WordLaws.{OpeningHasLists, BeginKeepsLists};
+ghost use Rattle.mvo_representation.specs.WordLaws.{InsertKeepsLists, DeleteKeepsLists};
+ghost use Rattle.mvo_representation.specs.WordLaws.{UpdateKeepsLists, AnswerKeepsLists};
+ghost use Rattle.mvo_representation.specs.WordLaws.{PrecommitKeepsLists, CheckKeepsLists};
+ghost use Rattle.mvo_representation.specs.WordLaws.{CommitKeepsLists, AbortKeepsLists};
+ghost use Rattle.mvo_representation.specs.WordLaws.{PassingKeepsLists, DoneIsSeen};
+ghost use Rattle.mvo_representation.specs.WordLaws.{FinishKeepsLists, LastIsUnnamed};
+ghost use Rattle.mvo_representation.specs.WordLaws.{LastKeepsLists, NoneIsUnnamed};
+ghost use Rattle.mvo_representation.specs.WordLaws.{LeavingKeepsLists, FinishedIsAlike};
+ghost use Rattle.mvo_representation.specs.WordLaws.{FinishedStands, TrimKeepsLists};
+ghost use Rattle.mvo_representation.specs.WordLaws.{CloseKeepsLists, RemovalKeepsLists};
+ghost use Rattle.mvo_representation.specs.WordLaws.{RoomKeepsLists, ListsAreWritten, OnePutIsLeft};
+ghost use Rattle.mvo_representation.specs.WordLaws.{OnePutStands};
 
 /// The laws of the representation. What versions, the transaction table and the indexes say is a
 /// state of the theory: when a core opens, and after each call, whatever it comes to. And what the
@@ -78,4 +91,38 @@ pub fn laws_of_written_versions()
     ensures delete { DeleteIsWritten }
     ensures update { UpdateIsWritten }
     ensures others { OthersKeepWritten }
+{}
+
+/// The laws of the words that each transaction still has to replace. Its list names, in the order
+/// of writing, the Begins and Ends that it wrote; an End that another took over stays on the list
+/// and is passed over. Such are the lists when a core opens, and after each call; an ended
+/// transaction is done where at most one place still names it, and no word names it then. The call
+/// does nothing.
+pub fn laws_of_words()
+    ensures opening { OpeningHasLists }
+    ensures begin { BeginKeepsLists }
+    ensures insert { InsertKeepsLists }
+    ensures delete { DeleteKeepsLists }
+    ensures update { UpdateKeepsLists }
+    ensures answer { AnswerKeepsLists }
+    ensures precommit { PrecommitKeepsLists }
+    ensures check { CheckKeepsLists }
+    ensures commit { CommitKeepsLists }
+    ensures abort { AbortKeepsLists }
+    ensures passing { PassingKeepsLists }
+    ensures done { DoneIsSeen }
+    ensures finish { FinishKeepsLists }
+    ensures last { LastIsUnnamed }
+    ensures last_kept { LastKeepsLists }
+    ensures none { NoneIsUnnamed }
+    ensures leaving { LeavingKeepsLists }
+    ensures alike { FinishedIsAlike }
+    ensures stands { FinishedStands }
+    ensures trim { TrimKeepsLists }
+    ensures close { CloseKeepsLists }
+    ensures removal { RemovalKeepsLists }
+    ensures room { RoomKeepsLists }
+    ensures written { ListsAreWritten }
+    ensures one_left { OnePutIsLeft }
+    ensures one_stands { OnePutStands }
 {}

@@ -7,5 +7,7 @@ mod laws;
 mod table_laws;
 
 pub use dependency_laws::laws_of_dependencies;
-pub use laws::{laws_of_representation, laws_of_standing_order, laws_of_written_versions};
+pub use laws::{
+    laws_of_representation, laws_of_standing_order, laws_of_words, laws_of_written_versions,
+};
 pub use table_laws::laws_of_table;
