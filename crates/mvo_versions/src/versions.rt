@@ -51,6 +51,7 @@ impl Versions {
     ghost use Rattle.mvo_word.specs.declared.held.Held.TheVariants.{By};
     ghost use Rattle.mvo_representation.specs.Steps.{ended_by};
     ghost use Rattle.mvo_types.specs.declared.limits.TheConstants.{MAX_STAMP as LIMIT};
+    ghost use Rattle.mvo_versions.specs.Data.{AreIndexed};
     ghost use Rattle.mvo_versions.specs.Changes.{AreLoaded, IsPut, IsRoomed, IsReworded};
     ghost use Rattle.mvo_versions.specs.Changes.{IsInFront, IsTakenOut};
 
@@ -81,9 +82,11 @@ impl Versions {
         })
     }
 
-    /// The version with the number, if there is one.
+    /// The version with the number, if there is one. What the indexes keep is known wherever it is
+    /// asked for.
     pub fn get(&self, number: VersionNo) -> Option<&Version>
-        ensures { option_copied result ≡ version_at self.now.slots number }
+        ensures version { option_copied result ≡ version_at self.now.slots number }
+        ensures indexed { AreIndexed self.now }
     {
         self.chains.get(number)
     }
