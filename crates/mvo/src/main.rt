@@ -1,8 +1,10 @@
 //! The program of Ravundi.
 #![tactic(auto)]
 
+use std::io::IsTerminal;
 use std::process::ExitCode;
 
 fn main(rt: HostRuntime) -> ExitCode {
-    mvo_cli::run_program(&rt)
+    let is_terminal = rt.stderr().is_terminal();
+    mvo_cli::run_program(&rt, is_terminal)
 }

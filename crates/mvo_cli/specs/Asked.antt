@@ -1,19 +1,40 @@
 -- The command line.
-use Rattle.std.specs.Prelude.{◌≡◌, List, Option, Some, [], true, codes, option_map}
-use Rattle.clap.specs.Words.{App, Text, new_app, subcommand_of, with_subcommand}
-use Rattle.mvo_cli.specs.declared.asked.Task.{Task}
-use Rattle.mvo_cli.specs.declared.asked.Task.TheVariants.{Run}
+use Rattle.std.specs.Prelude.{◌≡◌, List, Bool, Some, [], true, false, codes, pos, IsSomeAnd}
+use Rattle.clap.specs.Words.{App, Rule, Text, new_app, new_rule, subcommand_of, with_rule, with_subcommand}
+use Rattle.clap.specs.declared.builder.value_parser.ValueParser.TheVariants as parser
+use Rattle.mvo_cli.specs.Tasks.{IsTask}
+use Rattle.mvo_cli.specs.declared.task.Task.{Task}
 
--- the program's commands, one of which must be there
+-- the path of a folder
+abbrev pub folder_rule : Bool → Rule
+folder_rule required = record (new_rule (codes "DIR")) { required = required }
+
+-- the number of a table, which must be there
+abbrev pub table_rule : Rule
+table_rule = record (new_rule (codes "TABLE")) {
+  required = true;
+  parser = Some (parser.Signed (pos 0) (pos 15));
+}
+
+-- a command with the path of a folder
+abbrev pub with_folder : Text → Bool → App
+with_folder name required = with_rule (new_app name) (folder_rule required)
+
+-- the program with no command yet, one of which must be there
+abbrev pub no_command : App
+no_command = record {
+  top = record (new_app (codes "mvo")).top { subcommand_required = true };
+  subs = [];
+}
+
+-- the program's commands
 abbrev pub commands : App
 commands =
-    let mvo = record (new_app (codes "mvo")).top { subcommand_required = true } in
-    with_subcommand (record { top = mvo; subs = [] }) (new_app (codes "run")).top
-
--- the command that the words name
-abbrev pub command_of : List Text → Option Text
-command_of words = option_map (λ c. c.0) (subcommand_of commands words)
+    let formats = with_subcommand no_command (with_folder (codes "format") true).top in
+    let runs = with_subcommand formats (with_folder (codes "run") false).top in
+    let rows = with_rule (with_folder (codes "rows") true) table_rule in
+    with_subcommand (with_subcommand runs rows.top) (with_folder (codes "check") true).top
 
 -- the words ask for the task
 abbrev pub AsksFor : List Text → Task → Type 0
-AsksFor words Run = command_of words ≡ Some (codes "run")
+AsksFor words t = IsSomeAnd (subcommand_of commands words) (λ p. IsTask p.0 p.1 t)

@@ -3,6 +3,7 @@ ghost use Rattle.mvo_cli.specs.Status.{status_of};
 
 use clap::error::ErrorKind;
 use mvo_script::ScriptError;
+use mvo_types::Refusal;
 use std::alloc::AllocError;
 use std::io;
 use thiserror::Error;
@@ -16,10 +17,19 @@ pub enum Fault {
     /// The words of the command line can't be read.
     #[error("error: can't read the command line: {0}\n")]
     Words(io::Error),
+    /// The store in a folder isn't made or opened.
+    #[error("{0}\n")]
+    Refused(Refusal),
+    /// Another process has the folder open. This is refused as a fault of the disk.
+    #[error("refused 50\nthe folder is in use by another process\n")]
+    InUse,
     /// The script isn't run to its end.
     #[error("error: {0}\n")]
     Script(ScriptError),
-    /// Memory was refused before the command was known.
+    /// What was asked for can't be printed.
+    #[error("error: can't write: {0}\n")]
+    Print(io::Error),
+    /// Memory was refused before the command was known, or while it was done.
     #[error("error: out of memory\n")]
     OutOfMemory,
 }
@@ -32,8 +42,8 @@ impl Fault {
         self.status() == 0
     }
 
-    /// The exit status: 0 after help, 2 for a bad command line, 3 where reading or writing failed
-    /// or memory was refused.
+    /// The exit status: 0 after help, 1 where the store wasn't made or opened, 2 for a bad command
+    /// line, 3 where reading or writing failed or memory was refused.
     pub fn status(&self) -> u8
         ensures { result ≡ status_of self.now }
     {
@@ -44,7 +54,8 @@ impl Fault {
                 _ => 2,
             },
             Fault::Words(_) => 2,
-            Fault::Script(_) | Fault::OutOfMemory => 3,
+            Fault::Refused(_) | Fault::InUse => 1,
+            Fault::Script(_) | Fault::Print(_) | Fault::OutOfMemory => 3,
         }
     }
 }
@@ -52,5 +63,11 @@ impl Fault {
 impl From<AllocError> for Fault {
     fn from(_e: AllocError) -> Fault {
         Fault::OutOfMemory
+    }
+}
+
+impl From<Refusal> for Fault {
+    fn from(refusal: Refusal) -> Fault {
+        Fault::Refused(refusal)
     }
 }

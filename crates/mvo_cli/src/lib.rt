@@ -3,11 +3,16 @@
 
 mod asked;
 mod fault;
+mod folder;
+mod listing;
 mod program;
+mod shown;
+mod task;
 
-pub use asked::{Task, command};
+pub use asked::command;
 pub use fault::Fault;
 pub use program::run_program;
+pub use task::Task;
 
 #[cfg(test)]
 mod tests;

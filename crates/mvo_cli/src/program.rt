@@ -1,6 +1,11 @@
-use crate::asked::{Task, command};
+use crate::asked::command;
 use crate::fault::Fault;
-use mvo_script::run_script;
+use crate::folder::{format_folder, open_held, open_world};
+use crate::listing::{write_counts, write_rows};
+use crate::task::Task;
+use mvo_script::{run_over, run_script};
+use std::fs::{File, Files};
+use std::io::Write;
 use std::process::ExitCode;
 use std::rt::Env;
 use std::{env, io};
@@ -9,17 +14,25 @@ use std::{env, io};
 const WRITING_FAILED: u8 = 3;
 
 /// Runs the program on its words, standard input and standard output. Its exit status is 0 where
-/// all was done, refused lines and help included, 2 for a bad command line, and 3 where reading or
-/// writing failed or memory was refused. Statuses 2 and 3 come with a text on standard error.
-pub fn run_program<R: AllocGlobal + Env + Input + Print + Eprint>(rt: &R) -> ExitCode {
-    match run_words(rt) {
+/// all was done, refused lines and help included, 1 where a store wasn't made or opened, 2 for a
+/// bad command line, and 3 where reading or writing failed or memory was refused. Statuses 1 to 3
+/// come with a text on standard error. Where that is a terminal, it also shows how far a folder is
+/// read.
+pub fn run_program<R>(rt: &R, is_terminal: bool) -> ExitCode
+where
+    R: AllocGlobal + Env + Input + Print + Eprint + Files<File = File> + Clone + Drop,
+{
+    match run_words(rt, is_terminal) {
         Ok(()) => ExitCode::SUCCESS,
         Err(fault) => ExitCode::from(tell(rt, &fault)),
     }
 }
 
 /// Does the command that the program's words are.
-fn run_words<R: AllocGlobal + Env + Input + Print>(rt: &R) -> Result<(), Fault> {
+fn run_words<R>(rt: &R, is_terminal: bool) -> Result<(), Fault>
+where
+    R: AllocGlobal + Env + Input + Print + Eprint + Files<File = File> + Clone + Drop,
+{
     let alloc = rt.alloc();
     let owned: Vec<String> = match env::args(rt) {
         Ok(words) => words.collect(alloc)?,
@@ -27,8 +40,34 @@ fn run_words<R: AllocGlobal + Env + Input + Print>(rt: &R) -> Result<(), Fault> 
         Err(error) => return Err(Fault::Words(error)),
     };
     let words: Vec<&str> = owned.iter().map(|word| word.as_str()).collect(alloc)?;
-    match command(alloc, &words).map_err(Fault::CommandLine)? {
-        Task::Run => run_script(alloc, rt.reader(), io::writer(rt)).map_err(Fault::Script),
+    run_task(
+        rt,
+        command(alloc, &words).map_err(Fault::CommandLine)?,
+        is_terminal,
+    )
+}
+
+/// Does what the program is asked to do.
+fn run_task<R>(rt: &R, task: Task<'_>, is_terminal: bool) -> Result<(), Fault>
+where
+    R: AllocGlobal + Env + Input + Print + Eprint + Files<File = File> + Clone + Drop,
+{
+    let alloc = rt.alloc();
+    let mut writer = io::writer(rt);
+    match task {
+        Task::Format(folder) => {
+            format_folder(rt, folder, is_terminal)?;
+            writeln!(writer, "formatted").map_err(Fault::Print)
+        }
+        Task::Run => run_script(alloc, rt.reader(), writer).map_err(Fault::Script),
+        Task::RunIn(folder) => {
+            let world = open_world(rt, folder, is_terminal)?;
+            run_over(alloc, world, rt.reader(), writer).map_err(Fault::Script)
+        }
+        Task::Rows(folder, table) => {
+            write_rows(alloc, &open_held(rt, folder, is_terminal)?, table, writer)
+        }
+        Task::Check(folder) => write_counts(&open_held(rt, folder, is_terminal)?, &mut writer),
     }
 }
 

@@ -3,25 +3,51 @@ use clap::error::ErrorKind;
 use std::test::Fail;
 
 #[test]
-fn run_is_the_one_command(rt: HostRuntime) -> Result<(), Fail> {
+fn the_words_ask_for_a_task(rt: HostRuntime) -> Result<(), Fail> {
     let alloc = rt.alloc();
     assert!(rt; matches!(command(alloc, &["mvo", "run"]), Ok(Task::Run)));
-    for words in [
-        ["mvo", "walk"],
-        ["mvo", "--run"],
-        ["mvo", "-r"],
-        ["mvo", "Run"],
+    assert!(rt; matches!(command(alloc, &["mvo", "run", "d"]), Ok(Task::RunIn("d"))));
+    assert!(rt;
+        matches!(
+            command(alloc, &["mvo", "format", "d/e"]),
+            Ok(Task::Format("d/e"))
+        )
+    );
+    assert!(rt;
+        matches!(
+            command(alloc, &["mvo", "rows", "d", "15"]),
+            Ok(Task::Rows("d", 15))
+        )
+    );
+    assert!(rt; matches!(command(alloc, &["mvo", "check", "d"]), Ok(Task::Check("d"))));
+    Ok(())
+}
+
+#[test]
+fn other_words_are_refused(rt: HostRuntime) -> Result<(), Fail> {
+    let alloc = rt.alloc();
+    for line in [
+        "mvo",
+        "mvo walk",
+        "mvo --run",
+        "mvo -r",
+        "mvo Run",
+        "mvo run d e",
+        "mvo format",
+        "mvo format d e",
+        "mvo rows d",
+        "mvo rows d 16",
+        "mvo rows d -1",
+        "mvo rows d x",
+        "mvo rows d 1 2",
+        "mvo check",
+        "mvo check d e",
     ] {
+        let words: Vec<&str> = line.split(' ').collect(alloc)?;
         let error = command(alloc, &words).err().ok_or("an error")?;
         assert!(rt; error.kind() != ErrorKind::OutOfMemory);
-        assert_eq!(rt; Fault::CommandLine(error).status(), 2, "at {words:?}");
+        assert_eq!(rt; Fault::CommandLine(error).status(), 2, "at {line}");
     }
-    let lacking = command(alloc, &["mvo"]).err().ok_or("an error")?;
-    assert_eq!(rt; Fault::CommandLine(lacking).status(), 2);
-    let longer = command(alloc, &["mvo", "run", "DIR"])
-        .err()
-        .ok_or("an error")?;
-    assert_eq!(rt; Fault::CommandLine(longer).status(), 2);
     Ok(())
 }
 

@@ -1,7 +1,10 @@
 pub mod Disk
 pub mod Held
+pub mod History
+pub mod HistoryLaws
 pub mod Memory
 pub mod Moments
+pub mod Put
 pub mod Record
 pub mod Stop
 pub mod Torn

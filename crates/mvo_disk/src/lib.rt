@@ -2,20 +2,28 @@
 #![tactic(auto)]
 
 mod call;
+mod dir_disk;
 mod disk;
 mod file;
 mod files;
+mod folder;
 mod image;
 mod limits;
 mod memory;
+mod mirror;
+mod progress;
 mod read;
+mod record;
 mod steps;
 mod stop;
 
 pub use call::{Call, Work};
+pub use dir_disk::DirDisk;
 pub use disk::{Disk, DiskFault};
+pub use folder::{FolderRefusal, make_folder};
 pub use image::{FileImage, StopRefusal};
 pub use limits::FILE_COUNT;
 pub use memory::MemDisk;
+pub use progress::{Progress, Silent};
 pub use read::{ReadFailure, read_whole};
 pub use steps::{rewrite_synced, write_synced};

@@ -2,6 +2,8 @@
 #![tactic(auto)]
 
 #[cfg(test)]
+mod folders;
+#[cfg(test)]
 mod record;
 #[cfg(test)]
 mod stops;

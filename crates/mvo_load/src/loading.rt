@@ -5,11 +5,13 @@ ghost use Rattle.mvo_pair.specs.Answers.{Tells};
 ghost use Rattle.mvo_pair.specs.Writing.{IsStop, CountsFaults};
 ghost use Rattle.mvo_image.specs.Files.{OpensAs};
 ghost use Rattle.mvo_load.specs.Loaded.{IsLoaded};
+ghost use Rattle.mvo_load.specs.Parts.{HavePlaces};
 
 use crate::loaded::Loaded;
 use crate::pairs::load_pairs;
 use crate::segments::load_segments;
 use crate::slots::read_manifest;
+use mvo_ckpt::Places;
 use mvo_disk::Disk;
 use mvo_format::Format;
 use mvo_types::Refusal;
@@ -17,7 +19,8 @@ use std::alloc::Global;
 
 /// What a disk holds of files of this version. Nothing changes, and no stop within it leaves
 /// anything new. Files are read one after another, and memory is taken in proportion to the bytes
-/// of one pair's files or of one segment, and to the rows.
+/// of one pair's files or of one segment, and to the rows. The place of each live record takes 32
+/// bytes or more; the seed is for the table of them, and who chose the keys can't know it.
 ///
 /// Refused by the first rule that is broken, in this order: Corrupt with 0 or BadVersion by slot 0,
 /// Corrupt with 1 or BadVersion by slot 1, NotFormatted where no slot is open; of the pairs in
@@ -26,12 +29,19 @@ use std::alloc::Global;
 /// before; of the segments in their order Corrupt with the segment or BadVersion. OutOfMemory, for
 /// want of memory alone, and DiskFault, for a call of the device that failed, may stand in the
 /// place of any later answer.
-pub fn load<D: Disk>(alloc: Global, disk: &mut D, format: Format) -> Result<Loaded, Refusal>
+pub fn load<D: Disk>(
+    alloc: Global,
+    disk: &mut D,
+    format: Format,
+    seed: u64,
+) -> Result<Loaded, Refusal>
     requires room { D.fault_count disk.old + 1 < 2 ^ 64 }
     ensures says { Tells IsStop (λ l. (l.rows, l.mark.0)) result
         (OpensAs format (D.content disk.old)) }
     ensures parts { IfOk result (λ l. IsLoaded format (D.content disk.old) l.manifest l.rows
         l.mark.0 l.gate) }
+    ensures places { IfOk result (λ l. HavePlaces format (D.content disk.old) l.manifest.pairs
+        l.places.at) }
     ensures count { CountsFaults (D.fault_count disk.old) (D.fault_count disk.new) result }
     ensures rest { AllStay (D.content disk.old) (D.content disk.new) (D.may_leave disk.old)
         (D.may_leave disk.new) }
@@ -42,7 +52,8 @@ pub fn load<D: Disk>(alloc: Global, disk: &mut D, format: Format) -> Result<Load
         Ok(manifest) => manifest,
         Err(e) => return Err(e),
     };
-    let mut rows = match load_pairs(alloc, disk, format, &manifest) {
+    let mut places = Places::new(alloc, seed);
+    let mut rows = match load_pairs(alloc, disk, format, &manifest, &mut places) {
         Ok(rows) => rows,
         Err(e) => return Err(e),
     };
@@ -53,6 +64,7 @@ pub fn load<D: Disk>(alloc: Global, disk: &mut D, format: Format) -> Result<Load
     Ok(Loaded {
         manifest,
         rows,
+        places,
         mark: end.mark,
         gate: end.gate,
     })

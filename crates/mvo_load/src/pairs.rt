@@ -1,13 +1,15 @@
 //! Loads the live records of all pairs.
-ghost use Rattle.std.specs.Prelude.{◌≡◌, ◌<◌, ◌+◌, ◌^◌, List, [], Some, IfOk};
+ghost use Rattle.std.specs.Prelude.{◌≡◌, ◌<◌, ◌+◌, ◌^◌, List, [], Some, IfOk, OnOk};
+ghost use Rattle.std.specs.FinMap.{empty};
 ghost use Rattle.mvo_pair.specs.Data.{Numbered};
 ghost use Rattle.mvo_image.specs.Rows.{AreApart, rows_of};
 ghost use Rattle.mvo_image.specs.Opens.{Segments, OpensWith};
 ghost use Rattle.mvo_image.specs.Files.{SegmentSays};
 ghost use Rattle.mvo_load.specs.Leading.{LeadsOn};
-ghost use Rattle.mvo_load.specs.Parts.{Joins, HaveRows};
+ghost use Rattle.mvo_load.specs.Parts.{Joins, HaveRows, HavePlaces};
 ghost use Rattle.mvo_load.specs.Read.{HasRead};
 
+use mvo_ckpt::Places;
 use mvo_disk::Disk;
 use mvo_format::Format;
 use mvo_manifest::Manifest;
@@ -31,15 +33,20 @@ fn join(rows: &mut Rows, live: Vec<Live>) -> Result<bool, AllocError>
     Ok(rows.len() - before == count)
 }
 
-/// The rows of the live records of a manifest's pairs, read one pair after another.
+/// The rows of the live records of a manifest's pairs, read one pair after another. Their places
+/// are put into a table without any.
 pub fn load_pairs<D: Disk>(
     alloc: Global,
     disk: &mut D,
     format: Format,
     manifest: &Manifest,
+    places: &mut Places,
 ) -> Result<Rows, Refusal>
     requires room { D.fault_count disk.old + 1 < 2 ^ 64 }
+    requires none { places.old.at ≡ empty }
     ensures live { IfOk result (HaveRows format (D.content disk.old) manifest.now.pairs) }
+    ensures places { OnOk result (HavePlaces format (D.content disk.old) manifest.now.pairs
+        places.new.at) }
     ensures leads { LeadsOn
         (λ rows. Segments (SegmentSays format) (D.content disk.old) rows manifest.now.segments
         manifest.now.checkpoint_mark [])
@@ -53,6 +60,7 @@ pub fn load_pairs<D: Disk>(
             Ok(live) => live,
             Err(e) => return Err(e),
         };
+        places.add_pair(pair.data_file, &live)?;
         if !join(&mut rows, live)? {
             return Err(Refusal::Corrupt(pair.data_file));
         }

@@ -64,13 +64,35 @@ fn row(alloc: Global, loaded: &Loaded) -> Result<String, Fail> {
     Ok(format!(in alloc; "{sort} {data}")?)
 }
 
+/// Where the live record of table 0 at key 5 lies: its data file and its number.
+fn place(alloc: Global, loaded: &Loaded) -> Result<String, Fail> {
+    let Some(place) = loaded.places.get(RowKey { table: 0, key: 5 }) else {
+        return Ok(format!(in alloc; "nowhere")?);
+    };
+    let file = place.data_file;
+    let number = place.number;
+    Ok(format!(in alloc; "{file} {number}")?)
+}
+
+/// The place of table 0 at key 5 on a disk with these files.
+pub fn placed(alloc: Global, files: &[(u16, &str)]) -> Result<String, Fail> {
+    let mut disk = disk_of(alloc, files)?;
+    if disk.faults() > 0 {
+        return Err(Fail::from("a fault"));
+    }
+    match load(alloc, &mut disk, FIRST_FORMAT, 7) {
+        Ok(loaded) => place(alloc, &loaded),
+        Err(refusal) => Ok(format!(in alloc; "{refusal}")?),
+    }
+}
+
 /// What is found out of a disk, as a line: generation, mark, gate, how many rows, and the row of
 /// table 0 at key 5; or the refusal.
 pub fn found_on(alloc: Global, disk: &mut MemDisk) -> Result<String, Fail> {
     if disk.faults() > 0 {
         return Err(Fail::from("a fault"));
     }
-    match load(alloc, disk, FIRST_FORMAT) {
+    match load(alloc, disk, FIRST_FORMAT, 7) {
         Ok(loaded) => {
             let row = row(alloc, &loaded)?;
             let generation = loaded.manifest.generation();

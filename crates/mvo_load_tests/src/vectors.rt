@@ -1,5 +1,7 @@
 //! The vectors of the formats, as the images that a store leaves.
-use crate::image::{DATA, DELTA, FRESH, INSERTED, LATER_DATA, NAMED, disk_of, found, found_on};
+use crate::image::{
+    DATA, DELTA, FRESH, INSERTED, LATER_DATA, NAMED, disk_of, found, found_on, placed,
+};
 use mvo_disk::Work;
 use std::test::Fail;
 
@@ -78,6 +80,21 @@ fn a_merged_pair_has_the_rows(rt: HostRuntime) -> Result<(), Fail> {
         (8, DELTA),
     ];
     assert_eq!(rt; found(rt.alloc(), &files)?.as_str(), "5, 4, 8, 1: 50 62");
+    Ok(())
+}
+
+#[test]
+fn live_records_have_places(rt: HostRuntime) -> Result<(), Fail> {
+    let alloc = rt.alloc();
+    // The row of the segment has no place.
+    assert_eq!(rt;
+        placed(alloc, &[(0, FORMATTED), (2, INSERTED)])?.as_str(),
+        "nowhere"
+    );
+    let files = [(0, CHECKPOINTED), (3, FRESH), (4, DATA), (5, DELTA)];
+    assert_eq!(rt; placed(alloc, &files)?.as_str(), "4 0");
+    let files = [(1, MERGED), (2, FRESH), (3, LATER_DATA), (8, DELTA)];
+    assert_eq!(rt; placed(alloc, &files)?.as_str(), "3 0");
     Ok(())
 }
 

@@ -34,7 +34,8 @@ use Rattle.mvo_representation.specs.Words.{ends_of, has_stamp, stamp_above, is_t
 use Rattle.mvo_representation.specs.Words.Touch.{PutOrEnded}
 use Rattle.mvo_representation.specs.Versions.{AreVersionsOf}
 use Rattle.mvo_representation.specs.Indexes.{all_versions, is_of_key, HasNumbers, place_of, is_at_place, HasPlaces}
-use Rattle.mvo_representation.specs.Table.{phases_of, entry_as}
+use Rattle.mvo_representation.specs.Table.{phases_of}
+use Rattle.mvo_work.specs.History.{entry_as}
 use Rattle.mvo_representation.proofs.Between.{range_checked}
 use Rattle.mvo_representation.proofs.Decided.{last_same, changes_at, greatest_change}
 use Rattle.mvo_representation.proofs.ShownTo.{of_key, there}

@@ -32,7 +32,8 @@ use Rattle.mvo_representation.specs.Words.{ends_of, with_open, IsShownAt, is_met
 use Rattle.mvo_representation.specs.Versions.{AreVersionsOf, loaded}
 use Rattle.mvo_representation.specs.Indexes.{all_versions, HasNumbers, HasPlaces}
 use Rattle.mvo_representation.specs.Steps.{MayEnd, IsAfterCall}
-use Rattle.mvo_representation.specs.Table.{phases_of, content_shown, place_with, end_awaited, entry_as, IsShown}
+use Rattle.mvo_representation.specs.Table.{phases_of, content_shown, place_with, end_awaited, IsShown}
+use Rattle.mvo_work.specs.History.{entry_as}
 
 -- What a core has stands for a state that its steps lead to.
 pub record StandsFor (opening : Map) (steps : List Step) (s : State) (states : States)

@@ -15,9 +15,6 @@ use Rattle.mvo_chain.specs.declared.version.VersionNo.{VersionNo}
 use Rattle.mvo_range.specs.declared.place.Place.{Place}
 use Rattle.mvo_chain.specs.Slots.{Slots, version_at}
 use Rattle.mvo_visible.specs.Words.{States}
-use Rattle.mvo_theory.specs.Entries as theory
-use Rattle.mvo_validate.specs.declared.entry.Entry.{Entry}
-use Rattle.mvo_validate.specs.declared.entry.Entry.TheVariants.{Key, Range}
 use Rattle.mvo_representation.specs.Words.{Phases, ends_of, open_end_in, IsShownAt}
 use Rattle.mvo_representation.specs.Indexes.{all_versions}
 use Rattle.mvo_representation.specs.Steps.{IsOwnNewest}
@@ -49,11 +46,6 @@ place_with k h = record { table = k.table; sort = h.sort; key = k.key }
 abbrev pub end_awaited : States → Option TxId → Option ℕ
 end_awaited states None = None
 end_awaited states (Some t) = open_end_in (phases_of states t.0)
-
--- the entry as the state has it
-abbrev pub entry_as : Entry → theory.Entry
-entry_as (Key k) = theory.Entry.Key k
-entry_as (Range table lo hi) = theory.Entry.Range table lo hi
 
 -- ---- the version that is shown
 -- it is the transaction's own newest one, or it is shown by others' words and the key isn't written

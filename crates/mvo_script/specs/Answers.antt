@@ -8,7 +8,6 @@ use Rattle.mvo_types.specs.declared.refusal.Refusal.TheVariants.{OutOfMemory}
 use Rattle.mvo_core.specs.declared.event.Event.{Event as CoreEvent}
 use Rattle.mvo_core.specs.declared.event.Event.TheVariants as core
 use Rattle.mvo_core.specs.declared.reply.Reply.TheVariants.{Committed, Preparing, More, Valid, Done}
-use Rattle.mvo_disk.specs.declared.memory.MemDisk.{MemDisk}
 use Rattle.mvo_world.specs.WorldData.{WorldData}
 use Rattle.mvo_world.specs.declared.event.Event.{Event}
 use Rattle.mvo_world.specs.declared.event.Event.TheVariants as event
@@ -58,82 +57,82 @@ abbrev pub row_of : RowText → List ℕ → RowData
 row_of text bytes = record { key = text.key; sort = text.sort; bytes = bytes }
 
 -- ---- by the steps of the world that the driver makes
-module _ (IsStep : WorldData MemDisk → Event → Reply → WorldData MemDisk → Type 0) where
+module _ {D : Type 0} (IsStep : WorldData D → Event → Reply → WorldData D → Type 0) where
   -- the world makes this step, and the names stay
-  pub record IsStepOf (d : Driver) (e : Event) (r : Reply) (d' : Driver) : Type 0 where
+  pub record IsStepOf (d : Driver D) (e : Event) (r : Reply) (d' : Driver D) : Type 0 where
     pub step : IsStep d.world e r d'.world
     pub names : d'.names ≡ d.names
 
   -- begun, as a transaction that the name is bound to; or refused without memory for the name
-  abbrev pub IsBegun : Driver → List ℕ → Reply → Driver → Type 0
+  abbrev pub IsBegun : Driver D → List ℕ → Reply → Driver D → Type 0
   IsBegun d name r d' =
       (IsStep d.world (event.Core core.Begin) r d'.world × BindsBegun d.names d'.names name r)
       ⊎ ((r ≡ Refused OutOfMemory) × (d'.world ≡ d.world) × KeepsBound d.names d'.names)
 
   -- the transaction inserts this row
-  abbrev pub Inserts : Driver → TxId → RowText → Reply → Driver → Type 0
+  abbrev pub Inserts : Driver D → TxId → RowText → Reply → Driver D → Type 0
   Inserts d tx text r d' =
       (bytes : List ℕ) × (decode_of text.digits.now ≡ Ok bytes)
       × IsStepOf d (event.Core (core.Insert tx (row_of text bytes))) r d'
 
   -- it does; or it is refused without memory for the data, and nothing changes
-  abbrev pub IsInserted : Driver → TxId → RowText → Reply → Driver → Type 0
+  abbrev pub IsInserted : Driver D → TxId → RowText → Reply → Driver D → Type 0
   IsInserted d tx text r d' = Inserts d tx text r d' ⊎ ((r ≡ Refused OutOfMemory) × (d' ≡ d))
 
   -- the transaction is settled, and its end is noted for the name
-  pub record IsSettled (d : Driver) (name : List ℕ) (tx : TxId) (r : Reply) (d' : Driver) : Type 0
-    where
-      pub step : IsStep d.world (event.Core (core.Settle tx)) r d'.world
-      pub names : NotesEnd d.names d'.names name r
+  pub record IsSettled (d : Driver D) (name : List ℕ) (tx : TxId) (r : Reply) (d' : Driver D)
+      : Type 0 where
+    pub step : IsStep d.world (event.Core (core.Settle tx)) r d'.world
+    pub names : NotesEnd d.names d'.names name r
 
   -- so many steps of one event, each answered that more is left
-  abbrev pub AreMore : ℕ → Event → Driver → Driver → Type 0
+  abbrev pub AreMore : ℕ → Event → Driver D → Driver D → Type 0
   AreMore zero e d d' = d' ≡ d
-  AreMore (suc n) e d d' = (v : Driver) × AreMore n e d v × IsStepOf v e (Core More) d'
+  AreMore (suc n) e d d' = (v : Driver D) × AreMore n e d v × IsStepOf v e (Core More) d'
 
   -- steps of one event while more is left, and the reply to the last
-  pub record AreStepsOf (d : Driver) (e : Event) (r : Reply) (d' : Driver) : Type 0 where
+  pub record AreStepsOf (d : Driver D) (e : Event) (r : Reply) (d' : Driver D) : Type 0 where
     pub count : ℕ
-    pub before : Driver
+    pub before : Driver D
     pub more : AreMore count e d before
     pub last : IsStepOf before e r d' ⊎ ((r ≡ Core More) × (d' ≡ before))
 
   -- the transaction is prepared, and validated
-  pub record IsValidated (d : Driver) (tx : TxId) (d' : Driver) : Type 0 where
+  pub record IsValidated (d : Driver D) (tx : TxId) (d' : Driver D) : Type 0 where
     pub stop : Stamp
-    pub then_on : Driver
+    pub then_on : Driver D
     pub prepared : IsStepOf d (event.Core (core.Precommit tx)) (Core (Preparing stop)) then_on
     pub checked : AreStepsOf then_on (event.Core (core.Validate tx)) (Core Valid) d'
 
   -- A commit: it is answered as its first part that isn't as it should be, or as the settle. The
   -- parts are a precommit, a validation, a settle and a finish.
-  pub data IsCommit (d : Driver) (name : List ℕ) (tx : TxId) (r : Reply) (d' : Driver) : Type 0
+  pub data IsCommit (d : Driver D) (name : List ℕ) (tx : TxId) (r : Reply) (d' : Driver D) : Type 0
     where
       AtPrecommit : ((stop : Stamp) → r ≢ Core (Preparing stop))
           → IsStepOf d (event.Core (core.Precommit tx)) r d' → IsCommit d name tx r d'
-      AtValidate : (stop : Stamp) (v : Driver) → r ≢ Core Valid
+      AtValidate : (stop : Stamp) (v : Driver D) → r ≢ Core Valid
           → IsStepOf d (event.Core (core.Precommit tx)) (Core (Preparing stop)) v
           → AreStepsOf v (event.Core (core.Validate tx)) r d' → IsCommit d name tx r d'
-      AtSettle : (v : Driver) → ((end' : Stamp) → r ≢ Core (Committed end'))
+      AtSettle : (v : Driver D) → ((end' : Stamp) → r ≢ Core (Committed end'))
           → IsValidated d tx v → IsSettled v name tx r d' → IsCommit d name tx r d'
-      AtFinish : (v u : Driver) (end' : Stamp) → r ≢ Core Done
+      AtFinish : (v u : Driver D) (end' : Stamp) → r ≢ Core Done
           → IsValidated d tx v → IsSettled v name tx (Core (Committed end')) u
           → AreStepsOf u (event.Core (core.Finish tx)) r d' → IsCommit d name tx r d'
-      AtEnd : (v u : Driver) (end' : Stamp) → r ≡ Core (Committed end')
+      AtEnd : (v u : Driver D) (end' : Stamp) → r ≡ Core (Committed end')
           → IsValidated d tx v → IsSettled v name tx r u
           → AreStepsOf u (event.Core (core.Finish tx)) (Core Done) d' → IsCommit d name tx r d'
 
   -- one step of the transaction that the name is bound to
-  abbrev pub IsTxStep : Driver → List ℕ → (TxId → CoreEvent) → Reply → Driver → Type 0
+  abbrev pub IsTxStep : Driver D → List ℕ → (TxId → CoreEvent) → Reply → Driver D → Type 0
   IsTxStep d name e r d' =
       IsSomeAnd (bound_by d.names name) (λ b. IsStepOf d (event.Core (e b.tx)) r d')
 
   -- whether the transaction that the name is bound to is durable; nothing changes
-  abbrev pub IsPolled : Driver → BoundTx → Reply → Driver → Type 0
+  abbrev pub IsPolled : Driver D → BoundTx → Reply → Driver D → Type 0
   IsPolled d b r d' = (r ≡ Polled (is_covered d.world.store.mark b.end)) × (d' ≡ d)
 
   -- a line is answered
-  abbrev pub IsAnswer : Driver → Line → Reply → Driver → Type 0
+  abbrev pub IsAnswer : Driver D → Line → Reply → Driver D → Type 0
   IsAnswer d (line.Begin name) r d' = IsBegun d name.now r d'
   IsAnswer d (line.Read name key) r d' = IsTxStep d name.now (λ tx. core.Read tx key) r d'
   IsAnswer d (line.Insert name text) r d' =

@@ -15,6 +15,6 @@ pub record IsFreshWorld {D : Type 0} (w : WorldData D) : Type 0 where
   pub pending : w.store.pending ≡ None
 
 -- over such a world no name is bound
-pub record IsFresh (d : Driver) : Type 0 where
+pub record IsFresh {D : Type 0} (d : Driver D) : Type 0 where
   pub world : IsFreshWorld d.world
   pub names : BindsNone d.names

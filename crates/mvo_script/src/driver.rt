@@ -14,44 +14,56 @@ use mvo_types::{Refusal, Row, TxId};
 use mvo_world::{Event, Reply, World};
 use std::alloc::Global;
 
-/// Answers the lines of a script, one after another, over a fresh store on a disk in memory.
+/// Answers the lines of a script, one after another, by the steps of a world.
 #[derive(Drop)]
-pub struct Driver {
+pub struct Driver<D: Disk> {
     alloc: Global,
-    world: World<MemDisk>,
+    world: World<D>,
     names: Names,
 }
 
-impl Driver {
-    ghost use Rattle.std.specs.Prelude.{◌≡◌, IfOk, IfErr, MatchOption};
-    ghost use Rattle.mvo_script.specs.Answers.{AreStepsOf, IsAnswer, IsBegun, IsCommit, IsInserted, IsOfNoName};
-    ghost use Rattle.mvo_script.specs.Answers.{IsSettled, IsStepOf};
-    ghost use Rattle.mvo_script.specs.Bound.{bound_by, is_covered};
-    ghost use Rattle.mvo_script.specs.Forms.{HasForm};
-    ghost use Rattle.mvo_script.specs.declared.line.Line.{Line};
-    ghost use Rattle.mvo_world.specs.declared.reply.Reply.{Reply};
+impl Driver<MemDisk> {
+    ghost use Rattle.std.specs.Prelude.{◌≡◌, IfOk, IfErr};
     ghost use Rattle.mvo_script.specs.Fresh.{IsFresh};
-    ghost use Rattle.mvo_world.specs.Replies.{IsReplyTo};
 
     /// A driver with the clock at 0, no rows and no names. Refused with 90 alone.
-    pub fn new(alloc: Global) -> Result<Driver, Refusal>
+    pub fn new(alloc: Global) -> Result<Driver<MemDisk>, Refusal>
         ensures fresh { IfOk result IsFresh }
         ensures memory { IfErr result (λ r. r ≡ Refusal.OutOfMemory) }
     {
         let world = fresh_world(alloc)?;
+        Ok(Driver::over(alloc, world))
+    }
+}
+
+impl<D: Disk> Driver<D> {
+    ghost use Rattle.std.specs.Prelude.{◌≡◌, MatchOption};
+    ghost use Rattle.mvo_script.specs.Answers.{AreStepsOf, IsAnswer, IsBegun, IsCommit, IsInserted, IsOfNoName};
+    ghost use Rattle.mvo_script.specs.Answers.{IsSettled, IsStepOf};
+    ghost use Rattle.mvo_script.specs.Bound.{bound_by, is_covered, BindsNone};
+    ghost use Rattle.mvo_script.specs.Forms.{HasForm};
+    ghost use Rattle.mvo_script.specs.declared.line.Line.{Line};
+    ghost use Rattle.mvo_world.specs.declared.reply.Reply.{Reply};
+    ghost use Rattle.mvo_world.specs.Replies.{IsReplyTo};
+
+    /// A driver over a world, with no names.
+    pub fn over(alloc: Global, world: World<D>) -> Driver<D>
+        ensures world { result.world ≡ world }
+        ensures names { BindsNone result.names }
+    {
         let names = Names::new(alloc);
-        Ok(Driver {
+        Driver {
             alloc,
             world,
             names,
-        })
+        }
     }
 
     /// The reply to a line, without its line feed. A bad line changes nothing. No clause says which
     /// line the bytes are, nor which steps of groups a flush takes.
     pub fn answer(&mut self, bytes: &[u8]) -> LineReply
         ensures bad { result ≡ LineReply.BadLine → self.new ≡ self.old }
-        ensures answered { let step = IsReplyTo ⟦<MemDisk as Disk>⟧ in
+        ensures answered { let step = IsReplyTo D.Disk in
             (r : Reply) → result ≡ LineReply.Answered r →
             (line : Line) × HasForm line × IsAnswer step self.old line r self.new }
     {
@@ -66,7 +78,7 @@ impl Driver {
 
     /// The reply to a line. None where its name was never begun.
     fn reply_to(&mut self, line: Line<'_>) -> Option<Reply>
-        ensures { let step = IsReplyTo ⟦<MemDisk as Disk>⟧ in
+        ensures { let step = IsReplyTo D.Disk in
             MatchOption result (IsOfNoName self.old.names line.entry × (self.new ≡ self.old))
             (λ r. IsAnswer step self.old line.entry r self.new) }
     {
@@ -104,7 +116,7 @@ impl Driver {
 
     /// One step of a transaction.
     fn step(&mut self, event: CoreEvent) -> Reply
-        ensures { let step = IsReplyTo ⟦<MemDisk as Disk>⟧ in
+        ensures { let step = IsReplyTo D.Disk in
             IsStepOf step self.old (Event.Core event) result self.new }
     {
         self.ask(Event::Core(event))
@@ -112,14 +124,14 @@ impl Driver {
 
     /// One step of the world.
     fn ask(&mut self, event: Event) -> Reply
-        ensures { let step = IsReplyTo ⟦<MemDisk as Disk>⟧ in
+        ensures { let step = IsReplyTo D.Disk in
             IsStepOf step self.old event result self.new }
     {
         self.world.step(event)
     }
 
     fn begin(&mut self, name: &str) -> Reply
-        ensures { let step = IsReplyTo ⟦<MemDisk as Disk>⟧ in
+        ensures { let step = IsReplyTo D.Disk in
             IsBegun step self.old name.now result self.new }
     {
         match self.names.begin(name, &mut self.world) {
@@ -129,7 +141,7 @@ impl Driver {
     }
 
     fn insert(&mut self, tx: TxId, row: RowText<'_>) -> Reply
-        ensures { let step = IsReplyTo ⟦<MemDisk as Disk>⟧ in
+        ensures { let step = IsReplyTo D.Disk in
             IsInserted step self.old tx row.entry result self.new }
     {
         let RowText { key, sort, digits } = row;
@@ -142,7 +154,7 @@ impl Driver {
 
     /// Settles the transaction that the name is bound to, and notes its end for the name.
     fn settle(&mut self, name: &str, tx: TxId) -> Reply
-        ensures { let step = IsReplyTo ⟦<MemDisk as Disk>⟧ in
+        ensures { let step = IsReplyTo D.Disk in
             IsSettled step self.old name.now tx result self.new }
     {
         let settled = self.step(CoreEvent::Settle(tx));
@@ -155,7 +167,7 @@ impl Driver {
     /// Precommit, validation to Valid, one settle, and after a commit finishing to Done. It stops
     /// at the first refusal.
     fn commit(&mut self, name: &str, tx: TxId) -> Reply
-        ensures { let step = IsReplyTo ⟦<MemDisk as Disk>⟧ in
+        ensures { let step = IsReplyTo D.Disk in
             IsCommit step self.old name.now tx result self.new }
     {
         match self.step(CoreEvent::Precommit(tx)) {
@@ -178,7 +190,7 @@ impl Driver {
 
     /// Checks entries while more are left.
     fn validate(&mut self, tx: TxId) -> Reply
-        ensures { let step = IsReplyTo ⟦<MemDisk as Disk>⟧ in
+        ensures { let step = IsReplyTo D.Disk in
             AreStepsOf step self.old (Event.Core (CoreEvent.Validate tx)) result self.new }
     {
         for _ in 0..u64::MAX {
@@ -192,7 +204,7 @@ impl Driver {
 
     /// Finishes while more is left.
     fn finish(&mut self, tx: TxId) -> Reply
-        ensures { let step = IsReplyTo ⟦<MemDisk as Disk>⟧ in
+        ensures { let step = IsReplyTo D.Disk in
             AreStepsOf step self.old (Event.Core (CoreEvent.Finish tx)) result self.new }
     {
         for _ in 0..u64::MAX {

@@ -14,4 +14,4 @@ mod words;
 pub use driver::Driver;
 pub use line::{Line, MAX_LINE_LEN, RowText};
 pub use reply::LineReply;
-pub use script::{ScriptError, run_script};
+pub use script::{ScriptError, run_over, run_script};

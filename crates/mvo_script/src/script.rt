@@ -1,5 +1,7 @@
 use crate::driver::Driver;
 use crate::line::MAX_LINE_LEN;
+use mvo_disk::Disk;
+use mvo_world::World;
 use std::alloc::Global;
 use std::io::{self, BufRead, BufReader, BufWriter, Read, Write};
 use thiserror::Error;
@@ -18,17 +20,37 @@ pub enum ScriptError {
     OutOfMemory,
 }
 
-/// Runs a script over a fresh store in memory: one reply a line, also to a last line without its
-/// line feed. It keeps no more than a bounded part of a line, however long that is. The replies
-/// are written at the end, and before that as the buffer fills.
+/// Runs a script over a fresh store in memory, as `run_over` does.
 pub fn run_script<R: Read + Drop, W: Write + Drop>(
     alloc: Global,
     reader: R,
     writer: W,
 ) -> Result<(), ScriptError> {
+    let driver = Driver::new(alloc).map_err(|_| ScriptError::OutOfMemory)?;
+    run_driver(alloc, driver, reader, writer)
+}
+
+/// Runs a script over a world: one reply a line, also to a last line without its line feed. It
+/// keeps no more than a bounded part of a line, however long that is. The replies are written as
+/// the buffer fills, before it waits for more lines, and at the end. No group is flushed then.
+pub fn run_over<D: Disk + Drop, R: Read + Drop, W: Write + Drop>(
+    alloc: Global,
+    world: World<D>,
+    reader: R,
+    writer: W,
+) -> Result<(), ScriptError> {
+    run_driver(alloc, Driver::over(alloc, world), reader, writer)
+}
+
+/// Runs a script by a driver.
+fn run_driver<D: Disk + Drop, R: Read + Drop, W: Write + Drop>(
+    alloc: Global,
+    driver: Driver<D>,
+    reader: R,
+    writer: W,
+) -> Result<(), ScriptError> {
     let mut reader = BufReader::new(alloc, reader).map_err(|_| ScriptError::OutOfMemory)?;
     let mut writer = BufWriter::new(alloc, writer).map_err(|_| ScriptError::OutOfMemory)?;
-    let driver = Driver::new(alloc).map_err(|_| ScriptError::OutOfMemory)?;
     let line = Vec::with_capacity(alloc, MAX_LINE_LEN + 1).map_err(|_| ScriptError::OutOfMemory)?;
     let ran = answer_lines(driver, line, &mut reader, &mut writer);
     let flushed = writer.flush().map_err(ScriptError::Write);
@@ -36,14 +58,17 @@ pub fn run_script<R: Read + Drop, W: Write + Drop>(
     flushed
 }
 
-/// Answers each line of the reader.
-fn answer_lines<R: BufRead, W: Write>(
-    mut driver: Driver,
+/// Answers each line of the reader. Before it waits for one it writes the replies so far.
+fn answer_lines<D: Disk + Drop, R: Read, W: Write>(
+    mut driver: Driver<D>,
     mut line: Vec<u8>,
-    reader: &mut R,
+    reader: &mut BufReader<R>,
     writer: &mut W,
 ) -> Result<(), ScriptError> {
     for _ in 0..u64::MAX {
+        if !reader.buffer().contains(&b'\n') {
+            writer.flush().map_err(ScriptError::Write)?;
+        }
         if !read_line(reader, &mut line).map_err(ScriptError::Read)? {
             break;
         }

@@ -15,3 +15,5 @@ mod rotations;
 mod streams;
 #[cfg(test)]
 mod transactions;
+#[cfg(test)]
+mod worlds;

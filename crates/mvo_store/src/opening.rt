@@ -9,7 +9,7 @@ ghost use Rattle.mvo_store.specs.Standing.{IsUp, Gives, HasSlots, KeepsRows};
 ghost use Rattle.mvo_store.specs.Opening.{IsAnswer, HasBegun, KeepsContent, LeavesAsBefore};
 ghost use Rattle.mvo_store.specs.Opening.{HasSynced, IsNotOpened};
 
-use crate::limits::MAX_FAULTS;
+use crate::limits::{MAX_FAULTS, PLACES_SEED};
 use crate::store::Store;
 use crate::syncing::sync_used;
 use mvo_disk::Disk;
@@ -43,7 +43,7 @@ fn load_synced<D: Disk>(alloc: Global, disk: &mut D) -> Result<Loaded, Refusal>
     if disk.faults() >= MAX_FAULTS {
         return Err(Refusal::ClockSpent);
     }
-    let loaded = match load(alloc, disk, FIRST_FORMAT) {
+    let loaded = match load(alloc, disk, FIRST_FORMAT, PLACES_SEED) {
         Ok(loaded) => loaded,
         Err(refusal) => return Err(refusal),
     };
@@ -77,6 +77,7 @@ impl<D: Disk> Store<D> {
         let Loaded {
             manifest,
             rows,
+            places,
             mark,
             gate,
         } = match load_synced(alloc, &mut disk) {
@@ -92,6 +93,7 @@ impl<D: Disk> Store<D> {
             alloc,
             disk,
             manifest,
+            places,
             segment,
             mark,
             pending: None,

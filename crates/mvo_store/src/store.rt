@@ -1,4 +1,5 @@
 use crate::rotation::Rotation;
+use mvo_ckpt::Places;
 use mvo_disk::Disk;
 use mvo_frame::Segment;
 use mvo_group::Group;
@@ -17,6 +18,8 @@ pub struct Store<D: Disk> {
     pub(crate) disk: D,
     /// The installed manifest.
     pub(crate) manifest: Manifest,
+    /// Where the live records of its pairs lie.
+    pub(crate) places: Places,
     /// The last segment.
     pub(crate) segment: Segment,
     /// The mark of the last group whose gate is open and synced.

@@ -31,7 +31,7 @@ use Rattle.mvo_model.specs.History.{History, write_of, write_at, later, net_writ
 use Rattle.mvo_group.specs.Data.{RecordData}
 use Rattle.mvo_group.specs.Rules.{KeepsLimits, IsRecord, effect_len, write_len, record_len}
 use Rattle.mvo_theory.specs.Entries.{is_noted, noted, noted_key, written_from, written_keys}
-use Rattle.mvo_tale.specs.Limits.{IsInLimits, IsLimited}
+use Rattle.mvo_theory.specs.Limits.{IsInLimits, AreLimited}
 use Rattle.mvo_tale.specs.Records.{write_in, IsRecordOf, and_write, net_writes, commit_len}
 
 -- ---- the keys that are written are apart
@@ -253,7 +253,7 @@ record_is end ts ks r e f p h = record {
   writes = λ k. ap (write_in k) f ∙ writes_of_keys ts ks k p;
 }
 
-pub record_keeps : (ts : History) (ks : List RowKey) (r : RecordData) → r.writes ≡ net_writes ts ks → IsPermutation (written_keys ts) ks → IsStrictlySortedBy key_cmp ks → IsLimited ts → not (length (written_keys ts) == 0) ≡ true → IsRecord r
+pub record_keeps : (ts : History) (ks : List RowKey) (r : RecordData) → r.writes ≡ net_writes ts ks → IsPermutation (written_keys ts) ks → IsStrictlySortedBy key_cmp ks → AreLimited ts → not (length (written_keys ts) == 0) ≡ true → IsRecord r
 record_keeps ts ks r f p h limits there =
     let many = some_writes ts ks p there in
     let few = few_writes ts ks in

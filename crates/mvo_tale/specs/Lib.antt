@@ -1,5 +1,4 @@
 pub mod Stored
-pub mod Limits
 pub mod Records
 pub mod Slots
 pub mod Next

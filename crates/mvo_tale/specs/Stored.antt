@@ -1,10 +1,7 @@
 -- A stored commit, apart from where it lies in memory.
-use Rattle.std.specs.Prelude.{ℕ, List, map}
-use Rattle.mvo_types.specs.declared.op.Op.{Op}
-use Rattle.mvo_types.specs.declared.answer.Answer.{Answer}
+use Rattle.std.specs.Prelude.{ℕ}
 use Rattle.mvo_types.specs.declared.row.RowKey.{RowKey}
 use Rattle.mvo_types.specs.RowData.{content_of}
-use Rattle.mvo_types.specs.AnswerData.{answer_data}
 use Rattle.mvo_types.specs.Write.{Write, Effect}
 use Rattle.mvo_types.specs.Write.Effect.{Put, Delete}
 use Rattle.mvo_model.specs.History.{History}
@@ -21,10 +18,6 @@ pub record StoredCommit : Type 0 where
 -- its end and its history
 abbrev pub commit_of : StoredCommit → Commit
 commit_of x = (x.end, x.history)
-
--- operations with their answers, apart from where they lie in memory
-abbrev pub history_of : List (Op × Answer) → History
-history_of operations = map (λ x. (x.0, answer_data x.1)) operations
 
 -- what a write leaves, apart from where it lies in memory
 abbrev pub effect_data : EffectAt → Effect

@@ -6,7 +6,8 @@ ghost use Rattle.mvo_types.specs.Keys.{key_cmp};
 ghost use Rattle.mvo_theory.specs.Groups.{is_writing};
 ghost use Rattle.mvo_group.specs.Data.{write_data};
 ghost use Rattle.mvo_group.specs.Rules.{IsRecord, record_len};
-ghost use Rattle.mvo_tale.specs.Stored.{commit_of, history_of, effect_data};
+ghost use Rattle.mvo_theory.specs.Told.{history_told};
+ghost use Rattle.mvo_tale.specs.Stored.{commit_of, effect_data};
 ghost use Rattle.mvo_tale.specs.Records.{IsRecordOf, net_writes, commit_len};
 
 use crate::effect::Effect;
@@ -56,7 +57,7 @@ fn writes_at(
     keys: &[RowKey],
 ) -> Result<Vec<Write>, AllocError>
     ensures { IfOk result (λ ws. map write_data ws.items
-        ≡ net_writes (history_of operations.now) keys.now) }
+        ≡ net_writes (history_told operations.now) keys.now) }
 {
     let mut writes = Vec::new(alloc);
     for key in keys {

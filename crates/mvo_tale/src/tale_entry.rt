@@ -18,19 +18,20 @@ pub struct TaleEntry {
 impl Model for TaleEntry {
     ghost use Rattle.std.specs.Prelude.{◌≡◌};
     ghost use Rattle.mvo_theory.specs.Entries.{written_keys};
-    ghost use Rattle.mvo_tale.specs.Stored.{StoredCommit, history_of};
-    ghost use Rattle.mvo_tale.specs.Limits.{IsLimited};
+    ghost use Rattle.mvo_theory.specs.Told.{history_told};
+    ghost use Rattle.mvo_tale.specs.Stored.{StoredCommit};
+    ghost use Rattle.mvo_theory.specs.Limits.{AreLimited};
 
     ghost Value = { StoredCommit };
 
     ghost view = { λ x. record {
       id = x.id.0;
       end = x.end.0;
-      history = history_of x.operations.items;
+      history = history_told x.operations.items;
     } };
 
-    ghost invariant = { λ x. let history = history_of x.operations.items in
-        (x.begin.0 ≡ x.id.0) × (x.written.items ≡ written_keys history) × IsLimited history };
+    ghost invariant = { λ x. let history = history_told x.operations.items in
+        (x.begin.0 ≡ x.id.0) × (x.written.items ≡ written_keys history) × AreLimited history };
 }
 
 impl TaleEntry {

@@ -4,7 +4,8 @@ ghost use Rattle.std.specs.Ordering.{eq_by_cmp};
 ghost use Rattle.mvo_types.specs.Keys.{key_cmp};
 ghost use Rattle.mvo_types.specs.AnswerData.{answer_data};
 ghost use Rattle.mvo_model.specs.History.{write_of, net_write, write_at, later};
-ghost use Rattle.mvo_tale.specs.Stored.{history_of, write_as, effect_data};
+ghost use Rattle.mvo_theory.specs.Told.{history_told};
+ghost use Rattle.mvo_tale.specs.Stored.{write_as, effect_data};
 
 use crate::effect::Effect;
 use mvo_types::{Answer, Op, RowKey};
@@ -47,7 +48,7 @@ fn newer<'a>(
 
 /// The last write to a key, if there is one.
 pub fn last_write<'a>(operations: &'a [(Op, Answer)], key: RowKey) -> Option<Effect<'a>>
-    ensures { option_map effect_data result ≡ net_write key (history_of operations.now) }
+    ensures { option_map effect_data result ≡ net_write key (history_told operations.now) }
 {
     let mut last = None;
     for told in operations {

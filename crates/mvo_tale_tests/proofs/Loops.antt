@@ -12,8 +12,8 @@ use Rattle.mvo_model.specs.History.{History, write_of}
 use Rattle.mvo_theory.specs.Entries.{noted_key, written_from, written_keys}
 use Rattle.mvo_theory.proofs.Each.{each_append}
 use Rattle.mvo_tale.specs.declared.slot.Slot.{Slot}
-use Rattle.mvo_tale.specs.Stored.{history_of}
-use Rattle.mvo_tale.specs.Limits.{IsInLimits}
+use Rattle.mvo_theory.specs.Told.{history_told}
+use Rattle.mvo_theory.specs.Limits.{IsInLimits}
 use Rattle.mvo_tale.specs.Slots.{ends, open_ends, stored_at}
 use Rattle.mvo_tale.specs.Next.{IsBehindStored}
 use Rattle.mvo_tale.proofs.Rising.{ends-append, open_ends-append}
@@ -35,15 +35,15 @@ pub behind_stored : (xs : List Slot) (place : ℕ) → 0 < place → IsSome (sto
 behind_stored xs place lt h = let n : suc (place - 1) ≡ place = omega arith in subst (IsBehindStored xs) n h
 
 -- ---- operations
-one_more : (ops : List (Op × Answer)) (i : ℕ) (x : Op × Answer) → i < length ops → x ≡ get_or ops i x → history_of (take (i + 1) ops) ≡ history_of (take i ops) ++ (x.0, answer_data x.1) ∷ []
-one_more ops i x lt is = ap history_of (taken_more ops i x lt is) ∙ map-append (λ y. (y.0, answer_data y.1)) (take i ops) (x ∷ [])
+one_more : (ops : List (Op × Answer)) (i : ℕ) (x : Op × Answer) → i < length ops → x ≡ get_or ops i x → history_told (take (i + 1) ops) ≡ history_told (take i ops) ++ (x.0, answer_data x.1) ∷ []
+one_more ops i x lt is = ap history_told (taken_more ops i x lt is) ∙ map-append (λ y. (y.0, answer_data y.1)) (take i ops) (x ∷ [])
 
 written_from-push : (ks : List RowKey) (ts : History) (x : Op × AnswerData) → written_from ks (ts ++ x ∷ []) ≡ noted_key (written_from ks ts) (option_map (λ w. w.0) (write_of x.0 x.1))
 written_from-push ks [] x = refl
 written_from-push ks (t ∷ ts) x = written_from-push (noted_key ks (option_map (λ w. w.0) (write_of t.0 t.1))) ts x
 
-pub written_more : (ops : List (Op × Answer)) (i : ℕ) (x : Op × Answer) → i < length ops → x ≡ get_or ops i x → written_keys (history_of (take (i + 1) ops)) ≡ noted_key (written_keys (history_of (take i ops))) (option_map (λ w. w.0) (write_of x.0 (answer_data x.1)))
-written_more ops i x lt is = ap written_keys (one_more ops i x lt is) ∙ written_from-push [] (history_of (take i ops)) (x.0, answer_data x.1)
+pub written_more : (ops : List (Op × Answer)) (i : ℕ) (x : Op × Answer) → i < length ops → x ≡ get_or ops i x → written_keys (history_told (take (i + 1) ops)) ≡ noted_key (written_keys (history_told (take i ops))) (option_map (λ w. w.0) (write_of x.0 (answer_data x.1)))
+written_more ops i x lt is = ap written_keys (one_more ops i x lt is) ∙ written_from-push [] (history_told (take i ops)) (x.0, answer_data x.1)
 
-pub limited_more : (ops : List (Op × Answer)) (i : ℕ) (x : Op × Answer) → i < length ops → x ≡ get_or ops i x → AllByRecursion (λ t. IsInLimits t.0) (history_of (take i ops)) → IsInLimits x.0 → AllByRecursion (λ t. IsInLimits t.0) (history_of (take (i + 1) ops))
-limited_more ops i x lt is h k = subst (AllByRecursion (λ t. IsInLimits t.0)) (sym (one_more ops i x lt is)) (each_append (λ t. IsInLimits t.0) (history_of (take i ops)) ((x.0, answer_data x.1) ∷ []) h (k, tt))
+pub limited_more : (ops : List (Op × Answer)) (i : ℕ) (x : Op × Answer) → i < length ops → x ≡ get_or ops i x → AllByRecursion (λ t. IsInLimits t.0) (history_told (take i ops)) → IsInLimits x.0 → AllByRecursion (λ t. IsInLimits t.0) (history_told (take (i + 1) ops))
+limited_more ops i x lt is h k = subst (AllByRecursion (λ t. IsInLimits t.0)) (sym (one_more ops i x lt is)) (each_append (λ t. IsInLimits t.0) (history_told (take i ops)) ((x.0, answer_data x.1) ∷ []) h (k, tt))

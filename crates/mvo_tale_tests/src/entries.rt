@@ -4,8 +4,8 @@ ghost use Rattle.std.specs.Option.{option_map};
 ghost use Rattle.mvo_types.specs.AnswerData.{answer_data};
 ghost use Rattle.mvo_model.specs.History.{write_of};
 ghost use Rattle.mvo_theory.specs.Entries.{is_noted, noted, noted_key, written_keys};
-ghost use Rattle.mvo_tale.specs.Stored.{history_of};
-ghost use Rattle.mvo_tale.specs.Limits.{IsInLimits};
+ghost use Rattle.mvo_theory.specs.Told.{history_told};
+ghost use Rattle.mvo_theory.specs.Limits.{IsInLimits};
 
 use mvo_tale::TaleEntry;
 use mvo_types::{Answer, MAX_DATA_LEN, MAX_TABLE, MAX_WRITES, Op, Row, RowKey, Stamp, TxId};
@@ -50,7 +50,7 @@ fn note_write(keys: &mut Vec<RowKey>, write: Option<RowKey>) -> Result<(), Alloc
 
 /// The keys that the operations wrote, each once.
 fn keys_of(alloc: Global, operations: &[(Op, Answer)]) -> Result<Vec<RowKey>, AllocError>
-    ensures { IfOk result (λ v. v.items ≡ written_keys (history_of operations.now)) }
+    ensures { IfOk result (λ v. v.items ≡ written_keys (history_told operations.now)) }
 {
     let mut keys = Vec::new(alloc);
     for told in operations {
@@ -80,7 +80,7 @@ fn is_in_limits(op: &Op) -> bool
 
 fn are_in_limits(operations: &[(Op, Answer)]) -> bool
     ensures { IsTrue result
-        → AllByRecursion (λ t. IsInLimits t.0) (history_of operations.now) }
+        → AllByRecursion (λ t. IsInLimits t.0) (history_told operations.now) }
 {
     for told in operations {
         if !is_in_limits(&told.0) {
@@ -98,7 +98,7 @@ pub fn entry_of(
     operations: Vec<(Op, Answer)>,
 ) -> Result<Option<TaleEntry>, AllocError>
     ensures { IfOk result (λ found. IfSome found (λ x. (x.id ≡ id.0) × (x.end ≡ end.0)
-        × (x.history ≡ history_of operations.items))) }
+        × (x.history ≡ history_told operations.items))) }
 {
     let written = keys_of(alloc, &operations)?;
     if written.len() > MAX_WRITES || !are_in_limits(&operations) {

@@ -18,3 +18,5 @@ pub mod Snapshots
 pub mod Calls
 pub mod StandingClaims
 pub mod Groups
+pub mod Limits
+pub mod Told

@@ -10,7 +10,8 @@ use Rattle.mvo_model.specs.History.{History, write_of}
 use Rattle.mvo_theory.specs.Causes.{is_write_too_many}
 use Rattle.mvo_theory.specs.Entries.{Entry, entry_of}
 use Rattle.mvo_theory.specs.Entries.Entry.{Key, Range}
-use Rattle.mvo_work.specs.Limits.{IsRow, IsInLimits, MayFollow}
+use Rattle.mvo_theory.specs.Limits.{IsRow, IsInLimits}
+use Rattle.mvo_work.specs.Limits.{MayFollow}
 use Rattle.mvo_work.proofs.OneMore.{key_looked}
 
 one_key : (k j : RowKey) → ◌≡◌ {A = Entry} (Key k) (Key j) → k ≡ j

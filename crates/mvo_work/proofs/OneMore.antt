@@ -18,13 +18,15 @@ use Rattle.mvo_theory.proofs.Each.{each_append}
 use Rattle.mvo_theory.proofs.Looks.{write_entry}
 use Rattle.mvo_validate.specs.declared.entry.Entry.{Entry}
 use Rattle.mvo_validate.specs.Noted.{has_entry, with_entry}
-use Rattle.mvo_work.specs.History.{history_as, entry_as, key_written}
-use Rattle.mvo_work.specs.Limits.{IsInLimits, AreLimited, MayFollow}
+use Rattle.mvo_theory.specs.Told.{history_told}
+use Rattle.mvo_work.specs.History.{entry_as, key_written}
+use Rattle.mvo_theory.specs.Limits.{IsInLimits, AreLimited}
+use Rattle.mvo_work.specs.Limits.{MayFollow}
 use Rattle.mvo_work.specs.Work.{IsSound}
 use Rattle.mvo_work.proofs.Same.{has_as, with_as}
 use Rattle.mvo_work.proofs.Written.{unwritten}
 
-history_more : (told : List (Op × Answer)) (op : Op) (a : Answer) → history_as (told ++ (op, a) ∷ []) ≡ history_as told ++ (op, answer_data a) ∷ []
+history_more : (told : List (Op × Answer)) (op : Op) (a : Answer) → history_told (told ++ (op, a) ∷ []) ≡ history_told told ++ (op, answer_data a) ∷ []
 history_more told op a = map-append (λ t. (t.0, answer_data t.1)) told ((op, a) ∷ [])
 
 entries_more : (es : List theory.Entry) (ts : History) (t : Op × AnswerData) → entries_from es (ts ++ t ∷ []) ≡ theory.with_entry (entries_from es ts) (entry_of t.0)
@@ -58,26 +60,26 @@ key_looked op a (Some v) k e f = write_entry op a v e ∙ ap theory.Entry.Key (c
 pub unwritten_yet : (told : List (Op × Answer)) (es : List Entry) (ks : List RowKey) (e : Entry) (op : Op) (a : AnswerData) (k : RowKey) → IsSound told es ks → entry_as e ≡ entry_of op → not (has_entry es e) ≡ true → key_written op a ≡ Some k → is_noted ks k ≡ false
 unwritten_yet told es ks e op a k h is fresh w =
     let is_key : entry_as e ≡ theory.Entry.Key k = is ∙ key_looked op a (write_of op a) k refl w in
-    let none : theory.has_entry (entries (history_as told)) (theory.Entry.Key k) ≡ false =
-    ap (λ d. theory.has_entry (entries (history_as told)) d) (sym is_key)
+    let none : theory.has_entry (entries (history_told told)) (theory.Entry.Key k) ≡ false =
+    ap (λ d. theory.has_entry (entries (history_told told)) d) (sym is_key)
     ∙ ap (λ ds. theory.has_entry ds (entry_as e)) (sym h.entries)
     ∙ has_as es e ∙ not-true (has_entry es e) fresh in
-    ap (λ js. is_noted js k) h.written ∙ unwritten (history_as told) k none
+    ap (λ js. is_noted js k) h.written ∙ unwritten (history_told told) k none
 
 -- ---- entries, keys and limits with one operation more
-pub sound_more : (told : List (Op × Answer)) (es : List Entry) (ks : List RowKey) (e : Entry) (op : Op) (a : Answer) → IsSound told es ks → entry_as e ≡ entry_of op → MayFollow (history_as told) op (answer_data a) → IsSound (told ++ (op, a) ∷ []) (with_entry es e) (noted_key ks (key_written op (answer_data a)))
+pub sound_more : (told : List (Op × Answer)) (es : List Entry) (ks : List RowKey) (e : Entry) (op : Op) (a : Answer) → IsSound told es ks → entry_as e ≡ entry_of op → MayFollow (history_told told) op (answer_data a) → IsSound (told ++ (op, a) ∷ []) (with_entry es e) (noted_key ks (key_written op (answer_data a)))
 sound_more told es ks e op a h is m = record {
   entries =
       with_as es e
       ∙ ap (λ ds. theory.with_entry ds (entry_as e)) h.entries
-      ∙ ap (theory.with_entry (entries (history_as told))) is
-      ∙ sym (entries_more [] (history_as told) (op, answer_data a))
+      ∙ ap (theory.with_entry (entries (history_told told))) is
+      ∙ sym (entries_more [] (history_told told) (op, answer_data a))
       ∙ ap entries (sym (history_more told op a));
   written =
       ap (λ js. noted_key js (key_written op (answer_data a))) h.written
-      ∙ sym (written_more [] (history_as told) (op, answer_data a))
+      ∙ sym (written_more [] (history_told told) (op, answer_data a))
       ∙ ap written_keys (sym (history_more told op a));
-  limits = subst AreLimited (sym (history_more told op a)) (limited_more (history_as told) op (answer_data a) h.limits m);
+  limits = subst AreLimited (sym (history_more told op a)) (limited_more (history_told told) op (answer_data a) h.limits m);
 }
 
 -- ---- the entries are as many as there may be
@@ -85,11 +87,11 @@ and_true : (a b : Bool) → b ≡ true → a ≡ (a && b)
 and_true true b e = sym e
 and_true false b e = refl
 
-pub full_of_entries : (told : List (Op × Answer)) (es : List Entry) (ks : List RowKey) (e : Entry) → IsSound told es ks → MAX_ENTRIES ≤ length es → not (has_entry es e) ≡ is_entry_too_many (history_as told) (entry_as e)
+pub full_of_entries : (told : List (Op × Answer)) (es : List Entry) (ks : List RowKey) (e : Entry) → IsSound told es ks → MAX_ENTRIES ≤ length es → not (has_entry es e) ≡ is_entry_too_many (history_told told) (entry_as e)
 full_of_entries told es ks e h le =
-    let same : has_entry es e ≡ theory.has_entry (entries (history_as told)) (entry_as e) =
+    let same : has_entry es e ≡ theory.has_entry (entries (history_told told)) (entry_as e) =
     sym (has_as es e) ∙ ap (λ ds. theory.has_entry ds (entry_as e)) h.entries in
-    let many : length es ≡ length (entries (history_as told)) = sym (length-map es entry_as) ∙ ap length h.entries in
+    let many : length es ≡ length (entries (history_told told)) = sym (length-map es entry_as) ∙ ap length h.entries in
     ap not same
-    ∙ and_true (not (theory.has_entry (entries (history_as told)) (entry_as e))) (nat_le MAX_ENTRIES (length (entries (history_as told))))
-    (le-leb MAX_ENTRIES (length (entries (history_as told))) (omega arith))
+    ∙ and_true (not (theory.has_entry (entries (history_told told)) (entry_as e))) (nat_le MAX_ENTRIES (length (entries (history_told told))))
+    (le-leb MAX_ENTRIES (length (entries (history_told told))) (omega arith))

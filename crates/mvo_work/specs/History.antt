@@ -1,18 +1,13 @@
--- Operations, answers and entries, apart from where they lie in memory.
-use Rattle.std.specs.Prelude.{List, map, Option}
+-- Entries and written keys, apart from where they lie in memory.
+use Rattle.std.specs.Prelude.{Option}
 use Rattle.std.specs.Option.{option_map}
 use Rattle.mvo_types.specs.declared.row.RowKey.{RowKey}
 use Rattle.mvo_types.specs.declared.op.Op.{Op}
-use Rattle.mvo_types.specs.declared.answer.Answer.{Answer}
-use Rattle.mvo_types.specs.AnswerData.{AnswerData, answer_data}
-use Rattle.mvo_model.specs.History.{History, write_of}
+use Rattle.mvo_types.specs.AnswerData.{AnswerData}
+use Rattle.mvo_model.specs.History.{write_of}
 use Rattle.mvo_theory.specs.Entries as theory
 use Rattle.mvo_validate.specs.declared.entry.Entry.{Entry}
 use Rattle.mvo_validate.specs.declared.entry.Entry.TheVariants.{Key, Range}
-
--- operations with their answers
-abbrev pub history_as : List (Op × Answer) → History
-history_as operations = map (λ t. (t.0, answer_data t.1)) operations
 
 -- the entry as the state has it
 abbrev pub entry_as : Entry → theory.Entry

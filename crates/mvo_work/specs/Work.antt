@@ -7,8 +7,9 @@ use Rattle.mvo_model.specs.History.{History}
 use Rattle.mvo_theory.specs.Entries.{entries, written_keys}
 use Rattle.mvo_validate.specs.declared.entry.Entry.{Entry}
 use Rattle.mvo_work.specs.declared.word_place.WordPlace.{WordPlace}
-use Rattle.mvo_work.specs.History.{history_as, entry_as}
-use Rattle.mvo_work.specs.Limits.{AreLimited}
+use Rattle.mvo_theory.specs.Told.{history_told}
+use Rattle.mvo_work.specs.History.{entry_as}
+use Rattle.mvo_theory.specs.Limits.{AreLimited}
 
 -- the operations with their answers, the words that are still to be replaced, in order of writing,
 -- and for how many operations and words more there is room
@@ -30,6 +31,6 @@ room_of operations entries written = min operations (min entries written)
 -- the entries and the written keys are those of the operations, which are in the limits
 pub record IsSound (told : List (Op × Answer)) (looked_at : List Entry)
     (keys : List RowKey) : Type 0 where
-  pub entries : map entry_as looked_at ≡ entries (history_as told)
-  pub written : keys ≡ written_keys (history_as told)
-  pub limits : AreLimited (history_as told)
+  pub entries : map entry_as looked_at ≡ entries (history_told told)
+  pub written : keys ≡ written_keys (history_told told)
+  pub limits : AreLimited (history_told told)

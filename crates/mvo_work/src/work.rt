@@ -4,8 +4,10 @@ ghost use Rattle.mvo_types.specs.AnswerData.{answer_data};
 ghost use Rattle.mvo_model.specs.History.{net_write};
 ghost use Rattle.mvo_theory.specs.Entries.{entries, written_keys};
 ghost use Rattle.mvo_theory.specs.Causes.{is_entry_too_many, is_write_too_many};
-ghost use Rattle.mvo_work.specs.History.{history_as, entry_as};
-ghost use Rattle.mvo_work.specs.Limits.{AreLimited, MayFollow};
+ghost use Rattle.mvo_theory.specs.Told.{history_told};
+ghost use Rattle.mvo_work.specs.History.{entry_as};
+ghost use Rattle.mvo_theory.specs.Limits.{AreLimited};
+ghost use Rattle.mvo_work.specs.Limits.{MayFollow};
 ghost use Rattle.mvo_work.specs.Work.{HasRoom};
 
 use crate::operations::Operations;
@@ -36,13 +38,13 @@ pub struct Work {
 impl Model for Work {
     ghost use Rattle.std.specs.Prelude.{◌-◌, vec_len, vec_capacity};
     ghost use Rattle.std.specs.VecDeque.{deque_len, deque_capacity};
-    ghost use Rattle.mvo_work.specs.History.{history_as};
+    ghost use Rattle.mvo_theory.specs.Told.{history_told};
     ghost use Rattle.mvo_work.specs.Work.{WorkData, IsSound, room_of};
 
     ghost Value = { WorkData };
 
     ghost view = { λ w. record {
-      history = history_as w.operations.items;
+      history = history_told w.operations.items;
       words = w.words.items;
       room = room_of (vec_capacity w.operations - vec_len w.operations) w.looked_at.room
           (vec_capacity w.written - vec_len w.written);
@@ -173,7 +175,7 @@ impl Work {
 
     /// Takes all operations out. The words stay, and it is as if nothing else had been done.
     pub fn take_operations(&mut self) -> Operations
-        ensures told { history_as result.told.items ≡ self.old.history }
+        ensures told { history_told result.told.items ≡ self.old.history }
         ensures written { result.written.items ≡ written_keys self.old.history }
         ensures limits { AreLimited self.old.history }
         ensures left { self.new ≡ record self.old { history = []; room = self.new.room } }

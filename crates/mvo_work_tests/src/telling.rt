@@ -1,6 +1,7 @@
 ghost use Rattle.std.specs.Prelude.{IsTrue};
 ghost use Rattle.mvo_types.specs.AnswerData.{AnswerData};
-ghost use Rattle.mvo_work.specs.Limits.{IsRow, MayFollow};
+ghost use Rattle.mvo_theory.specs.Limits.{IsRow};
+ghost use Rattle.mvo_work.specs.Limits.{MayFollow};
 
 use mvo_types::{Answer, MAX_DATA_LEN, MAX_TABLE, Op, Row};
 use mvo_work::{WordPlace, Work};

@@ -7,7 +7,7 @@ use Rattle.mvo_load.proofs.Unchanged.{same_image}
 use Rattle.mvo_types.specs.Keys.{Map}
 use Rattle.mvo_load.specs.Leading.{Leads}
 use Rattle.mvo_load.specs.Loaded.{HasLog}
-use Rattle.mvo_load.specs.Parts.{HaveRows}
+use Rattle.mvo_load.specs.Parts.{HaveRows, HavePlaces}
 use Rattle.mvo_load.proofs.loading.load.Goals as goal
 
 pub returns-in-Err-load_pairs-clause-says : goal.returns-in-Err-load_pairs-clause-says
@@ -60,3 +60,8 @@ returns-clause-parts g c =
       distinct = live.distinct;
       log = subst (λ (rows : Map). HasLog f was m rows new end.mark.0 end.gate) live.are log;
     }
+
+pub returns-clause-places : goal.returns-clause-places
+returns-clause-places g c =
+    let first = same_image g.D.Disk c.args.disk.now c.read_manifest.new.disk c.in-Ok.ensures.read.rest.content in
+    subst (λ (image : Image). HavePlaces c.args.format image c.in-Ok.manifest.pairs c.load_pairs.new.places.at) first c.in-Ok-load_pairs.ensures.places

@@ -5,14 +5,15 @@ use Rattle.mvo_types.specs.declared.row.RowKey.{RowKey}
 use Rattle.mvo_types.specs.Write.{Write}
 use Rattle.mvo_group.specs.Data.{write_data}
 use Rattle.mvo_tale.specs.Records.{net_writes}
-use Rattle.mvo_tale.specs.Stored.{history_of, effect_data}
+use Rattle.mvo_theory.specs.Told.{history_told}
+use Rattle.mvo_tale.specs.Stored.{effect_data}
 use Rattle.mvo_tale.proofs.NetWrites.{writes_more, writes_same}
 use Rattle.mvo_tale.proofs.commit_record.writes_at.Goals as goal
 use Rattle.mvo_tale.proofs.commit_record.writes_at.Goals.{in-Some+in_ok-left_at+in_ok-push, in_default}
 
 pub loop-key-preserved : goal.loop-key-preserved
 loop-key-preserved c =
-    let ts = history_of c.args.operations.now in
+    let ts = history_told c.args.operations.now in
     let i = c.loop-key.key-index in
     let ks = c.args.keys.now in
     let d : RowKey = record { table = 0; key = 0 } in

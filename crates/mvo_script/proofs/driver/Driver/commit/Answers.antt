@@ -1,7 +1,6 @@
 use Rattle.std.proofs.Common.{arith, ap, subst, ℕ, List, ◌≡◌, ◌≢◌, ◌∙◌}
 use Rattle.mvo_types.specs.declared.ids.Stamp.{Stamp}
 use Rattle.mvo_core.specs.declared.reply.Reply.TheVariants.{Committed, Preparing, Valid, Done}
-use Rattle.mvo_disk.specs.declared.memory.MemDisk.{MemDisk}
 use Rattle.mvo_world.specs.WorldData.{WorldData}
 use Rattle.mvo_world.specs.declared.event.Event.{Event}
 use Rattle.mvo_world.specs.declared.reply.Reply.{Reply}
@@ -12,27 +11,27 @@ use Rattle.mvo_script.specs.Answers.IsCommit.{AtValidate, AtSettle, AtFinish, At
 use Rattle.mvo_script.specs.declared.driver.Driver.{Driver}
 use Rattle.mvo_script.proofs.driver.Driver.commit.Goals as goal
 
-step_at : {P : WorldData MemDisk → Event → Reply → WorldData MemDisk → Type 0} {d : Driver} {e : Event} {r s : Reply} {d' : Driver} → r ≡ s → IsStepOf P d e r d' → IsStepOf P d e s d'
+step_at : {D : Type 0} {P : WorldData D → Event → Reply → WorldData D → Type 0} {d : Driver D} {e : Event} {r s : Reply} {d' : Driver D} → r ≡ s → IsStepOf P d e r d' → IsStepOf P d e s d'
 step_at {P} {d} {e} {r} {s} {d'} same it = subst (λ (x : Reply). IsStepOf P d e x d') same it
 
-steps_at : {P : WorldData MemDisk → Event → Reply → WorldData MemDisk → Type 0} {d : Driver} {e : Event} {r s : Reply} {d' : Driver} → r ≡ s → AreStepsOf P d e r d' → AreStepsOf P d e s d'
+steps_at : {D : Type 0} {P : WorldData D → Event → Reply → WorldData D → Type 0} {d : Driver D} {e : Event} {r s : Reply} {d' : Driver D} → r ≡ s → AreStepsOf P d e r d' → AreStepsOf P d e s d'
 steps_at {P} {d} {e} {r} {s} {d'} same it = subst (λ (x : Reply). AreStepsOf P d e x d') same it
 
-settled_at : {P : WorldData MemDisk → Event → Reply → WorldData MemDisk → Type 0} {d : Driver} {n : List ℕ} {t : TxId} {r s : Reply} {d' : Driver} → r ≡ s → IsSettled P d n t r d' → IsSettled P d n t s d'
+settled_at : {D : Type 0} {P : WorldData D → Event → Reply → WorldData D → Type 0} {d : Driver D} {n : List ℕ} {t : TxId} {r s : Reply} {d' : Driver D} → r ≡ s → IsSettled P d n t r d' → IsSettled P d n t s d'
 settled_at {P} {d} {n} {t} {r} {s} {d'} same it = subst (λ (x : Reply). IsSettled P d n t x d') same it
 
-commit_at : {P : WorldData MemDisk → Event → Reply → WorldData MemDisk → Type 0} {d : Driver} {n : List ℕ} {t : TxId} {r s : Reply} {d' : Driver} → r ≡ s → IsCommit P d n t r d' → IsCommit P d n t s d'
+commit_at : {D : Type 0} {P : WorldData D → Event → Reply → WorldData D → Type 0} {d : Driver D} {n : List ℕ} {t : TxId} {r s : Reply} {d' : Driver D} → r ≡ s → IsCommit P d n t r d' → IsCommit P d n t s d'
 commit_at {P} {d} {n} {t} {r} {s} {d'} same it = subst (λ (x : Reply). IsCommit P d n t x d') same it
 
 pub returns-in_default-validate : goal.returns-in_default-validate
-returns-in_default-validate c =
+returns-in_default-validate g c =
     let stop = c.in-Core-Preparing.field-0-0 in
     let prepares : c.step.result ≡ Core (Preparing stop) = c.in-Core-Preparing.is ∙ ap Core c.in-Core-Preparing.field-0-is in
     let other : c.validate.result ≢ Core Valid = λ e. grind (arith, e) in
     commit_at (grind arith) (AtValidate stop c.step.new.self other (step_at prepares c.step.ensures) c.validate.ensures)
 
 pub returns-in_default-settled : goal.returns-in_default-settled
-returns-in_default-settled c =
+returns-in_default-settled g c =
     let stop = c.in-Core-Preparing.field-0-0 in
     let prepares : c.step.result ≡ Core (Preparing stop) = c.in-Core-Preparing.is ∙ ap Core c.in-Core-Preparing.field-0-is in
     let valid : c.validate.result ≡ Core Valid = c.in-Core-Valid.is ∙ ap Core c.in-Core-Valid.field-0-is in
@@ -41,7 +40,7 @@ returns-in_default-settled c =
     (record { stop = stop; then_on = c.step.new.self; prepared = step_at prepares c.step.ensures; checked = steps_at valid c.validate.ensures }) c.settle-settled.ensures
 
 pub returns-in-Core-Done : goal.returns-in-Core-Done
-returns-in-Core-Done c =
+returns-in-Core-Done g c =
     let stop = c.in-Core-Preparing.field-0-0 in
     let prepares : c.step.result ≡ Core (Preparing stop) = c.in-Core-Preparing.is ∙ ap Core c.in-Core-Preparing.field-0-is in
     let valid : c.validate.result ≡ Core Valid = c.in-Core-Valid.is ∙ ap Core c.in-Core-Valid.field-0-is in
@@ -51,7 +50,7 @@ returns-in-Core-Done c =
     (record { stop = stop; then_on = c.step.new.self; prepared = step_at prepares c.step.ensures; checked = steps_at valid c.validate.ensures }) c.settle-settled.ensures (steps_at done c.finish.ensures)
 
 pub returns-in_default-finish : goal.returns-in_default-finish
-returns-in_default-finish c =
+returns-in_default-finish g c =
     let stop = c.in-Core-Preparing.field-0-0 in
     let prepares : c.step.result ≡ Core (Preparing stop) = c.in-Core-Preparing.is ∙ ap Core c.in-Core-Preparing.field-0-is in
     let valid : c.validate.result ≡ Core Valid = c.in-Core-Valid.is ∙ ap Core c.in-Core-Valid.field-0-is in

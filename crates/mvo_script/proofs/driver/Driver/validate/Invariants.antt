@@ -1,10 +1,9 @@
 use Rattle.std.proofs.Common.{ℕ}
 use Rattle.mvo_core.specs.declared.event.Event.TheVariants.{Validate}
 use Rattle.mvo_world.specs.declared.event.Event.TheVariants.{Core}
-use Rattle.mvo_disk.specs.contracts.memory.MemDiskDisk.TheImpl.{ghosts}
 use Rattle.mvo_world.specs.Replies.{IsReplyTo}
 use Rattle.mvo_script.specs.Answers.{AreMore}
 use Rattle.mvo_script.proofs.driver.Driver.validate.Given as goal
 
 abbrev pub invariant-loop : goal.invariant-loop
-invariant-loop l = (n : ℕ) × AreMore (IsReplyTo ghosts) n (Core (Validate l.tx)) l.initial.self l.self
+invariant-loop g l = (n : ℕ) × AreMore (IsReplyTo g.D.Disk) n (Core (Validate l.tx)) l.initial.self l.self

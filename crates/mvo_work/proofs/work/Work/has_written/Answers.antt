@@ -2,7 +2,7 @@ use Rattle.std.proofs.Common.{ap, ◌∙◌}
 use Rattle.std.specs.Prelude.{is_some}
 use Rattle.mvo_model.specs.History.{net_write}
 use Rattle.mvo_theory.specs.Entries.{is_noted}
-use Rattle.mvo_work.specs.History.{history_as}
+use Rattle.mvo_theory.specs.Told.{history_told}
 use Rattle.mvo_work.specs.Work.{WorkData}
 use Rattle.mvo_work.proofs.Written.{noted_written}
 use Rattle.mvo_work.proofs.work.Work.has_written.Goals as goal
@@ -11,5 +11,5 @@ pub returns : goal.returns
 returns c =
     c.is_among.ensures
     ∙ ap (λ ks. is_noted ks c.args.key) (c.deref.ensures.value ∙ c.self.invariant.written)
-    ∙ noted_written (history_as c.self.inside.operations.items) c.args.key
+    ∙ noted_written (history_told c.self.inside.operations.items) c.args.key
     ∙ ap (λ (w : WorkData). is_some (net_write c.args.key w.history)) c.self.view_is

@@ -1,0 +1,74 @@
+-- The laws of a checkpoint.
+use Rattle.std.specs.Prelude.{◌≡◌, ◌↔◌, ℕ, ◌<◌, ◌≤◌, List, [], ◌∷◌, ◌++◌, length, map, All, Some, Ok, nat_eq}
+use Rattle.std.specs.List.{Contains, IsDistinct}
+use Rattle.std.specs.FinMap.{empty}
+use Rattle.mvo_types.specs.declared.limits.TheConstants.{MAX_PAIR_RECORDS}
+use Rattle.mvo_types.specs.RowData.{content_of}
+use Rattle.mvo_types.specs.Write.Effect.{Put}
+use Rattle.mvo_group.specs.Data.{GroupData}
+use Rattle.mvo_format.specs.declared.format.Format.{Format}
+use Rattle.mvo_frame.specs.declared.kind.Kind.{Kind}
+use Rattle.mvo_frame.specs.Frames.{IsSegment, mark_after}
+use Rattle.mvo_pair.specs.Data.{EntryData, Numbered, live_of}
+use Rattle.mvo_pair.specs.Files.{AreEntries, AreNumbers}
+use Rattle.mvo_pair.specs.Loading.{LoadsAs}
+use Rattle.mvo_pair.specs.declared.pair.Pair.{Pair}
+use Rattle.mvo_image.specs.Rows.{AreApart, rows_of, after_groups}
+use Rattle.mvo_ckpt.specs.Writes.{writes_of, last_write, records_of}
+use Rattle.mvo_ckpt.specs.Places.{PlaceMap, Rise, ArePlaces, file_of, with_live}
+use Rattle.mvo_ckpt.specs.Ended.{ended, left_in, lives_after}
+
+-- The rows of the live records after a checkpoint are those before, after the groups.
+abbrev pub KeepsRows : Type 0
+KeepsRows = (gs : List GroupData) (lives : List (List Numbered)) →
+    rows_of (lives_after gs lives) ≡ after_groups (rows_of lives) gs
+
+-- No two of them have one key.
+abbrev pub StaysApart : Type 0
+StaysApart = (gs : List GroupData) (lives : List (List Numbered)) →
+    AreApart lives → AreApart (lives_after gs lives)
+
+-- The numbers that a delta file gains are those of records, and it doesn't name them yet.
+abbrev pub NamesOthers : Type 0
+NamesOthers = (gs : List GroupData) (below : ℕ) (ns : List ℕ) (es : List EntryData) →
+    length es ≡ below → AreNumbers below ns →
+    AreNumbers below (ns ++ ended gs (live_of ns es))
+
+-- With them it leaves the live records whose keys aren't written.
+abbrev pub LeavesOthers : Type 0
+LeavesOthers = (gs : List GroupData) (ns : List ℕ) (es : List EntryData) →
+    live_of (ns ++ ended gs (live_of ns es)) es ≡ left_in gs (live_of ns es)
+
+-- The records of a segment's groups keep the rules of a data file between its two marks.
+abbrev pub GivesEntries : Type 0
+GivesEntries = (f : Format) (mark : ℕ) (kind : Kind) (gs : List GroupData) (bytes : List ℕ) →
+    IsSegment f mark kind gs bytes →
+    AreEntries f mark (mark_after mark gs) (records_of gs)
+
+-- They are no more than a pair may have.
+abbrev pub IsFewEnough : Type 0
+IsFewEnough = (f : Format) (mark : ℕ) (kind : Kind) (gs : List GroupData) (bytes : List ℕ) →
+    IsSegment f mark kind gs bytes → length (records_of gs) ≤ MAX_PAIR_RECORDS
+
+-- They are the last writes of their keys, with the ends of the transactions that made them.
+abbrev pub AreLastPuts : Type 0
+AreLastPuts = (gs : List GroupData) (e : EntryData) → Contains (records_of gs) e ↔
+    (last_write (writes_of gs) e.row.key ≡ Some (e.begin, (e.row.key, Put (content_of e.row))))
+
+-- ---- places
+
+-- The numbers of the live records of a pair rise, and lie below its count.
+abbrev pub LiveNumbersRise : Type 0
+LiveNumbersRise = (f : Format) (p : Pair) (data_bytes delta : List ℕ) (live : List Numbered) →
+    LoadsAs f p data_bytes delta (Ok live) → Rise live × All (λ l. l.0 < p.records) live
+
+-- Without pairs there are no places.
+abbrev pub NoPlaces : Type 0
+NoPlaces = ArePlaces [] [] empty
+
+-- The places of one more pair's live records go beside those of the others.
+abbrev pub PlacesGrow : Type 0
+PlacesGrow = (ps : List Pair) (lives : List (List Numbered)) (at : PlaceMap) (p : Pair)
+    (live : List Numbered) → ArePlaces ps lives at →
+    IsDistinct nat_eq (map file_of (ps ++ p ∷ [])) → AreApart (lives ++ live ∷ []) → Rise live →
+    ArePlaces (ps ++ p ∷ []) (lives ++ live ∷ []) (with_live p.data_file live at)

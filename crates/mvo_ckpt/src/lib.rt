@@ -1,0 +1,16 @@
+//! What a checkpoint writes: the rows that the groups of a segment leave, and the numbers of the
+//! live records that they end.
+#![tactic(auto)]
+
+mod building;
+mod checkpoint;
+mod laws;
+mod newest;
+mod place;
+mod places;
+
+pub use building::build;
+pub use checkpoint::{Checkpoint, DeltaEntries};
+pub use laws::laws_of_checkpoint;
+pub use place::Place;
+pub use places::Places;

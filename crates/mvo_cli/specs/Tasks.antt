@@ -1,0 +1,25 @@
+-- What a command asks for, by the words behind it.
+use Rattle.std.specs.Prelude.{◌≡◌, ℕ, List, Some, None, codes}
+use Rattle.std.specs.Str.Parse.{digits_value, without_leading_plus}
+use Rattle.clap.specs.Words.{Row, Text, first_of}
+use Rattle.mvo_cli.specs.declared.task.Task.{Task}
+use Rattle.mvo_cli.specs.declared.task.Task.TheVariants as task
+
+-- the path of the folder is this one
+abbrev pub HasFolder : List Row → Text → Type 0
+HasFolder rows folder = first_of (codes "DIR") rows ≡ Some folder
+
+-- the table is this one
+abbrev pub HasTable : List Row → ℕ → Type 0
+HasTable rows table =
+    (text : Text) × (first_of (codes "TABLE") rows ≡ Some text)
+    × (table ≡ digits_value 10 (without_leading_plus text))
+
+-- the command and its words ask for the task
+abbrev pub IsTask : Text → List Row → Task → Type 0
+IsTask name rows (task.Format folder) = (name ≡ codes "format") × HasFolder rows folder.now
+IsTask name rows task.Run = (name ≡ codes "run") × (first_of (codes "DIR") rows ≡ None)
+IsTask name rows (task.RunIn folder) = (name ≡ codes "run") × HasFolder rows folder.now
+IsTask name rows (task.Rows folder table) =
+    (name ≡ codes "rows") × HasFolder rows folder.now × HasTable rows table
+IsTask name rows (task.Check folder) = (name ≡ codes "check") × HasFolder rows folder.now

@@ -1,0 +1,48 @@
+ghost use Rattle.std.specs.Prelude.{◌≡◌, IfSome, IsSome, codes};
+ghost use Rattle.clap.specs.Words.{found_of, rows_of};
+ghost use Rattle.mvo_cli.specs.Tasks.{IsTask};
+
+use clap::ArgMatches;
+
+/// The name of the word that is the path of a folder.
+pub const FOLDER: &str = "DIR";
+
+/// The name of the word that is the number of a table.
+pub const TABLE: &str = "TABLE";
+
+/// What the program is asked to do.
+#[derive(Clone, Copy, Debug)]
+pub enum Task<'a> {
+    /// `mvo format DIR`: a new store in a folder.
+    Format(&'a str),
+    /// `mvo run`: a script from standard input, over a fresh store in memory.
+    Run,
+    /// `mvo run DIR`: the same over the store in a folder.
+    RunIn(&'a str),
+    /// `mvo rows DIR TABLE`: the rows of a table of the store in a folder.
+    Rows(&'a str, u8),
+    /// `mvo check DIR`: whether the store in a folder can be opened.
+    Check(&'a str),
+}
+
+/// The task that a command asks for with its matches, if it is one of the program's and has what
+/// it needs.
+pub fn task_of<'a>(name: &str, found: &ArgMatches<'a>) -> Option<Task<'a>>
+    ensures task { IfSome result (IsTask name.now (rows_of (found_of found.now))) }
+    ensures run { name.now ≡ codes "run" → IsSome result }
+{
+    match name {
+        "format" => Some(Task::Format(found.get_str(FOLDER)?)),
+        "run" => match found.get_str(FOLDER) {
+            Some(folder) => Some(Task::RunIn(folder)),
+            None => Some(Task::Run),
+        },
+        "rows" => {
+            let folder = found.get_str(FOLDER)?;
+            let table = found.get_str(TABLE)?.parse::<u8>().ok()?;
+            Some(Task::Rows(folder, table))
+        }
+        "check" => Some(Task::Check(found.get_str(FOLDER)?)),
+        _ => None,
+    }
+}
