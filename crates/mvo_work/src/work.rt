@@ -156,6 +156,13 @@ impl Work {
         self.words.len()
     }
 
+    /// The word at a place of the list, from 0 on.
+    pub fn word_at(&self, place: usize) -> Option<WordPlace>
+        ensures { result ≡ slice_get self.now.words place }
+    {
+        self.words.get(place).copied()
+    }
+
     /// The first word that is still to be replaced, if one is.
     pub fn next_word(&self) -> Option<WordPlace>
         ensures { result ≡ slice_get self.now.words 0 }
