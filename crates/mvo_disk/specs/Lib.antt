@@ -5,3 +5,4 @@ pub mod Moments
 pub mod Record
 pub mod Stop
 pub mod Torn
+pub mod Failing
