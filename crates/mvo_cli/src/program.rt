@@ -3,6 +3,7 @@ use crate::fault::Fault;
 use mvo_script::run_script;
 use std::process::ExitCode;
 use std::rt::Env;
+use std::thread::Threads;
 use std::{env, io};
 
 /// The exit status where writing failed.
@@ -11,7 +12,10 @@ const WRITING_FAILED: u8 = 3;
 /// Runs the program on its words, standard input and standard output. Its exit status is 0 where
 /// all was done, refused lines and help included, 2 for a bad command line, and 3 where reading or
 /// writing failed or memory was refused. Statuses 2 and 3 come with a text on standard error.
-pub fn run_program<R: AllocGlobal + Env + Input + Print + Eprint>(rt: &R) -> ExitCode {
+pub fn run_program<R>(rt: &R) -> ExitCode
+where
+    R: AllocGlobal + Env + Input + Print + Eprint + Threads + Sync,
+{
     match run_words(rt) {
         Ok(()) => ExitCode::SUCCESS,
         Err(fault) => ExitCode::from(tell(rt, &fault)),
@@ -19,7 +23,10 @@ pub fn run_program<R: AllocGlobal + Env + Input + Print + Eprint>(rt: &R) -> Exi
 }
 
 /// Does the command that the program's words are.
-fn run_words<R: AllocGlobal + Env + Input + Print>(rt: &R) -> Result<(), Fault> {
+fn run_words<R>(rt: &R) -> Result<(), Fault>
+where
+    R: AllocGlobal + Env + Input + Print + Threads + Sync,
+{
     let alloc = rt.alloc();
     let owned: Vec<String> = match env::args(rt) {
         Ok(words) => words.collect(alloc)?,
@@ -28,7 +35,7 @@ fn run_words<R: AllocGlobal + Env + Input + Print>(rt: &R) -> Result<(), Fault> 
     };
     let words: Vec<&str> = owned.iter().map(|word| word.as_str()).collect(alloc)?;
     match command(alloc, &words).map_err(Fault::CommandLine)? {
-        Task::Run => run_script(alloc, rt.reader(), io::writer(rt)).map_err(Fault::Script),
+        Task::Run => run_script(rt, alloc, rt.reader(), io::writer(rt)).map_err(Fault::Script),
     }
 }
 

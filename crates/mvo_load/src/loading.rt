@@ -14,9 +14,11 @@ use mvo_disk::Disk;
 use mvo_format::Format;
 use mvo_types::Refusal;
 use std::alloc::Global;
+use std::thread::Threads;
 
 /// What a disk holds of files of this version. Nothing changes, and no stop within it leaves
-/// anything new. Files are read one after another, and memory is taken in proportion to the bytes
+/// anything new. Files are read one after another, and the
+/// records of a pair in threads; memory is taken in proportion to the bytes
 /// of one pair's files or of one segment, and to the rows.
 ///
 /// Refused by the first rule that is broken, in this order: Corrupt with 0 or BadVersion by slot 0,
@@ -26,7 +28,12 @@ use std::alloc::Global;
 /// before; of the segments in their order Corrupt with the segment or BadVersion. OutOfMemory, for
 /// want of memory alone, and DiskFault, for a call of the device that failed, may stand in the
 /// place of any later answer.
-pub fn load<D: Disk>(alloc: Global, disk: &mut D, format: Format) -> Result<Loaded, Refusal>
+pub fn load<D: Disk>(
+    rt: &(impl Threads + Sync),
+    alloc: Global,
+    disk: &mut D,
+    format: Format,
+) -> Result<Loaded, Refusal>
     requires room { D.fault_count disk.old + 1 < 2 ^ 64 }
     ensures says { Tells IsStop (λ l. (l.rows, l.mark.0)) result
         (OpensAs format (D.content disk.old)) }
@@ -42,7 +49,7 @@ pub fn load<D: Disk>(alloc: Global, disk: &mut D, format: Format) -> Result<Load
         Ok(manifest) => manifest,
         Err(e) => return Err(e),
     };
-    let mut rows = match load_pairs(alloc, disk, format, &manifest) {
+    let mut rows = match load_pairs(rt, alloc, disk, format, &manifest) {
         Ok(rows) => rows,
         Err(e) => return Err(e),
     };

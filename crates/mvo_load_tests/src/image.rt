@@ -5,6 +5,7 @@ use mvo_load::{Loaded, load};
 use mvo_types::RowKey;
 use std::alloc::Global;
 use std::test::Fail;
+use std::thread::Threads;
 
 /// A segment without frames.
 pub const FRESH: &str = "4d564f4c 01000000 00";
@@ -66,11 +67,15 @@ fn row(alloc: Global, loaded: &Loaded) -> Result<String, Fail> {
 
 /// What is found out of a disk, as a line: generation, mark, gate, how many rows, and the row of
 /// table 0 at key 5; or the refusal.
-pub fn found_on(alloc: Global, disk: &mut MemDisk) -> Result<String, Fail> {
+pub fn found_on(
+    rt: &(impl Threads + Sync),
+    alloc: Global,
+    disk: &mut MemDisk,
+) -> Result<String, Fail> {
     if disk.faults() > 0 {
         return Err(Fail::from("a fault"));
     }
-    match load(alloc, disk, FIRST_FORMAT) {
+    match load(rt, alloc, disk, FIRST_FORMAT) {
         Ok(loaded) => {
             let row = row(alloc, &loaded)?;
             let generation = loaded.manifest.generation();
@@ -84,6 +89,10 @@ pub fn found_on(alloc: Global, disk: &mut MemDisk) -> Result<String, Fail> {
 }
 
 /// The same, of a disk with these files.
-pub fn found(alloc: Global, files: &[(u16, &str)]) -> Result<String, Fail> {
-    found_on(alloc, &mut disk_of(alloc, files)?)
+pub fn found(
+    rt: &(impl Threads + Sync),
+    alloc: Global,
+    files: &[(u16, &str)],
+) -> Result<String, Fail> {
+    found_on(rt, alloc, &mut disk_of(alloc, files)?)
 }

@@ -13,6 +13,7 @@ use mvo_store::format;
 use mvo_types::{Refusal, Row, TxId};
 use mvo_world::{Event, Reply, World};
 use std::alloc::Global;
+use std::thread::Threads;
 
 /// Answers the lines of a script, one after another, over a fresh store on a disk in memory.
 #[derive(Drop)]
@@ -34,11 +35,11 @@ impl Driver {
     ghost use Rattle.mvo_world.specs.Replies.{IsReplyTo};
 
     /// A driver with the clock at 0, no rows and no names. Refused with 90 alone.
-    pub fn new(alloc: Global) -> Result<Driver, Refusal>
+    pub fn new(rt: &(impl Threads + Sync), alloc: Global) -> Result<Driver, Refusal>
         ensures fresh { IfOk result IsFresh }
         ensures memory { IfErr result (λ r. r ≡ Refusal.OutOfMemory) }
     {
-        let world = fresh_world(alloc)?;
+        let world = fresh_world(rt, alloc)?;
         let names = Names::new(alloc);
         Ok(Driver {
             alloc,
@@ -217,7 +218,7 @@ impl Driver {
 }
 
 /// A world over a fresh disk in memory. Such a disk fails only where memory is refused.
-fn fresh_world(alloc: Global) -> Result<World<MemDisk>, Refusal>
+fn fresh_world(rt: &(impl Threads + Sync), alloc: Global) -> Result<World<MemDisk>, Refusal>
     ensures fresh { IfOk result IsFreshWorld }
     ensures memory { IfErr result (λ r. r ≡ Refusal.OutOfMemory) }
 {
@@ -225,7 +226,7 @@ fn fresh_world(alloc: Global) -> Result<World<MemDisk>, Refusal>
     let Ok(disk) = format(alloc, disk) else {
         return Err(Refusal::OutOfMemory);
     };
-    match World::open(alloc, disk) {
+    match World::open(rt, alloc, disk) {
         Ok(world) => Ok(world),
         Err(_) => Err(Refusal::OutOfMemory),
     }

@@ -2,6 +2,7 @@ use crate::driver::Driver;
 use crate::line::MAX_LINE_LEN;
 use std::alloc::Global;
 use std::io::{self, BufRead, BufReader, BufWriter, Read, Write};
+use std::thread::Threads;
 use thiserror::Error;
 
 /// Why a script isn't run to its end.
@@ -22,13 +23,14 @@ pub enum ScriptError {
 /// line feed. It keeps no more than a bounded part of a line, however long that is. The replies
 /// are written at the end, and before that as the buffer fills.
 pub fn run_script<R: Read + Drop, W: Write + Drop>(
+    rt: &(impl Threads + Sync),
     alloc: Global,
     reader: R,
     writer: W,
 ) -> Result<(), ScriptError> {
     let mut reader = BufReader::new(alloc, reader).map_err(|_| ScriptError::OutOfMemory)?;
     let mut writer = BufWriter::new(alloc, writer).map_err(|_| ScriptError::OutOfMemory)?;
-    let driver = Driver::new(alloc).map_err(|_| ScriptError::OutOfMemory)?;
+    let driver = Driver::new(rt, alloc).map_err(|_| ScriptError::OutOfMemory)?;
     let line = Vec::with_capacity(alloc, MAX_LINE_LEN + 1).map_err(|_| ScriptError::OutOfMemory)?;
     let ran = answer_lines(driver, line, &mut reader, &mut writer);
     let flushed = writer.flush().map_err(ScriptError::Write);
