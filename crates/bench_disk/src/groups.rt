@@ -44,7 +44,7 @@ fn open(rt: &HostRuntime, scratch: &Scratch, commits: u64) -> Result<HostStore> 
     let Ok(disk) = format(rt.alloc(), scratch.disk(rt, &name)?) else {
         bail!("the store isn't made");
     };
-    match Store::open(rt.alloc(), disk) {
+    match Store::open(rt, rt.alloc(), disk) {
         Ok((store, _, _)) => Ok(store),
         Err(_) => bail!("the new store isn't opened"),
     }

@@ -3,13 +3,17 @@ use anyhow::{Result, bail};
 use mvo_store::Store;
 use mvo_types::{RowKey, Rows};
 use std::rt::Clock;
+use std::thread::Threads;
 use std::time::Instant;
 
 // The rows of a store that holds so many in its log, and the time of opening it.
-pub fn run<R: AllocGlobal + Clock + Eprint + Print>(rt: &R, count: u64) -> Result<()> {
-    let disk = written(rt.alloc(), count)?;
+pub fn run<R>(rt: &R, count: u64) -> Result<()>
+where
+    R: AllocGlobal + Clock + Eprint + Print + Threads + Sync,
+{
+    let disk = written(rt, rt.alloc(), count)?;
     let start = Instant::now(rt)?;
-    let opened = Store::open(rt.alloc(), disk);
+    let opened = Store::open(rt, rt.alloc(), disk);
     let nanos = start.elapsed(rt)?.as_nanos();
     let Ok((store, rows, mark)) = opened else {
         bail!("the store isn't opened");

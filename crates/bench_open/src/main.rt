@@ -1,9 +1,10 @@
-//! The time of opening a store from its log: rows of 100 bytes, put in transactions of 100 and
-//! groups of 300 transactions. Checksums go to standard output, times to standard error.
-//! Arguments are numbers of rows in place of 10,000.
+//! The time of opening a store from its log and from pairs: rows of 100 bytes, put in transactions
+//! of 100 and groups of 300 transactions, or in four pairs. Checksums go to standard output, times
+//! to standard error. Arguments are numbers of rows in place of 10,000.
 #![tactic(auto)]
 
 mod log;
+mod pairs;
 mod writer;
 
 use anyhow::Result;
@@ -14,11 +15,14 @@ const ROWS: u64 = 10_000;
 fn main(rt: HostRuntime) -> Result<()> {
     let mut given = false;
     for word in env::args(&rt)?.skip(1) {
-        log::run(&rt, word.parse::<u64>()?)?;
+        let count = word.parse::<u64>()?;
+        log::run(&rt, count)?;
+        pairs::run(&rt, count)?;
         given = true;
     }
     if !given {
         log::run(&rt, ROWS)?;
+        pairs::run(&rt, ROWS)?;
     }
     Ok(())
 }

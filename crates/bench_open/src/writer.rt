@@ -4,6 +4,7 @@ use mvo_group::{Group, Record, Write};
 use mvo_store::{Store, format};
 use mvo_types::{Refusal, Row, RowKey, Stamp};
 use std::alloc::{AllocError, Global};
+use std::thread::Threads;
 
 // How many rows a transaction puts, and how many transactions a group has.
 const WRITES: u64 = 100;
@@ -11,7 +12,7 @@ const WRITES: u64 = 100;
 const RECORDS: u64 = 300;
 
 // The sort of a row, well mixed.
-fn sort_of(key: u64) -> u64 {
+pub fn sort_of(key: u64) -> u64 {
     let a = key.wrapping_add(1).wrapping_mul(0x9e37_79b9_7f4a_7c15);
     a ^ (a >> 29)
 }
@@ -90,11 +91,11 @@ fn append(alloc: Global, store: &mut Store<MemDisk>, group: Group) -> Result<()>
 }
 
 // A disk with a store that holds so many rows in its log.
-pub fn written(alloc: Global, count: u64) -> Result<MemDisk> {
+pub fn written(rt: &(impl Threads + Sync), alloc: Global, count: u64) -> Result<MemDisk> {
     let Ok(disk) = format(alloc, MemDisk::new(alloc)?) else {
         bail!("the disk isn't formatted");
     };
-    let Ok((mut store, _, _)) = Store::open(alloc, disk) else {
+    let Ok((mut store, _, _)) = Store::open(rt, alloc, disk) else {
         bail!("the new store isn't opened");
     };
     for number in 0..count {

@@ -15,12 +15,12 @@ const KEY: RowKey = RowKey { table: 0, key: 5 };
 fn main(rt: HostRuntime) -> Result<(), anyhow::Error> {
     let alloc = rt.alloc();
     let disk = format(alloc, MemDisk::new(alloc)?).map_err(|refused| refused.0)?;
-    let mut world = World::open(alloc, disk).map_err(|refused| refused.0)?;
+    let mut world = World::open(&rt, alloc, disk).map_err(|refused| refused.0)?;
     let tx = begin(&mut world)?;
     for reply in world.run(&put_and_flush(alloc, tx)?)? {
         println!(rt; "{reply:?}")?;
     }
-    let mut world = World::open(alloc, world.into_disk()).map_err(|refused| refused.0)?;
+    let mut world = World::open(&rt, alloc, world.into_disk()).map_err(|refused| refused.0)?;
     let tx = begin(&mut world)?;
     let found = world.step(Event::Core(TxEvent::Read(tx, KEY)));
     println!(rt; "{found:?}")?;

@@ -5,6 +5,7 @@ use mvo_store::{Store, format};
 use mvo_types::{Refusal, Rows, Stamp};
 use mvo_world::World;
 use std::fs::{File, Files};
+use std::thread::Threads;
 
 /// What the program answers where a folder isn't opened. There is no store where there is none.
 fn fault_of(refusal: FolderRefusal) -> Fault {
@@ -52,13 +53,16 @@ pub fn format_folder<R: AllocGlobal + Eprint + Files<File = File> + Clone + Drop
 }
 
 /// The world over the store in a folder.
-pub fn open_world<R: AllocGlobal + Eprint + Files<File = File> + Clone + Drop>(
+pub fn open_world<R>(
     rt: &R,
     folder: &str,
     is_terminal: bool,
-) -> Result<World<DirDisk<R>>, Fault> {
+) -> Result<World<DirDisk<R>>, Fault>
+where
+    R: AllocGlobal + Eprint + Files<File = File> + Threads + Sync + Clone + Drop,
+{
     let disk = open_disk(rt, folder, is_terminal)?;
-    match World::open(rt.alloc(), disk) {
+    match World::open(rt, rt.alloc(), disk) {
         Ok(world) => Ok(world),
         Err((refusal, _)) => Err(Fault::Refused(refusal)),
     }
@@ -74,13 +78,16 @@ pub struct Held {
 }
 
 /// What the store in a folder holds. The folder isn't used any longer then.
-pub fn open_held<R: AllocGlobal + Eprint + Files<File = File> + Clone + Drop>(
+pub fn open_held<R>(
     rt: &R,
     folder: &str,
     is_terminal: bool,
-) -> Result<Held, Fault> {
+) -> Result<Held, Fault>
+where
+    R: AllocGlobal + Eprint + Files<File = File> + Threads + Sync + Clone + Drop,
+{
     let disk = open_disk(rt, folder, is_terminal)?;
-    let (store, rows, mark) = match Store::open(rt.alloc(), disk) {
+    let (store, rows, mark) = match Store::open(rt, rt.alloc(), disk) {
         Ok(opened) => opened,
         Err((refusal, _)) => return Err(Fault::Refused(refusal)),
     };

@@ -8,6 +8,7 @@ use std::fs::{File, Files};
 use std::io::Write;
 use std::process::ExitCode;
 use std::rt::Env;
+use std::thread::Threads;
 use std::{env, io};
 
 /// The exit status where writing failed.
@@ -20,7 +21,16 @@ const WRITING_FAILED: u8 = 3;
 /// read.
 pub fn run_program<R>(rt: &R, is_terminal: bool) -> ExitCode
 where
-    R: AllocGlobal + Env + Input + Print + Eprint + Files<File = File> + Clone + Drop,
+    R: AllocGlobal
+        + Env
+        + Input
+        + Print
+        + Eprint
+        + Files<File = File>
+        + Threads
+        + Sync
+        + Clone
+        + Drop,
 {
     match run_words(rt, is_terminal) {
         Ok(()) => ExitCode::SUCCESS,
@@ -31,7 +41,16 @@ where
 /// Does the command that the program's words are.
 fn run_words<R>(rt: &R, is_terminal: bool) -> Result<(), Fault>
 where
-    R: AllocGlobal + Env + Input + Print + Eprint + Files<File = File> + Clone + Drop,
+    R: AllocGlobal
+        + Env
+        + Input
+        + Print
+        + Eprint
+        + Files<File = File>
+        + Threads
+        + Sync
+        + Clone
+        + Drop,
 {
     let alloc = rt.alloc();
     let owned: Vec<String> = match env::args(rt) {
@@ -50,7 +69,16 @@ where
 /// Does what the program is asked to do.
 fn run_task<R>(rt: &R, task: Task<'_>, is_terminal: bool) -> Result<(), Fault>
 where
-    R: AllocGlobal + Env + Input + Print + Eprint + Files<File = File> + Clone + Drop,
+    R: AllocGlobal
+        + Env
+        + Input
+        + Print
+        + Eprint
+        + Files<File = File>
+        + Threads
+        + Sync
+        + Clone
+        + Drop,
 {
     let alloc = rt.alloc();
     let mut writer = io::writer(rt);
@@ -59,7 +87,7 @@ where
             format_folder(rt, folder, is_terminal)?;
             writeln!(writer, "formatted").map_err(Fault::Print)
         }
-        Task::Run => run_script(alloc, rt.reader(), writer).map_err(Fault::Script),
+        Task::Run => run_script(rt, alloc, rt.reader(), writer).map_err(Fault::Script),
         Task::RunIn(folder) => {
             let world = open_world(rt, folder, is_terminal)?;
             run_over(alloc, world, rt.reader(), writer).map_err(Fault::Script)

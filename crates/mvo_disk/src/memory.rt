@@ -2,6 +2,7 @@
 ghost use Rattle.std.specs.Prelude.{◌≡◌, ◌<◌, ℕ, length, vec_len, vec_capacity, OnOk};
 ghost use Rattle.mvo_disk.specs.declared.limits.TheConstants.{FILE_COUNT};
 ghost use Rattle.mvo_disk.specs.Memory.{state_at, held_at, MayLeave};
+ghost use Rattle.mvo_disk.specs.Failing.{counted_down};
 
 use crate::file::File;
 use crate::files::{copied, cut_in, empty_files, file_at, sync_in, synced_files, write_in};
@@ -18,6 +19,8 @@ pub struct MemDisk {
     start: Vec<Vec<u8>>,
     calls: Vec<Call>,
     fault_count: u64,
+    // How many calls are left before the one that is to fail.
+    fails_after: Option<u64>,
     ghost full: { length files.items ≡ FILE_COUNT },
     ghost current: { (n : ℕ) → state_at files.items n ≡ (held_at start.items calls.items n).state },
     ghost sound: { (n : ℕ) → MayLeave start.items calls.items n (state_at files.items n).content },
@@ -32,8 +35,26 @@ fn make_room(calls: &mut Vec<Call>) -> Result<(), AllocError>
     Ok(())
 }
 
+// Whether a call is the one that is to fail.
+fn count_down(left: &mut Option<u64>) -> bool
+    ensures { (result, left.new) ≡ counted_down left.old }
+{
+    match *left {
+        None => false,
+        Some(0) => {
+            *left = None;
+            true
+        }
+        Some(calls) => {
+            *left = Some(calls - 1);
+            false
+        }
+    }
+}
+
 impl MemDisk {
     ghost use Rattle.std.specs.Prelude.{◌≡◌, ◌<◌, ◌+◌, ◌^◌, [], ℕ, length, IfOk, OnOk, OnErr};
+    ghost use Rattle.std.specs.Prelude.{None, Some};
     ghost use Rattle.std.specs.Prelude.{IsErr, IsErrOf};
     ghost use Rattle.mvo_disk.specs.Disk.{AllOf, Only};
     ghost use Rattle.mvo_disk.specs.Record.{calls_of, content_of, images_of};
@@ -45,6 +66,7 @@ impl MemDisk {
         ensures synced { IfOk result (λ disk. (n : ℕ) → Only [] (images_of disk n)) }
         ensures count { IfOk result (λ disk. disk.fault_count ≡ 0) }
         ensures record { IfOk result (λ disk. calls_of disk ≡ []) }
+        ensures no_fault { IfOk result (λ disk. disk.fails_after ≡ None) }
     {
         let start = empty_files(alloc)?;
         let files = synced_files(alloc, &start)?;
@@ -54,6 +76,7 @@ impl MemDisk {
             start,
             calls: Vec::new(alloc),
             fault_count: 0,
+            fails_after: None,
         })
     }
 
@@ -76,6 +99,7 @@ impl MemDisk {
             Only (content_of self.new n) (images_of self.new n)) }
         ensures count { OnOk result (self.new.fault_count ≡ 0) }
         ensures record { OnOk result (calls_of self.new ≡ []) }
+        ensures no_fault { OnOk result (self.new.fails_after ≡ None) }
 
         // Every image can be chosen, and nothing else.
         ensures allowed { OnOk result (AreImages (images_of self.old) chosen.now) }
@@ -94,6 +118,7 @@ impl MemDisk {
             start,
             calls: Vec::new(self.alloc),
             fault_count: 0,
+            fails_after: None,
         };
         Ok(())
     }
@@ -106,6 +131,14 @@ impl MemDisk {
         &file_at(&self.files, file).bytes
     }
 
+    /// Lets so many more calls go on, and makes the next one behind them fail and change nothing.
+    /// Once it has, or after a stop, no call fails but for want of memory.
+    pub fn fail_at(&mut self, calls: u64)
+        ensures { self.new ≡ record self.old { fails_after = Some calls } }
+    {
+        self.fails_after = Some(calls);
+    }
+
     // A call that failed and changed nothing.
     fn fail<T>(&mut self) -> Result<T, DiskFault>
         requires { self.old.fault_count + 1 < 2 ^ 64 }
@@ -113,6 +146,7 @@ impl MemDisk {
         ensures count { self.new.fault_count ≡ self.old.fault_count + 1 }
         ensures same { (self.new.files ≡ self.old.files) × (self.new.start ≡ self.old.start) ×
             (self.new.calls ≡ self.old.calls) }
+        ensures due { self.new.fails_after ≡ self.old.fails_after }
     {
         self.fault_count += 1;
         Err(DiskFault)
@@ -128,6 +162,7 @@ impl Disk for MemDisk {
     ghost use Rattle.mvo_disk.specs.Record.{calls_of, content_of, images_of, left_since, Records};
     ghost use Rattle.mvo_disk.specs.Record.{FilesStay, OtherFilesStay, FileSettles, GoesOn};
     ghost use Rattle.mvo_disk.specs.Record.{RecordsWrite};
+    ghost use Rattle.mvo_disk.specs.Failing.{FailsWhenDue};
 
     ghost content = { content_of };
 
@@ -147,7 +182,8 @@ impl Disk for MemDisk {
 
     ghost counts_later = { λ m. counts_later m.start.items (calls_of m) };
 
-    // Each call is refused for memory alone. It is then not recorded, and no file has changed.
+    // Each call is refused where it is the one that is to fail, and for want of memory. It is then
+    // not recorded, and no file has changed.
     fn len(&mut self, file: u16) -> Result<usize, DiskFault>
         requires file { file < FILE_COUNT }
         requires room { self.old.fault_count + 1 < 2 ^ 64 }
@@ -155,8 +191,12 @@ impl Disk for MemDisk {
         ensures rest { FilesStay self.old self.new }
         ensures time { GoesOn self.old self.new }
         ensures count { Counts self.old.fault_count self.new.fault_count result }
+        ensures due { FailsWhenDue self.old.fails_after self.new.fails_after result }
         ensures record { Records (calls_of self.old) file Work.Length (calls_of self.new) result }
     {
+        if count_down(&mut self.fails_after) {
+            return self.fail();
+        }
         let Ok(()) = make_room(&mut self.calls) else {
             return self.fail();
         };
@@ -178,9 +218,13 @@ impl Disk for MemDisk {
         ensures rest { FilesStay self.old self.new }
         ensures time { GoesOn self.old self.new }
         ensures count { Counts self.old.fault_count self.new.fault_count result }
+        ensures due { FailsWhenDue self.old.fails_after self.new.fails_after result }
         ensures record { Records (calls_of self.old) file (Work.Read at (length into.old))
             (calls_of self.new) result }
     {
+        if count_down(&mut self.fails_after) {
+            return self.fail();
+        }
         let Ok(()) = make_room(&mut self.calls) else {
             return self.fail();
         };
@@ -216,9 +260,13 @@ impl Disk for MemDisk {
         ensures rest { OtherFilesStay file self.old self.new }
         ensures time { GoesOn self.old self.new }
         ensures count { Counts self.old.fault_count self.new.fault_count result }
+        ensures due { FailsWhenDue self.old.fails_after self.new.fails_after result }
         ensures record { RecordsWrite (calls_of self.old) file at bytes.now (calls_of self.new)
             result }
     {
+        if count_down(&mut self.fails_after) {
+            return self.fail();
+        }
         let Ok(()) = make_room(&mut self.calls) else {
             return self.fail();
         };
@@ -255,9 +303,13 @@ impl Disk for MemDisk {
         ensures rest { OtherFilesStay file self.old self.new }
         ensures time { GoesOn self.old self.new }
         ensures count { Counts self.old.fault_count self.new.fault_count result }
+        ensures due { FailsWhenDue self.old.fails_after self.new.fails_after result }
         ensures record { Records (calls_of self.old) file (Work.Cut len len)
             (calls_of self.new) result }
     {
+        if count_down(&mut self.fails_after) {
+            return self.fail();
+        }
         let Ok(()) = make_room(&mut self.calls) else {
             return self.fail();
         };
@@ -279,8 +331,12 @@ impl Disk for MemDisk {
         ensures rest { FileSettles file self.old self.new }
         ensures time { GoesOn self.old self.new }
         ensures count { Counts self.old.fault_count self.new.fault_count result }
+        ensures due { FailsWhenDue self.old.fails_after self.new.fails_after result }
         ensures record { Records (calls_of self.old) file Work.Sync (calls_of self.new) result }
     {
+        if count_down(&mut self.fails_after) {
+            return self.fail();
+        }
         let Ok(()) = make_room(&mut self.calls) else {
             return self.fail();
         };

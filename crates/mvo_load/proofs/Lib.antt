@@ -6,3 +6,4 @@ pub mod Pairing
 pub mod Slices
 pub mod Log
 pub mod Giving
+mod Told

@@ -2,3 +2,4 @@ pub mod Loaded
 pub mod Leading
 pub mod Read
 pub mod Parts
+pub mod Pieces

@@ -5,6 +5,8 @@ mod loaded;
 mod loading;
 mod log_end;
 mod pairs;
+mod read;
+mod records;
 mod replay;
 mod segments;
 mod slots;

@@ -16,11 +16,13 @@ use mvo_disk::Disk;
 use mvo_format::Format;
 use mvo_types::Refusal;
 use std::alloc::Global;
+use std::thread::Threads;
 
 /// What a disk holds of files of this version. Nothing changes, and no stop within it leaves
-/// anything new. Files are read one after another, and memory is taken in proportion to the bytes
-/// of one pair's files or of one segment, and to the rows. The place of each live record takes 32
-/// bytes or more; the seed is for the table of them, and who chose the keys can't know it.
+/// anything new. Files are read one after another, and the records of a pair in threads; memory is
+/// taken in proportion to the bytes of one pair's files or of one segment, and to the rows. The
+/// place of each live record takes 32 bytes or more; the seed is for the table of them, and who
+/// chose the keys can't know it.
 ///
 /// Refused by the first rule that is broken, in this order: Corrupt with 0 or BadVersion by slot 0,
 /// Corrupt with 1 or BadVersion by slot 1, NotFormatted where no slot is open; of the pairs in
@@ -30,6 +32,7 @@ use std::alloc::Global;
 /// want of memory alone, and DiskFault, for a call of the device that failed, may stand in the
 /// place of any later answer.
 pub fn load<D: Disk>(
+    rt: &(impl Threads + Sync),
     alloc: Global,
     disk: &mut D,
     format: Format,
@@ -53,7 +56,7 @@ pub fn load<D: Disk>(
         Err(e) => return Err(e),
     };
     let mut places = Places::new(alloc, seed);
-    let mut rows = match load_pairs(alloc, disk, format, &manifest, &mut places) {
+    let mut rows = match load_pairs(rt, alloc, disk, format, &manifest, &mut places) {
         Ok(rows) => rows,
         Err(e) => return Err(e),
     };

@@ -9,13 +9,15 @@ ghost use Rattle.mvo_load.specs.Leading.{LeadsOn};
 ghost use Rattle.mvo_load.specs.Parts.{Joins, HaveRows, HavePlaces};
 ghost use Rattle.mvo_load.specs.Read.{HasRead};
 
+use crate::read::read_pair;
 use mvo_ckpt::Places;
 use mvo_disk::Disk;
 use mvo_format::Format;
 use mvo_manifest::Manifest;
-use mvo_pair::{Entry, Live, read_pair};
+use mvo_pair::{Entry, Live};
 use mvo_types::{Refusal, Rows};
 use std::alloc::{AllocError, Global};
+use std::thread::Threads;
 
 /// Puts the live records of a pair on the rows of those before. Whether no two of all have one key.
 fn join(rows: &mut Rows, live: Vec<Live>) -> Result<bool, AllocError>
@@ -33,9 +35,10 @@ fn join(rows: &mut Rows, live: Vec<Live>) -> Result<bool, AllocError>
     Ok(rows.len() - before == count)
 }
 
-/// The rows of the live records of a manifest's pairs, read one pair after another. Their places
-/// are put into a table without any.
+/// The rows of the live records of a manifest's pairs, read one pair after another, and the records
+/// of each in threads. Their places are put into a table without any.
 pub fn load_pairs<D: Disk>(
+    rt: &(impl Threads + Sync),
     alloc: Global,
     disk: &mut D,
     format: Format,
@@ -56,7 +59,7 @@ pub fn load_pairs<D: Disk>(
     let mut rows = Rows::new(alloc);
     let mut rest = manifest.pairs();
     while let [pair, after @ ..] = rest {
-        let live = match read_pair(alloc, disk, format, *pair) {
+        let live = match read_pair(rt, alloc, disk, format, *pair) {
             Ok(live) => live,
             Err(e) => return Err(e),
         };

@@ -5,6 +5,7 @@ use mvo_load::{Loaded, load};
 use mvo_types::RowKey;
 use std::alloc::Global;
 use std::test::Fail;
+use std::thread::Threads;
 
 /// A segment without frames.
 pub const FRESH: &str = "4d564f4c 01000000 00";
@@ -75,12 +76,16 @@ fn place(alloc: Global, loaded: &Loaded) -> Result<String, Fail> {
 }
 
 /// The place of table 0 at key 5 on a disk with these files.
-pub fn placed(alloc: Global, files: &[(u16, &str)]) -> Result<String, Fail> {
+pub fn placed(
+    rt: &(impl Threads + Sync),
+    alloc: Global,
+    files: &[(u16, &str)],
+) -> Result<String, Fail> {
     let mut disk = disk_of(alloc, files)?;
     if disk.faults() > 0 {
         return Err(Fail::from("a fault"));
     }
-    match load(alloc, &mut disk, FIRST_FORMAT, 7) {
+    match load(rt, alloc, &mut disk, FIRST_FORMAT, 7) {
         Ok(loaded) => place(alloc, &loaded),
         Err(refusal) => Ok(format!(in alloc; "{refusal}")?),
     }
@@ -88,11 +93,15 @@ pub fn placed(alloc: Global, files: &[(u16, &str)]) -> Result<String, Fail> {
 
 /// What is found out of a disk, as a line: generation, mark, gate, how many rows, and the row of
 /// table 0 at key 5; or the refusal.
-pub fn found_on(alloc: Global, disk: &mut MemDisk) -> Result<String, Fail> {
+pub fn found_on(
+    rt: &(impl Threads + Sync),
+    alloc: Global,
+    disk: &mut MemDisk,
+) -> Result<String, Fail> {
     if disk.faults() > 0 {
         return Err(Fail::from("a fault"));
     }
-    match load(alloc, disk, FIRST_FORMAT, 7) {
+    match load(rt, alloc, disk, FIRST_FORMAT, 7) {
         Ok(loaded) => {
             let row = row(alloc, &loaded)?;
             let generation = loaded.manifest.generation();
@@ -106,6 +115,10 @@ pub fn found_on(alloc: Global, disk: &mut MemDisk) -> Result<String, Fail> {
 }
 
 /// The same, of a disk with these files.
-pub fn found(alloc: Global, files: &[(u16, &str)]) -> Result<String, Fail> {
-    found_on(alloc, &mut disk_of(alloc, files)?)
+pub fn found(
+    rt: &(impl Threads + Sync),
+    alloc: Global,
+    files: &[(u16, &str)],
+) -> Result<String, Fail> {
+    found_on(rt, alloc, &mut disk_of(alloc, files)?)
 }

@@ -70,17 +70,20 @@ fn a_live_key_stands_once(rt: HostRuntime) -> Result<(), Fail> {
     let mut disk = disk_of_pairs(alloc)?;
     // The record of the earlier pair is named, so that only the later one is live.
     install(alloc, &mut disk, &[earlier(1), later()])?;
-    assert_eq!(rt; found_on(alloc, &mut disk)?.as_str(), "0, 4, 8, 1: 50 62");
+    assert_eq!(rt;
+        found_on(&rt, alloc, &mut disk)?.as_str(),
+        "0, 4, 8, 1: 50 62"
+    );
     // Both are live: the file of the second one is named.
     install(alloc, &mut disk, &[earlier(0), later()])?;
-    assert_eq!(rt; found_on(alloc, &mut disk)?.as_str(), "refused 54 6");
+    assert_eq!(rt; found_on(&rt, alloc, &mut disk)?.as_str(), "refused 54 6");
     // Which is looked at before the next file.
     install(alloc, &mut disk, &[earlier(0), later()])?;
     put(&mut disk, 2, &[])?;
-    assert_eq!(rt; found_on(alloc, &mut disk)?.as_str(), "refused 54 6");
+    assert_eq!(rt; found_on(&rt, alloc, &mut disk)?.as_str(), "refused 54 6");
     install(alloc, &mut disk, &[earlier(0)])?;
     put(&mut disk, 6, &[])?;
-    assert_eq!(rt; found_on(alloc, &mut disk)?.as_str(), "refused 54 2");
+    assert_eq!(rt; found_on(&rt, alloc, &mut disk)?.as_str(), "refused 54 2");
     Ok(())
 }
 
@@ -100,10 +103,13 @@ fn a_key_stands_once_within_a_pair(rt: HostRuntime) -> Result<(), Fail> {
         ..earlier(0)
     };
     install(alloc, &mut disk, &[pair])?;
-    assert_eq!(rt; found_on(alloc, &mut disk)?.as_str(), "refused 54 4");
+    assert_eq!(rt; found_on(&rt, alloc, &mut disk)?.as_str(), "refused 54 4");
     put(&mut disk, 5, &bytes(alloc, NAMED)?)?;
     install(alloc, &mut disk, &[Pair { entries: 1, ..pair }])?;
-    assert_eq!(rt; found_on(alloc, &mut disk)?.as_str(), "0, 4, 8, 1: 50 62");
+    assert_eq!(rt;
+        found_on(&rt, alloc, &mut disk)?.as_str(),
+        "0, 4, 8, 1: 50 62"
+    );
     Ok(())
 }
 
@@ -124,6 +130,9 @@ fn appended_groups_are_found(rt: HostRuntime) -> Result<(), Fail> {
     }
     segment.write_body(alloc, &mut disk, &group)?;
     segment.open_gate(&mut disk)?;
-    assert_eq!(rt; found_on(alloc, &mut disk)?.as_str(), "0, 2, 62, 1: 50 61");
+    assert_eq!(rt;
+        found_on(&rt, alloc, &mut disk)?.as_str(),
+        "0, 2, 62, 1: 50 61"
+    );
     Ok(())
 }

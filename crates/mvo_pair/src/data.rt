@@ -38,7 +38,7 @@ fn entry_len(bytes: &[u8]) -> Option<usize>
 
 /// The place of each of so many records, behind the header, if all of them are whole. It looks at
 /// their lengths alone. A count for which the bytes have no room takes no memory.
-fn find_places(alloc: Global, count: u32, body: &[u8]) -> Result<Option<Vec<usize>>, AllocError>
+pub fn find_places(alloc: Global, count: u32, body: &[u8]) -> Result<Option<Vec<usize>>, AllocError>
     ensures { IfOk result (λ found. Gives (λ v. v.items) found (places_from count 0 body.now)) }
 {
     if count as usize > body.len() / RECORD {
@@ -103,8 +103,8 @@ fn read_entry(alloc: Global, format: Format, pair: Pair, bytes: &[u8]) -> Result
     Ok(entry)
 }
 
-/// The records at these places.
-fn read_entries(
+/// The records at these places. Any broken rule of one of them may be the answer.
+pub fn read_entries(
     alloc: Global,
     format: Format,
     pair: Pair,
@@ -131,7 +131,7 @@ fn is_below(first: &Entry, second: &Entry) -> bool
 }
 
 /// Whether the records rise in the order (begin, table, key).
-fn rise(entries: &[Entry]) -> bool
+pub fn rise(entries: &[Entry]) -> bool
     ensures { result ≡ rise entries.now }
 {
     let mut rest = entries;

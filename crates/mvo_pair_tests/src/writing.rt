@@ -2,7 +2,7 @@
 use crate::vectors::{DATA, DELTA, NAMED, count, pair};
 use mvo_disk::{Disk, MemDisk};
 use mvo_pair::{
-    Entry, FIRST_FORMAT, Pair, append_delta, are_entries, read_pair, write_data, write_delta,
+    Entry, FIRST_FORMAT, Pair, append_delta, are_entries, load_pair, write_data, write_delta,
 };
 use mvo_types::{Refusal, Row, RowKey, Stamp};
 use std::alloc::{AllocError, Global};
@@ -125,14 +125,15 @@ fn numbers_go_behind_the_counted_ones(rt: HostRuntime) -> Result<(), Fail> {
 #[test]
 fn a_pair_is_read_from_its_disk(rt: HostRuntime) -> Result<(), Fail> {
     let alloc = rt.alloc();
-    let mut disk = written(alloc, pair(1, 0), 2, 0x61)?;
+    let disk = written(alloc, pair(1, 0), 2, 0x61)?;
     for (entries, wanted) in [(0, Ok(1)), (1, Err(Refusal::Corrupt(5)))] {
         assert_eq!(rt; count(alloc, pair(1, entries), &DATA, &DELTA), wanted);
         let pair = pair(1, entries);
-        if pair.data_file >= 1024 || pair.delta_file >= 1024 || disk.faults() != 0 {
+        if pair.data_file >= 1024 || pair.delta_file >= 1024 {
             return Err(Fail::from("files"));
         }
-        match read_pair(alloc, &mut disk, FIRST_FORMAT, pair) {
+        let (data, delta) = (disk.bytes(pair.data_file), disk.bytes(pair.delta_file));
+        match load_pair(alloc, FIRST_FORMAT, pair, data, delta) {
             Ok(live) => assert_eq!(rt; Ok(live.len()), wanted),
             Err(refused) => assert_eq!(rt; Err(refused), wanted),
         }

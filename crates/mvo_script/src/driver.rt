@@ -13,6 +13,7 @@ use mvo_store::format;
 use mvo_types::{Refusal, Row, TxId};
 use mvo_world::{Event, Reply, World};
 use std::alloc::Global;
+use std::thread::Threads;
 
 /// Answers the lines of a script, one after another, by the steps of a world.
 #[derive(Drop)]
@@ -27,11 +28,11 @@ impl Driver<MemDisk> {
     ghost use Rattle.mvo_script.specs.Fresh.{IsFresh};
 
     /// A driver with the clock at 0, no rows and no names. Refused with 90 alone.
-    pub fn new(alloc: Global) -> Result<Driver<MemDisk>, Refusal>
+    pub fn new(rt: &(impl Threads + Sync), alloc: Global) -> Result<Driver<MemDisk>, Refusal>
         ensures fresh { IfOk result IsFresh }
         ensures memory { IfErr result (λ r. r ≡ Refusal.OutOfMemory) }
     {
-        let world = fresh_world(alloc)?;
+        let world = fresh_world(rt, alloc)?;
         Ok(Driver::over(alloc, world))
     }
 }
@@ -229,7 +230,7 @@ impl<D: Disk> Driver<D> {
 }
 
 /// A world over a fresh disk in memory. Such a disk fails only where memory is refused.
-fn fresh_world(alloc: Global) -> Result<World<MemDisk>, Refusal>
+fn fresh_world(rt: &(impl Threads + Sync), alloc: Global) -> Result<World<MemDisk>, Refusal>
     ensures fresh { IfOk result IsFreshWorld }
     ensures memory { IfErr result (λ r. r ≡ Refusal.OutOfMemory) }
 {
@@ -237,7 +238,7 @@ fn fresh_world(alloc: Global) -> Result<World<MemDisk>, Refusal>
     let Ok(disk) = format(alloc, disk) else {
         return Err(Refusal::OutOfMemory);
     };
-    match World::open(alloc, disk) {
+    match World::open(rt, alloc, disk) {
         Ok(world) => Ok(world),
         Err(_) => Err(Refusal::OutOfMemory),
     }

@@ -4,6 +4,7 @@ use mvo_disk::Disk;
 use mvo_world::World;
 use std::alloc::Global;
 use std::io::{self, BufRead, BufReader, BufWriter, Read, Write};
+use std::thread::Threads;
 use thiserror::Error;
 
 /// Why a script isn't run to its end.
@@ -22,11 +23,12 @@ pub enum ScriptError {
 
 /// Runs a script over a fresh store in memory, as `run_over` does.
 pub fn run_script<R: Read + Drop, W: Write + Drop>(
+    rt: &(impl Threads + Sync),
     alloc: Global,
     reader: R,
     writer: W,
 ) -> Result<(), ScriptError> {
-    let driver = Driver::new(alloc).map_err(|_| ScriptError::OutOfMemory)?;
+    let driver = Driver::new(rt, alloc).map_err(|_| ScriptError::OutOfMemory)?;
     run_driver(alloc, driver, reader, writer)
 }
 

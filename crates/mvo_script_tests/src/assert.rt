@@ -4,23 +4,24 @@ use std::alloc::Global;
 use std::io::Write;
 use std::process::Abort;
 use std::test::Fail;
+use std::thread::Threads;
 
 /// Runs a script, and asserts what it is answered.
 pub fn assert_replies(
-    rt: &impl Abort,
+    rt: &(impl Abort + Threads + Sync),
     alloc: Global,
     script: &[u8],
     expected: &[u8],
 ) -> Result<(), Fail> {
     let mut replies = Vec::new(alloc);
-    run_script(alloc, script, &mut replies)?;
+    run_script(rt, alloc, script, &mut replies)?;
     assert_eq!(rt; replies.as_slice(), expected);
     Ok(())
 }
 
 /// Runs a script, and asserts the reply to each of its lines.
 pub fn assert_session(
-    rt: &impl Abort,
+    rt: &(impl Abort + Threads + Sync),
     alloc: Global,
     session: &[(&'static str, &'static str)],
 ) -> Result<(), Fail> {

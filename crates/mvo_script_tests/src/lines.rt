@@ -81,7 +81,7 @@ fn bad_lines_change_nothing(rt: HostRuntime) -> Result<(), Fail> {
         script.extend_from_slice(bad)?;
         script.extend_from_slice(b"\nread t1 0 5\nbegin t1\n")?;
         let mut replies = Vec::new(alloc);
-        run_script(alloc, script.as_slice(), &mut replies)?;
+        run_script(&rt, alloc, script.as_slice(), &mut replies)?;
         let expected = b"began 1\nbad line\nnone\nbegan 2\n".as_slice();
         assert_eq!(rt; replies.as_slice(), expected, "at {bad:?}");
     }

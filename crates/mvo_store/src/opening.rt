@@ -19,6 +19,7 @@ use mvo_load::{Loaded, load};
 use mvo_manifest::Manifest;
 use mvo_types::{Refusal, Rows, Stamp};
 use std::alloc::Global;
+use std::thread::Threads;
 
 /// The file of the last segment.
 fn last_segment(manifest: &Manifest) -> u16
@@ -29,7 +30,11 @@ fn last_segment(manifest: &Manifest) -> u16
 }
 
 /// What is on the disk, which is durable then.
-fn load_synced<D: Disk>(alloc: Global, disk: &mut D) -> Result<Loaded, Refusal>
+fn load_synced<D: Disk>(
+    rt: &(impl Threads + Sync),
+    alloc: Global,
+    disk: &mut D,
+) -> Result<Loaded, Refusal>
     ensures loaded { IfOk result (λ l. IsLoaded FIRST_FORMAT (D.content disk.old) l.manifest l.rows
         l.mark.0 l.gate) }
     ensures answer { IfOk result (λ l. IsAnswer (D.content disk.old) (Ok (l.rows, l.mark.0))) }
@@ -43,7 +48,7 @@ fn load_synced<D: Disk>(alloc: Global, disk: &mut D) -> Result<Loaded, Refusal>
     if disk.faults() >= MAX_FAULTS {
         return Err(Refusal::ClockSpent);
     }
-    let loaded = match load(alloc, disk, FIRST_FORMAT, PLACES_SEED) {
+    let loaded = match load(rt, alloc, disk, FIRST_FORMAT, PLACES_SEED) {
         Ok(loaded) => loaded,
         Err(refusal) => return Err(refusal),
     };
@@ -61,7 +66,11 @@ impl<D: Disk> Store<D> {
     /// Refused: ClockSpent where the fault counter is 2^63 or above; then by the first rule that is
     /// broken, in the order slot 0, slot 1, pairs, segments: NotFormatted, Corrupt with the file,
     /// or BadVersion. OutOfMemory or DiskFault may stand in the place of any later answer.
-    pub fn open(alloc: Global, disk: D) -> Result<(Store<D>, Rows, Stamp), (Refusal, D)>
+    pub fn open(
+        rt: &(impl Threads + Sync),
+        alloc: Global,
+        disk: D,
+    ) -> Result<(Store<D>, Rows, Stamp), (Refusal, D)>
         ensures answer { IfOk result (λ x. IsAnswer (D.content disk) (Ok (x.1, x.2.0))) }
         ensures gives { IfOk result (λ x. Gives x.1 x.2.0 (D.content disk)) }
         ensures up { IfOk result (λ x. IsUp D.Disk x.0 x.1) }
@@ -80,7 +89,7 @@ impl<D: Disk> Store<D> {
             places,
             mark,
             gate,
-        } = match load_synced(alloc, &mut disk) {
+        } = match load_synced(rt, alloc, &mut disk) {
             Ok(loaded) => loaded,
             Err(refusal) => return Err((refusal, disk)),
         };

@@ -5,6 +5,7 @@ use mvo_types::{Refusal, RowKey, Rows, Stamp};
 use std::alloc::Global;
 use std::process::Abort;
 use std::test::Fail;
+use std::thread::Threads;
 
 // A segment without groups.
 const FRESH: [u8; 9] = [0x4d, 0x56, 0x4f, 0x4c, 1, 0, 0, 0, 0];
@@ -118,16 +119,20 @@ fn a_closed_slot_is_written_over(rt: HostRuntime) -> Result<(), Fail> {
 
 // ---- a store
 
-fn opened(alloc: Global, disk: MemDisk) -> Result<(Store<MemDisk>, Rows, Stamp), Fail> {
-    match Store::open(alloc, disk) {
+fn opened(
+    rt: &(impl Threads + Sync),
+    alloc: Global,
+    disk: MemDisk,
+) -> Result<(Store<MemDisk>, Rows, Stamp), Fail> {
+    match Store::open(rt, alloc, disk) {
         Ok(opened) => Ok(opened),
         Err((refusal, _)) => Err(Fail::from(refusal)),
     }
 }
 
 // A store over a new disk.
-fn new_store(alloc: Global) -> Result<Store<MemDisk>, Fail> {
-    let (store, _, _) = opened(alloc, formatted(alloc, MemDisk::new(alloc)?)?)?;
+fn new_store(rt: &(impl Threads + Sync), alloc: Global) -> Result<Store<MemDisk>, Fail> {
+    let (store, _, _) = opened(rt, alloc, formatted(alloc, MemDisk::new(alloc)?)?)?;
     Ok(store)
 }
 
@@ -176,13 +181,13 @@ fn len_at(rows: &Rows, key: u64) -> Result<Option<usize>, Fail> {
 #[test]
 fn a_group_is_appended(rt: HostRuntime) -> Result<(), Fail> {
     let alloc = rt.alloc();
-    let mut store = new_store(alloc)?;
+    let mut store = new_store(&rt, alloc)?;
     assert_eq!(rt; store.mark(), Stamp(0));
     assert_eq!(rt; append(&mut store, alloc, &ONE_PUT)?, Stamp(2));
     assert_eq!(rt; store.mark(), Stamp(2));
     let disk = store.into_disk();
     assert_eq!(rt; disk.bytes(2), SEGMENT.as_slice());
-    let (_, rows, mark) = opened(alloc, disk)?;
+    let (_, rows, mark) = opened(&rt, alloc, disk)?;
     assert_eq!(rt; mark, Stamp(2));
     let row = rows.get(RowKey { table: 0, key: 5 })?.ok_or("the row")?;
     assert_eq!(rt; row.sort, 50);
@@ -193,13 +198,13 @@ fn a_group_is_appended(rt: HostRuntime) -> Result<(), Fail> {
 #[test]
 fn a_body_alone_counts_for_nothing(rt: HostRuntime) -> Result<(), Fail> {
     let alloc = rt.alloc();
-    let mut store = new_store(alloc)?;
+    let mut store = new_store(&rt, alloc)?;
     take(&mut store, alloc, &ONE_PUT)?;
     store.append_body()?;
     let mut disk = store.into_disk();
     disk.stop(&[])?;
     assert_eq!(rt; disk.bytes(2).len(), 63);
-    let (_, rows, mark) = opened(alloc, disk)?;
+    let (_, rows, mark) = opened(&rt, alloc, disk)?;
     assert_eq!(rt; mark, Stamp(0));
     assert_eq!(rt; len_at(&rows, 5)?, None);
     Ok(())
@@ -208,7 +213,7 @@ fn a_body_alone_counts_for_nothing(rt: HostRuntime) -> Result<(), Fail> {
 #[test]
 fn a_rotation_is_installed(rt: HostRuntime) -> Result<(), Fail> {
     let alloc = rt.alloc();
-    let mut store = new_store(alloc)?;
+    let mut store = new_store(&rt, alloc)?;
     let _ = append(&mut store, alloc, &ONE_PUT)?;
     assert_eq!(rt; rotate(&mut store)?, Generation(1));
     assert_eq!(rt; store.manifest().generation(), 1);
@@ -218,7 +223,7 @@ fn a_rotation_is_installed(rt: HostRuntime) -> Result<(), Fail> {
     assert_eq!(rt; disk.bytes(1), ROTATED.as_slice());
     assert_eq!(rt; disk.bytes(2), SEGMENT.as_slice());
     assert_eq!(rt; disk.bytes(3), FRESH.as_slice());
-    let (mut store, rows, mark) = opened(alloc, disk)?;
+    let (mut store, rows, mark) = opened(&rt, alloc, disk)?;
     assert_eq!(rt; mark, Stamp(2));
     assert_eq!(rt; len_at(&rows, 5)?, Some(1));
     // The next group goes to the fresh segment.
@@ -231,14 +236,14 @@ fn a_rotation_is_installed(rt: HostRuntime) -> Result<(), Fail> {
 
 // The store after a stop, which must have these rounds.
 fn stopped(
-    rt: &impl Abort,
+    rt: &(impl Abort + Threads + Sync),
     alloc: Global,
     store: Store<MemDisk>,
     rounds: u8,
 ) -> Result<Store<MemDisk>, Fail> {
     let mut disk = store.into_disk();
     disk.stop(&[])?;
-    let (store, rows, mark) = opened(alloc, disk)?;
+    let (store, rows, mark) = opened(rt, alloc, disk)?;
     assert_eq!(rt; mark, Stamp(rounds.saturating_mul(2) as u64));
     for key in 1..=3u8 {
         let wanted = if key <= rounds { Some(1) } else { None };
@@ -250,7 +255,7 @@ fn stopped(
 #[test]
 fn three_rounds_are_kept(rt: HostRuntime) -> Result<(), Fail> {
     let alloc = rt.alloc();
-    let mut store = new_store(alloc)?;
+    let mut store = new_store(&rt, alloc)?;
     for k in 1..=3u8 {
         let _ = append(&mut store, alloc, &round(alloc, k)?)?;
         assert_eq!(rt; rotate(&mut store)?.0, k as u64);
@@ -282,8 +287,8 @@ fn rotate_so_far(store: &mut Store<MemDisk>, steps: u8) -> Result<(), Fail> {
 }
 
 // A store with one round, and so many steps of a rotation.
-fn rotating(alloc: Global, steps: u8) -> Result<Store<MemDisk>, Fail> {
-    let mut store = new_store(alloc)?;
+fn rotating(rt: &(impl Threads + Sync), alloc: Global, steps: u8) -> Result<Store<MemDisk>, Fail> {
+    let mut store = new_store(rt, alloc)?;
     let _ = append(&mut store, alloc, &round(alloc, 1)?)?;
     rotate_so_far(&mut store, steps)?;
     Ok(store)
@@ -294,7 +299,7 @@ fn rotating(alloc: Global, steps: u8) -> Result<Store<MemDisk>, Fail> {
 fn a_rotation_may_be_stopped(rt: HostRuntime) -> Result<(), Fail> {
     let alloc = rt.alloc();
     for steps in 0..=4u8 {
-        let store = stopped(&rt, alloc, rotating(alloc, steps)?, 1)?;
+        let store = stopped(&rt, alloc, rotating(&rt, alloc, steps)?, 1)?;
         let wanted = if steps > 3 { 1 } else { 0 };
         assert_eq!(rt; store.manifest().generation(), wanted);
     }
@@ -303,7 +308,7 @@ fn a_rotation_may_be_stopped(rt: HostRuntime) -> Result<(), Fail> {
 
 #[test]
 fn nothing_is_due_at_first(rt: HostRuntime) -> Result<(), Fail> {
-    let mut store = new_store(rt.alloc())?;
+    let mut store = new_store(&rt, rt.alloc())?;
     assert_eq!(rt; store.can_take(), None);
     assert_eq!(rt; store.append_body(), Err(Refusal::NothingToDo));
     assert_eq!(rt; store.rotate_write(), Err(Refusal::NothingToDo));
@@ -313,7 +318,7 @@ fn nothing_is_due_at_first(rt: HostRuntime) -> Result<(), Fail> {
 
 #[test]
 fn one_rotation_runs_at_a_time(rt: HostRuntime) -> Result<(), Fail> {
-    let mut store = rotating(rt.alloc(), 1)?;
+    let mut store = rotating(&rt, rt.alloc(), 1)?;
     assert_eq!(rt; store.rotate_write(), Err(Refusal::Busy));
     assert_eq!(rt; store.install_body(), Err(Refusal::NothingToDo));
     Ok(())
@@ -323,7 +328,7 @@ fn one_rotation_runs_at_a_time(rt: HostRuntime) -> Result<(), Fail> {
 #[test]
 fn an_install_waits_for_a_gate(rt: HostRuntime) -> Result<(), Fail> {
     let alloc = rt.alloc();
-    let mut store = rotating(alloc, 3)?;
+    let mut store = rotating(&rt, alloc, 3)?;
     take(&mut store, alloc, &round(alloc, 2)?)?;
     assert_eq!(rt; store.can_take(), Some(Refusal::Busy));
     store.append_body()?;
@@ -350,7 +355,7 @@ fn changes(disk: &MemDisk) -> (usize, usize) {
 fn a_dead_file_is_emptied(rt: HostRuntime) -> Result<(), Fail> {
     let alloc = rt.alloc();
     let disk = formatted(alloc, holding(alloc, 7, &[7; 20])?)?;
-    let (mut store, _, _) = opened(alloc, disk)?;
+    let (mut store, _, _) = opened(&rt, alloc, disk)?;
     let _ = append(&mut store, alloc, &ONE_PUT)?;
     assert_eq!(rt; store.reclaim()?, Reclaimed::More);
     assert_eq!(rt; store.reclaim()?, Reclaimed::Done);
@@ -371,7 +376,7 @@ fn one_file_is_emptied_by_a_call(rt: HostRuntime) -> Result<(), Fail> {
     }
     disk.write_at(4, 0, &[4])?;
     disk.stop(&[])?;
-    let (mut store, _, _) = opened(alloc, disk)?;
+    let (mut store, _, _) = opened(&rt, alloc, disk)?;
     assert_eq!(rt; store.reclaim()?, Reclaimed::More);
     let disk = store.into_disk();
     assert_eq!(rt; disk.bytes(4), [].as_slice());
@@ -385,11 +390,11 @@ fn one_file_is_emptied_by_a_call(rt: HostRuntime) -> Result<(), Fail> {
 #[test]
 fn a_rotation_keeps_its_segment(rt: HostRuntime) -> Result<(), Fail> {
     let alloc = rt.alloc();
-    let mut store = rotating(alloc, 1)?;
+    let mut store = rotating(&rt, alloc, 1)?;
     assert_eq!(rt; store.reclaim()?, Reclaimed::Done);
     let disk = store.into_disk();
     assert_eq!(rt; disk.bytes(3), FRESH.as_slice());
-    let (mut store, _, _) = opened(alloc, disk)?;
+    let (mut store, _, _) = opened(&rt, alloc, disk)?;
     assert_eq!(rt; store.reclaim()?, Reclaimed::More);
     assert_eq!(rt; store.reclaim()?, Reclaimed::Done);
     let disk = store.into_disk();

@@ -10,6 +10,7 @@ use mvo_store::Store;
 use mvo_types::{Refusal, Stamp};
 use std::alloc::Global;
 use std::marker::Model;
+use std::thread::Threads;
 
 /// The event core, the place of closed groups, and the store of groups, in one value.
 ///
@@ -60,7 +61,11 @@ impl<D: Disk> World<D> {
     ///
     /// The world stands after its past where both manifest slots hold a byte (`HasSlots`), as
     /// `format` leaves them.
-    pub fn open(alloc: Global, disk: D) -> Result<World<D>, (Refusal, D)>
+    pub fn open(
+        rt: &(impl Threads + Sync),
+        alloc: Global,
+        disk: D,
+    ) -> Result<World<D>, (Refusal, D)>
         ensures answer { IfOk result (λ w.
             IsAnswer (D.content disk) (Ok (w.core.base, w.store.mark))) }
         ensures gives { IfOk result (λ w. Gives w.core.base w.store.mark (D.content disk)) }
@@ -77,7 +82,7 @@ impl<D: Disk> World<D> {
         ensures content_err { IfErr result (λ e. KeepsContent D.Disk disk e.1) }
         ensures any_moment_err { IfErr result (λ e. LeavesAsBefore D.Disk disk e.1) }
     {
-        let (store, rows, mark) = match Store::open(alloc, disk) {
+        let (store, rows, mark) = match Store::open(rt, alloc, disk) {
             Ok(opened) => opened,
             Err(refused) => return Err(refused),
         };

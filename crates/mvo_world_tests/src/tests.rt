@@ -1,7 +1,10 @@
+mod checked;
 mod draws;
 mod events;
+mod faults;
 mod images;
 mod observed;
+mod openings;
 mod random;
 mod runs;
 
@@ -13,6 +16,7 @@ use mvo_world::{Event, Reply, World};
 use std::alloc::Global;
 use std::process::Abort;
 use std::test::Fail;
+use std::thread::Threads;
 
 // The segment with one group (0, 2]: one record, end 2, one put at table 0, key 5, sort 50,
 // data 61.
@@ -39,16 +43,20 @@ const FRESH: [u8; 9] = [0x4d, 0x56, 0x4f, 0x4c, 1, 0, 0, 0, 0];
 
 const KEY: RowKey = RowKey { table: 0, key: 5 };
 
-fn opened(alloc: Global, disk: MemDisk) -> Result<World<MemDisk>, Fail> {
-    match World::open(alloc, disk) {
+fn opened(
+    rt: &(impl Threads + Sync),
+    alloc: Global,
+    disk: MemDisk,
+) -> Result<World<MemDisk>, Fail> {
+    match World::open(rt, alloc, disk) {
         Ok(world) => Ok(world),
         Err((refusal, _)) => Err(Fail::from(refusal)),
     }
 }
 
-fn fresh(alloc: Global) -> Result<World<MemDisk>, Fail> {
+fn fresh(rt: &(impl Threads + Sync), alloc: Global) -> Result<World<MemDisk>, Fail> {
     match format(alloc, MemDisk::new(alloc)?) {
-        Ok(disk) => opened(alloc, disk),
+        Ok(disk) => opened(rt, alloc, disk),
         Err((refusal, _)) => Err(Fail::from(refusal)),
     }
 }
@@ -77,8 +85,8 @@ fn one_put(alloc: Global) -> Result<Vec<Event>, Fail> {
 }
 
 // A world in which the row is put and its group's body is written.
-fn with_body(alloc: Global) -> Result<World<MemDisk>, Fail> {
-    let mut world = fresh(alloc)?;
+fn with_body(rt: &(impl Threads + Sync), alloc: Global) -> Result<World<MemDisk>, Fail> {
+    let mut world = fresh(rt, alloc)?;
     let replies = world.run(&one_put(alloc)?)?;
     if replies.len() != 10 {
         return Err(Fail::from("ten replies"));
@@ -87,8 +95,12 @@ fn with_body(alloc: Global) -> Result<World<MemDisk>, Fail> {
 }
 
 // The mark that the disk opens at, and how long the data of the row is there.
-fn found(alloc: Global, disk: MemDisk) -> Result<(u64, Option<usize>), Fail> {
-    let mut world = opened(alloc, disk)?;
+fn found(
+    rt: &(impl Threads + Sync),
+    alloc: Global,
+    disk: MemDisk,
+) -> Result<(u64, Option<usize>), Fail> {
+    let mut world = opened(rt, alloc, disk)?;
     let mark = world.mark();
     let _ = world.step(Event::Core(Step::Begin));
     let reply = world.step(Event::Core(Step::Read(TxId(mark.0.saturating_add(1)), KEY)));
@@ -119,7 +131,7 @@ fn assert_replies(
 #[test]
 fn one_put_is_durable(rt: HostRuntime) -> Result<(), Fail> {
     let alloc = rt.alloc();
-    let mut world = fresh(alloc)?;
+    let mut world = fresh(&rt, alloc)?;
     let texts = [
         "Core(Began(TxId(1)))",
         "Core(Answered(Inserted))",
@@ -140,14 +152,14 @@ fn one_put_is_durable(rt: HostRuntime) -> Result<(), Fail> {
     assert_eq!(rt; world.mark(), Stamp(2));
     let disk = world.into_disk();
     assert_eq!(rt; disk.bytes(2), SEGMENT.as_slice());
-    assert_eq!(rt; found(alloc, disk)?, (2, Some(1)));
+    assert_eq!(rt; found(&rt, alloc, disk)?, (2, Some(1)));
     Ok(())
 }
 
 #[test]
 fn a_rotation_keeps_the_rows(rt: HostRuntime) -> Result<(), Fail> {
     let alloc = rt.alloc();
-    let mut world = with_body(alloc)?;
+    let mut world = with_body(&rt, alloc)?;
     let events = vec![in alloc;
         Event::RotateWrite,
         Event::AppendOpen,
@@ -179,14 +191,14 @@ fn a_rotation_keeps_the_rows(rt: HostRuntime) -> Result<(), Fail> {
     assert_eq!(rt; disk.bytes(1), SLOT.as_slice());
     assert_eq!(rt; disk.bytes(2), SEGMENT.as_slice());
     assert_eq!(rt; disk.bytes(3), FRESH.as_slice());
-    assert_eq!(rt; found(alloc, disk)?, (2, Some(1)));
+    assert_eq!(rt; found(&rt, alloc, disk)?, (2, Some(1)));
     Ok(())
 }
 
 #[test]
 fn a_rotation_that_a_stop_ends_is_reclaimed(rt: HostRuntime) -> Result<(), Fail> {
     let alloc = rt.alloc();
-    let mut world = with_body(alloc)?;
+    let mut world = with_body(&rt, alloc)?;
     let events = vec![in alloc;
         Event::AppendOpen,
         Event::RotateWrite,
@@ -198,7 +210,7 @@ fn a_rotation_that_a_stop_ends_is_reclaimed(rt: HostRuntime) -> Result<(), Fail>
     let mut disk = world.into_disk();
     disk.stop(&[])?;
     assert_eq!(rt; disk.bytes(3), FRESH.as_slice());
-    let mut world = opened(alloc, disk)?;
+    let mut world = opened(&rt, alloc, disk)?;
     let events = vec![in alloc;
         Event::InstallOpen,
         Event::Reclaim,
@@ -214,14 +226,14 @@ fn a_rotation_that_a_stop_ends_is_reclaimed(rt: HostRuntime) -> Result<(), Fail>
     assert_replies(&rt, &mut world, &events, &texts)?;
     let disk = world.into_disk();
     assert!(rt; disk.bytes(3).is_empty());
-    assert_eq!(rt; found(alloc, disk)?, (2, Some(1)));
+    assert_eq!(rt; found(&rt, alloc, disk)?, (2, Some(1)));
     Ok(())
 }
 
 #[test]
 fn a_commit_that_wrote_nothing_is_polled_yes(rt: HostRuntime) -> Result<(), Fail> {
     let alloc = rt.alloc();
-    let mut world = fresh(alloc)?;
+    let mut world = fresh(&rt, alloc)?;
     let tx = TxId(1);
     let events = vec![in alloc;
         Event::Core(Step::Begin),
@@ -254,14 +266,14 @@ fn a_commit_that_wrote_nothing_is_polled_yes(rt: HostRuntime) -> Result<(), Fail
     assert_replies(&rt, &mut world, &events, &texts)?;
     let disk = world.into_disk();
     assert_eq!(rt; disk.bytes(2), EMPTY.as_slice());
-    assert_eq!(rt; found(alloc, disk)?, (2, None));
+    assert_eq!(rt; found(&rt, alloc, disk)?, (2, None));
     Ok(())
 }
 
 #[test]
 fn refuses_steps_out_of_turn(rt: HostRuntime) -> Result<(), Fail> {
     let alloc = rt.alloc();
-    let mut world = fresh(alloc)?;
+    let mut world = fresh(&rt, alloc)?;
     // With nothing written, a group is empty and its mark goes on.
     let events = vec![in alloc;
         Event::CloseGroup,
@@ -295,16 +307,20 @@ fn refuses_steps_out_of_turn(rt: HostRuntime) -> Result<(), Fail> {
 #[test]
 fn stops_after_the_body(rt: HostRuntime) -> Result<(), Fail> {
     let alloc = rt.alloc();
-    let mut disk = with_body(alloc)?.into_disk();
+    let mut disk = with_body(&rt, alloc)?.into_disk();
     disk.stop(&[])?;
     assert_eq!(rt; disk.bytes(2).len(), 63);
-    assert_eq!(rt; found(alloc, disk)?, (0, None));
+    assert_eq!(rt; found(&rt, alloc, disk)?, (0, None));
     Ok(())
 }
 
 // What is found after a stop within the write of the gate, which leaves it so.
-fn found_at_gate(alloc: Global, gate: u8) -> Result<(u64, Option<usize>), Fail> {
-    let mut disk = with_body(alloc)?.into_disk();
+fn found_at_gate(
+    rt: &(impl Threads + Sync),
+    alloc: Global,
+    gate: u8,
+) -> Result<(u64, Option<usize>), Fail> {
+    let mut disk = with_body(rt, alloc)?.into_disk();
     if disk.faults() != 0 || disk.bytes(2).len() < 9 {
         return Err(Fail::from("the body is written"));
     }
@@ -313,7 +329,7 @@ fn found_at_gate(alloc: Global, gate: u8) -> Result<(u64, Option<usize>), Fail> 
     let mut bytes = SEGMENT.to_vec(alloc)?;
     bytes[8] = gate;
     disk.stop(&[FileImage { file: 2, bytes }])?;
-    found(alloc, disk)
+    found(rt, alloc, disk)
 }
 
 #[test]
@@ -325,7 +341,7 @@ fn stops_within_the_write_of_a_gate(rt: HostRuntime) -> Result<(), Fail> {
         } else {
             (0, None)
         };
-        assert_eq!(rt; found_at_gate(alloc, gate)?, wanted, "at {gate}");
+        assert_eq!(rt; found_at_gate(&rt, alloc, gate)?, wanted, "at {gate}");
     }
     Ok(())
 }

@@ -246,6 +246,34 @@ pub fn disk_after(alloc: Global, calls: &[Call], number: usize) -> Result<MemDis
     Ok(disk)
 }
 
+/// A disk on which the calls before one of them were made, and of a write itself at most so many
+/// bytes.
+pub fn disk_in_part(
+    alloc: Global,
+    calls: &[Call],
+    number: usize,
+    most: usize,
+) -> Result<MemDisk, Fail> {
+    let mut disk = disk_after(alloc, calls, number)?;
+    let Some(call) = calls.get(number) else {
+        return Err(Fail::from("one of the calls"));
+    };
+    let Work::Write { at, bytes, .. } = &call.work else {
+        make(&mut disk, call)?;
+        return Ok(disk);
+    };
+    let len = bytes.len().min(most);
+    let bytes = bytes[..len].to_vec(alloc)?;
+    let at = *at;
+    let part = Call {
+        file: call.file,
+        work: Work::Write { at, len, bytes },
+        failed: false,
+    };
+    make(&mut disk, &part)?;
+    Ok(disk)
+}
+
 /// Where the last write among these calls begins.
 pub fn last_write(calls: &[Call], from: usize, to: usize) -> Option<Place> {
     let mut last = None;

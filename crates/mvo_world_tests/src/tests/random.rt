@@ -1,18 +1,18 @@
 //! Random events over a disk that stops at each of its calls, against one map that runs the
 //! committed transactions one after another.
 
+use super::checked::{Found, assert_floors, check_disk, fresh, is_same};
 use super::draws::Draws;
-use super::images::{Drawn, disk_after, files_on, is_look, last_write};
+use super::images::{Drawn, disk_after, is_look, last_write};
 use super::observed::{Counts, Known, count};
-use super::runs::{RUNS, Run, Start, all_keys, opened};
-use mvo_core::{Event as Step, Reply as Answered};
+use super::runs::{RUNS, Run, Start, all_keys};
 use mvo_disk::{Call, MemDisk};
-use mvo_store::format;
-use mvo_types::{Answer, Op, Row, RowKey, Rows, Stamp, TxId};
-use mvo_world::{Event, Reply, World};
+use mvo_types::{Op, RowKey, Stamp};
+use mvo_world::Event;
 use std::alloc::{AllocError, Global};
 use std::process::Abort;
 use std::test::Fail;
+use std::thread::Threads;
 
 const SEEDS: [u64; 2] = [1, 0x9e37_79b9_7f4a_7c15];
 
@@ -108,58 +108,12 @@ fn mark_within(known: &Known, event: &Event, is_open: bool) -> Stamp {
     }
 }
 
-fn is_same(answer: &Answer, other: &Answer) -> bool {
-    match (answer, other) {
-        (Answer::Found(Some(row)), Answer::Found(Some(other))) => row.same(other),
-        (Answer::Found(None), Answer::Found(None)) => true,
-        (Answer::Inserted, Answer::Inserted) => true,
-        (Answer::Exists, Answer::Exists) => true,
-        _ => false,
-    }
-}
-
 fn key_of(op: &Op) -> Option<RowKey> {
     match op {
         Op::Read(key) => Some(*key),
         Op::Insert(row) => Some(row.key),
         _ => None,
     }
-}
-
-fn begin(world: &mut World<MemDisk>) -> Result<TxId, Fail> {
-    match world.step(Event::Core(Step::Begin)) {
-        Reply::Core(Answered::Began(id)) => Ok(id),
-        _ => Err(Fail::from("a transaction that begins")),
-    }
-}
-
-fn read(world: &mut World<MemDisk>, id: TxId, key: RowKey) -> Result<Answer, Fail> {
-    match world.step(Event::Core(Step::Read(id, key))) {
-        Reply::Core(Answered::Answered(answer)) => Ok(answer),
-        _ => Err(Fail::from("a read that is answered")),
-    }
-}
-
-/// Copies of all rows, by table and key.
-fn all_rows(alloc: Global, rows: &Rows) -> Result<Vec<Row>, AllocError> {
-    let mut all = rows.within(alloc, 0, 0, u64::MAX)?;
-    for row in rows.within(alloc, 1, 0, u64::MAX)? {
-        all.push(row)?;
-    }
-    Ok(all)
-}
-
-/// A new store.
-fn fresh(alloc: Global) -> Result<Start, Fail> {
-    let disk = match format(alloc, MemDisk::new(alloc)?) {
-        Ok(disk) => disk,
-        Err((refusal, _)) => return Err(Fail::from(refusal)),
-    };
-    Ok(Start {
-        files: files_on(alloc, &disk, 3)?,
-        rows: Vec::new(alloc),
-        mark: Stamp(0),
-    })
 }
 
 impl Trial {
@@ -174,14 +128,14 @@ impl Trial {
     }
 
     /// Runs from a new store, and on from what stops left.
-    fn go(&mut self, rt: &impl Abort, counts: Counts) -> Result<Counts, Fail> {
+    fn go(&mut self, rt: &(impl Abort + Threads + Sync), counts: Counts) -> Result<Counts, Fail> {
         let mut counts = counts;
         let mut start = fresh(self.alloc)?;
         for number in 0..RUNS {
             if start.mark > Stamp(0) && !start.rows.is_empty() {
                 count(&mut self.met.reopened);
             }
-            let run = Run::of(start, &mut self.draws, counts, number)?;
+            let run = Run::of(rt, start, &mut self.draws, counts, number)?;
             counts = run.observed.counts;
             self.compare_answers(rt, &run)?;
             self.stop_everywhere(rt, &run)?;
@@ -209,14 +163,18 @@ impl Trial {
 
     /// Stops the run after each call of the disk, before and after the events that make them, and
     /// between some others.
-    fn stop_everywhere(&mut self, rt: &impl Abort, run: &Run) -> Result<(), Fail> {
+    fn stop_everywhere(
+        &mut self,
+        rt: &(impl Abort + Threads + Sync),
+        run: &Run,
+    ) -> Result<(), Fail> {
         let mut before = 0;
         for (number, known) in run.known.iter().enumerate() {
             let is_end = number == run.events.len();
             if number != 0 && !is_end && !run.is_at_write(number) && self.draws.below(24) != 0 {
                 continue;
             }
-            let disk = run.disk_after(number)?;
+            let disk = run.disk_after(rt, number)?;
             let calls = disk.calls().len();
             if number != 0 {
                 self.stop_after_calls(rt, run, number, before, disk.calls())?;
@@ -230,7 +188,7 @@ impl Trial {
     /// Stops after each call past the first ones, which the event before made.
     fn stop_after_calls(
         &mut self,
-        rt: &impl Abort,
+        rt: &(impl Abort + Threads + Sync),
         run: &Run,
         number: usize,
         before: usize,
@@ -255,7 +213,7 @@ impl Trial {
     /// A stop when the first events are answered.
     fn stop_between(
         &mut self,
-        rt: &impl Abort,
+        rt: &(impl Abort + Threads + Sync),
         run: &Run,
         answered: usize,
         wanted: Stamp,
@@ -269,7 +227,7 @@ impl Trial {
     /// Stops within an event: some, with other images, where there is more than one.
     fn stop_within(
         &mut self,
-        rt: &impl Abort,
+        rt: &(impl Abort + Threads + Sync),
         run: &Run,
         moment: Moment,
         calls: &[Call],
@@ -301,7 +259,7 @@ impl Trial {
     /// Stops the disk with the image, opens it, and compares its mark and its rows.
     fn check(
         &mut self,
-        rt: &impl Abort,
+        rt: &(impl Abort + Threads + Sync),
         run: &Run,
         answered: usize,
         wanted: Stamp,
@@ -314,40 +272,14 @@ impl Trial {
         }
         let files = drawn.images;
         disk.stop(&files)?;
-        let mut world = opened(self.alloc, disk)?;
-        let mark = world.mark();
-        assert_eq!(rt; mark, wanted, "after {answered} events");
-        assert!(rt; run.is_mark(answered, mark), "after {answered} events");
-        assert!(rt;
-            run.is_acknowledged(answered, mark),
-            "after {answered} events"
-        );
-        let serial = run.serial_up_to(answered, mark)?;
-        self.compare_rows(rt, &mut world, serial.rows())?;
+        let found = check_disk(rt, run, &self.keys, answered, disk)?;
+        assert_eq!(rt; found.mark, wanted, "after {answered} events");
+        self.met.rows = self.met.rows.saturating_add(found.rows.len() as u64);
         // A rotation that a stop ended leaves a file to be reclaimed.
         let one_of = if run.is_rotating(answered) { 4 } else { 16 };
         if self.next.is_none() || self.draws.below(one_of) == 0 {
-            let rows = all_rows(self.alloc, serial.rows())?;
+            let Found { mark, rows } = found;
             self.next = Some(Start { files, rows, mark });
-        }
-        Ok(())
-    }
-
-    /// Compares all rows of a world that was opened.
-    fn compare_rows(
-        &mut self,
-        rt: &impl Abort,
-        world: &mut World<MemDisk>,
-        rows: &Rows,
-    ) -> Result<(), Fail> {
-        let id = begin(world)?;
-        for key in &self.keys {
-            let answer = read(world, id, *key)?;
-            let wanted = Answer::Found(rows.get(*key)?);
-            assert!(rt; is_same(&answer, &wanted), "{answer:?}, and not {wanted:?}");
-            if matches!(wanted, Answer::Found(Some(_))) {
-                count(&mut self.met.rows);
-            }
         }
         Ok(())
     }
@@ -391,13 +323,6 @@ fn assert_met(rt: &impl Abort, met: &Met) {
     ];
     assert_floors(rt, &floors);
     assert_eq!(rt; met.strange, 0);
-}
-
-/// Each count is above its floor.
-fn assert_floors(rt: &impl Abort, floors: &[(u64, u64)]) {
-    for (place, (number, floor)) in floors.iter().enumerate() {
-        assert!(rt; number > floor, "count {place}: {number}");
-    }
 }
 
 #[test]

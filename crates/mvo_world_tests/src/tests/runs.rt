@@ -10,6 +10,7 @@ use mvo_types::{Row, RowKey, Rows, Stamp};
 use mvo_world::{Event, World};
 use std::alloc::{AllocError, Global};
 use std::test::Fail;
+use std::thread::Threads;
 
 /// So many runs follow one another, each from an image that a stop of the one before left.
 pub const RUNS: u64 = 4;
@@ -37,15 +38,19 @@ pub struct Start {
 /// A run: its events, and what was known before each of them and after the last.
 #[derive(Drop)]
 pub struct Run {
-    alloc: Global,
+    pub alloc: Global,
     pub start: Start,
     pub events: Vec<Event>,
     pub known: Vec<Known>,
     pub observed: Observed,
 }
 
-pub fn opened(alloc: Global, disk: MemDisk) -> Result<World<MemDisk>, Fail> {
-    match World::open(alloc, disk) {
+pub fn opened(
+    rt: &(impl Threads + Sync),
+    alloc: Global,
+    disk: MemDisk,
+) -> Result<World<MemDisk>, Fail> {
+    match World::open(rt, alloc, disk) {
         Ok(world) => Ok(world),
         Err((refusal, _)) => Err(Fail::from(refusal)),
     }
@@ -58,10 +63,16 @@ pub fn all_keys(alloc: Global) -> Result<Vec<RowKey>, AllocError> {
 
 impl Run {
     /// The run of this number, counted from 0.
-    pub fn of(start: Start, draws: &mut Draws, counts: Counts, run: u64) -> Result<Run, Fail> {
+    pub fn of(
+        rt: &(impl Threads + Sync),
+        start: Start,
+        draws: &mut Draws,
+        counts: Counts,
+        run: u64,
+    ) -> Result<Run, Fail> {
         let alloc = draws.alloc;
         let mut observed = Observed::new(alloc, start.mark, counts);
-        let mut world = opened(alloc, disk_of(alloc, &start.files)?)?;
+        let mut world = opened(rt, alloc, disk_of(alloc, &start.files)?)?;
         let mut events = Vec::new(alloc);
         let mut known = Vec::new(alloc);
         for number in 0..EVENTS {
@@ -83,8 +94,8 @@ impl Run {
     }
 
     /// The disk after the first events: the run again, up to there.
-    pub fn disk_after(&self, number: usize) -> Result<MemDisk, Fail> {
-        let mut world = opened(self.alloc, disk_of(self.alloc, &self.start.files)?)?;
+    pub fn disk_after(&self, rt: &(impl Threads + Sync), number: usize) -> Result<MemDisk, Fail> {
+        let mut world = opened(rt, self.alloc, disk_of(self.alloc, &self.start.files)?)?;
         for event in self.events.iter().take(number) {
             let _ = world.step(event.copy()?);
         }
@@ -100,7 +111,7 @@ impl Run {
     }
 
     /// Whether the event of this number wrote to the disk.
-    fn is_write(&self, event: usize) -> bool {
+    pub fn is_write(&self, event: usize) -> bool {
         let after = event.saturating_add(1);
         match (self.known.get(event), self.known.get(after)) {
             (Some(known), Some(later)) => {

@@ -5,7 +5,7 @@ use Rattle.mvo_world.specs.Past.{opened_over}
 use Rattle.mvo_script.proofs.driver.fresh_world.Goals as goal
 
 pub returns-in-Ok-open-clause-fresh : goal.returns-in-Ok-open-clause-fresh
-returns-in-Ok-open-clause-fresh c =
+returns-in-Ok-open-clause-fresh g c =
     let begins = c.in-Ok-open.ensures.begins in
     let found = c.in-Ok-open.ensures.prefix (opened_over map.empty 0) (record {
       slots = c.in-Ok.ensures.formatted.slots;

@@ -1,32 +1,57 @@
-//! Loads a pair from a disk.
+//! Reads a pair from a disk, its records in threads.
 ghost use Rattle.std.specs.Prelude.{◌≡◌, ◌<◌, ◌+◌, ◌^◌, ◌⊎◌, Ok, Err, length};
 ghost use Rattle.mvo_disk.specs.Disk.{AllStay, AllOf, LeavesOnly};
 ghost use Rattle.mvo_pair.specs.Answers.{Tells};
 ghost use Rattle.mvo_pair.specs.Loading.{LoadsAs};
+ghost use Rattle.mvo_pair.specs.Reading.{Finds, IsBytes, data_found};
 ghost use Rattle.mvo_pair.specs.Writing.{IsStop, CountsFaults};
+ghost use Rattle.mvo_pair.specs.declared.unread.Unread.TheVariants.{Memory};
 
-use crate::data::read_data;
-use crate::live::Live;
-use crate::pair::{Pair, live_in, refusal_of};
-use mvo_disk::{Disk, ReadFailure, read_whole};
+use crate::records::read_entries;
+use crate::stop::stop_of;
+use mvo_disk::{Disk, read_whole};
 use mvo_format::Format;
+use mvo_pair::{
+    DATA_MAGIC, Entry, Live, Pair, Unread, behind_header, find_places, live_in, refusal_of, rise,
+};
 use mvo_types::Refusal;
 use std::alloc::Global;
+use std::thread::Threads;
 
-/// How a call is refused that couldn't read a file.
-fn stop_of(failure: ReadFailure) -> Refusal
-    ensures memory { failure ≡ ReadFailure.Memory → result ≡ Refusal.OutOfMemory }
-    ensures fault { failure ≡ ReadFailure.Fault → result ≡ Refusal.DiskFault }
+/// The records of a data file, and nothing where one breaks a rule. The places of all come from
+/// their lengths alone.
+fn read_data(
+    rt: &(impl Threads + Sync),
+    alloc: Global,
+    format: Format,
+    pair: Pair,
+    bytes: &[u8],
+) -> Result<Vec<Entry>, Unread>
+    ensures found { Finds Memory (λ v. v.items) result
+        (data_found format pair.lo.0 pair.hi.0 pair.records bytes.now) }
+    ensures bytes { IsBytes bytes.now }
 {
-    match failure {
-        ReadFailure::Memory => Refusal::OutOfMemory,
-        ReadFailure::Fault => Refusal::DiskFault,
+    let body = match behind_header(DATA_MAGIC, format.version, bytes) {
+        Ok(body) => body,
+        Err(e) => return Err(e),
+    };
+    let Some(places) = find_places(alloc, pair.records, body)? else {
+        return Err(Unread::Broken);
+    };
+    let entries = match read_entries(rt, alloc, format, pair, &places, body) {
+        Ok(entries) => entries,
+        Err(e) => return Err(e),
+    };
+    if !rise(&entries) {
+        return Err(Unread::Broken);
     }
+    Ok(entries)
 }
 
 /// The live records of a pair on a disk, or the first broken rule: of the data file, and then of
-/// the delta file, which isn't read where the data file breaks a rule. Nothing changes.
+/// the delta file, which isn't read where the data file breaks a rule.
 pub fn read_pair<D: Disk>(
+    rt: &(impl Threads + Sync),
     alloc: Global,
     disk: &mut D,
     format: Format,
@@ -47,7 +72,7 @@ pub fn read_pair<D: Disk>(
         Ok(bytes) => bytes,
         Err(failure) => return Err(stop_of(failure)),
     };
-    let entries = match read_data(alloc, format, pair, &data_bytes) {
+    let entries = match read_data(rt, alloc, format, pair, &data_bytes) {
         Ok(entries) => entries,
         Err(e) => return Err(refusal_of(pair.data_file, e)),
     };

@@ -6,7 +6,7 @@ use Rattle.mvo_format.specs.declared.format.Format.{Format}
 use Rattle.mvo_pair.specs.declared.pair.Pair.{Pair}
 use Rattle.mvo_pair.specs.Reading.{pair_found, live_found}
 use Rattle.mvo_pair.proofs.Loads.{Fits, ok_file, data_len, loads, tells_ok, tells_err, data_stops, counts_live}
-use Rattle.mvo_pair.proofs.read.read_pair.Goals as goal
+use Rattle.mvo_load.proofs.read.read_pair.Goals as goal
 
 pub returns-in-Err-read_data-clause-live : goal.returns-in-Err-read_data-clause-live
 returns-in-Err-read_data-clause-live g c =

@@ -1,0 +1,137 @@
+use crate::writer::sort_of;
+use anyhow::{Result, bail};
+use mvo_disk::{Disk, MemDisk};
+use mvo_manifest::Manifest;
+use mvo_pair::{Entry, FIRST_FORMAT, Pair, are_entries, write_data, write_delta};
+use mvo_store::{Store, format};
+use mvo_types::{Row, RowKey, Rows, Stamp};
+use std::alloc::{AllocError, Global};
+use std::rt::Clock;
+use std::thread::Threads;
+use std::time::Instant;
+
+// How many pairs hold the rows.
+const PAIRS: u64 = 4;
+
+// The key of the record of a number, in another order.
+fn key_of(number: u64) -> RowKey {
+    RowKey {
+        table: 0,
+        key: number.wrapping_mul(0x9e37_79b9_7f4a_7c15),
+    }
+}
+
+fn entry(alloc: Global, number: u64) -> Result<Entry, AllocError> {
+    let bytes = vec![in alloc; number.to_le_bytes()[0]; 100]?;
+    Ok(Entry {
+        begin: Stamp(number),
+        row: Row {
+            key: key_of(number),
+            sort: sort_of(number),
+            bytes,
+        },
+    })
+}
+
+fn entries(alloc: Global, lo: u64, hi: u64) -> Result<Vec<Entry>, AllocError> {
+    let mut entries = Vec::new(alloc);
+    for number in lo..hi {
+        entries.push(entry(alloc, number.wrapping_add(1))?)?;
+    }
+    Ok(entries)
+}
+
+// The pair of two files, of which the records have the numbers above lo and up to hi.
+fn pair(data_file: u16, lo: u64, hi: u64) -> Pair {
+    Pair {
+        data_file,
+        delta_file: data_file.wrapping_add(1),
+        lo: Stamp(lo),
+        hi: Stamp(hi),
+        records: u32::try_from(hi.wrapping_sub(lo)).unwrap_or(u32::MAX),
+        entries: 0,
+    }
+}
+
+// Writes the two files of a pair.
+fn write_pair(alloc: Global, disk: &mut MemDisk, pair: Pair) -> Result<()> {
+    let entries = entries(alloc, pair.lo.0, pair.hi.0)?;
+    if !are_entries(FIRST_FORMAT, pair, &entries) || pair.data_file >= 1000 {
+        bail!("the records of a pair");
+    }
+    if pair.delta_file >= 1000 || disk.faults() != 0 {
+        bail!("a disk without a fault");
+    }
+    write_data(alloc, disk, FIRST_FORMAT, pair, &entries)?;
+    if disk.faults() != 0 {
+        bail!("a disk without a fault");
+    }
+    write_delta(alloc, disk, FIRST_FORMAT, pair, &[])?;
+    Ok(())
+}
+
+// Puts a manifest with an open gate into slot 1, which is empty but for its gate.
+fn write_manifest(alloc: Global, disk: &mut MemDisk, manifest: &Manifest) -> Result<()> {
+    let mut bytes = vec![in alloc; 0xa5u8]?;
+    bytes.extend_from_slice(&manifest.encode(alloc, FIRST_FORMAT.version)?)?;
+    if disk.faults() != 0 {
+        bail!("a disk without a fault");
+    }
+    if disk.write_at(1, 0, &bytes).is_err() {
+        bail!("the manifest isn't written");
+    }
+    Ok(())
+}
+
+// A disk with a store that holds so many rows in its pairs, and none in its log.
+fn written(alloc: Global, count: u64) -> Result<MemDisk> {
+    let Ok(mut disk) = format(alloc, MemDisk::new(alloc)?) else {
+        bail!("the disk isn't formatted");
+    };
+    let each = count / PAIRS;
+    let mut pairs = Vec::new(alloc);
+    let mut file = 3u16;
+    for number in 0..PAIRS {
+        let lo = number.wrapping_mul(each);
+        let pair = pair(file, lo, lo.wrapping_add(each));
+        file = file.wrapping_add(2);
+        write_pair(alloc, &mut disk, pair)?;
+        pairs.push(pair)?;
+    }
+    let mark = Stamp(each.wrapping_mul(PAIRS));
+    let segments = vec![in alloc; 2u16]?;
+    let Some(manifest) = Manifest::new(1, mark, pairs, segments)? else {
+        bail!("the pairs and the segment make a manifest");
+    };
+    write_manifest(alloc, &mut disk, &manifest)?;
+    Ok(disk)
+}
+
+// The time of opening a store that holds so many rows in its pairs.
+pub fn run<R>(rt: &R, count: u64) -> Result<()>
+where
+    R: AllocGlobal + Clock + Eprint + Print + Threads + Sync,
+{
+    let disk = written(rt.alloc(), count)?;
+    let start = Instant::now(rt)?;
+    let opened = Store::open(rt, rt.alloc(), disk);
+    let nanos = start.elapsed(rt)?.as_nanos();
+    let Ok((_, rows, mark)) = opened else {
+        bail!("the store isn't opened");
+    };
+    eprintln!(rt; "{count} rows from {PAIRS} pairs: {} ms", nanos / 1_000_000)?;
+    let sum = sum_of(&rows, count)?;
+    println!(rt; "rows {} mark {mark} pairs {PAIRS} sum {}", rows.len(), sum)?;
+    Ok(())
+}
+
+// The sum of the sorts of all rows.
+fn sum_of(rows: &Rows, count: u64) -> Result<u64> {
+    let mut sum = 0u64;
+    for number in 0..count {
+        if let Some(row) = rows.get(key_of(number.wrapping_add(1)))? {
+            sum = sum.wrapping_add(row.sort);
+        }
+    }
+    Ok(sum)
+}

@@ -1,0 +1,124 @@
+//! Opens what a run or a stop of it left, and compares it with what is due.
+
+use super::images::files_on;
+use super::runs::{Run, Start, opened};
+use mvo_core::{Event as Step, Reply as Answered};
+use mvo_disk::MemDisk;
+use mvo_store::format;
+use mvo_types::{Answer, Row, RowKey, Rows, Stamp, TxId};
+use mvo_world::{Event, Reply, World};
+use std::alloc::{AllocError, Global};
+use std::process::Abort;
+use std::test::Fail;
+use std::thread::Threads;
+
+/// What a disk held that was opened.
+#[derive(Drop)]
+pub struct Found {
+    pub mark: Stamp,
+    /// By table and key.
+    pub rows: Vec<Row>,
+}
+
+pub fn is_same(answer: &Answer, other: &Answer) -> bool {
+    match (answer, other) {
+        (Answer::Found(Some(row)), Answer::Found(Some(other))) => row.same(other),
+        (Answer::Found(None), Answer::Found(None)) => true,
+        (Answer::Inserted, Answer::Inserted) => true,
+        (Answer::Exists, Answer::Exists) => true,
+        _ => false,
+    }
+}
+
+fn begin(world: &mut World<MemDisk>) -> Result<TxId, Fail> {
+    match world.step(Event::Core(Step::Begin)) {
+        Reply::Core(Answered::Began(id)) => Ok(id),
+        _ => Err(Fail::from("a transaction that begins")),
+    }
+}
+
+fn read(world: &mut World<MemDisk>, id: TxId, key: RowKey) -> Result<Answer, Fail> {
+    match world.step(Event::Core(Step::Read(id, key))) {
+        Reply::Core(Answered::Answered(answer)) => Ok(answer),
+        _ => Err(Fail::from("a read that is answered")),
+    }
+}
+
+/// Copies of all rows, by table and key.
+fn all_rows(alloc: Global, rows: &Rows) -> Result<Vec<Row>, AllocError> {
+    let mut all = rows.within(alloc, 0, 0, u64::MAX)?;
+    for row in rows.within(alloc, 1, 0, u64::MAX)? {
+        all.push(row)?;
+    }
+    Ok(all)
+}
+
+/// Compares all rows of a world that was opened.
+fn compare_rows(
+    rt: &impl Abort,
+    world: &mut World<MemDisk>,
+    keys: &[RowKey],
+    rows: &Rows,
+) -> Result<(), Fail> {
+    let id = begin(world)?;
+    for key in keys {
+        let answer = read(world, id, *key)?;
+        let wanted = Answer::Found(rows.get(*key)?);
+        assert!(rt; is_same(&answer, &wanted), "{answer:?}, and not {wanted:?}");
+    }
+    Ok(())
+}
+
+/// Compares a world that was opened with the first events of a run: its mark is the opening one or
+/// that of a group that they closed, and at least each timestamp that they acknowledged, and its
+/// rows are those of the commits up to that mark.
+pub fn check_world(
+    rt: &impl Abort,
+    run: &Run,
+    keys: &[RowKey],
+    answered: usize,
+    world: &mut World<MemDisk>,
+) -> Result<Found, Fail> {
+    let mark = world.mark();
+    assert!(rt; run.is_mark(answered, mark), "after {answered} events");
+    assert!(rt;
+        run.is_acknowledged(answered, mark),
+        "after {answered} events"
+    );
+    let serial = run.serial_up_to(answered, mark)?;
+    compare_rows(rt, world, keys, serial.rows())?;
+    let rows = all_rows(run.alloc, serial.rows())?;
+    Ok(Found { mark, rows })
+}
+
+/// Opens a disk and compares it so.
+pub fn check_disk(
+    rt: &(impl Abort + Threads + Sync),
+    run: &Run,
+    keys: &[RowKey],
+    answered: usize,
+    disk: MemDisk,
+) -> Result<Found, Fail> {
+    let mut world = opened(rt, run.alloc, disk)?;
+    check_world(rt, run, keys, answered, &mut world)
+}
+
+/// A new store.
+pub fn fresh(alloc: Global) -> Result<Start, Fail> {
+    let disk = match format(alloc, MemDisk::new(alloc)?) {
+        Ok(disk) => disk,
+        Err((refusal, _)) => return Err(Fail::from(refusal)),
+    };
+    Ok(Start {
+        files: files_on(alloc, &disk, 3)?,
+        rows: Vec::new(alloc),
+        mark: Stamp(0),
+    })
+}
+
+/// Each count is above its floor.
+pub fn assert_floors(rt: &impl Abort, floors: &[(u64, u64)]) {
+    for (place, (number, floor)) in floors.iter().enumerate() {
+        assert!(rt; number > floor, "count {place}: {number}");
+    }
+}

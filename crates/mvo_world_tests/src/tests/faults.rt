@@ -1,0 +1,258 @@
+//! Random events over a disk of which a call fails, once at each place of a run, against one map
+//! that runs the committed transactions one after another.
+
+use super::checked::{Found, assert_floors, check_disk, fresh};
+use super::draws::Draws;
+use super::images::{disk_after, disk_of, is_look};
+use super::observed::{Counts, count};
+use super::runs::{RUNS, Run, Start, all_keys};
+use mvo_disk::{Disk, MemDisk};
+use mvo_types::{Refusal, RowKey};
+use mvo_world::{Event, Reply, World};
+use std::alloc::{AllocError, Global};
+use std::process::Abort;
+use std::test::Fail;
+use std::thread::Threads;
+
+const SEEDS: [u64; 2] = [3, 0xc2b2_ae3d_27d4_eb4f];
+
+/// So many images are drawn after a fault.
+const IMAGES: u64 = 3;
+
+/// One of so many calls that only look at a file is made to fail.
+const LOOKS: u64 = 100;
+
+/// How often faults met things.
+#[derive(Clone, Copy)]
+struct Met {
+    in_opening: u64,
+    in_append: u64,
+    in_rotate: u64,
+    in_install: u64,
+    in_reclaim: u64,
+    strange: u64,
+    /// Steps of the store after a fault.
+    down: u64,
+    torn: u64,
+    /// A group is there that wasn't answered durable.
+    unanswered: u64,
+    rows: u64,
+}
+
+impl Met {
+    fn new() -> Met {
+        Met {
+            in_opening: 0,
+            in_append: 0,
+            in_rotate: 0,
+            in_install: 0,
+            in_reclaim: 0,
+            strange: 0,
+            down: 0,
+            torn: 0,
+            unanswered: 0,
+            rows: 0,
+        }
+    }
+
+    /// Notes an event that met a fault.
+    fn note(&mut self, event: &Event) {
+        match event {
+            Event::AppendBody | Event::AppendOpen => count(&mut self.in_append),
+            Event::RotateWrite => count(&mut self.in_rotate),
+            Event::InstallClose | Event::InstallBody | Event::InstallOpen => {
+                count(&mut self.in_install)
+            }
+            Event::Reclaim => count(&mut self.in_reclaim),
+            _ => count(&mut self.strange),
+        }
+    }
+}
+
+/// Whether the event is a step of the store.
+fn is_of_store(event: &Event) -> bool {
+    !matches!(event, Event::Core(_) | Event::CloseGroup | Event::Poll(_))
+}
+
+/// The faults of runs that follow one another.
+#[derive(Drop)]
+struct Trial {
+    alloc: Global,
+    draws: Draws,
+    keys: Vec<RowKey>,
+    met: Met,
+    /// What the next run starts from.
+    next: Option<Start>,
+}
+
+impl Trial {
+    fn new(alloc: Global, seed: u64, met: Met) -> Result<Trial, AllocError> {
+        Ok(Trial {
+            alloc,
+            draws: Draws::new(alloc, seed),
+            keys: all_keys(alloc)?,
+            met,
+            next: None,
+        })
+    }
+
+    /// Runs from a new store, and on from what is left after faults.
+    fn go(&mut self, rt: &(impl Abort + Threads + Sync), counts: Counts) -> Result<Counts, Fail> {
+        let mut counts = counts;
+        let mut start = fresh(self.alloc)?;
+        for number in 0..RUNS {
+            let run = Run::of(rt, start, &mut self.draws, counts, number)?;
+            counts = run.observed.counts;
+            self.fail_everywhere(rt, &run)?;
+            start = self.next.take().ok_or("a start of the next run")?;
+        }
+        Ok(counts)
+    }
+
+    /// Runs again and again, each time with another call of the disk that fails: each that writes,
+    /// cuts or syncs, and some that look.
+    fn fail_everywhere(
+        &mut self,
+        rt: &(impl Abort + Threads + Sync),
+        run: &Run,
+    ) -> Result<(), Fail> {
+        let written = disk_of(self.alloc, &run.start.files)?.calls().len();
+        let whole = run.disk_after(rt, run.events.len())?;
+        let mut number = 0;
+        for call in whole.calls().iter().skip(written) {
+            if !is_look(call) || self.draws.below(LOOKS) == 0 {
+                self.fail_at(rt, run, number)?;
+            }
+            number = number.saturating_add(1);
+        }
+        Ok(())
+    }
+
+    /// Runs with a fault after so many calls.
+    fn fail_at(
+        &mut self,
+        rt: &(impl Abort + Threads + Sync),
+        run: &Run,
+        calls: u64,
+    ) -> Result<(), Fail> {
+        let mut disk = disk_of(self.alloc, &run.start.files)?;
+        disk.fail_at(calls);
+        match World::open(rt, self.alloc, disk) {
+            Ok(world) => self.run_on(rt, run, world),
+            Err((refusal, disk)) => {
+                assert_eq!(rt; refusal, Refusal::DiskFault);
+                count(&mut self.met.in_opening);
+                self.check_left(rt, run, 0, disk)
+            }
+        }
+    }
+
+    /// Runs up to the fault, and on with a store that is down.
+    fn run_on(
+        &mut self,
+        rt: &(impl Abort + Threads + Sync),
+        run: &Run,
+        world: World<MemDisk>,
+    ) -> Result<(), Fail> {
+        let mut world = world;
+        let mut failed = None;
+        for (number, event) in run.events.iter().enumerate() {
+            let reply = world.step(event.copy()?);
+            if failed.is_some() && is_of_store(event) {
+                assert!(rt;
+                    matches!(&reply, Reply::Refused(Refusal::Down)),
+                    "{reply:?}"
+                );
+                count(&mut self.met.down);
+            }
+            if matches!(&reply, Reply::Refused(Refusal::DiskFault)) {
+                self.met.note(event);
+                failed = Some(number);
+            }
+        }
+        let answered = failed.ok_or("an event that meets the fault")?;
+        self.check_left(rt, run, answered, world.into_disk())
+    }
+
+    /// Opens what stops leave after a fault, and the disk as it stands.
+    fn check_left(
+        &mut self,
+        rt: &(impl Abort + Threads + Sync),
+        run: &Run,
+        answered: usize,
+        disk: MemDisk,
+    ) -> Result<(), Fail> {
+        assert_eq!(rt; disk.faults(), 1);
+        for _ in 0..IMAGES {
+            let again = disk_after(self.alloc, disk.calls(), disk.calls().len())?;
+            self.check_stopped(rt, run, answered, again)?;
+        }
+        check_disk(rt, run, &self.keys, answered, disk)?;
+        Ok(())
+    }
+
+    /// Stops the disk with a random image, and opens that.
+    fn check_stopped(
+        &mut self,
+        rt: &(impl Abort + Threads + Sync),
+        run: &Run,
+        answered: usize,
+        disk: MemDisk,
+    ) -> Result<(), Fail> {
+        let mut disk = disk;
+        let drawn = self.draws.images(&disk)?;
+        if drawn.is_torn {
+            count(&mut self.met.torn);
+        }
+        let files = drawn.images;
+        disk.stop(&files)?;
+        let found = check_disk(rt, run, &self.keys, answered, disk)?;
+        self.met.rows = self.met.rows.saturating_add(found.rows.len() as u64);
+        if run
+            .known
+            .get(answered)
+            .is_some_and(|known| known.durable < found.mark)
+        {
+            count(&mut self.met.unanswered);
+        }
+        if self.next.is_none() || self.draws.below(16) == 0 {
+            let Found { mark, rows } = found;
+            self.next = Some(Start { files, rows, mark });
+        }
+        Ok(())
+    }
+}
+
+/// None of the things that faults are to meet is rare.
+fn assert_met(rt: &impl Abort, counts: &Counts, met: &Met) {
+    let floors = [
+        (counts.groups, 30),
+        (counts.installed, 5),
+        (counts.emptied, 2),
+        (met.in_opening, 20),
+        (met.in_append, 100),
+        (met.in_rotate, 20),
+        (met.in_install, 40),
+        (met.in_reclaim, 4),
+        (met.down, 1_000),
+        (met.torn, 100),
+        (met.unanswered, 20),
+        (met.rows, 1_000),
+    ];
+    assert_floors(rt, &floors);
+    assert_eq!(rt; met.strange, 0);
+}
+
+#[test]
+fn faults_leave_the_rows_of_serial(rt: HostRuntime) -> Result<(), Fail> {
+    let alloc = rt.alloc();
+    let mut counts = Counts::new();
+    let mut met = Met::new();
+    for seed in SEEDS {
+        let mut trial = Trial::new(alloc, seed, met)?;
+        counts = trial.go(&rt, counts)?;
+        met = trial.met;
+    }
+    assert_met(&rt, &counts, &met);
+    Ok(())
+}

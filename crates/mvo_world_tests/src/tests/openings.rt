@@ -1,0 +1,267 @@
+//! Openings of a disk that no stop made whole, stopped and refused at each of their calls, against
+//! one map that runs the committed transactions one after another.
+
+use super::checked::{Found, assert_floors, check_disk, check_world, fresh};
+use super::draws::Draws;
+use super::images::{disk_after, disk_in_part, is_look};
+use super::observed::{Counts, Job, count};
+use super::runs::{RUNS, Run, Start, all_keys, opened};
+use mvo_disk::{Call, Disk, MemDisk};
+use mvo_types::{Refusal, RowKey, Stamp};
+use mvo_world::World;
+use std::alloc::{AllocError, Global};
+use std::process::Abort;
+use std::test::Fail;
+use std::thread::Threads;
+
+const SEEDS: [u64; 2] = [5, 0x1656_67b1_9e37_79f9];
+
+/// So many calls of each opening are made to fail.
+const FAULTS: u64 = 2;
+
+/// How often openings met things.
+#[derive(Clone, Copy)]
+struct Met {
+    openings: u64,
+    /// Of a disk on which a group is there that wasn't answered durable.
+    unanswered: u64,
+    rotating: u64,
+    /// Stops before and within an opening, and those behind it.
+    stops: u64,
+    ends: u64,
+    faults: u64,
+    torn: u64,
+    rows: u64,
+}
+
+impl Met {
+    fn new() -> Met {
+        Met {
+            openings: 0,
+            unanswered: 0,
+            rotating: 0,
+            stops: 0,
+            ends: 0,
+            faults: 0,
+            torn: 0,
+            rows: 0,
+        }
+    }
+}
+
+/// The openings of what runs leave, which follow one another.
+#[derive(Drop)]
+struct Trial {
+    alloc: Global,
+    draws: Draws,
+    keys: Vec<RowKey>,
+    met: Met,
+    /// What the next run starts from.
+    next: Option<Start>,
+}
+
+impl Trial {
+    fn new(alloc: Global, seed: u64, met: Met) -> Result<Trial, AllocError> {
+        Ok(Trial {
+            alloc,
+            draws: Draws::new(alloc, seed),
+            keys: all_keys(alloc)?,
+            met,
+            next: None,
+        })
+    }
+
+    /// Runs from a new store, and on from what a stop within an opening left.
+    fn go(&mut self, rt: &(impl Abort + Threads + Sync), counts: Counts) -> Result<Counts, Fail> {
+        let mut counts = counts;
+        let mut start = fresh(self.alloc)?;
+        for number in 0..RUNS {
+            let run = Run::of(rt, start, &mut self.draws, counts, number)?;
+            counts = run.observed.counts;
+            self.open_everywhere(rt, &run)?;
+            start = self.next.take().ok_or("a start of the next run")?;
+        }
+        Ok(counts)
+    }
+
+    /// Opens what each call leaves that writes, cuts or syncs.
+    fn open_everywhere(
+        &mut self,
+        rt: &(impl Abort + Threads + Sync),
+        run: &Run,
+    ) -> Result<(), Fail> {
+        for answered in 0..run.events.len() {
+            if !run.is_write(answered) {
+                continue;
+            }
+            let before = run.disk_after(rt, answered)?.calls().len();
+            let disk = run.disk_after(rt, answered.saturating_add(1))?;
+            for (number, call) in disk.calls().iter().enumerate().skip(before) {
+                if !is_look(call) {
+                    self.open_after(rt, run, answered, disk.calls(), number)?;
+                }
+            }
+        }
+        Ok(())
+    }
+
+    /// Opens a disk without a stop, on which these calls were made, and of the one of this number a
+    /// part.
+    fn open_after(
+        &mut self,
+        rt: &(impl Abort + Threads + Sync),
+        run: &Run,
+        answered: usize,
+        calls: &[Call],
+        number: usize,
+    ) -> Result<(), Fail> {
+        let most = self.draws.below(64) as usize;
+        let disk = disk_in_part(self.alloc, calls, number, most)?;
+        let from = disk.calls().len();
+        let mut world = opened(rt, self.alloc, disk)?;
+        let found = check_world(rt, run, &self.keys, answered, &mut world)?;
+        self.note_opening(run, answered, &found);
+        let disk = world.into_disk();
+        self.stop_opening(rt, run, answered, from, found.mark, disk.calls())?;
+        for _ in 0..FAULTS {
+            self.fail_opening(rt, run, answered, from, disk.calls())?;
+        }
+        Ok(())
+    }
+
+    fn note_opening(&mut self, run: &Run, answered: usize, found: &Found) {
+        count(&mut self.met.openings);
+        let Some(known) = run.known.get(answered) else {
+            return;
+        };
+        if known.durable < found.mark {
+            count(&mut self.met.unanswered);
+        }
+        if known.job != Job::None {
+            count(&mut self.met.rotating);
+        }
+    }
+
+    /// Stops before the opening and after each of its calls, which stand behind the first ones, and
+    /// opens again. After the last of them nothing that it answered is lost.
+    fn stop_opening(
+        &mut self,
+        rt: &(impl Abort + Threads + Sync),
+        run: &Run,
+        answered: usize,
+        from: usize,
+        mark: Stamp,
+        calls: &[Call],
+    ) -> Result<(), Fail> {
+        let found = self.stop_after(rt, run, answered, calls, from)?;
+        self.keep(found);
+        for (number, call) in calls.iter().enumerate().skip(from) {
+            if !is_look(call) {
+                let found = self.stop_after(rt, run, answered, calls, number.saturating_add(1))?;
+                self.keep(found);
+            }
+        }
+        let found = self.stop_after(rt, run, answered, calls, calls.len())?;
+        assert_eq!(rt; found.mark, mark, "after {answered} events");
+        count(&mut self.met.ends);
+        Ok(())
+    }
+
+    /// Stops after so many calls, and opens.
+    fn stop_after(
+        &mut self,
+        rt: &(impl Abort + Threads + Sync),
+        run: &Run,
+        answered: usize,
+        calls: &[Call],
+        number: usize,
+    ) -> Result<Start, Fail> {
+        let disk = disk_after(self.alloc, calls, number)?;
+        count(&mut self.met.stops);
+        self.stop_disk(rt, run, answered, disk)
+    }
+
+    /// Opens with a call that fails, stops, and opens again; and again without a stop.
+    fn fail_opening(
+        &mut self,
+        rt: &(impl Abort + Threads + Sync),
+        run: &Run,
+        answered: usize,
+        from: usize,
+        calls: &[Call],
+    ) -> Result<(), Fail> {
+        let number = calls.len().saturating_sub(from) as u64;
+        let mut disk = disk_after(self.alloc, calls, from)?;
+        disk.fail_at(self.draws.below(number));
+        let Err((refusal, disk)) = World::open(rt, self.alloc, disk) else {
+            return Err(Fail::from("an opening that is refused"));
+        };
+        assert_eq!(rt; refusal, Refusal::DiskFault);
+        assert_eq!(rt; disk.faults(), 1);
+        count(&mut self.met.faults);
+        let again = disk_after(self.alloc, disk.calls(), disk.calls().len())?;
+        let found = self.stop_disk(rt, run, answered, again)?;
+        self.keep(found);
+        check_disk(rt, run, &self.keys, answered, disk)?;
+        Ok(())
+    }
+
+    /// Stops the disk with a random image, and opens that.
+    fn stop_disk(
+        &mut self,
+        rt: &(impl Abort + Threads + Sync),
+        run: &Run,
+        answered: usize,
+        disk: MemDisk,
+    ) -> Result<Start, Fail> {
+        let mut disk = disk;
+        let drawn = self.draws.images(&disk)?;
+        if drawn.is_torn {
+            count(&mut self.met.torn);
+        }
+        let files = drawn.images;
+        disk.stop(&files)?;
+        let Found { mark, rows } = check_disk(rt, run, &self.keys, answered, disk)?;
+        self.met.rows = self.met.rows.saturating_add(rows.len() as u64);
+        Ok(Start { files, rows, mark })
+    }
+
+    /// The next run may start from it.
+    fn keep(&mut self, start: Start) {
+        if self.next.is_none() || self.draws.below(32) == 0 {
+            self.next = Some(start);
+        }
+    }
+}
+
+/// None of the things that openings are to meet is rare.
+fn assert_met(rt: &impl Abort, counts: &Counts, met: &Met) {
+    let floors = [
+        (counts.groups, 30),
+        (counts.installed, 5),
+        (counts.emptied, 2),
+        (met.openings, 200),
+        (met.unanswered, 20),
+        (met.rotating, 40),
+        (met.stops, 1_000),
+        (met.ends, 200),
+        (met.faults, 400),
+        (met.torn, 200),
+        (met.rows, 5_000),
+    ];
+    assert_floors(rt, &floors);
+}
+
+#[test]
+fn openings_may_be_stopped(rt: HostRuntime) -> Result<(), Fail> {
+    let alloc = rt.alloc();
+    let mut counts = Counts::new();
+    let mut met = Met::new();
+    for seed in SEEDS {
+        let mut trial = Trial::new(alloc, seed, met)?;
+        counts = trial.go(&rt, counts)?;
+        met = trial.met;
+    }
+    assert_met(&rt, &counts, &met);
+    Ok(())
+}
