@@ -53,11 +53,7 @@ pub fn format_folder<R: AllocGlobal + Eprint + Files<File = File> + Clone + Drop
 }
 
 /// The world over the store in a folder.
-pub fn open_world<R>(
-    rt: &R,
-    folder: &str,
-    is_terminal: bool,
-) -> Result<World<DirDisk<R>>, Fault>
+pub fn open_world<R>(rt: &R, folder: &str, is_terminal: bool) -> Result<World<DirDisk<R>>, Fault>
 where
     R: AllocGlobal + Eprint + Files<File = File> + Threads + Sync + Clone + Drop,
 {
@@ -78,11 +74,7 @@ pub struct Held {
 }
 
 /// What the store in a folder holds. The folder isn't used any longer then.
-pub fn open_held<R>(
-    rt: &R,
-    folder: &str,
-    is_terminal: bool,
-) -> Result<Held, Fault>
+pub fn open_held<R>(rt: &R, folder: &str, is_terminal: bool) -> Result<Held, Fault>
 where
     R: AllocGlobal + Eprint + Files<File = File> + Threads + Sync + Clone + Drop,
 {
