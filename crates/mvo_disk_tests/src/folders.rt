@@ -1,8 +1,6 @@
 //! A disk in a folder of the operating system.
-use mvo_disk::{
-    DirDisk, Disk, DiskFault, FolderRefusal, Progress, Silent, make_folder, read_whole,
-    write_synced,
-};
+use crate::guarded::{cut, len, put, read, read_two, sync, write};
+use mvo_disk::{DirDisk, Disk, DiskFault, FolderRefusal, Progress, Silent, make_folder};
 use std::fs::{self, File};
 use std::test::Fail;
 use std::{env, process};
@@ -36,14 +34,14 @@ fn keeps_its_files(rt: HostRuntime) -> Result<(), Fail> {
     let path = path_of(&rt, "keeps")?;
     make_folder(&rt, alloc, &path)?;
     let mut disk = open(&rt, &path)?;
-    write_synced(&mut disk, 3, 0, b"abcd")?;
-    write_synced(&mut disk, 1023, 0, b"e")?;
-    write_synced(&mut disk, 3, 1, b"xy")?;
-    disk.cut(1023, 0)?;
-    disk.sync(1023)?;
-    disk.write_at(3, 4, b"z")?;
-    assert_eq!(rt; disk.len(3), Ok(5));
-    assert_eq!(rt; disk.len(4), Ok(0));
+    put(&mut disk, 3, 0, b"abcd")?;
+    put(&mut disk, 1023, 0, b"e")?;
+    put(&mut disk, 3, 1, b"xy")?;
+    cut(&mut disk, 1023, 0)?;
+    sync(&mut disk, 1023)?;
+    write(&mut disk, 3, 4, b"z")?;
+    assert_eq!(rt; len(&mut disk, 3), Ok(5));
+    assert_eq!(rt; len(&mut disk, 4), Ok(0));
     let file = format!(in alloc; "{path}/0003")?;
     assert_eq!(rt;
         fs::read(&rt, file.as_str())?.as_slice(),
@@ -55,13 +53,8 @@ fn keeps_its_files(rt: HostRuntime) -> Result<(), Fail> {
     let mut told = Told(0, 0);
     let mut disk = DirDisk::open(rt.clone()?, alloc, &path, &mut told)?;
     assert_eq!(rt; (told.0, told.1), (5, 5));
-    assert_eq!(rt;
-        read_whole(alloc, &mut disk, 3)?.as_slice(),
-        b"axydz".as_slice()
-    );
-    let mut part = [0; 2];
-    disk.read_at(3, 3, &mut part)?;
-    assert_eq!(rt; part, *b"dz");
+    assert_eq!(rt; read(alloc, &mut disk, 3)?.as_slice(), b"axydz".as_slice());
+    assert_eq!(rt; read_two(&mut disk, 3, 3)?, *b"dz");
     assert_eq!(rt; disk.faults(), 0);
     drop(disk);
     fs::remove_dir_all(&rt, path.as_str())?;
@@ -106,17 +99,14 @@ fn takes_nothing_after_a_fault(rt: HostRuntime) -> Result<(), Fail> {
     let path = path_of(&rt, "fault")?;
     make_folder(&rt, alloc, &path)?;
     let mut disk = open(&rt, &path)?;
-    write_synced(&mut disk, 2, 0, b"ab")?;
+    put(&mut disk, 2, 0, b"ab")?;
     fs::remove_dir_all(&rt, path.as_str())?;
     // The file can't be made.
-    assert_eq!(rt; disk.write_at(9, 0, b"c"), Err(DiskFault));
-    assert_eq!(rt; disk.write_at(2, 0, b"c"), Err(DiskFault));
-    assert_eq!(rt; disk.cut(2, 0), Err(DiskFault));
-    assert_eq!(rt; disk.sync(2), Err(DiskFault));
+    assert_eq!(rt; write(&mut disk, 9, 0, b"c"), Err(DiskFault));
+    assert_eq!(rt; write(&mut disk, 2, 0, b"c"), Err(DiskFault));
+    assert_eq!(rt; cut(&mut disk, 2, 0), Err(DiskFault));
+    assert_eq!(rt; sync(&mut disk, 2), Err(DiskFault));
     assert_eq!(rt; disk.faults(), 4);
-    assert_eq!(rt;
-        read_whole(alloc, &mut disk, 2)?.as_slice(),
-        b"ab".as_slice()
-    );
+    assert_eq!(rt; read(alloc, &mut disk, 2)?.as_slice(), b"ab".as_slice());
     Ok(())
 }

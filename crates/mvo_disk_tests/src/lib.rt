@@ -6,6 +6,8 @@ mod faults;
 #[cfg(test)]
 mod folders;
 #[cfg(test)]
+mod guarded;
+#[cfg(test)]
 mod record;
 #[cfg(test)]
 mod stops;
