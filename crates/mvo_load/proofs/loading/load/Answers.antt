@@ -3,7 +3,7 @@ use Rattle.mvo_pair.specs.Answers.{IsOnly}
 use Rattle.mvo_pair.specs.Writing.{IsStop}
 use Rattle.mvo_image.specs.Opens.{Image, Outcome, Segments, OpensWith}
 use Rattle.mvo_image.specs.Files.{SegmentSays}
-use Rattle.mvo_load.proofs.Unchanged.{same_image}
+use Rattle.mvo_load.proofs.Unchanged.{same_image, stays, moments}
 use Rattle.mvo_types.specs.Keys.{Map}
 use Rattle.mvo_load.specs.Leading.{Leads}
 use Rattle.mvo_load.specs.Loaded.{HasLog}
@@ -65,3 +65,14 @@ pub returns-clause-places : goal.returns-clause-places
 returns-clause-places g c =
     let first = same_image g.D.Disk c.args.disk.now c.read_manifest.new.disk c.in-Ok.ensures.read.rest.content in
     subst (λ (image : Image). HavePlaces c.args.format image c.in-Ok.manifest.pairs c.load_pairs.new.places.at) first c.in-Ok-load_pairs.ensures.places
+
+pub returns-clause-any_moment : goal.returns-clause-any_moment
+returns-clause-any_moment g c =
+    let d = g.D.Disk in
+    let a = c.args.disk.now in
+    let b = c.read_manifest.new.disk in
+    let v = c.load_pairs.new.disk in
+    let one = c.in-Ok.ensures.read in
+    let two = c.in-Ok-load_pairs.ensures.read in
+    moments d a v c.load_segments.new.disk (stays d a b v one.rest two.rest) (moments d a b v one.rest one.any_moment two.any_moment)
+    c.in-Ok-load_segments.ensures.read.any_moment
