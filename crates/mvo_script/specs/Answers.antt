@@ -12,8 +12,9 @@ use Rattle.mvo_world.specs.WorldData.{WorldData}
 use Rattle.mvo_world.specs.declared.event.Event.{Event}
 use Rattle.mvo_world.specs.declared.event.Event.TheVariants as event
 use Rattle.mvo_world.specs.declared.reply.Reply.{Reply}
-use Rattle.mvo_world.specs.declared.reply.Reply.TheVariants.{Core, Durable, Polled, Refused}
+use Rattle.mvo_world.specs.declared.reply.Reply.TheVariants.{Core, Polled, Refused}
 use Rattle.mvo_script.specs.Bound.{bound_by, BindsBegun, Ends, KeepsBound, is_covered}
+use Rattle.mvo_script.specs.Flushing.{IsFlush, IsFlushed}
 use Rattle.mvo_script.specs.Rotating.{rotation, AreToRefusal}
 use Rattle.mvo_script.specs.declared.bound.BoundTx.{BoundTx}
 use Rattle.mvo_script.specs.declared.driver.Driver.{Driver}
@@ -39,18 +40,6 @@ IsOfNoName names _ = ⊥
 abbrev pub NotesEnd : Names → Names → List ℕ → Reply → Type 0
 NotesEnd old new name (Core (Committed end')) = Ends old new name end'
 NotesEnd old new name _ = new ≡ old
-
--- after a flush no group is closed or taken, and the mark is the store's; else it is refused
-abbrev pub IsFlushed : {D : Type 0} → WorldData D → Reply → Type 0
-IsFlushed w (Durable mark) = (w.store.mark ≡ mark.0) × (w.place ≡ None) × (w.store.pending ≡ None)
-IsFlushed w (Refused r) = Unit {0}
-IsFlushed w _ = ⊥
-
--- opening a gate answers the mark that is durable, or is refused
-abbrev pub IsAppended : Reply → Type 0
-IsAppended (Durable mark) = Unit {0}
-IsAppended (Refused r) = Unit {0}
-IsAppended _ = ⊥
 
 -- the row that a line gives, with its data
 abbrev pub row_of : RowText → List ℕ → RowData
@@ -151,7 +140,8 @@ module _ {D : Type 0} (IsStep : WorldData D → Event → Reply → WorldData D 
   IsAnswer d line.Take r d' = IsStepOf d event.TakeGroup r d'
   IsAnswer d line.Body r d' = IsStepOf d event.AppendBody r d'
   IsAnswer d line.Open r d' = IsStepOf d event.AppendOpen r d'
-  IsAnswer d line.Flush r d' = IsFlushed d'.world r × (d'.names ≡ d.names)
+  IsAnswer d line.Flush r d' =
+      IsFlush IsStep d.world r d'.world × IsFlushed d'.world r × (d'.names ≡ d.names)
   IsAnswer d line.RotateWrite r d' = IsStepOf d event.RotateWrite r d'
   IsAnswer d line.InstallClose r d' = IsStepOf d event.InstallClose r d'
   IsAnswer d line.InstallBody r d' = IsStepOf d event.InstallBody r d'

@@ -4,4 +4,5 @@ pub mod Bound
 pub mod Fresh
 pub mod Forms
 pub mod Rotating
+pub mod Flushing
 pub mod Answers

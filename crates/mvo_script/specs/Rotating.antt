@@ -26,11 +26,17 @@ IsRotated r = ⊥
 
 -- ---- by the steps of the world
 module _ {D : Type 0} (IsStep : WorldData D → Event → Reply → WorldData D → Type 0) where
-  -- one event after another, up to the first that is refused; the reply is that to the last one
+  -- One event after another, up to the first whose reply stops them. The reply is that to the last
+  -- one.
+  abbrev pub AreToStop : (Event → Reply → Bool) →
+      List Event → WorldData D → Reply → WorldData D → Type 0
+  AreToStop stops [] w r w' = ⊥
+  AreToStop stops (e ∷ []) w r w' = IsStep w e r w'
+  AreToStop stops (e ∷ next ∷ es) w r w' =
+      (IsStep w e r w' × (stops e r ≡ true))
+      ⊎ ((q : Reply) × (v : WorldData D) × IsStep w e q v × (stops e q ≡ false)
+      × AreToStop stops (next ∷ es) v r w')
+
+  -- one event after another, up to the first that is refused
   abbrev pub AreToRefusal : List Event → WorldData D → Reply → WorldData D → Type 0
-  AreToRefusal [] w r w' = ⊥
-  AreToRefusal (e ∷ []) w r w' = IsStep w e r w'
-  AreToRefusal (e ∷ next ∷ es) w r w' =
-      (IsStep w e r w' × (is_refused r ≡ true))
-      ⊎ ((q : Reply) × (v : WorldData D) × IsStep w e q v × (is_refused q ≡ false)
-      × AreToRefusal (next ∷ es) v r w')
+  AreToRefusal = AreToStop (λ e r. is_refused r)

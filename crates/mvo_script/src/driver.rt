@@ -61,7 +61,7 @@ impl<D: Disk> Driver<D> {
     }
 
     /// The reply to a line, without its line feed. A bad line changes nothing. No clause says which
-    /// line the bytes are, nor which steps of groups a flush takes.
+    /// line the bytes are.
     pub fn answer(&mut self, bytes: &[u8]) -> LineReply
         ensures bad { result ≡ LineReply.BadLine → self.new ≡ self.old }
         ensures answered { let step = IsReplyTo D.Disk in

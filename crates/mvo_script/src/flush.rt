@@ -1,4 +1,5 @@
-ghost use Rattle.mvo_script.specs.Answers.{IsFlushed, IsAppended};
+ghost use Rattle.mvo_world.specs.Replies.{IsReplyTo};
+ghost use Rattle.mvo_script.specs.Flushing.{IsAppend, IsAppended, IsFlush, IsFlushed, IsRotatedAppend};
 
 use crate::rotate::finish_rotation;
 use mvo_disk::Disk;
@@ -9,13 +10,14 @@ use mvo_world::{Event, Reply, World};
 /// group durable, with a rotation where the segment is full. It answers Durable with the store's
 /// mark, also where there was nothing to do, or the refusal at which it stopped.
 pub fn flush<D: Disk>(world: &mut World<D>) -> Reply
-    ensures { IsFlushed world.new result }
+    ensures flushed { IsFlushed world.new result }
+    ensures steps { let step = IsReplyTo D.Disk in IsFlush step world.old result world.new }
 {
     match world.step(Event::CloseGroup) {
         Reply::Closed(_) | Reply::Refused(Refusal::NothingToDo | Refusal::RingFull) => {}
         refused => return refused,
     }
-    for _ in 0..u64::MAX {
+    loop {
         // A group that is pending already comes first: the store is Busy with it.
         match world.step(Event::TakeGroup) {
             Reply::Taken | Reply::Refused(Refusal::Busy) => {}
@@ -27,13 +29,13 @@ pub fn flush<D: Disk>(world: &mut World<D>) -> Reply
             refused => return refused,
         }
     }
-    Reply::Refused(Refusal::Busy)
 }
 
 /// Makes the pending group durable. Its body may be written already. Where the segment is full for
 /// it, the log is rotated first.
 fn append<D: Disk>(world: &mut World<D>) -> Reply
-    ensures { IsAppended result }
+    ensures answer { IsAppended result }
+    ensures steps { let step = IsReplyTo D.Disk in IsAppend step world.old result world.new }
 {
     match world.step(Event::AppendBody) {
         Reply::Written | Reply::Refused(Refusal::Busy) => world.step(Event::AppendOpen),
@@ -44,14 +46,16 @@ fn append<D: Disk>(world: &mut World<D>) -> Reply
 
 /// Makes the pending group durable in the segment that a rotation gives.
 fn append_rotated<D: Disk>(world: &mut World<D>) -> Reply
-    ensures { IsAppended result }
+    ensures answer { IsAppended result }
+    ensures steps { let step = IsReplyTo D.Disk in
+        IsRotatedAppend step world.old result world.new }
 {
     match finish_rotation(world) {
         Reply::Installed(_) => {}
         refused => return refused,
     }
     match world.step(Event::AppendBody) {
-        Reply::Written => world.step(Event::AppendOpen),
+        Reply::Written | Reply::Refused(Refusal::Busy) => world.step(Event::AppendOpen),
         refused => refused,
     }
 }

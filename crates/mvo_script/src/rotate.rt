@@ -1,6 +1,8 @@
 ghost use Rattle.std.specs.Prelude.{◌≡◌};
 ghost use Rattle.mvo_world.specs.Replies.{IsReplyTo};
-ghost use Rattle.mvo_script.specs.Rotating.{AreToRefusal, IsRotated, install, is_refused, rotation};
+ghost use Rattle.mvo_script.specs.Flushing.{stops_flush};
+ghost use Rattle.mvo_script.specs.Rotating.{AreToRefusal, AreToStop, IsRotated, install, is_refused};
+ghost use Rattle.mvo_script.specs.Rotating.{rotation};
 
 use mvo_disk::Disk;
 use mvo_types::Refusal;
@@ -38,7 +40,9 @@ fn install<D: Disk>(world: &mut World<D>) -> Reply
 /// Brings a rotation to its end: the one that runs, from the step that is due on, or a new one. It
 /// stops at the first other refusal and answers it.
 pub fn finish_rotation<D: Disk>(world: &mut World<D>) -> Reply
-    ensures { IsRotated result }
+    ensures answer { IsRotated result }
+    ensures steps { let step = IsReplyTo D.Disk in
+        AreToStop step stops_flush rotation world.old result world.new }
 {
     match world.step(Event::RotateWrite) {
         Reply::Ready | Reply::Refused(Refusal::Busy) => {}

@@ -1,0 +1,238 @@
+-- What stops a flush, and that each of its turns leaves fewer groups that wait.
+use Rattle.std.proofs.Common.{◌≡◌, ◌≢◌, ◌⊎◌, ◌<◌, ◌++◌, ℕ, suc, Bool, true, false, List, [], ◌∷◌, length, Option, Some, None, refl, sym, subst, ◌∙◌, ap, ap₂, inl, inr, arith}
+use Rattle.std.specs.Option.{option_to_list}
+use Rattle.std.specs.Prelude.{is_some}
+use Rattle.mvo_types.specs.declared.ids.Stamp.{Stamp}
+use Rattle.mvo_types.specs.declared.refusal.Refusal.{Refusal}
+use Rattle.mvo_types.specs.declared.refusal.Refusal.TheVariants.{Busy, NothingToDo, RingFull, SegmentFull, DiskFault, Down}
+use Rattle.mvo_core.specs.declared.closed.Closed.{Closed as ClosedGroup}
+use Rattle.mvo_disk.specs.declared.disk.Disk.{Ghosts}
+use Rattle.mvo_store.specs.declared.generation.Generation.{Generation}
+use Rattle.mvo_store.specs.declared.rotation.Rotation.{Rotation}
+use Rattle.mvo_store.specs.Causes.{first_cause}
+use Rattle.mvo_store.specs.Steps.{IsInstalledBy}
+use Rattle.mvo_store.specs.StoreData.{StoreData}
+use Rattle.mvo_world.specs.WorldData.{WorldData, waiting}
+use Rattle.mvo_world.specs.Replies.{IsReplyTo, IsLeft, or_nothing, why_not_taken}
+use Rattle.mvo_world.specs.declared.event.Event.{Event}
+use Rattle.mvo_world.specs.declared.event.Event.TheVariants.{CloseGroup, TakeGroup, AppendBody, AppendOpen, RotateWrite, InstallClose, InstallBody, InstallOpen}
+use Rattle.mvo_world.specs.declared.reply.Reply.{Reply}
+use Rattle.mvo_world.specs.declared.reply.Reply.TheVariants.{Closed, Taken, Written, Durable, Ready, Shut, Installed, Refused}
+use Rattle.mvo_script.specs.Rotating.{AreToStop, IsRotated, is_refused, rotation}
+use Rattle.mvo_script.specs.Flushing.{IsAppend, IsAppended, IsFlush, IsFlushed, IsRotatedAppend, append, stops_flush}
+use Rattle.mvo_script.specs.Flushing.IsAppend.{AtBody, AtOpen, AtFull}
+use Rattle.mvo_script.specs.Flushing.IsRotatedAppend.{AtRotation, AtAppend}
+
+-- ---- what stops a flush
+
+-- only a refusal does
+pub stop_is_refusal : (e : Event) (r : Reply) → stops_flush e r ≡ true → is_refused r ≡ true
+stop_is_refusal e (Refused why) h = refl
+stop_is_refusal CloseGroup _ h = h
+stop_is_refusal TakeGroup _ h = h
+stop_is_refusal AppendBody _ h = h
+stop_is_refusal RotateWrite _ h = h
+stop_is_refusal InstallClose _ h = h
+stop_is_refusal InstallBody _ h = h
+stop_is_refusal _ _ h = h
+
+-- closing goes on where it is refused for want of commits or of a place
+pub close_goes : (r : Reply) → ((why : Refusal) → r ≡ Refused why → why ≢ NothingToDo → why ≢ RingFull → ⊥) → stops_flush CloseGroup r ≡ false
+close_goes (Refused NothingToDo) h = refl
+close_goes (Refused RingFull) h = refl
+close_goes (Refused why) h = absurd (h why refl (λ e. cc) (λ e. cc))
+close_goes _ h = refl
+
+pub refused_flush : {D : Type 0} (w : WorldData D) (r : Reply) → is_refused r ≡ true → IsFlushed w r
+refused_flush w (Refused why) h = tt
+refused_flush w _ h = cc
+
+pub not_durable : (r : Reply) → IsAppended r → ((m : Stamp) → r ≢ Durable m) → is_refused r ≡ true
+not_durable (Refused why) it other = refl
+not_durable (Durable m) it other = absurd (other m refl)
+not_durable _ it other = absurd it
+
+pub not_installed : (r : Reply) → IsRotated r → ((n : Generation) → r ≢ Installed n) → is_refused r ≡ true
+not_installed (Refused why) it other = refl
+not_installed (Installed n) it other = absurd (other n refl)
+not_installed _ it other = absurd it
+
+module _ {D : Type 0} (d : Ghosts D) (w v : WorldData D) where
+  pub close_stops : (r : Reply) → IsReplyTo d w CloseGroup r v → ((c : ClosedGroup) → r ≢ Closed c) → r ≢ Refused NothingToDo → r ≢ Refused RingFull → stops_flush CloseGroup r ≡ true
+  close_stops (Closed c) it one two three = absurd (one c refl)
+  close_stops (Refused NothingToDo) it one two three = absurd (two refl)
+  close_stops (Refused RingFull) it one two three = absurd (three refl)
+  close_stops (Refused _) it one two three = refl
+  close_stops _ it one two three = absurd it
+
+  pub take_stops : (r : Reply) → IsReplyTo d w TakeGroup r v → r ≢ Taken → r ≢ Refused Busy → stops_flush TakeGroup r ≡ true
+  take_stops Taken it one two = absurd (one refl)
+  take_stops (Refused Busy) it one two = absurd (two refl)
+  take_stops (Refused _) it one two = refl
+  take_stops _ it one two = absurd it
+
+  pub body_stops : (r : Reply) → IsReplyTo d w AppendBody r v → r ≢ Written → r ≢ Refused Busy → stops_flush AppendBody r ≡ true
+  body_stops Written it one two = absurd (one refl)
+  body_stops (Refused Busy) it one two = absurd (two refl)
+  body_stops (Refused _) it one two = refl
+  body_stops _ it one two = absurd it
+
+  pub write_stops : (r : Reply) → IsReplyTo d w RotateWrite r v → r ≢ Ready → r ≢ Refused Busy → stops_flush RotateWrite r ≡ true
+  write_stops Ready it one two = absurd (one refl)
+  write_stops (Refused Busy) it one two = absurd (two refl)
+  write_stops (Refused _) it one two = refl
+  write_stops _ it one two = absurd it
+
+  pub shut_stops : (r : Reply) → IsReplyTo d w InstallClose r v → r ≢ Shut → r ≢ Refused NothingToDo → stops_flush InstallClose r ≡ true
+  shut_stops Shut it one two = absurd (one refl)
+  shut_stops (Refused NothingToDo) it one two = absurd (two refl)
+  shut_stops (Refused _) it one two = refl
+  shut_stops _ it one two = absurd it
+
+  pub slot_stops : (r : Reply) → IsReplyTo d w InstallBody r v → r ≢ Written → r ≢ Refused NothingToDo → stops_flush InstallBody r ≡ true
+  slot_stops Written it one two = absurd (one refl)
+  slot_stops (Refused NothingToDo) it one two = absurd (two refl)
+  slot_stops (Refused _) it one two = refl
+  slot_stops _ it one two = absurd it
+
+-- ---- how many groups wait
+
+-- the groups that are closed or taken stay
+record KeepsGroups {D : Type 0} (w v : WorldData D) : Type 0 where
+  place : v.place ≡ w.place
+  pending : v.store.pending ≡ w.store.pending
+
+-- how many they are
+abbrev count : {D : Type 0} → WorldData D → ℕ
+count w = length (waiting w)
+
+same_length : {A : Type 0} (a b x y : Option A) → a ≡ x → b ≡ y → length (option_to_list a ++ option_to_list b) ≡ length (option_to_list x ++ option_to_list y)
+same_length {A} a b x y p q = ap₂ (λ (s t : Option A). length (option_to_list s ++ option_to_list t)) p q
+
+kept_count : {D : Type 0} (w v : WorldData D) → KeepsGroups w v → count v ≡ count w
+kept_count w v k = same_length v.store.pending v.place w.store.pending w.place k.pending k.place
+
+then_keeps : {D : Type 0} (w v u : WorldData D) → KeepsGroups w v → KeepsGroups v u → KeepsGroups w u
+then_keeps w v u one two = record { place = two.place ∙ one.place; pending = two.pending ∙ one.pending }
+
+none_pending : {A : Type 0} (down : Bool) (pending place : Option A) → or_nothing (first_cause ((down, Down) ∷ (is_some pending, Busy) ∷ [])) place ≡ None → pending ≡ None
+none_pending true pending place h = cc
+none_pending false (Some g) place h = cc
+none_pending false None place h = refl
+
+installed_pending : {D : Type 0} (o : Option Rotation) (old new : StoreData D) → IsInstalledBy o old new → new.pending ≡ old.pending
+installed_pending {D = D} None old new h = absurd h
+installed_pending {D = D} (Some r) old new h = ap (λ (s : StoreData D). s.pending) h
+
+module _ {D : Type 0} (d : Ghosts D) where
+  left_keeps : (w v : WorldData D) (r : Refusal) → r ≢ DiskFault → IsLeft d w r v → KeepsGroups w v
+  left_keeps w v r other it = record {
+    place = ap (λ (x : WorldData D). x.place) it.rest;
+    pending = ap (λ (s : StoreData D). s.pending) (it.store.other other);
+  }
+
+  body_keeps : (w v : WorldData D) (r : Reply) → IsReplyTo d w AppendBody r v → stops_flush AppendBody r ≡ false → KeepsGroups w v
+  body_keeps w v Written it h = record { place = ap (λ (x : WorldData D). x.place) it.1; pending = ap (λ (x : WorldData D). x.store.pending) it.1 }
+  body_keeps w v (Refused Busy) it h = left_keeps w v Busy (λ e. cc) it.1
+  body_keeps w v (Refused _) it h = cc
+  body_keeps w v _ it h = absurd it
+
+  write_keeps : (w v : WorldData D) (r : Reply) → IsReplyTo d w RotateWrite r v → stops_flush RotateWrite r ≡ false → KeepsGroups w v
+  write_keeps w v Ready it h = record { place = ap (λ (x : WorldData D). x.place) it.1.after; pending = ap (λ (x : WorldData D). x.store.pending) it.1.after }
+  write_keeps w v (Refused Busy) it h = left_keeps w v Busy (λ e. cc) it.1
+  write_keeps w v (Refused _) it h = cc
+  write_keeps w v _ it h = absurd it
+
+  shut_keeps : (w v : WorldData D) (r : Reply) → IsReplyTo d w InstallClose r v → stops_flush InstallClose r ≡ false → KeepsGroups w v
+  shut_keeps w v Shut it h = record { place = ap (λ (x : WorldData D). x.place) it.1; pending = ap (λ (x : WorldData D). x.store.pending) it.1 }
+  shut_keeps w v (Refused NothingToDo) it h = left_keeps w v NothingToDo (λ e. cc) it.1
+  shut_keeps w v (Refused _) it h = cc
+  shut_keeps w v _ it h = absurd it
+
+  slot_keeps : (w v : WorldData D) (r : Reply) → IsReplyTo d w InstallBody r v → stops_flush InstallBody r ≡ false → KeepsGroups w v
+  slot_keeps w v Written it h = record { place = ap (λ (x : WorldData D). x.place) it.1; pending = ap (λ (x : WorldData D). x.store.pending) it.1 }
+  slot_keeps w v (Refused NothingToDo) it h = left_keeps w v NothingToDo (λ e. cc) it.1
+  slot_keeps w v (Refused _) it h = cc
+  slot_keeps w v _ it h = absurd it
+
+  install_keeps : (w v : WorldData D) (r : Reply) → IsReplyTo d w InstallOpen r v → is_refused r ≡ false → KeepsGroups w v
+  install_keeps w v (Installed n) it h = record { place = ap (λ (x : WorldData D). x.place) it.1.rest; pending = installed_pending w.store.rotation w.store v.store it.1.installed }
+  install_keeps w v (Refused why) it h = cc
+  install_keeps w v _ it h = absurd it
+
+  not_both : {A : Type 0} (e : Event) (r : Reply) → is_refused r ≡ false → stops_flush e r ≡ true → A
+  not_both e r passes stops = let refused = stop_is_refusal e r stops in cc
+
+  rotation_keeps : (w v : WorldData D) (r : Reply) → is_refused r ≡ false → AreToStop (IsReplyTo d) stops_flush rotation w r v → KeepsGroups w v
+  rotation_keeps w v r passes (inl h) = not_both RotateWrite r passes h.1
+  rotation_keeps w v r passes (inr a) = then_keeps w a.1 v (write_keeps w a.1 a.0 a.2 a.3) (at_close a.1 a.4)
+    where
+      at_body : (x : WorldData D) → AreToStop (IsReplyTo d) stops_flush (InstallBody ∷ InstallOpen ∷ []) x r v → KeepsGroups x v
+      at_body x (inl h) = not_both InstallBody r passes h.1
+      at_body x (inr b) = then_keeps x b.1 v (slot_keeps x b.1 b.0 b.2 b.3) (install_keeps b.1 v r b.4 passes)
+
+      at_close : (x : WorldData D) → AreToStop (IsReplyTo d) stops_flush (InstallClose ∷ InstallBody ∷ InstallOpen ∷ []) x r v → KeepsGroups x v
+      at_close x (inl h) = not_both InstallClose r passes h.1
+      at_close x (inr b) = then_keeps x b.1 v (shut_keeps x b.1 b.0 b.2 b.3) (at_body b.1 b.4)
+
+  taken_count : (w v : WorldData D) (r : Reply) → IsReplyTo d w TakeGroup r v → stops_flush TakeGroup r ≡ false → count v ≡ count w
+  taken_count w v Taken it h =
+      let none = none_pending w.store.down w.store.pending w.place it.0 in
+      let before : count w ≡ 1 = same_length w.store.pending w.place None (Some it.1.group) none it.1.there in
+      let after : count v ≡ 1 = ap (λ (x : WorldData D). length (waiting x)) it.1.after in
+      after ∙ sym before
+  taken_count w v (Refused Busy) it h = ap (λ (x : WorldData D). length (waiting x)) it.1
+  taken_count w v (Refused _) it h = cc
+  taken_count w v _ it h = absurd it
+
+  opened_count : (w v : WorldData D) (m : Stamp) → IsReplyTo d w AppendOpen (Durable m) v → count v < count w
+  opened_count w v m it =
+      let pending : v.store.pending ≡ None = ap (λ (x : WorldData D). x.store.pending) it.1.after in
+      let place : v.place ≡ w.place = ap (λ (x : WorldData D). x.place) it.1.after in
+      let after : count v ≡ length (option_to_list w.place) = same_length v.store.pending v.place None w.place pending place in
+      let before : count w ≡ length (it.1.group ∷ option_to_list w.place) = same_length w.store.pending w.place (Some it.1.group) w.place it.1.there refl in
+      omega arith
+
+  append_count : (w v : WorldData D) (m : Stamp) → AreToStop (IsReplyTo d) stops_flush append w (Durable m) v → count v < count w
+  append_count w v m (inl h) = let passes = h.1 in cc
+  append_count w v m (inr a) =
+      let same = kept_count w a.1 (body_keeps w a.1 a.0 a.2 a.3) in
+      let less = opened_count a.1 v m a.4 in
+      omega arith
+
+  rotated_count : (w v : WorldData D) (r : Reply) (m : Stamp) → r ≡ Durable m → IsRotatedAppend (IsReplyTo d) w r v → count v < count w
+  rotated_count w v r m is (AtRotation refused it) = cc
+  rotated_count w v r m is (AtAppend q u passes it rest) =
+      let same = kept_count w u (rotation_keeps w u q passes it) in
+      let less = append_count u v m (subst (λ (x : Reply). AreToStop (IsReplyTo d) stops_flush append u x v) is rest) in
+      omega arith
+
+  appended_count : (w v : WorldData D) (r : Reply) (m : Stamp) → r ≡ Durable m → IsAppend (IsReplyTo d) w r v → count v < count w
+  appended_count w v r m is (AtBody other stop it) = let refused = stop_is_refusal AppendBody r stop in cc
+  appended_count w v r m is (AtOpen q u passes it rest) =
+      let same = kept_count w u (body_keeps w u q it passes) in
+      let less = opened_count u v m (subst (λ (x : Reply). IsReplyTo d u AppendOpen x v) is rest) in
+      omega arith
+  appended_count w v r m is (AtFull u it rest) =
+      let same = kept_count w u (left_keeps w u SegmentFull (λ e. cc) it.1) in
+      let less = rotated_count u v r m is rest in
+      omega arith
+
+  -- a turn that makes its group durable leaves one less
+  pub turn_count : (w u v : WorldData D) (q r : Reply) (m : Stamp) → IsReplyTo d w TakeGroup q u → stops_flush TakeGroup q ≡ false → r ≡ Durable m → IsAppend (IsReplyTo d) u r v → length (waiting v) < length (waiting w)
+  turn_count w u v q r m taken goes is appended =
+      let same = taken_count w u q taken goes in
+      let less = appended_count u v r m is appended in
+      omega arith
+
+-- ---- the same reply by another name
+
+module _ {D : Type 0} (P : WorldData D → Event → Reply → WorldData D → Type 0) (w : WorldData D) (v : WorldData D) (r s : Reply) (same : r ≡ s) where
+  pub rotated_at : IsRotatedAppend P w r v → IsRotatedAppend P w s v
+  rotated_at it = subst (λ (x : Reply). IsRotatedAppend P w x v) same it
+
+  pub append_at : IsAppend P w r v → IsAppend P w s v
+  append_at it = subst (λ (x : Reply). IsAppend P w x v) same it
+
+  pub flush_at : IsFlush P w r v → IsFlush P w s v
+  flush_at it = subst (λ (x : Reply). IsFlush P w x v) same it
