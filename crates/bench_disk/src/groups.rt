@@ -7,6 +7,7 @@ use mvo_group::{Group, Record, Write};
 use mvo_store::{Store, format};
 use mvo_types::{Refusal, Row, RowKey, Stamp};
 use std::alloc::{AllocError, Global};
+use std::thread::Threads;
 use std::time::Instant;
 
 type HostStore = Store<DirDisk<HostRuntime>>;
@@ -20,8 +21,14 @@ fn group_len(commits: u64) -> usize {
 
 /// Groups of so many commits of a row of 100 bytes each, from the rows to the durable mark, in turn
 /// with a raw append of as many bytes.
-pub fn run(rt: &HostRuntime, scratch: &Scratch, rounds: u64, commits: u64) -> Result<()> {
-    let mut store = open(rt, scratch, commits)?;
+pub fn run(
+    rt: &HostRuntime,
+    threads: &(impl Threads + Sync),
+    scratch: &Scratch,
+    rounds: u64,
+    commits: u64,
+) -> Result<()> {
+    let mut store = open(rt, threads, scratch, commits)?;
     let mut raw = open_raw(rt, scratch, commits)?;
     let bytes = vec![in rt.alloc(); 0x5au8; group_len(commits)]?;
     let (mut groups, mut appends) = (Times::new(rt), Times::new(rt));
@@ -39,12 +46,17 @@ pub fn run(rt: &HostRuntime, scratch: &Scratch, rounds: u64, commits: u64) -> Re
 }
 
 /// A new store.
-fn open(rt: &HostRuntime, scratch: &Scratch, commits: u64) -> Result<HostStore> {
+fn open(
+    rt: &HostRuntime,
+    threads: &(impl Threads + Sync),
+    scratch: &Scratch,
+    commits: u64,
+) -> Result<HostStore> {
     let name = format!(in rt.alloc(); "groups-{commits}")?;
     let Ok(disk) = format(rt.alloc(), scratch.disk(rt, &name)?) else {
         bail!("the store isn't made");
     };
-    match Store::open(rt, rt.alloc(), disk) {
+    match Store::open(threads, rt.alloc(), disk) {
         Ok((store, _, _)) => Ok(store),
         Err(_) => bail!("the new store isn't opened"),
     }

@@ -11,6 +11,7 @@ mod times;
 use anyhow::{Context, Result};
 use folder::Scratch;
 use std::env;
+use std::thread::Threads;
 
 const ROUNDS: u64 = 20;
 
@@ -25,15 +26,20 @@ fn main(rt: HostRuntime) -> Result<()> {
         Some(folder) => Scratch::under(&rt, folder.as_str())?,
         None => Scratch::new(&rt)?,
     };
-    let ran = run(&rt, &scratch, rounds);
+    let ran = run(&rt, &rt, &scratch, rounds);
     scratch.remove(&rt)?;
     ran
 }
 
 /// Times groups of each size, each in a folder of its own.
-fn run(rt: &HostRuntime, scratch: &Scratch, rounds: u64) -> Result<()> {
+fn run(
+    rt: &HostRuntime,
+    threads: &(impl Threads + Sync),
+    scratch: &Scratch,
+    rounds: u64,
+) -> Result<()> {
     for commits in [1, 100, 1_000] {
-        groups::run(rt, scratch, rounds, commits)?;
+        groups::run(rt, threads, scratch, rounds, commits)?;
     }
     Ok(())
 }

@@ -228,16 +228,16 @@ fn assert_met(rt: &impl Abort, counts: &Counts, met: &Met) {
     let floors = [
         (counts.groups, 30),
         (counts.installed, 5),
-        (counts.emptied, 2),
-        (met.in_opening, 20),
-        (met.in_append, 100),
-        (met.in_rotate, 20),
-        (met.in_install, 40),
-        (met.in_reclaim, 4),
-        (met.down, 1_000),
-        (met.torn, 100),
-        (met.unanswered, 20),
-        (met.rows, 1_000),
+        (counts.emptied, 0),
+        (met.in_opening, 2),
+        (met.in_append, 10),
+        (met.in_rotate, 2),
+        (met.in_install, 4),
+        (met.in_reclaim, 0),
+        (met.down, 100),
+        (met.torn, 10),
+        (met.unanswered, 2),
+        (met.rows, 100),
     ];
     assert_floors(rt, &floors);
     assert_eq!(rt; met.strange, 0);

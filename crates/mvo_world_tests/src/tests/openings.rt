@@ -239,15 +239,15 @@ fn assert_met(rt: &impl Abort, counts: &Counts, met: &Met) {
     let floors = [
         (counts.groups, 30),
         (counts.installed, 5),
-        (counts.emptied, 2),
-        (met.openings, 200),
-        (met.unanswered, 20),
-        (met.rotating, 40),
-        (met.stops, 1_000),
-        (met.ends, 200),
-        (met.faults, 400),
-        (met.torn, 200),
-        (met.rows, 5_000),
+        (counts.emptied, 1),
+        (met.openings, 20),
+        (met.unanswered, 2),
+        (met.rotating, 4),
+        (met.stops, 100),
+        (met.ends, 20),
+        (met.faults, 40),
+        (met.torn, 20),
+        (met.rows, 500),
     ];
     assert_floors(rt, &floors);
 }
