@@ -30,7 +30,7 @@ where
 }
 
 // The sum of the sorts of all rows.
-fn sum_of(rows: &Rows, count: u64) -> Result<u64> {
+pub fn sum_of(rows: &Rows, count: u64) -> Result<u64> {
     let mut sum = 0u64;
     for key in 0..count {
         if let Some(row) = rows.get(RowKey { table: 0, key })? {

@@ -62,7 +62,7 @@ fn group(alloc: Global, prev: u64, first: u64, last: u64) -> Result<Group> {
     }
 }
 
-fn rotate(store: &mut Store<MemDisk>) -> Result<(), Refusal> {
+pub fn rotate(store: &mut Store<MemDisk>) -> Result<(), Refusal> {
     store.rotate_write()?;
     store.install_close()?;
     store.install_body()?;

@@ -45,7 +45,7 @@ among_found (e ∷ es) k v apart (inr a) =
     let other : eq k e.0 ≡ false = eq_flips k e.0 ∙ all_among (λ y. eq e.0 y ≡ false) (map first_of es) k apart.0 (among_map first_of es (k, v) a) in
     ap (λ b. cond b (Some e.1) (find key_cmp k es)) other ∙ among_found es k v apart.1 a
 
-keys-places_in : (file : ℕ) (live : List Numbered) → map first_of (places_in file live) ≡ map key_of live
+pub keys-places_in : (file : ℕ) (live : List Numbered) → map first_of (places_in file live) ≡ map key_of live
 keys-places_in file [] = refl
 keys-places_in file (l ∷ live) = ap (λ (ks : List RowKey). key_of l ∷ ks) (keys-places_in file live)
 

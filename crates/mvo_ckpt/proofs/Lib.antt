@@ -13,3 +13,4 @@ pub mod InOrder
 pub mod Few
 pub mod LastPuts
 pub mod Growing
+pub mod Taking

@@ -30,14 +30,14 @@ below_all : (n : ℕ) (es : List EntryData) (m : ℕ) → n ≤ m → AllByRecur
 below_all n [] m up = tt
 below_all n (e ∷ es) m up = (up, below_all n es (m + 1) (omega (arith, up)))
 
-counted_rise : (n : ℕ) (es : List EntryData) → Rises (numbers_in (enumerate_from n es))
+pub counted_rise : (n : ℕ) (es : List EntryData) → Rises (numbers_in (enumerate_from n es))
 counted_rise n [] = tt
 counted_rise n (e ∷ es) = (
   all_from (λ x. n < x) (numbers_in (enumerate_from (n + 1) es)) (λ x a. let above : n + 1 ≤ x = all_among (λ y. n + 1 ≤ y) (numbers_in (enumerate_from (n + 1) es)) x (below_all (n + 1) es (n + 1) (omega arith)) a in omega (arith, above)),
   counted_rise (n + 1) es,
 )
 
-rise_filter : (p : Numbered → Bool) (live : List Numbered) → Rises (numbers_in live) → Rises (numbers_in (filter p live))
+pub rise_filter : (p : Numbered → Bool) (live : List Numbered) → Rises (numbers_in live) → Rises (numbers_in (filter p live))
 rise_filter p [] up = tt
 rise_filter p (l ∷ live) up = go (p l) (rise_filter p live up.1)
   where

@@ -26,13 +26,13 @@ use Rattle.mvo_ckpt.proofs.Lasts.{eq, key_at, key_same}
 abbrev Kept : Type 0
 Kept = List (RowKey × ContentData)
 
-abbrev or_else : Option ContentData → Option ContentData → Option ContentData
-or_else (Some h) other = Some h
+abbrev pub or_else : {V : Type 0} → Option V → Option V → Option V
+or_else (Some v) other = Some v
 or_else None other = other
 
 -- ---- looking up
 
-find_append : (es fs : Kept) (k : RowKey) → find key_cmp k (es ++ fs) ≡ or_else (find key_cmp k es) (find key_cmp k fs)
+pub find_append : {V : Type 0} (es fs : List (RowKey × V)) (k : RowKey) → find key_cmp k (es ++ fs) ≡ or_else (find key_cmp k es) (find key_cmp k fs)
 find_append [] fs k = refl
 find_append (e ∷ es) fs k = go (eq k e.0) (find_append es fs k)
   where
@@ -41,17 +41,14 @@ find_append (e ∷ es) fs k = go (eq k e.0) (find_append es fs k)
     go false later = later
 
 -- entries at keys that fail a test
-find_failing : (t : RowKey → Bool) (es : Kept) (k : RowKey) → find key_cmp k (filter (λ e. not (t e.0)) es) ≡ cond (t k) None (find key_cmp k es)
-find_failing t [] k = go (t k)
+pub find_failing : {V : Type 0} (t : RowKey → Bool) (es : List (RowKey × V)) (k : RowKey) → find key_cmp k (filter (λ e. not (t e.0)) es) ≡ cond (t k) None (find key_cmp k es)
+find_failing {V} t [] k = go (t k)
   where
-    go : (b : Bool) → ◌≡◌ {A = Option ContentData} None (cond b None None)
+    go : (b : Bool) → ◌≡◌ {A = Option V} None (cond b None None)
     go true = refl
     go false = refl
 find_failing t (e ∷ es) k = go (eq k e.0) refl (t e.0) refl (find_failing t es k)
   where
-    rest : Kept
-    rest = filter (λ x. not (t x.0)) es
-
     go : (b : Bool) → eq k e.0 ≡ b → (u : Bool) → t e.0 ≡ u → find key_cmp k (filter (λ x. not (t x.0)) es) ≡ cond (t k) None (find key_cmp k es) → find key_cmp k (cond (not u) (e ∷ filter (λ x. not (t x.0)) es) (filter (λ x. not (t x.0)) es)) ≡ cond (t k) None (cond b (Some e.1) (find key_cmp k es))
     go true is true fails later =
         let here : t k ≡ true = ap t (key_same k e.0 is) ∙ fails in

@@ -42,10 +42,10 @@ keys_left gs (live ∷ lives) =
     ∙ sym (filter-append (unwritten gs) (map key_of live) (keys_of lives))
     ∙ ap (λ (ks : List RowKey). filter (unwritten gs) ks) (sym (keys-cons live lives))
 
-abbrev entry_key : EntryData → RowKey
+abbrev pub entry_key : EntryData → RowKey
 entry_key e = e.row.key
 
-keys_numbered : (n : ℕ) (es : List EntryData) → map key_of (enumerate_from n es) ≡ map entry_key es
+pub keys_numbered : (n : ℕ) (es : List EntryData) → map key_of (enumerate_from n es) ≡ map entry_key es
 keys_numbered n [] = refl
 keys_numbered n (e ∷ es) = ap (λ (ks : List RowKey). entry_key e ∷ ks) (keys_numbered (n + 1) es)
 
@@ -70,7 +70,7 @@ record_key w e is = go w.1.1 is
         or_key (Some x) = entry_key x
     go Delete is = absurd cc
 
-entries_differ : (ws : List Stamped) → IsDistinct eq (map key_at ws) → IsDistinct eq (map entry_key (filter_map record_of ws))
+pub entries_differ : (ws : List Stamped) → IsDistinct eq (map key_at ws) → IsDistinct eq (map entry_key (filter_map record_of ws))
 unfolding IsDistinct
 entries_differ [] differ = tt
 entries_differ (w ∷ ws) differ = go (record_of w) refl (entries_differ ws differ.1)

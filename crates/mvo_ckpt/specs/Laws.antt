@@ -14,8 +14,8 @@ use Rattle.mvo_pair.specs.Files.{AreEntries, AreNumbers}
 use Rattle.mvo_pair.specs.Loading.{LoadsAs}
 use Rattle.mvo_pair.specs.declared.pair.Pair.{Pair}
 use Rattle.mvo_image.specs.Rows.{AreApart, rows_of, after_groups}
-use Rattle.mvo_ckpt.specs.Writes.{writes_of, last_write, records_of}
-use Rattle.mvo_ckpt.specs.Places.{PlaceMap, Rise, ArePlaces, file_of, with_live}
+use Rattle.mvo_ckpt.specs.Writes.{writes_of, last_write, records_of, gone_of}
+use Rattle.mvo_ckpt.specs.Places.{PlaceMap, Rise, ArePlaces, file_of, with_live, taken_over}
 use Rattle.mvo_ckpt.specs.Ended.{ended, left_in, lives_after}
 
 -- The rows of the live records after a checkpoint are those before, after the groups.
@@ -72,3 +72,12 @@ PlacesGrow = (ps : List Pair) (lives : List (List Numbered)) (at : PlaceMap) (p 
     (live : List Numbered) → ArePlaces ps lives at →
     IsDistinct nat_eq (map file_of (ps ++ p ∷ [])) → AreApart (lives ++ live ∷ []) → Rise live →
     ArePlaces (ps ++ p ∷ []) (lives ++ live ∷ []) (with_live p.data_file live at)
+
+-- Where a checkpoint's records and removed keys are taken over, each live record that it leaves has
+-- its place: those of the older pairs, whose data files stay, and behind them those of the new one.
+abbrev pub PlacesTakenOver : Type 0
+PlacesTakenOver = (gs : List GroupData) (ps after : List Pair) (lives : List (List Numbered))
+    (at : PlaceMap) (p : Pair) → ArePlaces ps lives at → map file_of after ≡ map file_of ps →
+    IsDistinct nat_eq (map file_of (after ++ p ∷ [])) →
+    ArePlaces (after ++ p ∷ []) (lives_after gs lives)
+    (taken_over p.data_file (records_of gs) (gone_of gs) at)

@@ -1,6 +1,6 @@
 -- Places of live records, by key.
 use Rattle.std.specs.Prelude.{◌≡◌, ℕ, ◌+◌, ◌*◌, ◌/◌, ◌%◌, ◌<◌, List, [], ◌∷◌, ◌++◌, length, map, fold, Some, nat_eq, refl}
-use Rattle.std.specs.List.{AllByRecursion, IsDistinct}
+use Rattle.std.specs.List.{AllByRecursion, IsDistinct, enumerate_from}
 use Rattle.std.specs.List.Sorted.{IsStrictlyIncreasing}
 use Rattle.std.specs.Coded.{Coded, code_by, coded×, coded_ℕ}
 use Rattle.std.specs.FinMap as map
@@ -8,7 +8,7 @@ use Rattle.mvo_types.specs.declared.row.RowKey.{RowKey}
 use Rattle.mvo_types.specs.declared.limits.TheConstants.{MAX_PAIR_RECORDS}
 use Rattle.mvo_types.specs.Keys.{key_cmp, coded_key}
 use Rattle.mvo_hash.specs.Table.{Map, Table}
-use Rattle.mvo_pair.specs.Data.{Numbered}
+use Rattle.mvo_pair.specs.Data.{EntryData, Numbered}
 use Rattle.mvo_pair.specs.declared.pair.Pair.{Pair}
 use Rattle.mvo_image.specs.Rows.{key_of, AreApart}
 use Rattle.mvo_ckpt.specs.declared.place.Place.{Place}
@@ -101,3 +101,8 @@ with_live file live at = fold (λ m l. map.insert m (key_of l) (place file l.0))
 -- without these keys
 abbrev pub without_keys : List RowKey → PlaceMap → PlaceMap
 without_keys ks at = fold (λ m k. map.remove m k) at ks
+
+-- the places after a checkpoint: those of its records, in the data file of its pair, and none of
+-- the keys at which it leaves no row
+abbrev pub taken_over : ℕ → List EntryData → List RowKey → PlaceMap → PlaceMap
+taken_over file es gone at = with_live file (enumerate_from 0 es) (without_keys gone at)

@@ -1,11 +1,12 @@
-ghost use Rattle.std.specs.Prelude.{◌≡◌, ◌<◌, ◌≤◌, ◌+◌, All, OnOk, OnErr, IfOk, IsSome};
+ghost use Rattle.std.specs.Prelude.{◌≡◌, ◌<◌, ◌≤◌, ◌+◌, length, All, OnOk, OnErr, IfOk, IsSome};
 ghost use Rattle.std.specs.Option.{option_map};
 ghost use Rattle.std.specs.FinMap as map;
 ghost use Rattle.mvo_ckpt.specs.Places.{no_places, number_of, AreSmall, with_live};
+ghost use Rattle.mvo_ckpt.specs.Places.{without_keys, taken_over};
 
 use crate::place::Place;
 use mvo_hash::Heads;
-use mvo_pair::Live;
+use mvo_pair::{Entry, Live};
 use mvo_types::{MAX_FILE, MAX_PAIR_RECORDS, RowKey};
 use std::alloc::{AllocError, Global};
 use std::marker::Model;
@@ -122,5 +123,36 @@ impl Places {
             self.put(one.entry.row.key, Place { data_file, number })?;
         }
         Ok(())
+    }
+
+    /// Removes keys, where they are there.
+    fn remove_keys(&mut self, keys: &[RowKey])
+        ensures gone { self.new.at ≡ without_keys keys.now self.old.at }
+        ensures room { self.new.room ≡ self.old.room }
+    {
+        for key in keys {
+            self.remove(*key);
+        }
+    }
+
+    /// Takes over what a checkpoint makes of the places: its records lie in the data file of its
+    /// pair, each at its own number, and these keys have no record. The room for the records is
+    /// there, so it takes no memory.
+    pub fn take_over(&mut self, data_file: u16, records: &[Entry], gone: &[RowKey])
+        requires file { data_file ≤ MAX_FILE }
+        requires few { length records.now ≤ MAX_PAIR_RECORDS }
+        requires room { length records.now ≤ self.old.room }
+        ensures { self.new.at ≡ taken_over data_file records.now gone.now self.old.at }
+    {
+        self.remove_keys(gone);
+        for (number, entry) in records.iter().enumerate() {
+            let place = Place {
+                data_file,
+                number: number as u32,
+            };
+            let Ok(()) = self.put(entry.row.key, place) else {
+                unreachable!()
+            };
+        }
     }
 }

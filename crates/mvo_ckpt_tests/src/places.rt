@@ -67,3 +67,36 @@ fn live_records_have_their_places(rt: HostRuntime) -> Result<(), Fail> {
     assert_eq!(rt; places.get(RowKey { table: 0, key: 99 }), None);
     Ok(())
 }
+
+#[test]
+fn a_checkpoint_is_taken_over(rt: HostRuntime) -> Result<(), Fail> {
+    let alloc = rt.alloc();
+    let mut places = Places::new(alloc, 3);
+    for number in 0u32..3 {
+        let place = Place {
+            data_file: 2,
+            number,
+        };
+        places.put(key_of(u64::from(number)), place)?;
+    }
+    let mut records = Vec::new(alloc);
+    for key in [1, 9] {
+        let begin = Stamp(4);
+        let row = row(alloc, key, 0, 0)?;
+        records.push(Entry { begin, row })?;
+    }
+    assert!(rt; records.len() < 3);
+    places.reserve(records.len())?;
+    places.take_over(6, &records, &[key_of(0), key_of(7)]);
+    let at = |data_file, number| Some(Place { data_file, number });
+    assert_eq!(rt; places.get(key_of(0)), None);
+    assert_eq!(rt; places.get(key_of(1)), at(6, 0));
+    assert_eq!(rt; places.get(key_of(2)), at(2, 2));
+    assert_eq!(rt; places.get(key_of(7)), None);
+    assert_eq!(rt; places.get(key_of(9)), at(6, 1));
+    Ok(())
+}
+
+fn key_of(key: u64) -> RowKey {
+    RowKey { table: 0, key }
+}

@@ -14,3 +14,4 @@ mod stop;
 
 pub use loaded::Loaded;
 pub use loading::load;
+pub use segments::segment_on;

@@ -39,8 +39,11 @@ fn segment_in(
     }
 }
 
-/// What a segment on a disk says.
-fn segment_on<D: Disk>(
+/// What a segment on a disk says, whose first group follows a mark.
+///
+/// Refused: Corrupt with the file or BadVersion, by the first rule that its bytes break.
+/// OutOfMemory or DiskFault may stand in the place of any answer.
+pub fn segment_on<D: Disk>(
     alloc: Global,
     disk: &mut D,
     format: Format,

@@ -1,4 +1,7 @@
 pub mod Named
+pub mod Pairs
+pub mod Counted
+pub mod Gained
 pub mod Opened
 pub mod Framed
 pub mod Grown
@@ -6,6 +9,7 @@ pub mod Appended
 pub mod Installed
 pub mod Rotated
 pub mod Beside
+pub mod Checkpointed
 pub mod Begun
 pub mod Moments
 pub mod Proved

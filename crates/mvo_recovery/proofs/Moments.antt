@@ -1,11 +1,15 @@
 -- What a stop at any moment of a step leaves, from the clauses of the calls that make it.
 use Rattle.std.proofs.Common.{◌≡◌, ◌≢◌, inl, inr, ℕ, List, [], ◌∷◌, subst, sym}
+use Rattle.std.specs.List.{Contains}
 use Rattle.mvo_disk.specs.Disk.{AllOf, Touched, LeavesOnly}
 use Rattle.mvo_disk.specs.Moments.{weaker}
 use Rattle.mvo_group.specs.Data.{GroupData}
 use Rattle.mvo_format.specs.declared.format.Format.{Format}
 use Rattle.mvo_frame.specs.Frames.{HasFrames, AreAllowed}
 use Rattle.mvo_frame.specs.Standing.{HasGate, IsWritten, HasWithOrWithout}
+use Rattle.mvo_pair.specs.declared.pair.Pair.{Pair}
+use Rattle.mvo_pair.specs.Files.{HasNumbers}
+use Rattle.mvo_pair.specs.Writing.{KeepsNumbers}
 use Rattle.mvo_manifest.specs.Data.{ManifestData}
 use Rattle.mvo_manifest.specs.Slots.{IsShut, IsOpen, IsStaged, IsShutOrOpen}
 use Rattle.mvo_image.specs.Opens.{Image}
@@ -14,6 +18,7 @@ use Rattle.mvo_recovery.specs.Settled.{other_slot, IsBehind, IsUsed, IsSettled, 
 use Rattle.mvo_recovery.specs.Installing.{IsNext, IsReady}
 use Rattle.mvo_recovery.proofs.Framed.{settled_gives, within_unused}
 use Rattle.mvo_recovery.proofs.Appended.{within_body, within_gate}
+use Rattle.mvo_recovery.proofs.Gained.{within_numbers, counted_of}
 use Rattle.mvo_recovery.proofs.Installed.{within_close, within_write, within_install}
 
 module _ {D : Type 0} (moment : D → ℕ) (left_since : D → ℕ → Image → Type 0) (content : D → Image) (may : D → ℕ → List ℕ → Type 0) (old new : D) (f : Format) (m : ManifestData) (x : Parts) (settled : IsSettled f (content old) (may old) m x) where
@@ -42,6 +47,12 @@ module _ {D : Type 0} (moment : D → ℕ) (left_since : D → ℕ → Image →
       → ((version mark : ℕ) (gs : List GroupData) (h : GroupData) → IsWritten version mark gs h gate next (content old file) → Leaves (Touched file (may old) (HasWithOrWithout version mark gs h)))
       → Leaves (GivesWithOrWithout f (rows_of_parts x) (mark_of_parts x) g)
   moments_gate file gate next g is allowed written only = touching file (HasWithOrWithout f.version x.middle x.last g) (GivesWithOrWithout f (rows_of_parts x) (mark_of_parts x) g) (within_gate f (content old) (may old) m x settled file is g allowed) (only f.version x.middle x.last g written)
+
+  -- numbers are written behind the counted ones of a pair's delta file
+  pub moments_numbers : (p : Pair) → Contains m.pairs p → KeepsNumbers moment left_since content may old new p.delta_file p.entries → Leaves (GivesParts f x)
+  moments_numbers p has only =
+      let counted = counted_of f (content old) (may old) m x settled p has x.lives m.pairs settled.installed.parts.live has in
+      touching p.delta_file (HasNumbers f.version p.records p.entries counted.0) (GivesParts f x) (within_numbers f (content old) (may old) m x settled p has counted.0 counted.1) (only f.version p.records counted.0 counted.1)
 
   module _ (slot : ℕ) (it : slot ≡ other_slot m) where
     -- the other slot is closed, which has some byte

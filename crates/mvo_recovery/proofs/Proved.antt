@@ -5,11 +5,13 @@ use Rattle.mvo_image.specs.Opens.{Image}
 use Rattle.mvo_image.specs.Files.{GivesRows}
 use Rattle.mvo_recovery.specs.Parts.{rows_of_parts}
 use Rattle.mvo_recovery.specs.Settled.{other_slot}
-use Rattle.mvo_recovery.specs.Laws.{GivesInstalled, GivesSettled, UnusedIsNotRead, GroupCounts, InstallKeeps, RotationIsReady}
+use Rattle.mvo_recovery.specs.Laws.{GivesInstalled, GivesSettled, UnusedIsNotRead, GroupCounts, InstallKeeps, RotationIsReady, NumbersBehindAreNotRead, CheckpointIsReady}
 use Rattle.mvo_recovery.proofs.Opened.{installed_gives, gives_installed}
 use Rattle.mvo_recovery.proofs.Framed.{settled_gives, within_unused}
 use Rattle.mvo_recovery.proofs.Appended.{within_gate}
 use Rattle.mvo_recovery.proofs.Installed.{within_install}
+use Rattle.mvo_recovery.proofs.Gained.{within_numbers}
+use Rattle.mvo_recovery.proofs.Checkpointed.{ready_checkpointed, is_manifest_checkpointed, same_checkpointed}
 use Rattle.mvo_recovery.proofs.Rotated.{ready_rotated, same_rotated, manifest_rotated}
 
 pub gives_installed_law : GivesInstalled
@@ -37,4 +39,15 @@ module _ (content : Image) (may : ℕ → List ℕ → Type 0) where
     next = refl;
     ready = ready_rotated f content may m x fresh is some settled;
     same = same_rotated x;
+  }
+
+  pub numbers_law : NumbersBehindAreNotRead content may
+  numbers_law f m x settled p has ns counted image t = within_numbers f content may m x settled p has ns counted image t
+
+  pub checkpoint_law : CheckpointIsReady content may
+  checkpoint_law f m x c settled oldest may_checkpoint make data_file delta_file gained = record {
+    is = is_manifest_checkpointed f content may m x c oldest settled may_checkpoint make data_file delta_file gained;
+    next = refl;
+    ready = ready_checkpointed f content may m x c oldest settled may_checkpoint make data_file delta_file gained;
+    same = same_checkpointed f content may m x c oldest make;
   }

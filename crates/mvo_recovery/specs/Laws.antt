@@ -1,11 +1,14 @@
 -- The laws of recovery, over the content of a disk and what a stop may leave of it.
 use Rattle.std.specs.Prelude.{◌≡◌, ◌≢◌, ◌↔◌, ⊤, ℕ, List, [], ◌∷◌}
+use Rattle.std.specs.List.{Contains}
 use Rattle.mvo_types.specs.Keys.{Map}
 use Rattle.mvo_disk.specs.Disk.{AllOf, Touched}
 use Rattle.mvo_group.specs.Data.{GroupData}
 use Rattle.mvo_format.specs.declared.format.Format.{Format}
 use Rattle.mvo_frame.specs.Frames.{AreAllowed}
 use Rattle.mvo_frame.specs.Standing.{HasWithOrWithout}
+use Rattle.mvo_pair.specs.declared.pair.Pair.{Pair}
+use Rattle.mvo_pair.specs.Files.{HasNumbers}
 use Rattle.mvo_manifest.specs.Data.{ManifestData}
 use Rattle.mvo_manifest.specs.Rules.{IsManifest}
 use Rattle.mvo_manifest.specs.Slots.{IsShutOrOpen}
@@ -15,6 +18,9 @@ use Rattle.mvo_recovery.specs.Parts.{Parts, rows_of_parts, mark_of_parts, MakeUp
 use Rattle.mvo_recovery.specs.Settled.{other_slot, IsUsed, IsInstalled, IsSettled}
 use Rattle.mvo_recovery.specs.Settled.{GivesParts, GivesWithOrWithout}
 use Rattle.mvo_recovery.specs.Installing.{IsNext, IsReady}
+use Rattle.mvo_recovery.specs.Checkpoint.{CheckpointData, checkpointed, checkpointed_parts}
+use Rattle.mvo_recovery.specs.Checkpoint.{IsOldest, MakeUpGroups, MayCheckpoint}
+use Rattle.mvo_recovery.specs.Checkpoint.{HasData, HasDelta, HaveGained}
 use Rattle.mvo_recovery.specs.Rotation.{rotated, rotated_parts, IsFresh, MayRotate}
 
 -- a manifest is installed whose parts make up these rows and this mark
@@ -71,3 +77,29 @@ abbrev pub RotationIsReady : Image → (ℕ → List ℕ → Type 0) → Type 0
 RotationIsReady content may = (f : Format) (m : ManifestData) (x : Parts) (fresh : ℕ) →
     IsSettled f content may m x → IsFresh f content may fresh → MayRotate m fresh → x.last ≢ [] →
     IsRotated f content may m x fresh
+
+-- An image in which the delta file of a pair has the numbers that count, and then any bytes, gives
+-- what is settled.
+abbrev pub NumbersBehindAreNotRead : Image → (ℕ → List ℕ → Type 0) → Type 0
+NumbersBehindAreNotRead content may = (f : Format) (m : ManifestData) (x : Parts) →
+    IsSettled f content may m x → (p : Pair) → Contains m.pairs p → (ns : List ℕ) →
+    HasNumbers f.version p.records p.entries ns (content p.delta_file) → (image : Image) →
+    Touched p.delta_file may (HasNumbers f.version p.records p.entries ns) image →
+    GivesParts f x image
+
+-- the manifest of a checkpoint may be installed, and changes neither rows nor mark
+pub record IsCheckpointed (f : Format) (content : Image) (may : ℕ → List ℕ → Type 0)
+    (m : ManifestData) (x : Parts) (c : CheckpointData) (others : List GroupData) : Type 0 where
+  pub is : IsManifest (checkpointed m c)
+  pub next : IsNext m (checkpointed m c)
+  pub ready : IsReady f content may (checkpointed m c) (checkpointed_parts m x c others)
+  pub same : MakeUpSame x (checkpointed_parts m x c others)
+
+-- Where the new pair's files stand and each older delta has its new numbers, and where what all of
+-- them leave live makes up the rows after the oldest segment's groups, a checkpoint may be
+-- installed.
+abbrev pub CheckpointIsReady : Image → (ℕ → List ℕ → Type 0) → Type 0
+CheckpointIsReady content may = (f : Format) (m : ManifestData) (x : Parts) (c : CheckpointData) →
+    IsSettled f content may m x → (oldest : IsOldest f content m x c) → MayCheckpoint m c →
+    MakeUpGroups m x c → HasData f content may c → HasDelta f content may c.pair →
+    HaveGained f content c.numbers m x → IsCheckpointed f content may m x c oldest.others

@@ -1,5 +1,5 @@
 -- What stops a flush, and that each of its turns leaves fewer groups that wait.
-use Rattle.std.proofs.Common.{◌≡◌, ◌≢◌, ◌⊎◌, ◌<◌, ◌++◌, ℕ, suc, Bool, true, false, List, [], ◌∷◌, length, Option, Some, None, refl, sym, subst, ◌∙◌, ap, ap₂, inl, inr, arith}
+use Rattle.std.proofs.Common.{◌≡◌, ◌≢◌, ◌⊎◌, ◌<◌, ◌++◌, ℕ, zero, suc, Bool, true, false, List, [], ◌∷◌, length, Option, Some, None, refl, sym, subst, ◌∙◌, ap, ap₂, inl, inr, arith}
 use Rattle.std.specs.Option.{option_to_list}
 use Rattle.std.specs.Prelude.{is_some}
 use Rattle.mvo_types.specs.declared.ids.Stamp.{Stamp}
@@ -7,21 +7,25 @@ use Rattle.mvo_types.specs.declared.refusal.Refusal.{Refusal}
 use Rattle.mvo_types.specs.declared.refusal.Refusal.TheVariants.{Busy, NothingToDo, RingFull, SegmentFull, DiskFault, Down}
 use Rattle.mvo_core.specs.declared.closed.Closed.{Closed as ClosedGroup}
 use Rattle.mvo_disk.specs.declared.disk.Disk.{Ghosts}
-use Rattle.mvo_store.specs.declared.generation.Generation.{Generation}
-use Rattle.mvo_store.specs.declared.rotation.Rotation.{Rotation}
+use Rattle.mvo_store.specs.declared.job.Job.{Job}
+use Rattle.mvo_store.specs.declared.progress.Progress.TheVariants.{More}
 use Rattle.mvo_store.specs.Causes.{first_cause}
 use Rattle.mvo_store.specs.Steps.{IsInstalledBy}
 use Rattle.mvo_store.specs.StoreData.{StoreData}
 use Rattle.mvo_world.specs.WorldData.{WorldData, waiting}
-use Rattle.mvo_world.specs.Replies.{IsReplyTo, IsLeft, or_nothing, why_not_taken}
+use Rattle.mvo_world.specs.Replies.{IsReplyTo, IsLeft, or_nothing}
 use Rattle.mvo_world.specs.declared.event.Event.{Event}
-use Rattle.mvo_world.specs.declared.event.Event.TheVariants.{CloseGroup, TakeGroup, AppendBody, AppendOpen, RotateWrite, InstallClose, InstallBody, InstallOpen}
+use Rattle.mvo_world.specs.declared.event.Event.TheVariants.{CloseGroup, TakeGroup, AppendBody, AppendOpen, RotateWrite, CheckpointData, CheckpointDelta, InstallClose, InstallBody, InstallOpen}
 use Rattle.mvo_world.specs.declared.reply.Reply.{Reply}
-use Rattle.mvo_world.specs.declared.reply.Reply.TheVariants.{Closed, Taken, Written, Durable, Ready, Shut, Installed, Refused}
-use Rattle.mvo_script.specs.Rotating.{AreToStop, IsRotated, is_refused, rotation}
+use Rattle.mvo_world.specs.declared.reply.Reply.TheVariants.{Closed, Taken, Written, Durable, Ready, Progress as Progressed, Shut, Installed, Refused}
+use Rattle.mvo_script.specs.Stopping.{AreToStop, is_refused}
+use Rattle.mvo_script.specs.Rotating.{install, rotation}
+use Rattle.mvo_script.specs.Checkpointing.{AreDeltas, AreMore}
+use Rattle.mvo_script.specs.Room.{IsJobEnded, IsRoomMade, EndsJob, stops_job}
+use Rattle.mvo_script.specs.Room.IsRoomMade.{AtOnce, AtJob, AtAgain, AtEnough}
 use Rattle.mvo_script.specs.Flushing.{IsAppend, IsAppended, IsFlush, IsFlushed, IsRotatedAppend, append, stops_flush}
 use Rattle.mvo_script.specs.Flushing.IsAppend.{AtBody, AtOpen, AtFull}
-use Rattle.mvo_script.specs.Flushing.IsRotatedAppend.{AtRotation, AtAppend}
+use Rattle.mvo_script.specs.Flushing.IsRotatedAppend.{AtRoom, AtAppend}
 
 -- ---- what stops a flush
 
@@ -31,9 +35,6 @@ stop_is_refusal e (Refused why) h = refl
 stop_is_refusal CloseGroup _ h = h
 stop_is_refusal TakeGroup _ h = h
 stop_is_refusal AppendBody _ h = h
-stop_is_refusal RotateWrite _ h = h
-stop_is_refusal InstallClose _ h = h
-stop_is_refusal InstallBody _ h = h
 stop_is_refusal _ _ h = h
 
 -- closing goes on where it is refused for want of commits or of a place
@@ -52,10 +53,9 @@ not_durable (Refused why) it other = refl
 not_durable (Durable m) it other = absurd (other m refl)
 not_durable _ it other = absurd it
 
-pub not_installed : (r : Reply) → IsRotated r → ((n : Generation) → r ≢ Installed n) → is_refused r ≡ true
-not_installed (Refused why) it other = refl
-not_installed (Installed n) it other = absurd (other n refl)
-not_installed _ it other = absurd it
+pub refused_append : (r : Reply) → is_refused r ≡ true → IsAppended r
+refused_append (Refused why) h = tt
+refused_append _ h = cc
 
 module _ {D : Type 0} (d : Ghosts D) (w v : WorldData D) where
   pub close_stops : (r : Reply) → IsReplyTo d w CloseGroup r v → ((c : ClosedGroup) → r ≢ Closed c) → r ≢ Refused NothingToDo → r ≢ Refused RingFull → stops_flush CloseGroup r ≡ true
@@ -76,24 +76,6 @@ module _ {D : Type 0} (d : Ghosts D) (w v : WorldData D) where
   body_stops (Refused Busy) it one two = absurd (two refl)
   body_stops (Refused _) it one two = refl
   body_stops _ it one two = absurd it
-
-  pub write_stops : (r : Reply) → IsReplyTo d w RotateWrite r v → r ≢ Ready → r ≢ Refused Busy → stops_flush RotateWrite r ≡ true
-  write_stops Ready it one two = absurd (one refl)
-  write_stops (Refused Busy) it one two = absurd (two refl)
-  write_stops (Refused _) it one two = refl
-  write_stops _ it one two = absurd it
-
-  pub shut_stops : (r : Reply) → IsReplyTo d w InstallClose r v → r ≢ Shut → r ≢ Refused NothingToDo → stops_flush InstallClose r ≡ true
-  shut_stops Shut it one two = absurd (one refl)
-  shut_stops (Refused NothingToDo) it one two = absurd (two refl)
-  shut_stops (Refused _) it one two = refl
-  shut_stops _ it one two = absurd it
-
-  pub slot_stops : (r : Reply) → IsReplyTo d w InstallBody r v → r ≢ Written → r ≢ Refused NothingToDo → stops_flush InstallBody r ≡ true
-  slot_stops Written it one two = absurd (one refl)
-  slot_stops (Refused NothingToDo) it one two = absurd (two refl)
-  slot_stops (Refused _) it one two = refl
-  slot_stops _ it one two = absurd it
 
 -- ---- how many groups wait
 
@@ -120,60 +102,101 @@ none_pending true pending place h = cc
 none_pending false (Some g) place h = cc
 none_pending false None place h = refl
 
-installed_pending : {D : Type 0} (o : Option Rotation) (old new : StoreData D) → IsInstalledBy o old new → new.pending ≡ old.pending
+installed_pending : {D : Type 0} (o : Option Job) (old new : StoreData D) → IsInstalledBy o old new → new.pending ≡ old.pending
 installed_pending {D = D} None old new h = absurd h
-installed_pending {D = D} (Some r) old new h = ap (λ (s : StoreData D). s.pending) h
+installed_pending {D = D} (Some j) old new h = ap (λ (s : StoreData D). s.pending) h
+
+-- the steps of a rotation, and those that are left of a checkpoint that is read
+abbrev IsOfJob : Event → Type 0
+IsOfJob RotateWrite = Unit {0}
+IsOfJob CheckpointData = Unit {0}
+IsOfJob CheckpointDelta = Unit {0}
+IsOfJob InstallClose = Unit {0}
+IsOfJob InstallBody = Unit {0}
+IsOfJob InstallOpen = Unit {0}
+IsOfJob e = ⊥
+
+abbrev AreOfJob : List Event → Type 0
+AreOfJob [] = Unit {0}
+AreOfJob (e ∷ es) = IsOfJob e × AreOfJob es
 
 module _ {D : Type 0} (d : Ghosts D) where
-  left_keeps : (w v : WorldData D) (r : Refusal) → r ≢ DiskFault → IsLeft d w r v → KeepsGroups w v
-  left_keeps w v r other it = record {
+  left_keeps : (w v : WorldData D) (r : Refusal) → IsLeft d w r v → KeepsGroups w v
+  left_keeps w v DiskFault it = record {
     place = ap (λ (x : WorldData D). x.place) it.rest;
-    pending = ap (λ (s : StoreData D). s.pending) (it.store.other other);
+    pending = let fault = it.store.fault refl in ap (λ (s : StoreData D). s.pending) fault.after;
   }
+  left_keeps w v r it = record {
+    place = ap (λ (x : WorldData D). x.place) it.rest;
+    pending = ap (λ (s : StoreData D). s.pending) (it.store.other (λ e. cc));
+  }
+
+  job_keeps : (e : Event) → IsOfJob e → (w v : WorldData D) (r : Reply) → IsReplyTo d w e r v → KeepsGroups w v
+  job_keeps RotateWrite h w v Ready it = record { place = ap (λ (x : WorldData D). x.place) it.1.after; pending = ap (λ (x : WorldData D). x.store.pending) it.1.after }
+  job_keeps RotateWrite h w v (Refused why) it = left_keeps w v why it.1
+  job_keeps RotateWrite h w v _ it = absurd it
+  job_keeps CheckpointData h w v (Progressed More) it = record { place = ap (λ (x : WorldData D). x.place) it.1; pending = ap (λ (x : WorldData D). x.store.pending) it.1 }
+  job_keeps CheckpointData h w v (Refused why) it = left_keeps w v why it.1
+  job_keeps CheckpointData h w v _ it = absurd it
+  job_keeps CheckpointDelta h w v (Progressed p) it = record { place = ap (λ (x : WorldData D). x.place) it.1.after; pending = ap (λ (x : WorldData D). x.store.pending) it.1.after }
+  job_keeps CheckpointDelta h w v (Refused why) it = left_keeps w v why it.1
+  job_keeps CheckpointDelta h w v _ it = absurd it
+  job_keeps InstallClose h w v Shut it = record { place = ap (λ (x : WorldData D). x.place) it.1; pending = ap (λ (x : WorldData D). x.store.pending) it.1 }
+  job_keeps InstallClose h w v (Refused why) it = left_keeps w v why it.1
+  job_keeps InstallClose h w v _ it = absurd it
+  job_keeps InstallBody h w v Written it = record { place = ap (λ (x : WorldData D). x.place) it.1; pending = ap (λ (x : WorldData D). x.store.pending) it.1 }
+  job_keeps InstallBody h w v (Refused why) it = left_keeps w v why it.1
+  job_keeps InstallBody h w v _ it = absurd it
+  job_keeps InstallOpen h w v (Installed n) it = record { place = ap (λ (x : WorldData D). x.place) it.1.rest; pending = installed_pending w.store.job w.store v.store it.1.installed }
+  job_keeps InstallOpen h w v (Refused why) it = left_keeps w v why it.1
+  job_keeps InstallOpen h w v _ it = absurd it
+  job_keeps _ h w v r it = absurd h
+
+  jobs_keep : (stops : Event → Reply → Bool) (es : List Event) → AreOfJob es → (w v : WorldData D) (r : Reply) → AreToStop (IsReplyTo d) stops es w r v → KeepsGroups w v
+  jobs_keep stops [] h w v r it = absurd it
+  jobs_keep stops (e ∷ []) h w v r it = job_keeps e h.0 w v r it
+  jobs_keep stops (e ∷ next ∷ es) h w v r (inl a) = job_keeps e h.0 w v r a.0
+  jobs_keep stops (e ∷ next ∷ es) h w v r (inr a) = then_keeps w a.1 v (job_keeps e h.0 w a.1 a.0 a.2) (jobs_keep stops (next ∷ es) h.1 a.1 v r a.4)
+
+  stays : (w v : WorldData D) → v ≡ w → KeepsGroups w v
+  stays w v same = record { place = ap (λ (x : WorldData D). x.place) same; pending = ap (λ (x : WorldData D). x.store.pending) same }
+
+  more_keeps : (n : ℕ) (w v : WorldData D) → AreMore (IsReplyTo d) n w v → KeepsGroups w v
+  more_keeps zero w v it = stays w v it
+  more_keeps (suc n) w v it = then_keeps w it.0 v (more_keeps n w it.0 it.1) (job_keeps CheckpointDelta tt it.0 v (Progressed More) it.2)
+
+  last_keeps : (w v : WorldData D) (r : Reply) → IsReplyTo d w CheckpointDelta r v ⊎ ((r ≡ Progressed More) × (v ≡ w)) → KeepsGroups w v
+  last_keeps w v r (inl it) = job_keeps CheckpointDelta tt w v r it
+  last_keeps w v r (inr it) = stays w v it.1
+
+  deltas_keep : (w v : WorldData D) (r : Reply) → AreDeltas (IsReplyTo d) w r v → KeepsGroups w v
+  deltas_keep w v r it = then_keeps w it.before v (more_keeps it.count w it.before it.more) (last_keeps it.before v r it.last)
+
+  ended_keeps : (w v : WorldData D) (r : Reply) → IsJobEnded (IsReplyTo d) w r v → KeepsGroups w v
+  ended_keeps w v r (inl a) = job_keeps CheckpointData tt w v r a.0
+  ended_keeps w v r (inr a) = then_keeps w a.1 v (job_keeps CheckpointData tt w a.1 a.0 a.2) (rest a.1 a.4)
+    where
+      rest : (x : WorldData D) → ((AreDeltas (IsReplyTo d) x r v × (stops_job r ≡ true)) ⊎ ((q : Reply) × (u : WorldData D) × AreDeltas (IsReplyTo d) x q u × (stops_job q ≡ false) × AreToStop (IsReplyTo d) (λ e r. stops_job r) install u r v)) → KeepsGroups x v
+      rest x (inl b) = deltas_keep x v r b.0
+      rest x (inr b) = then_keeps x b.1 v (deltas_keep x b.1 b.0 b.2) (jobs_keep (λ e r. stops_job r) install (tt, (tt, (tt, tt))) b.1 v r b.4)
+
+  rotation_keeps : (w v : WorldData D) (r : Reply) → AreToStop (IsReplyTo d) (λ e r. is_refused r) rotation w r v → KeepsGroups w v
+  rotation_keeps w v r it = jobs_keep (λ e r. is_refused r) rotation (tt, (tt, (tt, (tt, tt)))) w v r it
+
+  behind_keeps : (w v : WorldData D) (r : Reply) → EndsJob (IsReplyTo d) w r v → KeepsGroups w v
+  behind_keeps w v r it = then_keeps w it.then_on v (rotation_keeps w it.then_on (Refused Busy) it.busy) (ended_keeps it.then_on v r it.ended)
+
+  room_keeps : (w v : WorldData D) (r : Reply) → IsRoomMade (IsReplyTo d) w r v → KeepsGroups w v
+  room_keeps w v r (AtOnce other it) = rotation_keeps w v r it
+  room_keeps w v r (AtJob refused it) = behind_keeps w v r it
+  room_keeps w v r (AtAgain q u goes other it again) = then_keeps w u v (behind_keeps w u q it) (rotation_keeps u v r again)
+  room_keeps w v r (AtEnough u goes it again) = then_keeps w u v (behind_keeps w u r it) (rotation_keeps u v (Refused NothingToDo) again)
 
   body_keeps : (w v : WorldData D) (r : Reply) → IsReplyTo d w AppendBody r v → stops_flush AppendBody r ≡ false → KeepsGroups w v
   body_keeps w v Written it h = record { place = ap (λ (x : WorldData D). x.place) it.1; pending = ap (λ (x : WorldData D). x.store.pending) it.1 }
-  body_keeps w v (Refused Busy) it h = left_keeps w v Busy (λ e. cc) it.1
+  body_keeps w v (Refused Busy) it h = left_keeps w v Busy it.1
   body_keeps w v (Refused _) it h = cc
   body_keeps w v _ it h = absurd it
-
-  write_keeps : (w v : WorldData D) (r : Reply) → IsReplyTo d w RotateWrite r v → stops_flush RotateWrite r ≡ false → KeepsGroups w v
-  write_keeps w v Ready it h = record { place = ap (λ (x : WorldData D). x.place) it.1.after; pending = ap (λ (x : WorldData D). x.store.pending) it.1.after }
-  write_keeps w v (Refused Busy) it h = left_keeps w v Busy (λ e. cc) it.1
-  write_keeps w v (Refused _) it h = cc
-  write_keeps w v _ it h = absurd it
-
-  shut_keeps : (w v : WorldData D) (r : Reply) → IsReplyTo d w InstallClose r v → stops_flush InstallClose r ≡ false → KeepsGroups w v
-  shut_keeps w v Shut it h = record { place = ap (λ (x : WorldData D). x.place) it.1; pending = ap (λ (x : WorldData D). x.store.pending) it.1 }
-  shut_keeps w v (Refused NothingToDo) it h = left_keeps w v NothingToDo (λ e. cc) it.1
-  shut_keeps w v (Refused _) it h = cc
-  shut_keeps w v _ it h = absurd it
-
-  slot_keeps : (w v : WorldData D) (r : Reply) → IsReplyTo d w InstallBody r v → stops_flush InstallBody r ≡ false → KeepsGroups w v
-  slot_keeps w v Written it h = record { place = ap (λ (x : WorldData D). x.place) it.1; pending = ap (λ (x : WorldData D). x.store.pending) it.1 }
-  slot_keeps w v (Refused NothingToDo) it h = left_keeps w v NothingToDo (λ e. cc) it.1
-  slot_keeps w v (Refused _) it h = cc
-  slot_keeps w v _ it h = absurd it
-
-  install_keeps : (w v : WorldData D) (r : Reply) → IsReplyTo d w InstallOpen r v → is_refused r ≡ false → KeepsGroups w v
-  install_keeps w v (Installed n) it h = record { place = ap (λ (x : WorldData D). x.place) it.1.rest; pending = installed_pending w.store.rotation w.store v.store it.1.installed }
-  install_keeps w v (Refused why) it h = cc
-  install_keeps w v _ it h = absurd it
-
-  not_both : {A : Type 0} (e : Event) (r : Reply) → is_refused r ≡ false → stops_flush e r ≡ true → A
-  not_both e r passes stops = let refused = stop_is_refusal e r stops in cc
-
-  rotation_keeps : (w v : WorldData D) (r : Reply) → is_refused r ≡ false → AreToStop (IsReplyTo d) stops_flush rotation w r v → KeepsGroups w v
-  rotation_keeps w v r passes (inl h) = not_both RotateWrite r passes h.1
-  rotation_keeps w v r passes (inr a) = then_keeps w a.1 v (write_keeps w a.1 a.0 a.2 a.3) (at_close a.1 a.4)
-    where
-      at_body : (x : WorldData D) → AreToStop (IsReplyTo d) stops_flush (InstallBody ∷ InstallOpen ∷ []) x r v → KeepsGroups x v
-      at_body x (inl h) = not_both InstallBody r passes h.1
-      at_body x (inr b) = then_keeps x b.1 v (slot_keeps x b.1 b.0 b.2 b.3) (install_keeps b.1 v r b.4 passes)
-
-      at_close : (x : WorldData D) → AreToStop (IsReplyTo d) stops_flush (InstallClose ∷ InstallBody ∷ InstallOpen ∷ []) x r v → KeepsGroups x v
-      at_close x (inl h) = not_both InstallClose r passes h.1
-      at_close x (inr b) = then_keeps x b.1 v (shut_keeps x b.1 b.0 b.2 b.3) (at_body b.1 b.4)
 
   taken_count : (w v : WorldData D) (r : Reply) → IsReplyTo d w TakeGroup r v → stops_flush TakeGroup r ≡ false → count v ≡ count w
   taken_count w v Taken it h =
@@ -201,9 +224,9 @@ module _ {D : Type 0} (d : Ghosts D) where
       omega arith
 
   rotated_count : (w v : WorldData D) (r : Reply) (m : Stamp) → r ≡ Durable m → IsRotatedAppend (IsReplyTo d) w r v → count v < count w
-  rotated_count w v r m is (AtRotation refused it) = cc
+  rotated_count w v r m is (AtRoom refused it) = cc
   rotated_count w v r m is (AtAppend q u passes it rest) =
-      let same = kept_count w u (rotation_keeps w u q passes it) in
+      let same = kept_count w u (room_keeps w u q it) in
       let less = append_count u v m (subst (λ (x : Reply). AreToStop (IsReplyTo d) stops_flush append u x v) is rest) in
       omega arith
 
@@ -214,7 +237,7 @@ module _ {D : Type 0} (d : Ghosts D) where
       let less = opened_count u v m (subst (λ (x : Reply). IsReplyTo d u AppendOpen x v) is rest) in
       omega arith
   appended_count w v r m is (AtFull u it rest) =
-      let same = kept_count w u (left_keeps w u SegmentFull (λ e. cc) it.1) in
+      let same = kept_count w u (left_keeps w u SegmentFull it.1) in
       let less = rotated_count u v r m is rest in
       omega arith
 

@@ -15,7 +15,9 @@ use Rattle.mvo_world.specs.declared.reply.Reply.{Reply}
 use Rattle.mvo_world.specs.declared.reply.Reply.TheVariants.{Core, Polled, Refused}
 use Rattle.mvo_script.specs.Bound.{bound_by, BindsBegun, Ends, KeepsBound, is_covered}
 use Rattle.mvo_script.specs.Flushing.{IsFlush, IsFlushed}
-use Rattle.mvo_script.specs.Rotating.{rotation, AreToRefusal}
+use Rattle.mvo_script.specs.Rotating.{rotation}
+use Rattle.mvo_script.specs.Stopping.{AreToRefusal}
+use Rattle.mvo_script.specs.Checkpointing.{IsCheckpoint}
 use Rattle.mvo_script.specs.declared.bound.BoundTx.{BoundTx}
 use Rattle.mvo_script.specs.declared.driver.Driver.{Driver}
 use Rattle.mvo_script.specs.declared.line.Line.{Line}
@@ -143,9 +145,14 @@ module _ {D : Type 0} (IsStep : WorldData D → Event → Reply → WorldData D 
   IsAnswer d line.Flush r d' =
       IsFlush IsStep d.world r d'.world × IsFlushed d'.world r × (d'.names ≡ d.names)
   IsAnswer d line.RotateWrite r d' = IsStepOf d event.RotateWrite r d'
+  IsAnswer d line.CheckpointRead r d' = IsStepOf d event.CheckpointRead r d'
+  IsAnswer d line.CheckpointData r d' = IsStepOf d event.CheckpointData r d'
+  IsAnswer d line.CheckpointDelta r d' = IsStepOf d event.CheckpointDelta r d'
   IsAnswer d line.InstallClose r d' = IsStepOf d event.InstallClose r d'
   IsAnswer d line.InstallBody r d' = IsStepOf d event.InstallBody r d'
   IsAnswer d line.InstallOpen r d' = IsStepOf d event.InstallOpen r d'
   IsAnswer d line.Rotate r d' =
       AreToRefusal IsStep rotation d.world r d'.world × (d'.names ≡ d.names)
+  IsAnswer d line.Checkpoint r d' =
+      IsCheckpoint IsStep d.world r d'.world × (d'.names ≡ d.names)
   IsAnswer d line.Reclaim r d' = IsStepOf d event.Reclaim r d'

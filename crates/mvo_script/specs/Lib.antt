@@ -3,6 +3,9 @@ pub mod Begun
 pub mod Bound
 pub mod Fresh
 pub mod Forms
+pub mod Stopping
 pub mod Rotating
+pub mod Checkpointing
+pub mod Room
 pub mod Flushing
 pub mod Answers

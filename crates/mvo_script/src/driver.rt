@@ -2,6 +2,7 @@ ghost use Rattle.std.specs.Prelude.{◌≡◌, IfOk, IfErr};
 ghost use Rattle.mvo_script.specs.Fresh.{IsFreshWorld};
 
 use crate::bound::BoundTx;
+use crate::checkpoint::checkpoint;
 use crate::flush::flush;
 use crate::line::{Line, RowText};
 use crate::names::Names;
@@ -100,10 +101,14 @@ impl<D: Disk> Driver<D> {
             Line::Open => Some(self.ask(Event::AppendOpen)),
             Line::Flush => Some(flush(&mut self.world)),
             Line::RotateWrite => Some(self.ask(Event::RotateWrite)),
+            Line::CheckpointRead => Some(self.ask(Event::CheckpointRead)),
+            Line::CheckpointData => Some(self.ask(Event::CheckpointData)),
+            Line::CheckpointDelta => Some(self.ask(Event::CheckpointDelta)),
             Line::InstallClose => Some(self.ask(Event::InstallClose)),
             Line::InstallBody => Some(self.ask(Event::InstallBody)),
             Line::InstallOpen => Some(self.ask(Event::InstallOpen)),
             Line::Rotate => Some(rotate(&mut self.world)),
+            Line::Checkpoint => Some(checkpoint(&mut self.world)),
             Line::Reclaim => Some(self.ask(Event::Reclaim)),
         }
     }

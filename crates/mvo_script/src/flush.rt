@@ -1,7 +1,10 @@
+ghost use Rattle.std.specs.Prelude.{◌≡◌};
 ghost use Rattle.mvo_world.specs.Replies.{IsReplyTo};
 ghost use Rattle.mvo_script.specs.Flushing.{IsAppend, IsAppended, IsFlush, IsFlushed, IsRotatedAppend};
+ghost use Rattle.mvo_script.specs.Flushing.{stops_flush};
 
-use crate::rotate::finish_rotation;
+use crate::room::make_room;
+use crate::rotate::is_refused;
 use mvo_disk::Disk;
 use mvo_types::Refusal;
 use mvo_world::{Event, Reply, World};
@@ -32,7 +35,7 @@ pub fn flush<D: Disk>(world: &mut World<D>) -> Reply
 }
 
 /// Makes the pending group durable. Its body may be written already. Where the segment is full for
-/// it, the log is rotated first.
+/// it, room is made first.
 fn append<D: Disk>(world: &mut World<D>) -> Reply
     ensures answer { IsAppended result }
     ensures steps { let step = IsReplyTo D.Disk in IsAppend step world.old result world.new }
@@ -44,18 +47,30 @@ fn append<D: Disk>(world: &mut World<D>) -> Reply
     }
 }
 
-/// Makes the pending group durable in the segment that a rotation gives.
+/// Makes the pending group durable in the segment that a rotation of the log gives.
 fn append_rotated<D: Disk>(world: &mut World<D>) -> Reply
     ensures answer { IsAppended result }
     ensures steps { let step = IsReplyTo D.Disk in
         IsRotatedAppend step world.old result world.new }
 {
-    match finish_rotation(world) {
-        Reply::Installed(_) => {}
-        refused => return refused,
+    let room = make_room(world);
+    if is_refused(&room) {
+        return room;
     }
-    match world.step(Event::AppendBody) {
-        Reply::Written | Reply::Refused(Refusal::Busy) => world.step(Event::AppendOpen),
-        refused => refused,
+    let written = world.step(Event::AppendBody);
+    if stops_body(&written) {
+        return written;
+    }
+    world.step(Event::AppendOpen)
+}
+
+/// Whether the reply to the writing of a body stops a flush: a refusal, but not that of a body that
+/// is written already.
+fn stops_body(reply: &Reply) -> bool
+    ensures { result ≡ stops_flush Event.AppendBody reply.now }
+{
+    match reply {
+        Reply::Refused(Refusal::Busy) => false,
+        reply => is_refused(reply),
     }
 }

@@ -2,11 +2,13 @@
 #![tactic(auto)]
 
 mod bound;
+mod checkpoint;
 mod driver;
 mod flush;
 mod line;
 mod names;
 mod reply;
+mod room;
 mod rotate;
 mod script;
 mod words;

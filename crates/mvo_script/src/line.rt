@@ -43,6 +43,12 @@ pub enum Line<'a> {
     Flush,
     /// `rotate-write`
     RotateWrite,
+    /// `checkpoint-read`
+    CheckpointRead,
+    /// `checkpoint-data`
+    CheckpointData,
+    /// `checkpoint-delta`
+    CheckpointDelta,
     /// `install-close`
     InstallClose,
     /// `install-body`
@@ -51,6 +57,8 @@ pub enum Line<'a> {
     InstallOpen,
     /// `rotate`
     Rotate,
+    /// `checkpoint`
+    Checkpoint,
     /// `reclaim`
     Reclaim,
 }
@@ -94,10 +102,14 @@ fn line_of<'a>(first: &str, rest: &mut str::Split<'a, char>) -> Option<Line<'a>>
         "open" => Some(Line::Open),
         "flush" => Some(Line::Flush),
         "rotate-write" => Some(Line::RotateWrite),
+        "checkpoint-read" => Some(Line::CheckpointRead),
+        "checkpoint-data" => Some(Line::CheckpointData),
+        "checkpoint-delta" => Some(Line::CheckpointDelta),
         "install-close" => Some(Line::InstallClose),
         "install-body" => Some(Line::InstallBody),
         "install-open" => Some(Line::InstallOpen),
         "rotate" => Some(Line::Rotate),
+        "checkpoint" => Some(Line::Checkpoint),
         "reclaim" => Some(Line::Reclaim),
         _ => named_line_of(first, rest),
     }

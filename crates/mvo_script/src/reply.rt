@@ -1,5 +1,5 @@
 use mvo_core::Closed;
-use mvo_store::{Generation, Reclaimed};
+use mvo_store::{Generation, Progress, Reclaimed};
 use mvo_types::{Answer, Row};
 use mvo_world::Reply;
 use std::fmt;
@@ -33,6 +33,8 @@ fn write_reply<W: fmt::Write>(f: &mut fmt::Formatter<W>, reply: &Reply) -> fmt::
         Reply::Polled(true) => write!(f, "yes"),
         Reply::Polled(false) => write!(f, "no"),
         Reply::Ready => write!(f, "ready"),
+        Reply::Progress(Progress::More) => write!(f, "more"),
+        Reply::Progress(Progress::Ready) => write!(f, "ready"),
         Reply::Shut => write!(f, "closed"),
         Reply::Installed(Generation(count)) => write!(f, "installed {count}"),
         Reply::Reclaimed(Reclaimed::More) => write!(f, "more"),

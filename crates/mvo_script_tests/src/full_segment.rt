@@ -1,4 +1,4 @@
-//! A flush whose group doesn't fit into the last segment of the log.
+//! A flush whose group doesn't fit into the last segment of the log, beside a checkpoint.
 use crate::assert::assert_replies;
 use std::io::Write;
 use std::test::Fail;
@@ -35,14 +35,20 @@ fn push_answers(expected: &mut Vec<u8>, begin: u64, end: u64) -> Result<(), Fail
     Ok(())
 }
 
+/// A group in a sealed segment, whose checkpoint is begun.
+const BEFORE: &[u8] = b"begin a\ninsert a 1 1 1 -\ncommit a\nflush\nrotate\ncheckpoint-read\n";
+
+/// What that is answered.
+const ANSWERS: &[u8] = b"began 1\ninserted\ncommitted 2\ndurable 2\ninstalled 1\nmore\n";
+
 #[test]
 fn a_flush_rotates_where_the_segment_is_full(rt: HostRuntime) -> Result<(), Fail> {
     let alloc = rt.alloc();
     let data = vec![in alloc; b'6'; 2_048]?;
-    let mut script = Vec::new(alloc);
-    let mut expected = Vec::new(alloc);
+    let mut script = BEFORE.to_vec(alloc)?;
+    let mut expected = ANSWERS.to_vec(alloc)?;
     for place in 0..TRANSACTIONS {
-        let begin = 2 * u64::from(place) + 1;
+        let begin = 2 * u64::from(place) + 3;
         let end = begin + 1;
         push_transaction(&mut script, place, &data)?;
         push_answers(&mut expected, begin, end)?;
@@ -51,7 +57,7 @@ fn a_flush_rotates_where_the_segment_is_full(rt: HostRuntime) -> Result<(), Fail
             writeln!(expected, "durable {end}")?;
         }
     }
-    script.extend_from_slice(b"rotate\nrotate\n")?;
-    expected.extend_from_slice(b"installed 2\nrefused 56\n")?;
+    script.extend_from_slice(b"checkpoint-data\nrotate\nrotate\n")?;
+    expected.extend_from_slice(b"refused 56\ninstalled 4\nrefused 56\n")?;
     assert_replies(&rt, alloc, script.as_slice(), expected.as_slice())
 }

@@ -4,6 +4,8 @@
 #[cfg(test)]
 mod assert;
 #[cfg(test)]
+mod checkpoints;
+#[cfg(test)]
 mod durable;
 #[cfg(test)]
 mod full_segment;

@@ -5,7 +5,7 @@ use std::alloc::AllocError;
 use std::test::Fail;
 
 /// Lines that are none of a script, where t1 was begun.
-const BAD_LINES: [&[u8]; 65] = [
+const BAD_LINES: [&[u8]; 70] = [
     b"",
     b" ",
     b"begin",
@@ -66,6 +66,11 @@ const BAD_LINES: [&[u8]; 65] = [
     b"rotate ",
     b"rotate-write t1",
     b"rotate_write",
+    b"checkpoint t1",
+    b"checkpoint-",
+    b"checkpoint_read",
+    b"checkpoint-data 2",
+    b"checkpoint-deltas",
     b"install",
     b"install-open 1",
     b"Install-close",

@@ -1,5 +1,5 @@
 -- A store beside calls on a file that isn't used.
-use Rattle.std.proofs.Common.{◌≡◌, ◌≢◌, ◌⊎◌, inl, inr, ℕ, ◌+◌, ◌≤◌, false, List, Option, Some, None, eqb, get_or, refl, sym, subst, ◌∙◌, arith}
+use Rattle.std.proofs.Common.{◌≡◌, ◌≢◌, ◌⊎◌, inl, inr, ℕ, ◌+◌, ◌≤◌, Bool, true, false, ◌||◌, List, Option, Some, None, eqb, get_or, refl, sym, ap, subst, ◌∙◌, arith}
 use Rattle.std.specs.Prelude.{⊤, MatchOption}
 use Rattle.std.specs.List.{Contains}
 use Rattle.std.proofs.lemmas.List.Folds.{list_any_at}
@@ -10,18 +10,21 @@ use Rattle.mvo_disk.specs.Disk.{Image, AllOf, AllStay, OthersStay, Touched, Leav
 use Rattle.mvo_disk.specs.Moments.{weaker, runs_on}
 use Rattle.mvo_format.specs.declared.format.TheConstants.{FIRST_FORMAT}
 use Rattle.mvo_manifest.specs.Data.{ManifestData, named}
+use Rattle.mvo_manifest.specs.Rules.{IsManifest}
 use Rattle.mvo_recovery.specs.Parts.{Parts}
 use Rattle.mvo_recovery.specs.Settled.{IsUsed, FilesStay, other_slot}
 use Rattle.mvo_recovery.proofs.Named.{last_used, not_used, slot_below}
 use Rattle.mvo_recovery.proofs.Framed.{within_unused, settled_framed}
-use Rattle.mvo_recovery.proofs.Rotated.{fresh_framed}
 use Rattle.mvo_store.specs.Files.{is_named}
 use Rattle.mvo_store.specs.StoreData.{StoreData, opening}
-use Rattle.mvo_store.specs.declared.rotation.Rotation.{Rotation}
-use Rattle.mvo_store.specs.Standing.{IsUp, HasBody, HasInstall, HasRotation, MayBeLeft, HasSlots}
-use Rattle.mvo_store.specs.Reclaiming.{fresh_file, IsDead, IsLeastDead, HasDead}
+use Rattle.mvo_store.specs.declared.job.Job.{Job}
+use Rattle.mvo_store.specs.declared.work.Work.{Work}
+use Rattle.mvo_store.specs.declared.work.Work.TheVariants.{Rotation, Checkpoint}
+use Rattle.mvo_store.specs.Standing.{IsUp, HasBody, HasJob, MayBeLeft, HasSlots}
+use Rattle.mvo_store.specs.Reclaiming.{is_new_file, is_of_job, IsLeastDead, HasDead}
 use Rattle.mvo_store.proofs.Keeping.{gives_or, parts_give, up_gives, Leaves}
 use Rattle.mvo_store.proofs.Slotted.{image_slots, touched_slots}
+use Rattle.mvo_store.proofs.Working.{RestsOn, job_framed}
 
 -- a file that the manifest doesn't name isn't used
 pub unnamed_unused : (m : ManifestData) (n : ℕ) → 2 ≤ n → is_named m n ≡ false → IsUsed m n → ⊥
@@ -30,28 +33,36 @@ unnamed_unused m n le unnamed = not_used m n le no
     no : Contains (named m) n → ⊥
     no has = absurd (cc (list_any_at (λ k. eqb k n) (named m) has.0 n has.1 (eq-eqb (get_or (named m) has.0 n) n has.2), unnamed))
 
--- it is used, or a rotation writes it
+-- it is used, or a job writes it
 abbrev pub IsKept : {D : Type 0} → StoreData D → ℕ → Type 0
-IsKept s n = IsUsed s.manifest n ⊎ (fresh_file s.rotation ≡ Some n)
+IsKept s n = IsUsed s.manifest n ⊎ (is_of_job s.job n ≡ true)
 
 pub dead_not_kept : {D : Type 0} (d : Ghosts D) (s : StoreData D) (n : ℕ) → HasDead d s n → IsKept s n → ⊥
 dead_not_kept d s n dead (inl used) = unnamed_unused s.manifest n dead.first dead.unnamed used
-dead_not_kept d s n dead (inr is) = dead.unused is
+dead_not_kept d s n dead (inr is) = absurd (cc (is, dead.unused))
 
-module _ (old new : Image) (may_old may_new : ℕ → List ℕ → Type 0) (P : ℕ → Type 0) (stay : FilesStay P old new may_old may_new) where
-  rotating_kept : (m : ManifestData) (x : Parts) (r : Option Rotation) → ((n : ℕ) → IsUsed m n → P n) → ((n : ℕ) → fresh_file r ≡ Some n → P n) → HasRotation old may_old m x r → HasRotation new may_new m x r
-  rotating_kept m x None used fresh has = tt
-  rotating_kept m x (Some r) used fresh has =
-      let slot = other_slot m in
-      let kept : (n : ℕ) → n ≡ r.fresh.file → P n = λ n e. subst P (sym e) (fresh r.fresh.file refl) in
-      record {
-        next = has.next;
-        may_rotate = has.may_rotate;
-        some = has.some;
-        fresh = fresh_framed FIRST_FORMAT old new may_old may_new r.fresh.file (record { content = λ n e. stay.content n (kept n e); images = λ n c e. stay.images n c (kept n e) }) has.fresh;
-        gate = has.gate;
-        install = subst (λ (c : List ℕ). HasInstall r.due r.next slot c) (sym (stay.content slot (used slot (inl (slot_below (m.generation + 1)))))) has.install;
-      }
+true_first : (a b : Bool) → a ≡ true → (a || b) ≡ true
+true_first a b e = ap (λ t. t || b) e
+
+true_second : (a b : Bool) → b ≡ true → (a || b) ≡ true
+true_second true b e = refl
+true_second false b e = e
+
+-- so are the files that a job rests on
+rests_kept : (content : Image) (may : ℕ → List ℕ → Type 0) (m : ManifestData) (x : Parts) (j : Job) → HasJob content may m x (Some j) → (P : ℕ → Type 0) → ((n : ℕ) → IsUsed m n → P n) → ((n : ℕ) → is_of_job (Some j) n ≡ true → P n) → (n : ℕ) → RestsOn m j.work n → P n
+rests_kept content may m x j has P used new n on = go j.work new on
+  where
+    go : (w : Work) → ((k : ℕ) → is_new_file w k ≡ true → P k) → RestsOn m w n → P n
+    go (Rotation fresh) mine here = mine n (eq-eqb fresh.file n (sym here))
+    go (Checkpoint c) mine (inl here) = mine n (true_first (eqb c.pair.data_file n) (eqb c.pair.delta_file n) (eq-eqb c.pair.data_file n (sym here)))
+    go (Checkpoint c) mine (inr (inl here)) = mine n (true_second (eqb c.pair.data_file n) (eqb c.pair.delta_file n) (eq-eqb c.pair.delta_file n (sym here)))
+    go (Checkpoint c) mine (inr (inr before)) = used n (inr before.0)
+
+job_kept : (old new : Image) (may_old may_new : ℕ → List ℕ → Type 0) (P : ℕ → Type 0) → FilesStay P old new may_old may_new → (m : ManifestData) → IsManifest m → (x : Parts) (o : Option Job) → ((n : ℕ) → IsUsed m n → P n) → ((n : ℕ) → is_of_job o n ≡ true → P n) → HasJob old may_old m x o → HasJob new may_new m x o
+job_kept old new may_old may_new P stay m is x None used mine has = tt
+job_kept old new may_old may_new P stay m is x (Some j) used mine has =
+    let kept : (n : ℕ) → RestsOn m j.work n → P n = rests_kept old may_old m x j has P used mine in
+    job_framed old new may_old may_new m is x x.last (λ some. some) (Some j) (record { content = λ n on. stay.content n (kept n on); images = λ n c on. stay.images n c (kept n on) }) (stay.content (other_slot m) (used (other_slot m) (inl (slot_below (m.generation + 1))))) has
 
 module _ {D : Type 0} (d : Ghosts D) (s : StoreData D) where
   -- the kept files stay
@@ -88,7 +99,9 @@ module _ {D : Type 0} (d : Ghosts D) (s : StoreData D) where
           few = up.few;
           pending = up.pending;
           written = λ e. subst (λ (c : List ℕ). HasBody up.parts s.pending s.segment.gate s.segment.next c) (sym (used.content s.segment.file (last_used s.manifest s.segment.file up.last))) (up.written e);
-          rotation = rotating_kept (d.content s.disk) (d.content new) (d.may_leave s.disk) (d.may_leave new) (IsKept s) stay s.manifest up.parts s.rotation (λ n is. inl is) (λ n is. inr is) up.rotation;
+          job = job_kept (d.content s.disk) (d.content new) (d.may_leave s.disk) (d.may_leave new) (IsKept s) stay s.manifest up.settled.installed.own.is up.parts s.job (λ n is. inl is) (λ n is. inr is) up.job;
+          places = up.places;
+          room_for = up.room_for;
           room = omega (arith, count, up.room);
         }
 
@@ -107,7 +120,7 @@ module _ {D : Type 0} (d : Ghosts D) (s : StoreData D) where
         })
 
 -- the file that a look found
-pub dead_found : {D : Type 0} (d : Ghosts D) (s : StoreData D) (fresh found : Option ℕ) (file : ℕ) (P : Type 0) → fresh ≡ fresh_file s.rotation → found ≡ Some file → MatchOption found P (λ n. IsLeastDead (d.content s.disk) s.manifest fresh n) → HasDead d s file
-dead_found d s fresh found file P same is least =
-    let has : IsLeastDead (d.content s.disk) s.manifest fresh file = subst (λ (o : Option ℕ). MatchOption o P (λ n. IsLeastDead (d.content s.disk) s.manifest fresh n)) is least in
-    subst (λ (o : Option ℕ). IsDead (d.content s.disk) s.manifest o file) same has.dead
+pub dead_found : {D : Type 0} (d : Ghosts D) (s : StoreData D) (found : Option ℕ) (file : ℕ) (P : Type 0) → found ≡ Some file → MatchOption found P (λ n. IsLeastDead (d.content s.disk) s.manifest s.job n) → HasDead d s file
+dead_found d s found file P is least =
+    let has : IsLeastDead (d.content s.disk) s.manifest s.job file = subst (λ (o : Option ℕ). MatchOption o P (λ n. IsLeastDead (d.content s.disk) s.manifest s.job n)) is least in
+    has.dead

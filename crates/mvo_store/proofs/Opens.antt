@@ -16,7 +16,9 @@ use Rattle.mvo_recovery.specs.Parts.{Parts, HaveSealed, IsLastFile}
 use Rattle.mvo_recovery.specs.Settled.{IsUsed, IsInstalled, IsSettled}
 use Rattle.mvo_recovery.proofs.Opened.{newest_stands}
 use Rattle.mvo_recovery.proofs.Framed.{installed_framed}
+use Rattle.mvo_ckpt.specs.Places.{PlaceTable}
 use Rattle.mvo_load.specs.Loaded.{SealedSays, IsLoaded}
+use Rattle.mvo_load.specs.Parts.{HavePlaces}
 use Rattle.mvo_store.specs.declared.limits.TheConstants.{MAX_FAULTS}
 use Rattle.mvo_store.specs.StoreData.{StoreData}
 use Rattle.mvo_store.specs.Standing.{IsUp, HasSlots, KeepsRows}
@@ -56,16 +58,17 @@ module _ (f : Format) (image : Image) (m : ManifestData) (rows : Map) (mark gate
         };
       }
 
-module _ {D : Type 0} (d : Ghosts D) (old new : D) (m : ManifestData) (rows : Map) (mark gate file : ℕ) (loaded : IsLoaded FIRST_FORMAT (d.content old) m rows mark gate) (synced : HasSynced d (IsUsed m) 1024 old new) (is : IsLastFile m file) (few : d.fault_count old < MAX_FAULTS) where
+module _ {D : Type 0} (d : Ghosts D) (old new : D) (m : ManifestData) (rows : Map) (mark gate file : ℕ) (loaded : IsLoaded FIRST_FORMAT (d.content old) m rows mark gate) (places : PlaceTable) (have : HavePlaces FIRST_FORMAT (d.content old) m.pairs places.at) (synced : HasSynced d (IsUsed m) 1024 old new) (is : IsLastFile m file) (few : d.fault_count old < MAX_FAULTS) where
   abbrev pub opened_store : StoreData D
   opened_store = record {
     disk = new;
     manifest = m;
+    places = places;
     segment = record { file = file; gate = gate; next = gate };
     mark = mark;
     pending = None;
     written = false;
-    rotation = None;
+    job = None;
     down = false;
   }
 
@@ -89,7 +92,9 @@ module _ {D : Type 0} (d : Ghosts D) (old new : D) (m : ManifestData) (rows : Ma
     few = loaded.log.last.few;
     pending = tt;
     written = λ e. absurd (cc e);
-    rotation = tt;
+    job = tt;
+    places = have.are loaded.lives loaded.live;
+    room_for = tt;
     room = omega (arith, synced.count, few);
   }
 

@@ -1,8 +1,11 @@
 pub mod StoreData
+pub mod Checkpoint
 pub mod Standing
 pub mod Causes
 pub mod Steps
 pub mod Files
+pub mod Planning
+pub mod Writing
 pub mod Opening
 pub mod Formatting
 pub mod Reclaiming

@@ -40,7 +40,7 @@ pub record HasBegun {D : Type 0} (d : Ghosts D) (old : D) (s : StoreData D) (mar
     pub mark_is : s.mark ≡ mark
     pub pending : s.pending ≡ None
     pub written : s.written ≡ false
-    pub rotation : s.rotation ≡ None
+    pub job : s.job ≡ None
     pub down : s.down ≡ false
     pub few : d.fault_count old < MAX_FAULTS
     pub count : d.fault_count s.disk ≡ d.fault_count old

@@ -1,25 +1,31 @@
 -- How a store stands over its disk, and what a stop leaves of it.
-use Rattle.std.specs.Prelude.{◌≡◌, ◌≢◌, ℕ, ◌<◌, ◌+◌, ◌^◌, true, false, List, [], ◌∷◌}
+use Rattle.std.specs.Prelude.{◌≡◌, ◌≢◌, ℕ, ◌<◌, ◌≤◌, ◌+◌, ◌^◌, true, false, List, [], ◌∷◌, length}
 use Rattle.std.specs.Prelude.{Option, Some, None}
 use Rattle.mvo_types.specs.Keys.{Map}
-use Rattle.mvo_types.specs.declared.limits.TheConstants.{MAX_SEGMENT_LEN}
+use Rattle.mvo_types.specs.declared.limits.TheConstants.{MAX_SEGMENT_LEN, MAX_FILE, MAX_PAIR_RECORDS}
 use Rattle.mvo_disk.specs.declared.disk.Disk.{Ghosts}
 use Rattle.mvo_disk.specs.Disk.{Image, AllOf, LeavesOnly}
 use Rattle.mvo_group.specs.Data.{GroupData}
 use Rattle.mvo_group.specs.Rules.{IsGroup}
 use Rattle.mvo_format.specs.declared.format.TheConstants.{FIRST_FORMAT}
 use Rattle.mvo_format.specs.declared.header.TheConstants.{VERSION, HEADER_LEN}
+use Rattle.mvo_frame.specs.declared.segment.Segment.{Segment}
 use Rattle.mvo_frame.specs.Standing.{gate_of, IsWritten}
 use Rattle.mvo_manifest.specs.Data.{ManifestData}
 use Rattle.mvo_manifest.specs.Slots.{IsShut, IsStaged}
+use Rattle.mvo_ckpt.specs.Places.{PlaceTable, ArePlaces}
 use Rattle.mvo_image.specs.Files.{GivesRows}
 use Rattle.mvo_image.specs.Rows.{after_groups}
 use Rattle.mvo_recovery.specs.Parts.{Parts, rows_of_parts, mark_of_parts, IsLastFile}
 use Rattle.mvo_recovery.specs.Settled.{IsSettled, other_slot, GivesWithOrWithout}
 use Rattle.mvo_recovery.specs.Rotation.{rotated, IsFresh, MayRotate}
 use Rattle.mvo_store.specs.declared.due.Due.{Due}
-use Rattle.mvo_store.specs.declared.due.Due.TheVariants.{Close, Body, Open}
-use Rattle.mvo_store.specs.declared.rotation.Rotation.{Rotation}
+use Rattle.mvo_store.specs.declared.due.Due.TheVariants.{Data, Delta, Close, Body, Open}
+use Rattle.mvo_store.specs.declared.checkpointing.Checkpointing.{Checkpointing}
+use Rattle.mvo_store.specs.declared.job.Job.{Job}
+use Rattle.mvo_store.specs.declared.work.Work.{Work}
+use Rattle.mvo_store.specs.declared.work.Work.TheVariants.{Rotation, Checkpoint}
+use Rattle.mvo_store.specs.Checkpoint.{IsOfInstall, IsCheckpointing}
 use Rattle.mvo_store.specs.StoreData.{StoreData, opening}
 
 -- ---- a group that is being appended
@@ -34,33 +40,65 @@ abbrev pub HasBody : Parts → Option GroupData → ℕ → ℕ → List ℕ →
 HasBody x None gate next bytes = ⊥
 HasBody x (Some g) gate next bytes = IsWritten VERSION x.middle x.last g gate next bytes
 
--- ---- a rotation that runs
+-- ---- a job that runs
 
 -- how far the install of its manifest is, in the other slot
 abbrev pub HasInstall : Due → ManifestData → ℕ → List ℕ → Type 0
+HasInstall Data next slot bytes = Unit {0}
+HasInstall Delta next slot bytes = Unit {0}
 HasInstall Close next slot bytes = Unit {0}
 HasInstall Body next slot bytes = IsShut bytes
 HasInstall Open next slot bytes = IsStaged VERSION slot next bytes
 
--- Its segment is fresh in a file that isn't used, and its manifest names it last.
+-- The segment is fresh in a file that isn't used, and the manifest names it last.
 pub record IsRotating (content : Image) (may : ℕ → List ℕ → Type 0) (m : ManifestData) (x : Parts)
-    (r : Rotation) : Type 0 where
-  pub next : r.next ≡ rotated m r.fresh.file
-  pub may_rotate : MayRotate m r.fresh.file
+    (fresh : Segment) (next : ManifestData) (due : Due) : Type 0 where
+  pub next_is : next ≡ rotated m fresh.file
+  pub may_rotate : MayRotate m fresh.file
   pub some : x.last ≢ []
-  pub fresh : IsFresh FIRST_FORMAT content may r.fresh.file
-  pub gate : r.fresh.gate ≡ HEADER_LEN
-  pub install : HasInstall r.due r.next (other_slot m) (content (other_slot m))
+  pub is_fresh : IsFresh FIRST_FORMAT content may fresh.file
+  pub gate : fresh.gate ≡ HEADER_LEN
+  pub step : IsOfInstall due
 
-abbrev pub HasRotation : Image → (ℕ → List ℕ → Type 0) → ManifestData → Parts → Option Rotation
-    → Type 0
-HasRotation content may m x None = Unit {0}
-HasRotation content may m x (Some r) = IsRotating content may m x r
+-- how the work stands for a manifest, while this step is due
+abbrev pub HasWork : Image → (ℕ → List ℕ → Type 0) → ManifestData → Parts → ManifestData → Due
+    → Work → Type 0
+HasWork content may m x next due (Rotation fresh) = IsRotating content may m x fresh next due
+HasWork content may m x next due (Checkpoint c) = IsCheckpointing content may m x c next due
+
+pub record IsRunning (content : Image) (may : ℕ → List ℕ → Type 0) (m : ManifestData) (x : Parts)
+    (j : Job) : Type 0 where
+  pub work : HasWork content may m x j.next j.due j.work
+  pub install : HasInstall j.due j.next (other_slot m) (content (other_slot m))
+
+abbrev pub HasJob : Image → (ℕ → List ℕ → Type 0) → ManifestData → Parts → Option Job → Type 0
+HasJob content may m x None = Unit {0}
+HasJob content may m x (Some j) = IsRunning content may m x j
+
+-- there is room for so many places
+abbrev pub WorkHasRoom : PlaceTable → Work → Type 0
+WorkHasRoom places (Rotation fresh) = Unit {0}
+WorkHasRoom places (Checkpoint c) = length c.made.records ≤ places.room
+
+-- there is room for the places of the records that the job installs
+abbrev pub HasRoom : PlaceTable → Option Job → Type 0
+HasRoom places None = Unit {0}
+HasRoom places (Some j) = WorkHasRoom places j.work
+
+-- the places of the work's records can be put there without memory
+pub record FitsRecords (places : PlaceTable) (c : Checkpointing) : Type 0 where
+  pub file : c.pair.data_file ≤ MAX_FILE
+  pub few : length c.made.records ≤ MAX_PAIR_RECORDS
+  pub room : length c.made.records ≤ places.room
+
+abbrev pub MayTakeOver : PlaceTable → Work → Type 0
+MayTakeOver places (Rotation fresh) = Unit {0}
+MayTakeOver places (Checkpoint c) = FitsRecords places c
 
 -- ---- the store
 
 -- The store is up: its manifest is installed, the files that it names give exactly these rows and
--- the store's mark, and all of that is durable.
+-- the store's mark, and all of that is durable. It knows the places of the live records.
 pub record IsUp {D : Type 0} (d : Ghosts D) (s : StoreData D) (rows : Map) : Type 0 where
   pub up : s.down ≡ false
   pub parts : Parts
@@ -74,7 +112,9 @@ pub record IsUp {D : Type 0} (d : Ghosts D) (s : StoreData D) (rows : Map) : Typ
   pub pending : FollowsMark s.mark s.pending
   pub written : s.written ≡ true → HasBody parts s.pending s.segment.gate s.segment.next
       (d.content s.disk s.segment.file)
-  pub rotation : HasRotation (d.content s.disk) (d.may_leave s.disk) s.manifest parts s.rotation
+  pub job : HasJob (d.content s.disk) (d.may_leave s.disk) s.manifest parts s.job
+  pub places : ArePlaces s.manifest.pairs parts.lives s.places.at
+  pub room_for : HasRoom s.places s.job
   pub room : d.fault_count s.disk + 1 < 2 ^ 64
 
 -- the image is well formed, and gives these rows and this mark

@@ -1,27 +1,73 @@
-//! Installs the manifest of a rotation, in three steps.
-ghost use Rattle.std.specs.Prelude.{◌≡◌, OnOk, IfOk, IfErr, IsErrOf};
+//! Installs the manifest of a job, in three steps.
+ghost use Rattle.std.specs.Prelude.{◌≡◌, ◌&&◌, OnOk, IfOk, IfErr, IsErrOf};
 ghost use Rattle.mvo_store.specs.StoreData.{StoreData};
 ghost use Rattle.mvo_store.specs.Standing.{Keeps};
-ghost use Rattle.mvo_store.specs.Causes.{why_not_install, why_not_install_open};
-ghost use Rattle.mvo_store.specs.Steps.{RefusedFor, LeftBy, with_due, IsInstalledBy};
+ghost use Rattle.mvo_store.specs.Causes.{is_rotation, why_not_install, why_not_install_open};
+ghost use Rattle.mvo_store.specs.Standing.{MayTakeOver};
+ghost use Rattle.mvo_store.specs.Steps.{RefusedFor, LeftBy, with_due, places_after, segment_after};
+ghost use Rattle.mvo_store.specs.Steps.{IsInstalledBy};
 
 use crate::due::Due;
 use crate::fault::is_fault;
 use crate::generation::Generation;
-use crate::rotation::Rotation;
+use crate::job::Job;
 use crate::store::Store;
+use crate::work::Work;
+use mvo_ckpt::Places;
 use mvo_disk::Disk;
 use mvo_format::VERSION;
+use mvo_frame::Segment;
 use mvo_manifest::{close_slot, open_slot, write_slot};
 use mvo_types::Refusal;
 
-/// With another step of its install due.
-fn with_due(rotation: Option<Rotation>, due: Due) -> Option<Rotation>
-    ensures { result ≡ with_due due rotation }
+/// With another step due.
+pub fn with_due(job: Option<Job>, due: Due) -> Option<Job>
+    ensures { result ≡ with_due due job }
 {
-    match rotation {
-        Some(Rotation { fresh, next, .. }) => Some(Rotation { fresh, next, due }),
+    match job {
+        Some(Job { next, work, .. }) => Some(Job { next, due, work }),
         None => None,
+    }
+}
+
+/// Whether the job is a rotation.
+fn is_rotation(job: &Job) -> bool
+    ensures { result ≡ is_rotation job.now.work }
+{
+    match &job.work {
+        Work::Rotation(_) => true,
+        Work::Checkpoint(_) => false,
+    }
+}
+
+/// Whether the install waits for the gate of a body that is written.
+fn waits_for_gate(written: bool, job: &Job) -> bool
+    ensures { result ≡ (written && is_rotation job.now.work) }
+{
+    written && is_rotation(job)
+}
+
+/// Brings the places up to date with what the work has made.
+fn take_over(places: &mut Places, work: &Work)
+    requires { MayTakeOver places.old work.now }
+    ensures { places.new.at ≡ places_after work.now places.old.at }
+{
+    match work {
+        Work::Rotation(_) => {}
+        Work::Checkpoint(checkpoint) => {
+            let made = &checkpoint.made;
+            places.take_over(checkpoint.pair.data_file, &made.records, &made.gone);
+        }
+    }
+}
+
+/// The segment that takes frames once the job's manifest is installed.
+fn segment_after(work: Work, segment: Segment) -> Segment
+    ensures { result ≡ segment_after work segment }
+{
+    match work {
+        Work::Rotation(fresh) => fresh,
+        Work::Checkpoint(_) => segment,
     }
 }
 
@@ -35,7 +81,7 @@ impl<D: Disk> Store<D> {
         ensures no_memory { IsErrOf result Refusal.OutOfMemory → ⊥ }
         ensures ok { OnOk result (self.new ≡ record self.old {
           disk = self.new.disk;
-          rotation = with_due Due.Body self.old.rotation;
+          job = with_due Due.Body self.old.job;
         }) }
         ensures count { OnOk result (D.fault_count self.new.disk ≡ D.fault_count self.old.disk) }
         ensures err { IfErr result (λ e. LeftBy D.Disk e self.old self.new) }
@@ -44,17 +90,17 @@ impl<D: Disk> Store<D> {
         if self.down {
             return Err(Refusal::Down);
         }
-        let Some(rotation) = &self.rotation else {
+        let Some(job) = &self.job else {
             return Err(Refusal::NothingToDo);
         };
-        if rotation.due != Due::Close {
+        if job.due != Due::Close {
             return Err(Refusal::NothingToDo);
         }
-        let Ok(()) = close_slot(&mut self.disk, rotation.next.slot()) else {
+        let Ok(()) = close_slot(&mut self.disk, job.next.slot()) else {
             self.down = true;
             return Err(Refusal::DiskFault);
         };
-        self.rotation = with_due(self.rotation.take(), Due::Body);
+        self.job = with_due(self.job.take(), Due::Body);
         Ok(())
     }
 
@@ -65,7 +111,7 @@ impl<D: Disk> Store<D> {
         ensures refused { RefusedFor (why_not_install Due.Body self.old) result }
         ensures ok { OnOk result (self.new ≡ record self.old {
           disk = self.new.disk;
-          rotation = with_due Due.Open self.old.rotation;
+          job = with_due Due.Open self.old.job;
         }) }
         ensures count { OnOk result (D.fault_count self.new.disk ≡ D.fault_count self.old.disk) }
         ensures err { IfErr result (λ e. LeftBy D.Disk e self.old self.new) }
@@ -74,15 +120,15 @@ impl<D: Disk> Store<D> {
         if self.down {
             return Err(Refusal::Down);
         }
-        let Some(rotation) = &self.rotation else {
+        let Some(job) = &self.job else {
             return Err(Refusal::NothingToDo);
         };
-        if rotation.due != Due::Body {
+        if job.due != Due::Body {
             return Err(Refusal::NothingToDo);
         }
-        match write_slot(self.alloc, &mut self.disk, VERSION, &rotation.next) {
+        match write_slot(self.alloc, &mut self.disk, VERSION, &job.next) {
             Ok(()) => {
-                self.rotation = with_due(self.rotation.take(), Due::Open);
+                self.job = with_due(self.job.take(), Due::Open);
                 Ok(())
             }
             Err(refusal) => {
@@ -94,15 +140,15 @@ impl<D: Disk> Store<D> {
         }
     }
 
-    /// Opens the gate, and syncs. The manifest is installed then, and its fresh segment takes
-    /// frames. Answers its generation.
+    /// Opens the gate, and syncs. The manifest is installed then; the fresh segment of a rotation
+    /// takes frames, and the records of a checkpoint have their places. Answers its generation.
     ///
-    /// Refused: Down, then NothingToDo where this isn't due, then Busy while a body is written
-    /// whose gate isn't open, then DiskFault.
+    /// Refused: Down, then NothingToDo where this isn't due, then for a rotation Busy while a body
+    /// is written whose gate isn't open, then DiskFault.
     pub fn install_open(&mut self) -> Result<Generation, Refusal>
         ensures refused { RefusedFor (why_not_install_open self.old) result }
         ensures no_memory { IsErrOf result Refusal.OutOfMemory → ⊥ }
-        ensures ok { OnOk result (IsInstalledBy self.old.rotation self.old self.new) }
+        ensures ok { OnOk result (IsInstalledBy self.old.job self.old self.new) }
         ensures generation { IfOk result (λ g. g.0 ≡ self.new.manifest.generation) }
         ensures count { OnOk result (D.fault_count self.new.disk ≡ D.fault_count self.old.disk) }
         ensures err { IfErr result (λ e. LeftBy D.Disk e self.old self.new) }
@@ -111,25 +157,26 @@ impl<D: Disk> Store<D> {
         if self.down {
             return Err(Refusal::Down);
         }
-        let Some(rotation) = &self.rotation else {
+        let Some(job) = &self.job else {
             return Err(Refusal::NothingToDo);
         };
-        if rotation.due != Due::Open {
+        if job.due != Due::Open {
             return Err(Refusal::NothingToDo);
         }
-        if self.written {
+        if waits_for_gate(self.written, job) {
             return Err(Refusal::Busy);
         }
-        let Ok(()) = open_slot(&mut self.disk, rotation.next.slot()) else {
+        let Ok(()) = open_slot(&mut self.disk, job.next.slot()) else {
             self.down = true;
             return Err(Refusal::DiskFault);
         };
-        let Some(rotation) = self.rotation.take() else {
+        let Some(job) = self.job.take() else {
             return Err(Refusal::NothingToDo);
         };
-        let generation = Generation(rotation.next.generation());
-        self.manifest = rotation.next;
-        self.segment = rotation.fresh;
+        let generation = Generation(job.next.generation());
+        take_over(&mut self.places, &job.work);
+        self.manifest = job.next;
+        self.segment = segment_after(job.work, self.segment);
         Ok(generation)
     }
 }

@@ -3,6 +3,8 @@
 #![tactic(auto)]
 
 mod appending;
+mod checkpoint;
+mod checkpointing;
 mod due;
 mod durable;
 mod fault;
@@ -10,19 +12,26 @@ mod files;
 mod formatting;
 mod generation;
 mod installing;
+mod job;
 mod limits;
 mod opening;
+mod planning;
+mod progress;
 mod reclaimed;
 mod reclaiming;
 mod rotating;
-mod rotation;
 mod store;
 mod syncing;
+mod work;
+mod writing;
 
+pub use checkpointing::Checkpointing;
 pub use due::Due;
 pub use durable::Durable;
 pub use formatting::format;
 pub use generation::Generation;
+pub use job::Job;
+pub use progress::Progress;
 pub use reclaimed::Reclaimed;
-pub use rotation::Rotation;
 pub use store::Store;
+pub use work::Work;

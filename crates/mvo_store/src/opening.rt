@@ -4,6 +4,7 @@ ghost use Rattle.mvo_format.specs.declared.format.TheConstants.{FIRST_FORMAT};
 ghost use Rattle.mvo_recovery.specs.Parts.{IsLastFile};
 ghost use Rattle.mvo_recovery.specs.Settled.{IsUsed};
 ghost use Rattle.mvo_load.specs.Loaded.{IsLoaded};
+ghost use Rattle.mvo_load.specs.Parts.{HavePlaces};
 ghost use Rattle.mvo_store.specs.declared.limits.TheConstants.{MAX_FAULTS};
 ghost use Rattle.mvo_store.specs.Standing.{IsUp, Gives, HasSlots, KeepsRows};
 ghost use Rattle.mvo_store.specs.Opening.{IsAnswer, HasBegun, KeepsContent, LeavesAsBefore};
@@ -37,6 +38,8 @@ fn load_synced<D: Disk>(
 ) -> Result<Loaded, Refusal>
     ensures loaded { IfOk result (λ l. IsLoaded FIRST_FORMAT (D.content disk.old) l.manifest l.rows
         l.mark.0 l.gate) }
+    ensures places { IfOk result (λ l. HavePlaces FIRST_FORMAT (D.content disk.old)
+        l.manifest.pairs l.places.at) }
     ensures answer { IfOk result (λ l. IsAnswer (D.content disk.old) (Ok (l.rows, l.mark.0))) }
     ensures synced { IfOk result (λ l.
         HasSynced D.Disk (IsUsed l.manifest) 1024 disk.old disk.new) }
@@ -107,7 +110,7 @@ impl<D: Disk> Store<D> {
             mark,
             pending: None,
             written: false,
-            rotation: None,
+            job: None,
             down: false,
         };
         Ok((store, rows, mark))

@@ -6,34 +6,58 @@ ghost use Rattle.mvo_store.specs.StoreData.{StoreData};
 ghost use Rattle.mvo_store.specs.Standing.{Keeps};
 ghost use Rattle.mvo_store.specs.Causes.{why_not_reclaim};
 ghost use Rattle.mvo_store.specs.Steps.{RefusedFor, LeftBy};
-ghost use Rattle.mvo_store.specs.Reclaiming.{fresh_file, IsDead, IsLeastDead, HasReclaimed};
+ghost use Rattle.mvo_store.specs.Reclaiming.{is_new_file, is_of_job, IsDead, IsLeastDead, HasReclaimed};
 
 use crate::files::is_named;
+use crate::job::Job;
 use crate::reclaimed::Reclaimed;
 use crate::store::Store;
+use crate::work::Work;
 use mvo_disk::{Disk, DiskFault};
 use mvo_manifest::{FIRST_FILE, Manifest};
 use mvo_types::{MAX_FILE, Refusal};
+
+/// Whether the work gives the file new content.
+fn is_new_file(work: &Work, file: u16) -> bool
+    ensures { result ≡ is_new_file work.now file }
+{
+    match work {
+        Work::Rotation(fresh) => fresh.file == file,
+        Work::Checkpoint(checkpoint) => {
+            checkpoint.pair.data_file == file || checkpoint.pair.delta_file == file
+        }
+    }
+}
+
+/// Whether the job that runs names the file.
+fn is_of_job(job: &Option<Job>, file: u16) -> bool
+    ensures { result ≡ is_of_job job.now file }
+{
+    match job {
+        Some(job) => is_new_file(&job.work, file),
+        None => false,
+    }
+}
 
 /// Whether a file behind the slots isn't empty, and neither the manifest nor a job names it.
 fn is_dead<D: Disk>(
     disk: &mut D,
     manifest: &Manifest,
-    fresh: Option<u16>,
+    job: &Option<Job>,
     file: u16,
 ) -> Result<bool, DiskFault>
     requires first { FIRST_FILE ≤ file }
     requires last { file ≤ MAX_FILE }
     requires room { D.fault_count disk.old + 1 < 2 ^ 64 }
     ensures dead { IfOk result (λ b.
-        IsTrue b ↔ IsDead (D.content disk.old) manifest.now fresh file) }
+        IsTrue b ↔ IsDead (D.content disk.old) manifest.now job.now file) }
     ensures rest { AllStay (D.content disk.old) (D.content disk.new) (D.may_leave disk.old)
         (D.may_leave disk.new) }
     ensures any_moment { LeavesOnly D.moment D.left_since disk.old disk.new
         (AllOf (D.may_leave disk.old)) }
     ensures count { Counts (D.fault_count disk.old) (D.fault_count disk.new) result }
 {
-    if fresh == Some(file) || is_named(manifest, file) {
+    if is_of_job(job, file) || is_named(manifest, file) {
         return Ok(false);
     }
     let len = disk.len(file)?;
@@ -44,12 +68,12 @@ fn is_dead<D: Disk>(
 fn least_dead<D: Disk>(
     disk: &mut D,
     manifest: &Manifest,
-    fresh: Option<u16>,
+    job: &Option<Job>,
 ) -> Result<Option<u16>, DiskFault>
     requires room { D.fault_count disk.old + 1 < 2 ^ 64 }
     ensures least { IfOk result (λ found. MatchOption found
-        ((n : ℕ) → IsDead (D.content disk.old) manifest.now fresh n → ⊥)
-        (λ n. IsLeastDead (D.content disk.old) manifest.now fresh n)) }
+        ((n : ℕ) → IsDead (D.content disk.old) manifest.now job.now n → ⊥)
+        (λ n. IsLeastDead (D.content disk.old) manifest.now job.now n)) }
     ensures rest { AllStay (D.content disk.old) (D.content disk.new) (D.may_leave disk.old)
         (D.may_leave disk.new) }
     ensures any_moment { LeavesOnly D.moment D.left_since disk.old disk.new
@@ -58,7 +82,7 @@ fn least_dead<D: Disk>(
 {
     let mut file = FIRST_FILE;
     while file <= MAX_FILE {
-        if is_dead(disk, manifest, fresh, file)? {
+        if is_dead(disk, manifest, job, file)? {
             return Ok(Some(file));
         }
         file += 1;
@@ -84,18 +108,8 @@ fn empty_synced<D: Disk>(disk: &mut D, file: u16) -> Result<(), DiskFault>
 }
 
 impl<D: Disk> Store<D> {
-    // The file that a rotation writes.
-    fn fresh_file(&self) -> Option<u16>
-        ensures { result ≡ fresh_file self.now.rotation }
-    {
-        match &self.rotation {
-            Some(rotation) => Some(rotation.fresh.file),
-            None => None,
-        }
-    }
-
     /// Cuts to nothing, and syncs, the least file from 2 on that isn't empty and that neither the
-    /// installed manifest nor the rotation that runs names. Answers Done where there is none: so
+    /// installed manifest nor the job that runs names. Answers Done where there is none: so
     /// calls up to Done empty each such file. Each call asks for the lengths of the files up to the
     /// one that it empties.
     ///
@@ -112,8 +126,7 @@ impl<D: Disk> Store<D> {
         if self.down {
             return Err(Refusal::Down);
         }
-        let fresh = self.fresh_file();
-        let Ok(found) = least_dead(&mut self.disk, &self.manifest, fresh) else {
+        let Ok(found) = least_dead(&mut self.disk, &self.manifest, &self.job) else {
             self.down = true;
             return Err(Refusal::DiskFault);
         };

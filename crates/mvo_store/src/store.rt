@@ -1,4 +1,4 @@
-use crate::rotation::Rotation;
+use crate::job::Job;
 use mvo_ckpt::Places;
 use mvo_disk::Disk;
 use mvo_frame::Segment;
@@ -28,39 +28,45 @@ pub struct Store<D: Disk> {
     pub(crate) pending: Option<Group>,
     /// Whether its body stands behind the gate and is synced.
     pub(crate) written: bool,
-    /// The rotation that runs.
-    pub(crate) rotation: Option<Rotation>,
+    /// The job that runs.
+    pub(crate) job: Option<Job>,
     /// Whether the disk met a fault.
     pub(crate) down: bool,
 }
 
 impl<D: Disk> Model for Store<D> {
     ghost use Rattle.std.specs.Prelude.{◌≡◌, false};
+    ghost use Rattle.std.specs.Coded.{codes};
     ghost use Rattle.mvo_types.specs.Keys.{Map};
+    ghost use Rattle.mvo_ckpt.specs.Places.{coded_places};
     ghost use Rattle.mvo_store.specs.StoreData.{StoreData};
     ghost use Rattle.mvo_store.specs.Standing.{IsUp};
 
     ghost Value = { StoreData D };
 
+    ghost coded = { Prim.hlevel (codes, coded_places) };
+
     ghost view = { λ s. record {
       disk = s.disk;
       manifest = s.manifest;
+      places = s.places;
       segment = s.segment;
       mark = s.mark.0;
       pending = s.pending;
       written = s.written;
-      rotation = s.rotation;
+      job = s.job;
       down = s.down;
     } };
 
     ghost invariant = { λ s. s.down ≡ false → (rows : Map) × IsUp D.Disk (record {
       disk = s.disk;
       manifest = s.manifest;
+      places = s.places;
       segment = s.segment;
       mark = s.mark.0;
       pending = s.pending;
       written = s.written;
-      rotation = s.rotation;
+      job = s.job;
       down = s.down;
     }) rows };
 }

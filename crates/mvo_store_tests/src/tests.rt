@@ -23,7 +23,7 @@ const ROTATED: [u8; 37] = [
 ];
 
 // The group (0, 2]: one record, end 2, one put at table 0, key 5, sort 50, data 61.
-const ONE_PUT: [u8; 49] = [
+pub(crate) const ONE_PUT: [u8; 49] = [
     0, 0, 0, 0, 0, 0, 0, 0, 2, 0, 0, 0, 0, 0, 0, 0, 1, 0, 2, 0, 0, 0, 0, 0, 0, 0, 1, 0, 1, 0, 5, 0,
     0, 0, 0, 0, 0, 0, 0x32, 0, 0, 0, 0, 0, 0, 0, 1, 0, 0x61,
 ];
@@ -45,7 +45,7 @@ fn holding(alloc: Global, file: u16, bytes: &[u8]) -> Result<MemDisk, Fail> {
     Ok(disk)
 }
 
-fn formatted(alloc: Global, disk: MemDisk) -> Result<MemDisk, Fail> {
+pub(crate) fn formatted(alloc: Global, disk: MemDisk) -> Result<MemDisk, Fail> {
     match format(alloc, disk) {
         Ok(disk) => Ok(disk),
         Err((refusal, _)) => Err(Fail::from(refusal)),
@@ -119,7 +119,7 @@ fn a_closed_slot_is_written_over(rt: HostRuntime) -> Result<(), Fail> {
 
 // ---- a store
 
-fn opened(
+pub(crate) fn opened(
     rt: &(impl Threads + Sync),
     alloc: Global,
     disk: MemDisk,
@@ -131,12 +131,12 @@ fn opened(
 }
 
 // A store over a new disk.
-fn new_store(rt: &(impl Threads + Sync), alloc: Global) -> Result<Store<MemDisk>, Fail> {
+pub(crate) fn new_store(rt: &(impl Threads + Sync), alloc: Global) -> Result<Store<MemDisk>, Fail> {
     let (store, _, _) = opened(rt, alloc, formatted(alloc, MemDisk::new(alloc)?)?)?;
     Ok(store)
 }
 
-fn take(store: &mut Store<MemDisk>, alloc: Global, body: &[u8]) -> Result<(), Fail> {
+pub(crate) fn take(store: &mut Store<MemDisk>, alloc: Global, body: &[u8]) -> Result<(), Fail> {
     let group = Group::decode(alloc, body)?.ok_or("the bytes are a group")?;
     if group.prev().0 != store.mark().0 {
         return Err(Fail::from("the group follows the mark"));
@@ -148,13 +148,17 @@ fn take(store: &mut Store<MemDisk>, alloc: Global, body: &[u8]) -> Result<(), Fa
 }
 
 // Takes a group and appends it, and answers the mark that is durable then.
-fn append(store: &mut Store<MemDisk>, alloc: Global, body: &[u8]) -> Result<Stamp, Fail> {
+pub(crate) fn append(
+    store: &mut Store<MemDisk>,
+    alloc: Global,
+    body: &[u8],
+) -> Result<Stamp, Fail> {
     take(store, alloc, body)?;
     store.append_body()?;
     Ok(store.append_open()?.mark())
 }
 
-fn rotate(store: &mut Store<MemDisk>) -> Result<Generation, Fail> {
+pub(crate) fn rotate(store: &mut Store<MemDisk>) -> Result<Generation, Fail> {
     store.rotate_write()?;
     store.install_close()?;
     store.install_body()?;
@@ -162,7 +166,7 @@ fn rotate(store: &mut Store<MemDisk>) -> Result<Generation, Fail> {
 }
 
 // The group of round k: (2k - 2, 2k], one put of key k.
-fn round(alloc: Global, k: u8) -> Result<Vec<u8>, Fail> {
+pub(crate) fn round(alloc: Global, k: u8) -> Result<Vec<u8>, Fail> {
     let mut body = ONE_PUT.to_vec(alloc)?;
     let mark = k.saturating_mul(2);
     body[0] = mark.saturating_sub(2);
@@ -173,7 +177,7 @@ fn round(alloc: Global, k: u8) -> Result<Vec<u8>, Fail> {
 }
 
 // How long the data of the row at table 0 and this key is.
-fn len_at(rows: &Rows, key: u64) -> Result<Option<usize>, Fail> {
+pub(crate) fn len_at(rows: &Rows, key: u64) -> Result<Option<usize>, Fail> {
     let row = rows.get(RowKey { table: 0, key })?;
     Ok(row.map(|row| row.data_len()))
 }
@@ -235,7 +239,7 @@ fn a_rotation_is_installed(rt: HostRuntime) -> Result<(), Fail> {
 }
 
 // The store after a stop, which must have these rounds.
-fn stopped(
+pub(crate) fn stopped(
     rt: &(impl Abort + Threads + Sync),
     alloc: Global,
     store: Store<MemDisk>,

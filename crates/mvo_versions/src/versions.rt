@@ -59,7 +59,8 @@ impl Versions {
     /// decides where keys stand in memory: who chooses the keys must not know it.
     pub fn load(alloc: Global, seed: u64, rows: Rows, mark: Stamp) -> Result<Versions, AllocError>
         requires { mark.0 ≤ LIMIT }
-        ensures { IfOk result (AreLoaded rows mark.0) }
+        ensures loaded { IfOk result (AreLoaded rows mark.0) }
+        ensures indexed { IfOk result AreIndexed }
     {
         let rows = rows.into_rows(alloc)?;
         let mut chains = Chains::new(alloc);
@@ -98,6 +99,7 @@ impl Versions {
         requires { by.0 < 2 ^ 63 }
         ensures ok { IfOk result (λ n. IsPut self.old self.new row by.0 n) }
         ensures err { OnErr result (IsRoomed self.old self.new) }
+        ensures indexed { AreIndexed self.new }
     {
         let key = row.row_key();
         let place = Place::new(key, row.sort);
@@ -120,6 +122,7 @@ impl Versions {
         requires { IsSome (version_at self.old.slots number) }
         ensures row { IfSome (version_at self.old.slots number) (λ v. result ≡ v.row) }
         ensures gone { IsTakenOut self.old self.new number }
+        ensures indexed { AreIndexed self.new }
     {
         let key = key_of(&self.chains, number);
         self.index.remove(key, number);

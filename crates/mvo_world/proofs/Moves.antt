@@ -30,11 +30,11 @@ use Rattle.mvo_core.specs.declared.closed.Closed as closing
 use Rattle.mvo_frame.specs.Frames.{mark_after}
 use Rattle.mvo_image.specs.Rows.{after_groups}
 use Rattle.mvo_recovery.proofs.Grown.{after_groups-append}
-use Rattle.mvo_store.specs.declared.rotation.Rotation.{Rotation}
+use Rattle.mvo_store.specs.declared.job.Job.{Job}
 use Rattle.mvo_store.specs.StoreData.{StoreData, opening}
 use Rattle.mvo_store.specs.Standing.{MayBeLeft, KeepsRows, LeavesRows, after_taken, IsKeeping, Keeps}
 use Rattle.mvo_store.specs.Causes.{why_not_take}
-use Rattle.mvo_store.specs.Steps.{RefusedFor, LeftBy, IsMarkOf, IsInstalledBy}
+use Rattle.mvo_store.specs.Steps.{RefusedFor, LeftBy, LeftByRead, IsMarkOf, IsInstalledBy}
 use Rattle.mvo_store.proofs.Keeping.{OnlyNow, refused_keeps, same_keeps}
 use Rattle.mvo_world.specs.WorldData.{WorldData, waiting, Follow, IsLinked}
 use Rattle.mvo_world.specs.Past.{Past, happened, acknowledged_by, closed_by, with_event, opened_over}
@@ -43,7 +43,7 @@ use Rattle.mvo_world.specs.Standing.{IsAfter, RecoversPrefix, LeavesPrefix}
 use Rattle.mvo_world.specs.Replies.{IsReplyTo, IsBodyRefusal, IsGateRefusal}
 use Rattle.mvo_world.specs.Steps.{IsStepBy, IsStep}
 use Rattle.mvo_world.specs.declared.event.Event.{Event}
-use Rattle.mvo_world.specs.declared.event.Event.TheVariants.{Core as Asked, CloseGroup, TakeGroup, AppendBody, AppendOpen, Poll, RotateWrite, InstallClose, InstallBody, InstallOpen, Reclaim}
+use Rattle.mvo_world.specs.declared.event.Event.TheVariants.{Core as Asked, CloseGroup, TakeGroup, AppendBody, AppendOpen, Poll, RotateWrite, CheckpointRead, CheckpointData, CheckpointDelta, InstallClose, InstallBody, InstallOpen, Reclaim}
 use Rattle.mvo_world.specs.declared.reply.Reply.{Reply}
 use Rattle.mvo_world.specs.declared.reply.Reply.TheVariants.{Core as Answered, Closed, Durable, Polled, Refused}
 use Rattle.mvo_world.proofs.Chain.{groups_stay}
@@ -65,6 +65,22 @@ left_taken {D} d e old new h = go (fault_or_not e)
     go : (e ≡ DiskFault) ⊎ (e ≢ DiskFault) → KeepsTaken old new
     go (inl is) = let after = (h.fault is).after in record { mark = ap (λ (s : StoreData D). s.mark) after; pending = ap (λ (s : StoreData D). s.pending) after }
     go (inr ne) = let after = h.other ne in record { mark = ap (λ (s : StoreData D). s.mark) after; pending = ap (λ (s : StoreData D). s.pending) after }
+
+-- so it does where it is refused behind a read
+memory_or_not : (e : Refusal) → (e ≡ OutOfMemory) ⊎ (e ≢ OutOfMemory)
+memory_or_not OutOfMemory = inl refl
+memory_or_not _ = inr (λ e. cc)
+
+pub left_taken_by_read : {D : Type 0} (d : Ghosts D) (e : Refusal) (old new : StoreData D) → LeftByRead d e old new → KeepsTaken old new
+left_taken_by_read {D} d e old new h = go (fault_or_not e) (memory_or_not e)
+  where
+    same : (x : StoreData D) → new ≡ x → x.mark ≡ old.mark → x.pending ≡ old.pending → KeepsTaken old new
+    same x is mark pending = record { mark = ap (λ (s : StoreData D). s.mark) is ∙ mark; pending = ap (λ (s : StoreData D). s.pending) is ∙ pending }
+
+    go : (e ≡ DiskFault) ⊎ (e ≢ DiskFault) → (e ≡ OutOfMemory) ⊎ (e ≢ OutOfMemory) → KeepsTaken old new
+    go (inl is) m = same (record old { disk = new.disk; down = true }) (h.fault is).after refl refl
+    go (inr ne) (inl is) = same (record old { disk = new.disk }) (h.memory is) refl refl
+    go (inr ne) (inr nm) = same old (h.other ne nm) refl refl
 
 -- ---- the groups that wait
 follow_push : (m last : ℕ) (gs : List GroupData) (g : GroupData) → Follow m gs last → g.prev ≡ last → Follow m (gs ++ g ∷ []) g.mark
@@ -121,7 +137,7 @@ nothing_taken {D} s e = go s.down s.pending e
     go false (Some g) f = absurd cc
 
 -- a store whose manifest was installed keeps its mark and the group that it took
-pub installed_taken : {D : Type 0} (o : Option Rotation) (old new : StoreData D) → IsInstalledBy o old new → KeepsTaken old new
+pub installed_taken : {D : Type 0} (o : Option Job) (old new : StoreData D) → IsInstalledBy o old new → KeepsTaken old new
 installed_taken None old new h = absurd h
 installed_taken {D} (Some r) old new h = record { mark = ap (λ (s : StoreData D). s.mark) h; pending = ap (λ (s : StoreData D). s.pending) h }
 
@@ -146,6 +162,9 @@ silent_refused AppendBody r = record { steps = refl; acknowledged = refl; closed
 silent_refused AppendOpen r = record { steps = refl; acknowledged = refl; closed = refl }
 silent_refused (Poll stamp) r = record { steps = refl; acknowledged = refl; closed = refl }
 silent_refused RotateWrite r = record { steps = refl; acknowledged = refl; closed = refl }
+silent_refused CheckpointRead r = record { steps = refl; acknowledged = refl; closed = refl }
+silent_refused CheckpointData r = record { steps = refl; acknowledged = refl; closed = refl }
+silent_refused CheckpointDelta r = record { steps = refl; acknowledged = refl; closed = refl }
 silent_refused InstallClose r = record { steps = refl; acknowledged = refl; closed = refl }
 silent_refused InstallBody r = record { steps = refl; acknowledged = refl; closed = refl }
 silent_refused InstallOpen r = record { steps = refl; acknowledged = refl; closed = refl }

@@ -9,18 +9,21 @@ use Rattle.mvo_state.specs.Causes.{IsRefusal}
 use Rattle.mvo_core.specs.Replies as core
 use Rattle.mvo_core.specs.Groups.{IsNextGroup, why_not_closed, closed_at}
 use Rattle.mvo_store.specs.declared.due.Due.{Due}
-use Rattle.mvo_store.specs.declared.due.Due.TheVariants.{Close, Body, Open}
+use Rattle.mvo_store.specs.declared.due.Due.TheVariants.{Data, Delta, Close, Body, Open}
+use Rattle.mvo_store.specs.declared.progress.Progress.{Progress}
+use Rattle.mvo_store.specs.declared.progress.Progress.TheVariants.{More}
 use Rattle.mvo_store.specs.declared.reclaimed.Reclaimed as reclaiming
 use Rattle.mvo_store.specs.Causes.{why_not_take, why_not_append_body, why_not_append_open}
-use Rattle.mvo_store.specs.Causes.{why_not_rotate, why_not_install, why_not_install_open}
-use Rattle.mvo_store.specs.Causes.{why_not_reclaim}
-use Rattle.mvo_store.specs.Steps.{LeftBy, IsRotationOf, with_due, IsInstalledBy}
+use Rattle.mvo_store.specs.Causes.{why_not_rotate, why_not_checkpoint, why_not_install}
+use Rattle.mvo_store.specs.Causes.{why_not_install_open, why_not_reclaim}
+use Rattle.mvo_store.specs.Steps.{LeftBy, LeftByRead, IsRotationOf, IsCheckpointOf, with_due}
+use Rattle.mvo_store.specs.Steps.{progress_of, with_delta, IsInstalledBy}
 use Rattle.mvo_store.specs.Reclaiming.{HasReclaimed}
 use Rattle.mvo_world.specs.WorldData.{WorldData}
 use Rattle.mvo_world.specs.declared.event.Event.{Event}
-use Rattle.mvo_world.specs.declared.event.Event.TheVariants.{Core as Asked, CloseGroup, TakeGroup, AppendBody, AppendOpen, Poll, RotateWrite, InstallClose, InstallBody, InstallOpen, Reclaim}
+use Rattle.mvo_world.specs.declared.event.Event.TheVariants.{Core as Asked, CloseGroup, TakeGroup, AppendBody, AppendOpen, Poll, RotateWrite, CheckpointRead, CheckpointData, CheckpointDelta, InstallClose, InstallBody, InstallOpen, Reclaim}
 use Rattle.mvo_world.specs.declared.reply.Reply.{Reply}
-use Rattle.mvo_world.specs.declared.reply.Reply.TheVariants.{Core as Answered, Closed, Taken, Written, Durable, Polled, Ready, Shut, Installed, Reclaimed, Refused}
+use Rattle.mvo_world.specs.declared.reply.Reply.TheVariants.{Core as Answered, Closed, Taken, Written, Durable, Polled, Ready, Progress as Progressed, Shut, Installed, Reclaimed, Refused}
 
 -- ---- the first refusal whose cause stands
 
@@ -91,22 +94,41 @@ pub record IsDurable {D : Type 0} (w : WorldData D) (mark : ℕ) (w' : WorldData
 
 -- a rotation runs, and nothing of it is installed yet
 pub record IsReady {D : Type 0} (w w' : WorldData D) : Type 0 where
-  pub rotation : IsRotationOf w.store.manifest w'.store.rotation
+  pub rotation : IsRotationOf w.store.manifest w'.store.job
   pub after : w' ≡ record w {
-    store = record w.store { disk = w'.store.disk; rotation = w'.store.rotation };
+    store = record w.store { disk = w'.store.disk; job = w'.store.job };
   }
 
--- this step of the install is due next
+-- a checkpoint of the oldest sealed segment runs, and nothing of it is written yet
+pub record IsRead {D : Type 0} (d : Ghosts D) (w w' : WorldData D) : Type 0 where
+  pub checkpoint : IsCheckpointOf (d.content w.store.disk) w.store.manifest w'.store.job
+  pub after : w' ≡ record w {
+    store = record w.store {
+      disk = w'.store.disk;
+      places = record w.store.places { room = w'.store.places.room };
+      job = w'.store.job;
+    };
+  }
+
+-- one delta file more of the checkpoint is written
+pub record HasDelta {D : Type 0} (w : WorldData D) (progress : Progress) (w' : WorldData D) : Type 0
+  where
+    pub progress_is : progress ≡ progress_of w.store.job
+    pub after : w' ≡ record w {
+      store = record w.store { disk = w'.store.disk; job = with_delta w.store.job };
+    }
+
+-- this step of the job is due next
 abbrev pub MakesDue : {D : Type 0} → Due → WorldData D → WorldData D → Type 0
 MakesDue step w w' = w' ≡ record w {
-  store = record w.store { disk = w'.store.disk; rotation = with_due step w.store.rotation };
+  store = record w.store { disk = w'.store.disk; job = with_due step w.store.job };
 }
 
--- the manifest of the rotation is installed
+-- the manifest of the job is installed
 pub record IsInstalled {D : Type 0} (w : WorldData D) (generation : ℕ) (w' : WorldData D) : Type 0
   where
     pub rest : w' ≡ record w { store = w'.store }
-    pub installed : IsInstalledBy w.store.rotation w.store w'.store
+    pub installed : IsInstalledBy w.store.job w.store w'.store
     pub generation_is : generation ≡ w'.store.manifest.generation
 
 -- the least dead file is emptied, or none is dead
@@ -120,6 +142,12 @@ pub record IsLeft {D : Type 0} (d : Ghosts D) (w : WorldData D) (r : Refusal) (w
     Type 0 where
   pub rest : w' ≡ record w { store = w'.store }
   pub store : LeftBy d r w.store w'.store
+
+-- so does one behind a read, but for the time that has passed on the disk
+pub record IsLeftByRead {D : Type 0} (d : Ghosts D) (w : WorldData D) (r : Refusal)
+    (w' : WorldData D) : Type 0 where
+  pub rest : w' ≡ record w { store = w'.store }
+  pub store : LeftByRead d r w.store w'.store
 
 -- ---- the reply
 
@@ -147,6 +175,18 @@ IsReplyTo d w RotateWrite Ready w' =
     (why_not_rotate w.store ≡ None) × IsReady w w' × HasNoFault d w w'
 IsReplyTo d w RotateWrite (Refused r) w' =
     IsBodyRefusal (why_not_rotate w.store) r × IsLeft d w r w'
+IsReplyTo d w CheckpointRead (Progressed More) w' =
+    (why_not_checkpoint w.store ≡ None) × IsRead d w w' × HasNoFault d w w'
+IsReplyTo d w CheckpointRead (Refused r) w' =
+    IsBodyRefusal (why_not_checkpoint w.store) r × IsLeftByRead d w r w'
+IsReplyTo d w CheckpointData (Progressed More) w' =
+    (why_not_install Data w.store ≡ None) × MakesDue Delta w w' × HasNoFault d w w'
+IsReplyTo d w CheckpointData (Refused r) w' =
+    IsBodyRefusal (why_not_install Data w.store) r × IsLeft d w r w'
+IsReplyTo d w CheckpointDelta (Progressed progress) w' =
+    (why_not_install Delta w.store ≡ None) × HasDelta w progress w' × HasNoFault d w w'
+IsReplyTo d w CheckpointDelta (Refused r) w' =
+    IsBodyRefusal (why_not_install Delta w.store) r × IsLeft d w r w'
 IsReplyTo d w InstallClose Shut w' =
     (why_not_install Close w.store ≡ None) × MakesDue Body w w' × HasNoFault d w w'
 IsReplyTo d w InstallClose (Refused r) w' =

@@ -31,4 +31,4 @@ pub record HasBegun {D : Type 0} (w : WorldData D) : Type 0 where
   pub down : w.store.down ≡ false
   pub pending : w.store.pending ≡ None
   pub written : w.store.written ≡ false
-  pub rotation : w.store.rotation ≡ None
+  pub job : w.store.job ≡ None

@@ -18,6 +18,12 @@ pub enum Event {
     Poll(Stamp),
     /// The store writes a fresh segment, and a rotation begins.
     RotateWrite,
+    /// The store reads the oldest sealed segment, and a checkpoint of it begins.
+    CheckpointRead,
+    /// The store writes the data file of the checkpoint that runs.
+    CheckpointData,
+    /// The store writes the next delta file of the checkpoint that runs.
+    CheckpointDelta,
     /// The store closes the gate of the slot that the next manifest goes to.
     InstallClose,
     /// The store writes that manifest behind the gate.
@@ -45,6 +51,9 @@ impl Event {
             Event::AppendOpen => Ok(Event::AppendOpen),
             Event::Poll(stamp) => Ok(Event::Poll(*stamp)),
             Event::RotateWrite => Ok(Event::RotateWrite),
+            Event::CheckpointRead => Ok(Event::CheckpointRead),
+            Event::CheckpointData => Ok(Event::CheckpointData),
+            Event::CheckpointDelta => Ok(Event::CheckpointDelta),
             Event::InstallClose => Ok(Event::InstallClose),
             Event::InstallBody => Ok(Event::InstallBody),
             Event::InstallOpen => Ok(Event::InstallOpen),

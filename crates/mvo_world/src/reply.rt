@@ -1,5 +1,5 @@
 use mvo_core::Closed;
-use mvo_store::{Generation, Reclaimed};
+use mvo_store::{Generation, Progress, Reclaimed};
 use mvo_types::{Refusal, Stamp};
 
 /// What is answered to a step.
@@ -19,6 +19,8 @@ pub enum Reply {
     Polled(bool),
     /// A rotation runs: its fresh segment is written.
     Ready,
+    /// A checkpoint runs: it has more to write, or all is written.
+    Progress(Progress),
     /// The gate of the slot is closed.
     Shut,
     /// The manifest of this generation is installed.

@@ -29,11 +29,12 @@ pub struct World<D: Disk> {
 impl<D: Disk> Model for World<D> {
     ghost use Rattle.std.specs.Coded.{codes};
     ghost use Rattle.mvo_types.specs.Keys.{coded_map};
+    ghost use Rattle.mvo_ckpt.specs.Places.{coded_places};
     ghost use Rattle.mvo_world.specs.WorldData.{WorldData, IsLinked};
 
     ghost Value = { WorldData D };
 
-    ghost coded = { Prim.hlevel (codes, coded_map) };
+    ghost coded = { Prim.hlevel (codes, coded_map, coded_places) };
 
     ghost view = { λ w. record { core = w.core; place = w.place; store = w.store } };
 
@@ -130,6 +131,9 @@ impl<D: Disk> World<D> {
             Event::AppendOpen => self.append_open(),
             Event::Poll(stamp) => self.poll(stamp),
             Event::RotateWrite => self.rotate_write(),
+            Event::CheckpointRead => self.checkpoint_read(),
+            Event::CheckpointData => self.checkpoint_data(),
+            Event::CheckpointDelta => self.checkpoint_delta(),
             Event::InstallClose => self.install_close(),
             Event::InstallBody => self.install_body(),
             Event::InstallOpen => self.install_open(),

@@ -38,6 +38,23 @@ const SLOT: [u8; 37] = [
     0, 0, 0, 0, 0, 2, 0, 2, 0, 3, 0,
 ];
 
+// Slot 0 with the manifest of generation 2: checkpoint mark 2, the pair of the files 4 and 5 from 0
+// to 2 with one record and no entries, the segment 3.
+const SLOT_OF_PAIR: [u8; 63] = [
+    0xa5, 0x3a, 0, 0, 0, 0x4d, 0x56, 0x4f, 0x4d, 1, 0, 0, 0, 2, 0, 0, 0, 0, 0, 0, 0, 2, 0, 0, 0, 0,
+    0, 0, 0, 1, 0, 4, 0, 5, 0, 0, 0, 0, 0, 0, 0, 0, 0, 2, 0, 0, 0, 0, 0, 0, 0, 1, 0, 0, 0, 0, 0, 0,
+    0, 1, 0, 3, 0,
+];
+
+// The data file with one record: begin 2, table 0, key 5, sort 50, data 61.
+const DATA: [u8; 36] = [
+    0x4d, 0x56, 0x4f, 0x44, 1, 0, 0, 0, 2, 0, 0, 0, 0, 0, 0, 0, 0, 5, 0, 0, 0, 0, 0, 0, 0, 0x32, 0,
+    0, 0, 0, 0, 0, 0, 1, 0, 0x61,
+];
+
+// A delta file without entries.
+const DELTA: [u8; 8] = [0x4d, 0x56, 0x4f, 0x45, 1, 0, 0, 0];
+
 // A segment without a group.
 const FRESH: [u8; 9] = [0x4d, 0x56, 0x4f, 0x4c, 1, 0, 0, 0, 0];
 
@@ -191,6 +208,80 @@ fn a_rotation_keeps_the_rows(rt: HostRuntime) -> Result<(), Fail> {
     assert_eq!(rt; disk.bytes(1), SLOT.as_slice());
     assert_eq!(rt; disk.bytes(2), SEGMENT.as_slice());
     assert_eq!(rt; disk.bytes(3), FRESH.as_slice());
+    assert_eq!(rt; found(&rt, alloc, disk)?, (2, Some(1)));
+    Ok(())
+}
+
+// The steps of a rotation, and what is answered to them.
+fn rotation(alloc: Global) -> Result<Vec<Event>, Fail> {
+    let events = vec![in alloc;
+        Event::RotateWrite,
+        Event::InstallClose,
+        Event::InstallBody,
+        Event::InstallOpen,
+    ]?;
+    Ok(events)
+}
+
+const ROTATED: [&str; 4] = ["Ready", "Shut", "Written", "Installed(Generation(1))"];
+
+// The steps of a checkpoint, with some out of turn, and what is answered to them.
+fn checkpoint(alloc: Global) -> Result<Vec<Event>, Fail> {
+    let events = vec![in alloc;
+        Event::CheckpointData,
+        Event::CheckpointRead,
+        Event::CheckpointRead,
+        Event::RotateWrite,
+        Event::CheckpointDelta,
+        Event::CheckpointData,
+        Event::CheckpointData,
+        Event::InstallClose,
+        Event::CheckpointDelta,
+        Event::CheckpointDelta,
+        Event::InstallClose,
+        Event::InstallBody,
+        Event::InstallOpen,
+        Event::CheckpointRead,
+    ]?;
+    Ok(events)
+}
+
+const CHECKPOINTED: [&str; 14] = [
+    "Refused(NothingToDo)",
+    "Progress(More)",
+    "Refused(Busy)",
+    "Refused(Busy)",
+    "Refused(NothingToDo)",
+    "Progress(More)",
+    "Refused(NothingToDo)",
+    "Refused(NothingToDo)",
+    "Progress(Ready)",
+    "Refused(NothingToDo)",
+    "Shut",
+    "Written",
+    "Installed(Generation(2))",
+    "Refused(NothingToDo)",
+];
+
+#[test]
+fn a_checkpoint_keeps_the_rows(rt: HostRuntime) -> Result<(), Fail> {
+    let alloc = rt.alloc();
+    let mut world = with_body(&rt, alloc)?;
+    let events = vec![in alloc; Event::AppendOpen, Event::CheckpointRead]?;
+    let texts = ["Durable(Stamp(2))", "Refused(NothingToDo)"];
+    assert_replies(&rt, &mut world, &events, &texts)?;
+    assert_replies(&rt, &mut world, &rotation(alloc)?, &ROTATED)?;
+    assert_replies(&rt, &mut world, &checkpoint(alloc)?, &CHECKPOINTED)?;
+    let events = vec![in alloc; Event::Reclaim, Event::Reclaim, Event::Poll(Stamp(2))]?;
+    let texts = ["Reclaimed(More)", "Reclaimed(Done)", "Polled(true)"];
+    assert_replies(&rt, &mut world, &events, &texts)?;
+    let disk = world.into_disk();
+    assert_eq!(rt; disk.bytes(0), SLOT_OF_PAIR.as_slice());
+    assert_eq!(rt; disk.bytes(1), SLOT.as_slice());
+    assert!(rt; disk.bytes(2).is_empty());
+    assert_eq!(rt; disk.bytes(3), FRESH.as_slice());
+    assert_eq!(rt; disk.bytes(4), DATA.as_slice());
+    assert_eq!(rt; disk.bytes(5), DELTA.as_slice());
     assert_eq!(rt; found(&rt, alloc, disk)?, (2, Some(1)));
     Ok(())
 }

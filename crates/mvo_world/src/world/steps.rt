@@ -4,6 +4,7 @@ use super::World;
 use crate::event::Event;
 use crate::reply::Reply;
 use mvo_disk::Disk;
+use mvo_store::Progress;
 use mvo_types::{Refusal, Stamp};
 
 impl<D: Disk> World<D> {
@@ -69,6 +70,33 @@ impl<D: Disk> World<D> {
     {
         match self.store.rotate_write() {
             Ok(()) => Reply::Ready,
+            Err(refusal) => Reply::Refused(refusal),
+        }
+    }
+
+    pub(super) fn checkpoint_read(&mut self) -> Reply
+        ensures { IsStep D.Disk self.old Event.CheckpointRead result self.new }
+    {
+        match self.store.checkpoint_read() {
+            Ok(()) => Reply::Progress(Progress::More),
+            Err(refusal) => Reply::Refused(refusal),
+        }
+    }
+
+    pub(super) fn checkpoint_data(&mut self) -> Reply
+        ensures { IsStep D.Disk self.old Event.CheckpointData result self.new }
+    {
+        match self.store.checkpoint_data() {
+            Ok(()) => Reply::Progress(Progress::More),
+            Err(refusal) => Reply::Refused(refusal),
+        }
+    }
+
+    pub(super) fn checkpoint_delta(&mut self) -> Reply
+        ensures { IsStep D.Disk self.old Event.CheckpointDelta result self.new }
+    {
+        match self.store.checkpoint_delta() {
+            Ok(progress) => Reply::Progress(progress),
             Err(refusal) => Reply::Refused(refusal),
         }
     }

@@ -31,10 +31,12 @@ fn due_of_groups(known: &Known) -> Event {
     }
 }
 
-/// The step that the rotation waits for, or a rotation.
+/// The step that the job waits for, or a rotation.
 fn due_of_job(known: &Known) -> Event {
     match known.job {
         Job::None => Event::RotateWrite,
+        Job::Data => Event::CheckpointData,
+        Job::Delta => Event::CheckpointDelta,
         Job::Close => Event::InstallClose,
         Job::Body => Event::InstallBody,
         Job::Open => Event::InstallOpen,
@@ -45,9 +47,9 @@ impl Draws {
     /// An event. The keys in use begin at the number.
     pub fn event(&mut self, observed: &Observed, first_key: u64) -> Result<Event, AllocError> {
         let key = key_at(first_key.saturating_add(self.below(KEYS)));
-        match self.below(17) {
+        match self.below(18) {
             0..=2 => Ok(self.event_of_groups(&observed.known)),
-            16 => Ok(self.event_of_jobs(&observed.known)),
+            16..=17 => Ok(self.event_of_jobs(&observed.known)),
             3 => Ok(Event::Poll(self.stamp(observed))),
             4 => Ok(Event::Core(self.any_step(observed, key)?)),
             _ => Ok(Event::Core(self.due_step(observed, key)?)),
@@ -65,13 +67,17 @@ impl Draws {
     }
 
     fn event_of_jobs(&mut self, known: &Known) -> Event {
-        match self.below(16) {
+        match self.below(32) {
             0 => Event::RotateWrite,
             1 => Event::InstallClose,
             2 => Event::InstallBody,
             3 => Event::InstallOpen,
             4 => Event::Reclaim,
-            5..=8 if known.job == Job::None => Event::Reclaim,
+            5 => Event::CheckpointRead,
+            6 => Event::CheckpointData,
+            7 => Event::CheckpointDelta,
+            8..=13 if known.job == Job::None => Event::Reclaim,
+            14..=24 if known.job == Job::None => Event::CheckpointRead,
             _ => due_of_job(known),
         }
     }

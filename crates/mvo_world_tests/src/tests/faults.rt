@@ -28,6 +28,7 @@ struct Met {
     in_opening: u64,
     in_append: u64,
     in_rotate: u64,
+    in_checkpoint: u64,
     in_install: u64,
     in_reclaim: u64,
     strange: u64,
@@ -45,6 +46,7 @@ impl Met {
             in_opening: 0,
             in_append: 0,
             in_rotate: 0,
+            in_checkpoint: 0,
             in_install: 0,
             in_reclaim: 0,
             strange: 0,
@@ -60,6 +62,9 @@ impl Met {
         match event {
             Event::AppendBody | Event::AppendOpen => count(&mut self.in_append),
             Event::RotateWrite => count(&mut self.in_rotate),
+            Event::CheckpointRead | Event::CheckpointData | Event::CheckpointDelta => {
+                count(&mut self.in_checkpoint)
+            }
             Event::InstallClose | Event::InstallBody | Event::InstallOpen => {
                 count(&mut self.in_install)
             }
@@ -228,10 +233,12 @@ fn assert_met(rt: &impl Abort, counts: &Counts, met: &Met) {
     let floors = [
         (counts.groups, 30),
         (counts.installed, 5),
+        (counts.checkpoints, 0),
         (counts.emptied, 0),
         (met.in_opening, 2),
         (met.in_append, 10),
         (met.in_rotate, 2),
+        (met.in_checkpoint, 2),
         (met.in_install, 4),
         (met.in_reclaim, 0),
         (met.down, 100),

@@ -1,7 +1,7 @@
 //! What happened in a run, as its events and their replies tell.
 
 use mvo_core::{Event as Step, Reply as Answered};
-use mvo_store::Reclaimed;
+use mvo_store::{Progress, Reclaimed};
 use mvo_types::{Answer, Op, Refusal, Stamp, TxId};
 use mvo_world::{Event, Reply};
 use std::alloc::{AllocError, Global};
@@ -41,17 +41,19 @@ pub struct ClosedGroup {
     pub mark: Stamp,
 }
 
-/// The step of a rotation that comes next.
+/// The step of a rotation or of a checkpoint that comes next.
 #[derive(Clone, Copy, PartialEq)]
 pub enum Job {
-    /// No rotation runs.
+    /// None runs.
     None,
+    Data,
+    Delta,
     Close,
     Body,
     Open,
 }
 
-/// What is known of the groups and of a rotation at a moment.
+/// What is known of the groups and of the job at a moment.
 #[derive(Clone, Copy)]
 pub struct Known {
     /// The greatest of the opening mark, those answered durable and those polled with yes.
@@ -64,6 +66,8 @@ pub struct Known {
     pub taken: Option<Stamp>,
     pub written: bool,
     pub job: Job,
+    /// So many files of checkpoints were written.
+    pub written_files: u64,
     /// So many files were emptied.
     pub emptied: u64,
 }
@@ -79,6 +83,7 @@ pub struct Counts {
     pub out_of_turn: u64,
     pub groups: u64,
     pub installed: u64,
+    pub checkpoints: u64,
     pub emptied: u64,
     pub polled_yes: u64,
     pub polled_no: u64,
@@ -96,6 +101,7 @@ impl Counts {
             out_of_turn: 0,
             groups: 0,
             installed: 0,
+            checkpoints: 0,
             emptied: 0,
             polled_yes: 0,
             polled_no: 0,
@@ -161,6 +167,7 @@ impl Observed {
                 taken: None,
                 written: false,
                 job: Job::None,
+                written_files: 0,
                 emptied: 0,
             },
             counts,
@@ -183,6 +190,7 @@ impl Observed {
             Reply::Durable(mark) => self.note_durable(mark),
             Reply::Polled(yes) => self.note_poll(event, yes),
             Reply::Ready => self.known.job = Job::Close,
+            Reply::Progress(progress) => self.note_progress(event, progress),
             Reply::Shut => self.known.job = Job::Body,
             Reply::Installed(_) => {
                 count(&mut self.counts.installed);
@@ -203,6 +211,24 @@ impl Observed {
         match event {
             Event::AppendBody => self.known.written = true,
             Event::InstallBody => self.known.job = Job::Open,
+            _ => count(&mut self.counts.strange),
+        }
+    }
+
+    fn note_progress(&mut self, event: &Event, progress: Progress) {
+        match event {
+            Event::CheckpointRead => self.known.job = Job::Data,
+            Event::CheckpointData => {
+                count(&mut self.known.written_files);
+                self.known.job = Job::Delta;
+            }
+            Event::CheckpointDelta => {
+                count(&mut self.known.written_files);
+                if progress == Progress::Ready {
+                    count(&mut self.counts.checkpoints);
+                    self.known.job = Job::Close;
+                }
+            }
             _ => count(&mut self.counts.strange),
         }
     }

@@ -29,6 +29,7 @@ struct Met {
     gate_left_closed: u64,
     after_gate: u64,
     in_rotate: u64,
+    in_checkpoint: u64,
     in_install: u64,
     slot_left_open: u64,
     slot_left_closed: u64,
@@ -70,6 +71,7 @@ impl Met {
             gate_left_closed: 0,
             after_gate: 0,
             in_rotate: 0,
+            in_checkpoint: 0,
             in_install: 0,
             slot_left_open: 0,
             slot_left_closed: 0,
@@ -91,6 +93,7 @@ impl Met {
             Event::AppendOpen if is_open => count(&mut self.gate_left_open),
             Event::AppendOpen => count(&mut self.gate_left_closed),
             Event::RotateWrite => count(&mut self.in_rotate),
+            Event::CheckpointData | Event::CheckpointDelta => count(&mut self.in_checkpoint),
             Event::InstallClose | Event::InstallBody => count(&mut self.in_install),
             Event::InstallOpen if is_open => count(&mut self.slot_left_open),
             Event::InstallOpen => count(&mut self.slot_left_closed),
@@ -275,8 +278,8 @@ impl Trial {
         let found = check_disk(rt, run, &self.keys, answered, disk)?;
         assert_eq!(rt; found.mark, wanted, "after {answered} events");
         self.met.rows = self.met.rows.saturating_add(found.rows.len() as u64);
-        // A rotation that a stop ended leaves a file to be reclaimed.
-        let one_of = if run.is_rotating(answered) { 4 } else { 16 };
+        // A job that a stop ended leaves a file to be reclaimed.
+        let one_of = if run.has_job(answered) { 4 } else { 16 };
         if self.next.is_none() || self.draws.below(one_of) == 0 {
             let Found { mark, rows } = found;
             self.next = Some(Start { files, rows, mark });
@@ -296,6 +299,7 @@ fn assert_counts(rt: &impl Abort, counts: &Counts) {
         (counts.out_of_turn, 80),
         (counts.groups, 30),
         (counts.installed, 5),
+        (counts.checkpoints, 5),
         (counts.polled_yes, 30),
         (counts.polled_no, 15),
     ];
@@ -313,6 +317,7 @@ fn assert_met(rt: &impl Abort, met: &Met) {
         (met.gate_left_closed, 30),
         (met.after_gate, 30),
         (met.in_rotate, 30),
+        (met.in_checkpoint, 30),
         (met.in_install, 30),
         (met.slot_left_open, 10),
         (met.slot_left_closed, 2),

@@ -117,14 +117,15 @@ impl Run {
             (Some(known), Some(later)) => {
                 known.written != later.written
                     || known.job != later.job
+                    || known.written_files != later.written_files
                     || known.emptied != later.emptied
             }
             _ => false,
         }
     }
 
-    /// Whether a rotation runs after the first events.
-    pub fn is_rotating(&self, number: usize) -> bool {
+    /// Whether a job runs after the first events.
+    pub fn has_job(&self, number: usize) -> bool {
         self.known
             .get(number)
             .is_some_and(|known| known.job != Job::None)

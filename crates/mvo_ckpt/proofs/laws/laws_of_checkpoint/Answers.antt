@@ -6,6 +6,7 @@ use Rattle.mvo_ckpt.proofs.Few.{few_enough}
 use Rattle.mvo_ckpt.proofs.LastPuts.{last_puts}
 use Rattle.mvo_ckpt.proofs.Naming.{live_numbers_rise}
 use Rattle.mvo_ckpt.proofs.Growing.{no_places, places_grow}
+use Rattle.mvo_ckpt.proofs.Taking.{places_taken_over}
 use Rattle.mvo_ckpt.proofs.laws.laws_of_checkpoint.Goals as goal
 
 pub returns-clause-rows : goal.returns-clause-rows
@@ -37,3 +38,6 @@ returns-clause-none c = no_places
 
 pub returns-clause-grow : goal.returns-clause-grow
 returns-clause-grow c = places_grow
+
+pub returns-clause-taken : goal.returns-clause-taken
+returns-clause-taken c = places_taken_over

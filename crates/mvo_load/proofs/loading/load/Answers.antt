@@ -1,4 +1,5 @@
 use Rattle.std.proofs.Common.{◌⊎◌, inl, inr, ⊎_elim, Some, Ok, Err, subst, ◌∙◌, []}
+use Rattle.mvo_disk.specs.Disk.{AllOf}
 use Rattle.mvo_pair.specs.Answers.{IsOnly}
 use Rattle.mvo_pair.specs.Writing.{IsStop}
 use Rattle.mvo_image.specs.Opens.{Image, Outcome, Segments, OpensWith}

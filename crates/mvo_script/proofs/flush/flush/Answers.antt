@@ -4,7 +4,7 @@ use Rattle.mvo_world.specs.Replies.{IsReplyTo}
 use Rattle.mvo_world.specs.declared.event.Event.TheVariants.{TakeGroup}
 use Rattle.mvo_world.specs.declared.reply.Reply.{Reply}
 use Rattle.mvo_world.specs.declared.reply.Reply.TheVariants.{Taken, Refused}
-use Rattle.mvo_script.specs.Rotating.{is_refused}
+use Rattle.mvo_script.specs.Stopping.{is_refused}
 use Rattle.mvo_script.specs.Flushing.{stops_flush}
 use Rattle.mvo_script.specs.Flushing.IsFlush.{AtTake, AtTurn, AtEnd}
 use Rattle.mvo_script.proofs.Turns.{append_at, close_goes, flush_at, not_durable, refused_flush, take_stops, turn_count}

@@ -8,14 +8,14 @@ use Rattle.mvo_store.proofs.store.Store.append_body.Goals as goal
 
 pub write_body-requires-clause-durable : goal.write_body-requires-clause-durable
 write_body-requires-clause-durable g c =
-    let old : StoreData _ = record { disk = c.self.inside.disk; manifest = c.self.inside.manifest; segment = c.self.inside.segment; mark = c.self.inside.mark.0; pending = c.self.inside.pending; written = c.self.inside.written; rotation = c.self.inside.rotation; down = c.self.inside.down } in
+    let old : StoreData _ = record { disk = c.self.inside.disk; manifest = c.self.inside.manifest; places = c.self.inside.places; segment = c.self.inside.segment; mark = c.self.inside.mark.0; pending = c.self.inside.pending; written = c.self.inside.written; job = c.self.inside.job; down = c.self.inside.down } in
     let up = c.self.invariant c.if-self.false in
     last_durable g.D.Disk old up.0 up.1
 
 pub invariant_of-self : goal.invariant_of-self
 invariant_of-self g c =
     let d = g.D.Disk in
-    let old : StoreData _ = record { disk = c.self.inside.disk; manifest = c.self.inside.manifest; segment = c.self.inside.segment; mark = c.self.inside.mark.0; pending = c.self.inside.pending; written = c.self.inside.written; rotation = c.self.inside.rotation; down = c.self.inside.down } in
+    let old : StoreData _ = record { disk = c.self.inside.disk; manifest = c.self.inside.manifest; places = c.self.inside.places; segment = c.self.inside.segment; mark = c.self.inside.mark.0; pending = c.self.inside.pending; written = c.self.inside.written; job = c.self.inside.job; down = c.self.inside.down } in
     let up = c.self.invariant c.if-self.false in
     let e = c.in-Ok.ensures in
     λ _. (up.0, body_up d old up.0 up.1 c.write_body.new.disk c.write_body.new.self c.in-Some.group c.in-Some.is e.ok (e.written VERSION up.1.parts.middle up.1.parts.last (last_stands d old up.0 up.1) (follows_last d old up.0 up.1 c.in-Some.group c.in-Some.is)) e.durable e.rest e.count)
@@ -23,7 +23,7 @@ invariant_of-self g c =
 pub invariant_of-self-else-is_fault : goal.invariant_of-self-else-is_fault
 invariant_of-self-else-is_fault g c =
     let d = g.D.Disk in
-    let old : StoreData _ = record { disk = c.self.inside.disk; manifest = c.self.inside.manifest; segment = c.self.inside.segment; mark = c.self.inside.mark.0; pending = c.self.inside.pending; written = c.self.inside.written; rotation = c.self.inside.rotation; down = c.self.inside.down } in
+    let old : StoreData _ = record { disk = c.self.inside.disk; manifest = c.self.inside.manifest; places = c.self.inside.places; segment = c.self.inside.segment; mark = c.self.inside.mark.0; pending = c.self.inside.pending; written = c.self.inside.written; job = c.self.inside.job; down = c.self.inside.down } in
     let up = c.self.invariant c.if-self.false in
     let same_disk = c.in-Err.ensures.left.other c.if-is_fault.ensures.other in
     λ _. (up.0, subst (λ (s : StoreData _). IsUp d s up.0) (left_same old c.write_body.new.disk c.write_body.new.self same_disk c.in-Err.ensures.err) up.1)
@@ -31,7 +31,7 @@ invariant_of-self-else-is_fault g c =
 pub returns-in-Ok-clause-keeps : goal.returns-in-Ok-clause-keeps
 returns-in-Ok-clause-keeps g c =
     let d = g.D.Disk in
-    let old : StoreData _ = record { disk = c.self.inside.disk; manifest = c.self.inside.manifest; segment = c.self.inside.segment; mark = c.self.inside.mark.0; pending = c.self.inside.pending; written = c.self.inside.written; rotation = c.self.inside.rotation; down = c.self.inside.down } in
+    let old : StoreData _ = record { disk = c.self.inside.disk; manifest = c.self.inside.manifest; places = c.self.inside.places; segment = c.self.inside.segment; mark = c.self.inside.mark.0; pending = c.self.inside.pending; written = c.self.inside.written; job = c.self.inside.job; down = c.self.inside.down } in
     let now = c.self.invariant c.if-self.false in
     let e = c.in-Ok.ensures in
     rw (← c.self.view_is) (step_keeps d (λ rows. rows) old (record old { disk = c.write_body.new.disk; segment = c.write_body.new.self; written = true }) c.if-self.false
@@ -42,7 +42,7 @@ returns-in-Ok-clause-keeps g c =
 pub returns-then-is_fault-clause-keeps : goal.returns-then-is_fault-clause-keeps
 returns-then-is_fault-clause-keeps g c =
     let d = g.D.Disk in
-    let old : StoreData _ = record { disk = c.self.inside.disk; manifest = c.self.inside.manifest; segment = c.self.inside.segment; mark = c.self.inside.mark.0; pending = c.self.inside.pending; written = c.self.inside.written; rotation = c.self.inside.rotation; down = c.self.inside.down } in
+    let old : StoreData _ = record { disk = c.self.inside.disk; manifest = c.self.inside.manifest; places = c.self.inside.places; segment = c.self.inside.segment; mark = c.self.inside.mark.0; pending = c.self.inside.pending; written = c.self.inside.written; job = c.self.inside.job; down = c.self.inside.down } in
     rw (← c.self.view_is) (rw c.in-Err.ensures.err (fault_keeps d g.met.D.Disk.counts_now old c.write_body.new.disk c.if-self.false
     (λ rows up slots. body_leaves d old rows up c.write_body.new.disk slots (c.in-Err.ensures.any_moment VERSION up.parts.middle up.parts.last (last_stands d old rows up)))))
 
@@ -57,13 +57,13 @@ returns-then-self-2-clause-keeps g c = rw (← c.self.view_is) (refused_keeps g.
 
 pub write_body-requires-clause-file : goal.write_body-requires-clause-file
 write_body-requires-clause-file g c =
-    let old : StoreData _ = record { disk = c.self.inside.disk; manifest = c.self.inside.manifest; segment = c.self.inside.segment; mark = c.self.inside.mark.0; pending = c.self.inside.pending; written = c.self.inside.written; rotation = c.self.inside.rotation; down = c.self.inside.down } in
+    let old : StoreData _ = record { disk = c.self.inside.disk; manifest = c.self.inside.manifest; places = c.self.inside.places; segment = c.self.inside.segment; mark = c.self.inside.mark.0; pending = c.self.inside.pending; written = c.self.inside.written; job = c.self.inside.job; down = c.self.inside.down } in
     let up = c.self.invariant c.if-self.false in
     last_file g.D.Disk old up.0 up.1
 
 pub returns-else-is_fault-clause-keeps : goal.returns-else-is_fault-clause-keeps
 returns-else-is_fault-clause-keeps g c =
     let d = g.D.Disk in
-    let old : StoreData _ = record { disk = c.self.inside.disk; manifest = c.self.inside.manifest; segment = c.self.inside.segment; mark = c.self.inside.mark.0; pending = c.self.inside.pending; written = c.self.inside.written; rotation = c.self.inside.rotation; down = c.self.inside.down } in
+    let old : StoreData _ = record { disk = c.self.inside.disk; manifest = c.self.inside.manifest; places = c.self.inside.places; segment = c.self.inside.segment; mark = c.self.inside.mark.0; pending = c.self.inside.pending; written = c.self.inside.written; job = c.self.inside.job; down = c.self.inside.down } in
     let same_disk = c.in-Err.ensures.left.other c.if-is_fault.ensures.other in
     rw (← c.self.view_is) (same_keeps d g.met.D.Disk.only_now old (record old { disk = c.write_body.new.disk; segment = c.write_body.new.self }) (sym (left_same old c.write_body.new.disk c.write_body.new.self same_disk c.in-Err.ensures.err)))

@@ -4,14 +4,14 @@ use Rattle.mvo_store.proofs.store.Store.open.Goals as goal
 pub invariant_of-store : goal.invariant_of-store
 invariant_of-store g c =
     let l = c.in-Ok.loaded in
-    λ _. (l.rows, opened_up g.D.Disk c.args.disk c.load_synced.new.disk l.manifest l.rows l.mark.0 l.gate c.last_segment.result c.in-Ok.ensures.loaded c.in-Ok.ensures.synced c.last_segment.ensures c.in-Ok.ensures.few)
+    λ _. (l.rows, opened_up g.D.Disk c.args.disk c.load_synced.new.disk l.manifest l.rows l.mark.0 l.gate c.last_segment.result c.in-Ok.ensures.loaded l.places c.in-Ok.ensures.places c.in-Ok.ensures.synced c.last_segment.ensures c.in-Ok.ensures.few)
 
 pub returns-clause-up : goal.returns-clause-up
 returns-clause-up g c =
     let l = c.in-Ok.loaded in
-    opened_up g.D.Disk c.args.disk c.load_synced.new.disk l.manifest l.rows l.mark.0 l.gate c.last_segment.result c.in-Ok.ensures.loaded c.in-Ok.ensures.synced c.last_segment.ensures c.in-Ok.ensures.few
+    opened_up g.D.Disk c.args.disk c.load_synced.new.disk l.manifest l.rows l.mark.0 l.gate c.last_segment.result c.in-Ok.ensures.loaded l.places c.in-Ok.ensures.places c.in-Ok.ensures.synced c.last_segment.ensures c.in-Ok.ensures.few
 
 pub returns-clause-keeps : goal.returns-clause-keeps
 returns-clause-keeps g c =
     let l = c.in-Ok.loaded in
-    opened_keeps g.D.Disk c.args.disk c.load_synced.new.disk l.manifest l.rows l.mark.0 l.gate c.last_segment.result c.in-Ok.ensures.loaded c.in-Ok.ensures.synced c.last_segment.ensures c.in-Ok.ensures.few
+    opened_keeps g.D.Disk c.args.disk c.load_synced.new.disk l.manifest l.rows l.mark.0 l.gate c.last_segment.result c.in-Ok.ensures.loaded l.places c.in-Ok.ensures.places c.in-Ok.ensures.synced c.last_segment.ensures c.in-Ok.ensures.few

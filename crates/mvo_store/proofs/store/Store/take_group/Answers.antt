@@ -9,7 +9,7 @@ use Rattle.mvo_store.proofs.store.Store.take_group.Goals as goal
 pub invariant_of-self : goal.invariant_of-self
 invariant_of-self g c =
     let d = g.D.Disk in
-    let old : StoreData _ = record { disk = c.self.inside.disk; manifest = c.self.inside.manifest; segment = c.self.inside.segment; mark = c.self.inside.mark.0; pending = c.self.inside.pending; written = c.self.inside.written; rotation = c.self.inside.rotation; down = c.self.inside.down } in
+    let old : StoreData _ = record { disk = c.self.inside.disk; manifest = c.self.inside.manifest; places = c.self.inside.places; segment = c.self.inside.segment; mark = c.self.inside.mark.0; pending = c.self.inside.pending; written = c.self.inside.written; job = c.self.inside.job; down = c.self.inside.down } in
     let no_refusal = sym c.can_take.ensures ∙ c.in_default.is in
     let no_refusal_old = subst (λ (s : StoreData _). why_not_take s ≡ None) (sym c.self.view_is) no_refusal in
     let may = may_take old no_refusal_old in
@@ -23,7 +23,7 @@ returns-in-Some-clause-keeps g c = rw (← c.self.view_is) (refused_keeps g.D.Di
 pub returns-clause-keeps : goal.returns-clause-keeps
 returns-clause-keeps g c =
     let d = g.D.Disk in
-    let old : StoreData _ = record { disk = c.self.inside.disk; manifest = c.self.inside.manifest; segment = c.self.inside.segment; mark = c.self.inside.mark.0; pending = c.self.inside.pending; written = c.self.inside.written; rotation = c.self.inside.rotation; down = c.self.inside.down } in
+    let old : StoreData _ = record { disk = c.self.inside.disk; manifest = c.self.inside.manifest; places = c.self.inside.places; segment = c.self.inside.segment; mark = c.self.inside.mark.0; pending = c.self.inside.pending; written = c.self.inside.written; job = c.self.inside.job; down = c.self.inside.down } in
     let no_refusal = sym c.can_take.ensures ∙ c.in_default.is in
     let no_refusal_old = subst (λ (s : StoreData _). why_not_take s ≡ None) (sym c.self.view_is) no_refusal in
     let may = may_take old no_refusal_old in

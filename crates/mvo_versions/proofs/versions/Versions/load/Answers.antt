@@ -30,8 +30,8 @@ loop-row-preserved c =
 pub invariant_of-result : goal.invariant_of-result
 invariant_of-result c = loading_ends (At c.args.mark) c.loop-row.yielded _ _ _ _ c.loop-row.invariant c.in_ok-order.ensures
 
-pub returns : goal.returns
-returns c =
+pub returns-clause-loaded : goal.returns-clause-loaded
+returns-clause-loaded c =
     let b = c.into_iter-row-iterator.ensures.into_iter_gives in
     let t = YieldsList-end (YieldsList-from_vec {s = c.into_iter-row-iterator.result} c.in_ok-rows.rows.items b.0 (b.1 ∙ c.in_ok-rows.rows.ok.0)) c.loop-row.yielded c.loop-row.row-iterator c.loop-row.yielded_by c.next.result c.next.new.self c.in-None.is c.next.ensures.steps in
     let all : ◌≡◌ {A = List RowData} c.loop-row.yielded (rows_by_key c.args.rows) = sym (map-id c.loop-row.yielded) ∙ t.0 ∙ c.in_ok-rows.ensures in

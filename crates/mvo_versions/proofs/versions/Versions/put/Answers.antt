@@ -55,3 +55,13 @@ returns-clause-ok c = rw (← c.self.view_is) (record {
   unused = fresh_number (record { slots = c.self.inside.chains; lists = c.self.inside.index.versions; places = c.self.inside.order }) c.in_ok-number.number c.in_ok-number.ensures.hole c.self.invariant;
   lists = c.in-Ok-add.ensures.ok ∙ ap (λ k. with_new c.self.inside.index.versions k c.in_ok-number.number.0) search;
 })
+
+-- the indexes are those of the versions at each return
+pub returns-in_default-clause-indexed : goal.returns-in_default-clause-indexed
+returns-in_default-clause-indexed c = invariant_of-self-in_default c
+
+pub returns-in_default-add-clause-indexed : goal.returns-in_default-add-clause-indexed
+returns-in_default-add-clause-indexed c = invariant_of-self-in_default-add c
+
+pub returns-clause-indexed : goal.returns-clause-indexed
+returns-clause-indexed c = invariant_of-self-in-Ok-add c

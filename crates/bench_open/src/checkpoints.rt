@@ -1,0 +1,69 @@
+use crate::log::sum_of;
+use crate::writer::{rotate, written};
+use anyhow::{Result, bail};
+use mvo_disk::MemDisk;
+use mvo_store::{Progress, Store};
+use mvo_types::{MAX_PAIRS, Refusal};
+use std::alloc::Global;
+use std::rt::Clock;
+use std::thread::Threads;
+use std::time::Instant;
+
+// All steps of a checkpoint behind its reading.
+fn install(store: &mut Store<MemDisk>) -> Result<(), Refusal> {
+    store.checkpoint_data()?;
+    for _ in 0..=MAX_PAIRS {
+        if store.checkpoint_delta()? == Progress::Ready {
+            break;
+        }
+    }
+    store.install_close()?;
+    store.install_body()?;
+    store.install_open()?;
+    Ok(())
+}
+
+// Makes a pair of each segment that holds a group, and says how many there are.
+fn checkpointed(store: &mut Store<MemDisk>) -> Result<usize, Refusal> {
+    rotate(store)?;
+    for _ in 0..MAX_PAIRS {
+        match store.checkpoint_read() {
+            Ok(()) => install(store)?,
+            Err(Refusal::NothingToDo) => break,
+            Err(refusal) => return Err(refusal),
+        }
+    }
+    Ok(store.manifest().pairs().len())
+}
+
+// A disk with a store whose rows lie in the pairs that checkpoints of its log made, and how many.
+fn pairs_of(rt: &(impl Threads + Sync), alloc: Global, count: u64) -> Result<(MemDisk, usize)> {
+    let disk = written(rt, alloc, count)?;
+    let Ok((mut store, _, _)) = Store::open(rt, alloc, disk) else {
+        bail!("the store isn't opened");
+    };
+    let pairs = checkpointed(&mut store)?;
+    Ok((store.into_disk(), pairs))
+}
+
+// The rows of a store whose log was turned into pairs by checkpoints, and the time of opening it.
+pub fn run<R>(rt: &R, count: u64) -> Result<()>
+where
+    R: AllocGlobal + Clock + Eprint + Print + Threads + Sync,
+{
+    let (disk, pairs) = pairs_of(rt, rt.alloc(), count)?;
+    let start = Instant::now(rt)?;
+    let opened = Store::open(rt, rt.alloc(), disk);
+    let nanos = start.elapsed(rt)?.as_nanos();
+    let Ok((_, rows, mark)) = opened else {
+        bail!("the store isn't opened");
+    };
+    eprintln!(rt; "{count} rows from checkpoints: {} ms", nanos / 1_000_000)?;
+    let sum = sum_of(&rows, count)?;
+    println!(rt;
+        "rows {} mark {mark} checkpoints {pairs} sum {}",
+        rows.len(),
+        sum
+    )?;
+    Ok(())
+}

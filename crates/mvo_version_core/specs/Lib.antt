@@ -1,0 +1,15 @@
+pub mod Data
+pub mod Causes
+pub mod Standing
+pub mod Steps
+pub mod Own
+pub mod Keeping
+pub mod Closing
+pub mod Looking
+pub mod Finishing
+pub mod Aborting
+pub mod Fronts
+pub mod Ending
+pub mod Inserting
+pub mod Checking
+pub mod Scanning

@@ -1,0 +1,16 @@
+//! The event core: optimistic transactions over versions of rows in memory.
+#![tactic(auto)]
+
+mod answers;
+mod closing;
+mod depending;
+mod ending;
+mod engine;
+mod finishing;
+mod operating;
+mod refusing;
+mod scanning;
+mod transaction;
+
+pub use answers::{Closed, Finishing, Settlement, Validation};
+pub use engine::Core;
