@@ -2,12 +2,12 @@
 #![tactic(auto)]
 
 use anyhow::bail;
-use mvo_core::{Event as TxEvent, Reply as TxReply};
 use mvo_disk::MemDisk;
 use mvo_store::format;
 use mvo_types::{Row, RowKey, TxId};
 use mvo_world::{Event, Reply, World};
 use std::alloc::Global;
+use std::random::RandomSource;
 
 /// The key of the row.
 const KEY: RowKey = RowKey { table: 0, key: 5 };
@@ -15,21 +15,30 @@ const KEY: RowKey = RowKey { table: 0, key: 5 };
 fn main(rt: HostRuntime) -> Result<(), anyhow::Error> {
     let alloc = rt.alloc();
     let disk = format(alloc, MemDisk::new(alloc)?).map_err(|refused| refused.0)?;
-    let mut world = World::open(&rt, alloc, disk).map_err(|refused| refused.0)?;
+    let seed = draw_seed(&rt)?;
+    let mut world = World::open(&rt, alloc, seed, disk).map_err(|refused| refused.0)?;
     let tx = begin(&mut world)?;
     for reply in world.run(&put_and_flush(alloc, tx)?)? {
         println!(rt; "{reply:?}")?;
     }
-    let mut world = World::open(&rt, alloc, world.into_disk()).map_err(|refused| refused.0)?;
+    let disk = world.into_disk();
+    let mut world = World::open(&rt, alloc, seed, disk).map_err(|refused| refused.0)?;
     let tx = begin(&mut world)?;
-    let found = world.step(Event::Core(TxEvent::Read(tx, KEY)));
+    let found = world.step(Event::Read(tx, KEY));
     println!(rt; "{found:?}")?;
     Ok(())
 }
 
+/// A seed that who chooses the keys can't know.
+fn draw_seed(rt: &impl RandomSource) -> Result<u64, anyhow::Error> {
+    let mut bytes = [0; 8];
+    rt.fill_bytes(&mut bytes)?;
+    Ok(u64::from_le_bytes(bytes))
+}
+
 fn begin(world: &mut World<MemDisk>) -> Result<TxId, anyhow::Error> {
-    match world.step(Event::Core(TxEvent::Begin)) {
-        Reply::Core(TxReply::Began(tx)) => Ok(tx),
+    match world.step(Event::Begin) {
+        Reply::Began(tx) => Ok(tx),
         _ => bail!("no transaction begins"),
     }
 }
@@ -43,11 +52,11 @@ fn put_and_flush(alloc: Global, tx: TxId) -> Result<Vec<Event>, anyhow::Error> {
         bytes,
     };
     Ok(vec![in alloc;
-        Event::Core(TxEvent::Insert(tx, row)),
-        Event::Core(TxEvent::Precommit(tx)),
-        Event::Core(TxEvent::Validate(tx)),
-        Event::Core(TxEvent::Settle(tx)),
-        Event::Core(TxEvent::Finish(tx)),
+        Event::Insert(tx, row),
+        Event::Precommit(tx),
+        Event::Validate(tx),
+        Event::Settle(tx),
+        Event::Finish(tx),
         Event::CloseGroup,
         Event::TakeGroup,
         Event::AppendBody,

@@ -19,6 +19,7 @@ status_of (fault.CommandLine e) = status_by (kind_of e)
 status_of (fault.Words e) = 2
 status_of (fault.Refused r) = 1
 status_of fault.InUse = 1
+status_of (fault.Seed e) = 3
 status_of (fault.Script e) = 3
 status_of (fault.Print e) = 3
 status_of fault.OutOfMemory = 3

@@ -23,6 +23,9 @@ pub enum Fault {
     /// Another process has the folder open. This is refused as a fault of the disk.
     #[error("refused 50\nthe folder is in use by another process\n")]
     InUse,
+    /// The system gives no random bytes for the seed of the keys' table.
+    #[error("error: can't draw a seed: {0}\n")]
+    Seed(io::Error),
     /// The script isn't run to its end.
     #[error("error: {0}\n")]
     Script(ScriptError),
@@ -43,7 +46,7 @@ impl Fault {
     }
 
     /// The exit status: 0 after help, 1 where the store wasn't made or opened, 2 for a bad command
-    /// line, 3 where reading or writing failed or memory was refused.
+    /// line, 3 where reading or writing failed, or memory or a seed was refused.
     pub fn status(&self) -> u8
         ensures { result ≡ status_of self.now }
     {
@@ -55,7 +58,7 @@ impl Fault {
             },
             Fault::Words(_) => 2,
             Fault::Refused(_) | Fault::InUse => 1,
-            Fault::Script(_) | Fault::Print(_) | Fault::OutOfMemory => 3,
+            Fault::Seed(_) | Fault::Script(_) | Fault::Print(_) | Fault::OutOfMemory => 3,
         }
     }
 }

@@ -1,10 +1,12 @@
 use crate::fault::Fault;
+use crate::seed::draw_seed;
 use crate::shown::Shown;
 use mvo_disk::{DirDisk, FolderRefusal, make_folder};
 use mvo_store::{Store, format};
 use mvo_types::{Refusal, Rows, Stamp};
 use mvo_world::World;
 use std::fs::{File, Files};
+use std::random::RandomSource;
 use std::thread::Threads;
 
 /// What the program answers where a folder isn't opened. There is no store where there is none.
@@ -55,10 +57,11 @@ pub fn format_folder<R: AllocGlobal + Eprint + Files<File = File> + Clone + Drop
 /// The world over the store in a folder.
 pub fn open_world<R>(rt: &R, folder: &str, is_terminal: bool) -> Result<World<DirDisk<R>>, Fault>
 where
-    R: AllocGlobal + Eprint + Files<File = File> + Threads + Sync + Clone + Drop,
+    R: AllocGlobal + Eprint + Files<File = File> + RandomSource + Threads + Sync + Clone + Drop,
 {
     let disk = open_disk(rt, folder, is_terminal)?;
-    match World::open(rt, rt.alloc(), disk) {
+    let seed = draw_seed(rt)?;
+    match World::open(rt, rt.alloc(), seed, disk) {
         Ok(world) => Ok(world),
         Err((refusal, _)) => Err(Fault::Refused(refusal)),
     }

@@ -6,6 +6,7 @@ mod fault;
 mod folder;
 mod listing;
 mod program;
+mod seed;
 mod shown;
 mod task;
 

@@ -2,11 +2,13 @@ use crate::asked::command;
 use crate::fault::Fault;
 use crate::folder::{format_folder, open_held, open_world};
 use crate::listing::{write_counts, write_rows};
+use crate::seed::draw_seed;
 use crate::task::Task;
 use mvo_script::{run_over, run_script};
 use std::fs::{File, Files};
 use std::io::Write;
 use std::process::ExitCode;
+use std::random::RandomSource;
 use std::rt::Env;
 use std::thread::Threads;
 use std::{env, io};
@@ -16,9 +18,9 @@ const WRITING_FAILED: u8 = 3;
 
 /// Runs the program on its words, standard input and standard output. Its exit status is 0 where
 /// all was done, refused lines and help included, 1 where a store wasn't made or opened, 2 for a
-/// bad command line, and 3 where reading or writing failed or memory was refused. Statuses 1 to 3
-/// come with a text on standard error. Where that is a terminal, it also shows how far a folder is
-/// read.
+/// bad command line, and 3 where reading or writing failed, or memory or a seed was refused.
+/// Statuses 1 to 3 come with a text on standard error. Where that is a terminal, it also shows how
+/// far a folder is read.
 pub fn run_program<R>(rt: &R, is_terminal: bool) -> ExitCode
 where
     R: AllocGlobal
@@ -27,6 +29,7 @@ where
         + Print
         + Eprint
         + Files<File = File>
+        + RandomSource
         + Threads
         + Sync
         + Clone
@@ -47,6 +50,7 @@ where
         + Print
         + Eprint
         + Files<File = File>
+        + RandomSource
         + Threads
         + Sync
         + Clone
@@ -75,6 +79,7 @@ where
         + Print
         + Eprint
         + Files<File = File>
+        + RandomSource
         + Threads
         + Sync
         + Clone
@@ -87,7 +92,10 @@ where
             format_folder(rt, folder, is_terminal)?;
             writeln!(writer, "formatted").map_err(Fault::Print)
         }
-        Task::Run => run_script(rt, alloc, rt.reader(), writer).map_err(Fault::Script),
+        Task::Run => {
+            let seed = draw_seed(rt)?;
+            run_script(rt, alloc, seed, rt.reader(), writer).map_err(Fault::Script)
+        }
         Task::RunIn(folder) => {
             let world = open_world(rt, folder, is_terminal)?;
             run_over(alloc, world, rt.reader(), writer).map_err(Fault::Script)

@@ -5,7 +5,7 @@ use Rattle.std.specs.Prelude.{is_some}
 use Rattle.mvo_types.specs.declared.ids.Stamp.{Stamp}
 use Rattle.mvo_types.specs.declared.refusal.Refusal.{Refusal}
 use Rattle.mvo_types.specs.declared.refusal.Refusal.TheVariants.{Busy, NothingToDo, RingFull, SegmentFull, DiskFault, Down}
-use Rattle.mvo_core.specs.declared.closed.Closed.{Closed as ClosedGroup}
+use Rattle.mvo_version_core.specs.declared.answers.Closed.{Closed as ClosedGroup}
 use Rattle.mvo_disk.specs.declared.disk.Disk.{Ghosts}
 use Rattle.mvo_store.specs.declared.job.Job.{Job}
 use Rattle.mvo_store.specs.declared.progress.Progress.TheVariants.{More}

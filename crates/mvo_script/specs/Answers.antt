@@ -5,14 +5,14 @@ use Rattle.mvo_types.specs.RowData.{RowData}
 use Rattle.mvo_types.specs.declared.ids.TxId.{TxId}
 use Rattle.mvo_types.specs.declared.ids.Stamp.{Stamp}
 use Rattle.mvo_types.specs.declared.refusal.Refusal.TheVariants.{OutOfMemory}
-use Rattle.mvo_core.specs.declared.event.Event.{Event as CoreEvent}
-use Rattle.mvo_core.specs.declared.event.Event.TheVariants as core
-use Rattle.mvo_core.specs.declared.reply.Reply.TheVariants.{Committed, Preparing, More, Valid, Done}
+use Rattle.mvo_version_core.specs.declared.answers.Settlement.TheVariants.{Committed}
+use Rattle.mvo_version_core.specs.declared.answers.Validation.TheVariants as validation
+use Rattle.mvo_version_core.specs.declared.answers.Finishing.TheVariants as finishing
 use Rattle.mvo_world.specs.WorldData.{WorldData}
 use Rattle.mvo_world.specs.declared.event.Event.{Event}
 use Rattle.mvo_world.specs.declared.event.Event.TheVariants as event
 use Rattle.mvo_world.specs.declared.reply.Reply.{Reply}
-use Rattle.mvo_world.specs.declared.reply.Reply.TheVariants.{Core, Polled, Refused}
+use Rattle.mvo_world.specs.declared.reply.Reply.TheVariants.{Prepared, Validated, Settled, Finished, Polled, Refused}
 use Rattle.mvo_script.specs.Bound.{bound_by, BindsBegun, Ends, KeepsBound, is_covered}
 use Rattle.mvo_script.specs.Flushing.{IsFlush, IsFlushed}
 use Rattle.mvo_script.specs.Rotating.{rotation}
@@ -28,7 +28,10 @@ use Rattle.mvo_script.specs.declared.names.Names.{Names}
 -- the line speaks of a name that isn't bound
 abbrev pub IsOfNoName : Names → Line → Type 0
 IsOfNoName names (line.Read name key) = bound_by names name.now ≡ None
+IsOfNoName names (line.Scan name range) = bound_by names name.now ≡ None
 IsOfNoName names (line.Insert name row) = bound_by names name.now ≡ None
+IsOfNoName names (line.Update name row) = bound_by names name.now ≡ None
+IsOfNoName names (line.Delete name key) = bound_by names name.now ≡ None
 IsOfNoName names (line.Precommit name) = bound_by names name.now ≡ None
 IsOfNoName names (line.Validate name) = bound_by names name.now ≡ None
 IsOfNoName names (line.Settle name) = bound_by names name.now ≡ None
@@ -40,12 +43,16 @@ IsOfNoName names _ = ⊥
 
 -- a settled transaction's end is noted for the name; where it isn't settled, the names stay
 abbrev pub NotesEnd : Names → Names → List ℕ → Reply → Type 0
-NotesEnd old new name (Core (Committed end')) = Ends old new name end'
+NotesEnd old new name (Settled (Committed end')) = Ends old new name end'
 NotesEnd old new name _ = new ≡ old
 
 -- the row that a line gives, with its data
 abbrev pub row_of : RowText → List ℕ → RowData
 row_of text bytes = record { key = text.key; sort = text.sort; bytes = bytes }
+
+abbrev pub IsRowOf : RowText → RowData → Type 0
+IsRowOf text row =
+    (bytes : List ℕ) × (decode_of text.digits.now ≡ Ok bytes) × (row ≡ row_of text bytes)
 
 -- ---- by the steps of the world that the driver makes
 module _ {D : Type 0} (IsStep : WorldData D → Event → Reply → WorldData D → Type 0) where
@@ -57,66 +64,77 @@ module _ {D : Type 0} (IsStep : WorldData D → Event → Reply → WorldData D 
   -- begun, as a transaction that the name is bound to; or refused without memory for the name
   abbrev pub IsBegun : Driver D → List ℕ → Reply → Driver D → Type 0
   IsBegun d name r d' =
-      (IsStep d.world (event.Core core.Begin) r d'.world × BindsBegun d.names d'.names name r)
+      (IsStep d.world event.Begin r d'.world × BindsBegun d.names d'.names name r)
       ⊎ ((r ≡ Refused OutOfMemory) × (d'.world ≡ d.world) × KeepsBound d.names d'.names)
 
-  -- the transaction inserts this row
-  abbrev pub Inserts : Driver D → TxId → RowText → Reply → Driver D → Type 0
-  Inserts d tx text r d' =
-      (bytes : List ℕ) × (decode_of text.digits.now ≡ Ok bytes)
-      × IsStepOf d (event.Core (core.Insert tx (row_of text bytes))) r d'
+  -- one step with the row that a line gives
+  abbrev pub TakesRow : Driver D → (RowData → Event) → RowText → Reply → Driver D → Type 0
+  TakesRow d e text r d' = (row : RowData) × IsRowOf text row × IsStepOf d (e row) r d'
 
-  -- it does; or it is refused without memory for the data, and nothing changes
-  abbrev pub IsInserted : Driver D → TxId → RowText → Reply → Driver D → Type 0
-  IsInserted d tx text r d' = Inserts d tx text r d' ⊎ ((r ≡ Refused OutOfMemory) × (d' ≡ d))
+  -- that is made; or it is refused without memory for the data, and nothing changes
+  abbrev pub IsRowStep : Driver D → (RowData → Event) → RowText → Reply → Driver D → Type 0
+  IsRowStep d e text r d' = TakesRow d e text r d' ⊎ ((r ≡ Refused OutOfMemory) × (d' ≡ d))
 
   -- the transaction is settled, and its end is noted for the name
   pub record IsSettled (d : Driver D) (name : List ℕ) (tx : TxId) (r : Reply) (d' : Driver D)
       : Type 0 where
-    pub step : IsStep d.world (event.Core (core.Settle tx)) r d'.world
+    pub step : IsStep d.world (event.Settle tx) r d'.world
     pub names : NotesEnd d.names d'.names name r
 
   -- so many steps of one event, each answered that more is left
-  abbrev pub AreMore : ℕ → Event → Driver D → Driver D → Type 0
-  AreMore zero e d d' = d' ≡ d
-  AreMore (suc n) e d d' = (v : Driver D) × AreMore n e d v × IsStepOf v e (Core More) d'
+  abbrev pub AreMore : Reply → ℕ → Event → Driver D → Driver D → Type 0
+  AreMore more zero e d d' = d' ≡ d
+  AreMore more (suc n) e d d' =
+      (v : Driver D) × AreMore more n e d v × IsStepOf v e more d'
 
-  -- steps of one event while more is left, and the reply to the last
-  pub record AreStepsOf (d : Driver D) (e : Event) (r : Reply) (d' : Driver D) : Type 0 where
+  -- steps of one event while it is answered that more is left, and the reply to the last
+  pub record AreStepsOf (more_left : Reply) (d : Driver D) (e : Event) (r : Reply)
+      (d' : Driver D) : Type 0 where
     pub count : ℕ
     pub before : Driver D
-    pub more : AreMore count e d before
-    pub last : IsStepOf before e r d' ⊎ ((r ≡ Core More) × (d' ≡ before))
+    pub more : AreMore more_left count e d before
+    pub last : IsStepOf before e r d' ⊎ ((r ≡ more_left) × (d' ≡ before))
+
+  abbrev pub AreChecks : Driver D → TxId → Reply → Driver D → Type 0
+  AreChecks d tx = AreStepsOf (Validated validation.More) d (event.Validate tx)
+
+  abbrev pub AreFinishes : Driver D → TxId → Reply → Driver D → Type 0
+  AreFinishes d tx = AreStepsOf (Finished finishing.More) d (event.Finish tx)
 
   -- the transaction is prepared, and validated
   pub record IsValidated (d : Driver D) (tx : TxId) (d' : Driver D) : Type 0 where
     pub stop : Stamp
     pub then_on : Driver D
-    pub prepared : IsStepOf d (event.Core (core.Precommit tx)) (Core (Preparing stop)) then_on
-    pub checked : AreStepsOf then_on (event.Core (core.Validate tx)) (Core Valid) d'
+    pub prepared : IsStepOf d (event.Precommit tx) (Prepared stop) then_on
+    pub checked : AreChecks then_on tx (Validated validation.Valid) d'
 
   -- A commit: it is answered as its first part that isn't as it should be, or as the settle. The
   -- parts are a precommit, a validation, a settle and a finish.
   pub data IsCommit (d : Driver D) (name : List ℕ) (tx : TxId) (r : Reply) (d' : Driver D) : Type 0
     where
-      AtPrecommit : ((stop : Stamp) → r ≢ Core (Preparing stop))
-          → IsStepOf d (event.Core (core.Precommit tx)) r d' → IsCommit d name tx r d'
-      AtValidate : (stop : Stamp) (v : Driver D) → r ≢ Core Valid
-          → IsStepOf d (event.Core (core.Precommit tx)) (Core (Preparing stop)) v
-          → AreStepsOf v (event.Core (core.Validate tx)) r d' → IsCommit d name tx r d'
-      AtSettle : (v : Driver D) → ((end' : Stamp) → r ≢ Core (Committed end'))
+      AtPrecommit : ((stop : Stamp) → r ≢ Prepared stop)
+          → IsStepOf d (event.Precommit tx) r d' → IsCommit d name tx r d'
+      AtValidate : (stop : Stamp) (v : Driver D) → r ≢ Validated validation.Valid
+          → IsStepOf d (event.Precommit tx) (Prepared stop) v
+          → AreChecks v tx r d' → IsCommit d name tx r d'
+      AtSettle : (v : Driver D) → ((end' : Stamp) → r ≢ Settled (Committed end'))
           → IsValidated d tx v → IsSettled v name tx r d' → IsCommit d name tx r d'
-      AtFinish : (v u : Driver D) (end' : Stamp) → r ≢ Core Done
-          → IsValidated d tx v → IsSettled v name tx (Core (Committed end')) u
-          → AreStepsOf u (event.Core (core.Finish tx)) r d' → IsCommit d name tx r d'
-      AtEnd : (v u : Driver D) (end' : Stamp) → r ≡ Core (Committed end')
+      AtFinish : (v u : Driver D) (end' : Stamp) → r ≢ Finished finishing.Done
+          → IsValidated d tx v → IsSettled v name tx (Settled (Committed end')) u
+          → AreFinishes u tx r d' → IsCommit d name tx r d'
+      AtEnd : (v u : Driver D) (end' : Stamp) → r ≡ Settled (Committed end')
           → IsValidated d tx v → IsSettled v name tx r u
-          → AreStepsOf u (event.Core (core.Finish tx)) (Core Done) d' → IsCommit d name tx r d'
+          → AreFinishes u tx (Finished finishing.Done) d' → IsCommit d name tx r d'
 
   -- one step of the transaction that the name is bound to
-  abbrev pub IsTxStep : Driver D → List ℕ → (TxId → CoreEvent) → Reply → Driver D → Type 0
-  IsTxStep d name e r d' =
-      IsSomeAnd (bound_by d.names name) (λ b. IsStepOf d (event.Core (e b.tx)) r d')
+  abbrev pub IsTxStep : Driver D → List ℕ → (TxId → Event) → Reply → Driver D → Type 0
+  IsTxStep d name e r d' = IsSomeAnd (bound_by d.names name) (λ b. IsStepOf d (e b.tx) r d')
+
+  -- the same with the row that a line gives
+  abbrev pub IsTxRowStep : Driver D → List ℕ → (TxId → RowData → Event) → RowText → Reply
+      → Driver D → Type 0
+  IsTxRowStep d name e text r d' =
+      IsSomeAnd (bound_by d.names name) (λ b. IsRowStep d (e b.tx) text r d')
 
   -- whether the transaction that the name is bound to is durable; nothing changes
   abbrev pub IsPolled : Driver D → BoundTx → Reply → Driver D → Type 0
@@ -125,15 +143,18 @@ module _ {D : Type 0} (IsStep : WorldData D → Event → Reply → WorldData D 
   -- a line is answered
   abbrev pub IsAnswer : Driver D → Line → Reply → Driver D → Type 0
   IsAnswer d (line.Begin name) r d' = IsBegun d name.now r d'
-  IsAnswer d (line.Read name key) r d' = IsTxStep d name.now (λ tx. core.Read tx key) r d'
-  IsAnswer d (line.Insert name text) r d' =
-      IsSomeAnd (bound_by d.names name.now) (λ b. IsInserted d b.tx text r d')
-  IsAnswer d (line.Precommit name) r d' = IsTxStep d name.now core.Precommit r d'
-  IsAnswer d (line.Validate name) r d' = IsTxStep d name.now core.Validate r d'
+  IsAnswer d (line.Read name key) r d' = IsTxStep d name.now (λ tx. event.Read tx key) r d'
+  IsAnswer d (line.Scan name range) r d' =
+      IsTxStep d name.now (λ tx. event.Scan tx range.table range.lo range.hi) r d'
+  IsAnswer d (line.Insert name text) r d' = IsTxRowStep d name.now event.Insert text r d'
+  IsAnswer d (line.Update name text) r d' = IsTxRowStep d name.now event.Update text r d'
+  IsAnswer d (line.Delete name key) r d' = IsTxStep d name.now (λ tx. event.Delete tx key) r d'
+  IsAnswer d (line.Precommit name) r d' = IsTxStep d name.now event.Precommit r d'
+  IsAnswer d (line.Validate name) r d' = IsTxStep d name.now event.Validate r d'
   IsAnswer d (line.Settle name) r d' =
       IsSomeAnd (bound_by d.names name.now) (λ b. IsSettled d name.now b.tx r d')
-  IsAnswer d (line.Rollback name) r d' = IsTxStep d name.now core.Rollback r d'
-  IsAnswer d (line.Finish name) r d' = IsTxStep d name.now core.Finish r d'
+  IsAnswer d (line.Rollback name) r d' = IsTxStep d name.now event.Rollback r d'
+  IsAnswer d (line.Finish name) r d' = IsTxStep d name.now event.Finish r d'
   IsAnswer d (line.Commit name) r d' =
       IsSomeAnd (bound_by d.names name.now) (λ b. IsCommit d name.now b.tx r d')
   IsAnswer d (line.Poll name) r d' =

@@ -5,9 +5,8 @@ use Rattle.std.specs.BTreeMap.{get_by_text}
 use Rattle.std.specs.Str.{bytes_eq}
 use Rattle.mvo_types.specs.declared.ids.TxId.{TxId}
 use Rattle.mvo_types.specs.declared.ids.Stamp.{Stamp}
-use Rattle.mvo_core.specs.declared.reply.Reply.TheVariants.{Began}
 use Rattle.mvo_world.specs.declared.reply.Reply.{Reply}
-use Rattle.mvo_world.specs.declared.reply.Reply.TheVariants.{Core}
+use Rattle.mvo_world.specs.declared.reply.Reply.TheVariants.{Began}
 use Rattle.mvo_script.specs.Begun.{begun}
 use Rattle.mvo_script.specs.declared.bound.BoundTx.{BoundTx}
 use Rattle.mvo_script.specs.declared.names.Names.{Names}
@@ -31,7 +30,7 @@ KeepsBound old new = (q : List ℕ) → bound_by new q ≡ bound_by old q
 
 -- the name is bound to the transaction that was begun; where none was, each is bound as it was
 abbrev pub BindsBegun : Names → Names → List ℕ → Reply → Type 0
-BindsBegun old new name (Core (Began tx)) = Binds old new name tx
+BindsBegun old new name (Began tx) = Binds old new name tx
 BindsBegun old new name _ = KeepsBound old new
 
 -- a transaction that is Committed with this end

@@ -12,7 +12,10 @@ IsData digits = (digits ≡ []) ⊎ IsHex digits
 abbrev pub HasForm : Line → Type 0
 HasForm (line.Begin name) = IsName name.now
 HasForm (line.Read name key) = IsName name.now
+HasForm (line.Scan name range) = IsName name.now
 HasForm (line.Insert name row) = IsName name.now × IsData row.digits.now
+HasForm (line.Update name row) = IsName name.now × IsData row.digits.now
+HasForm (line.Delete name key) = IsName name.now
 HasForm (line.Precommit name) = IsName name.now
 HasForm (line.Validate name) = IsName name.now
 HasForm (line.Settle name) = IsName name.now

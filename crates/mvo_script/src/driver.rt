@@ -1,17 +1,18 @@
-ghost use Rattle.std.specs.Prelude.{◌≡◌, IfOk, IfErr};
+ghost use Rattle.std.specs.Prelude.{◌≡◌, IfOk, IfErr, IfSome};
+ghost use Rattle.mvo_script.specs.Answers.{IsRowOf};
 ghost use Rattle.mvo_script.specs.Fresh.{IsFreshWorld};
 
 use crate::bound::BoundTx;
 use crate::checkpoint::checkpoint;
 use crate::flush::flush;
-use crate::line::{Line, RowText};
+use crate::line::{Line, RowText, SortRange};
 use crate::names::Names;
 use crate::reply::LineReply;
 use crate::rotate::rotate;
-use mvo_core::{Event as CoreEvent, Reply as CoreReply};
 use mvo_disk::{Disk, MemDisk};
 use mvo_store::format;
 use mvo_types::{Refusal, Row, TxId};
+use mvo_version_core::{Finishing, Settlement, Validation};
 use mvo_world::{Event, Reply, World};
 use std::alloc::Global;
 use std::thread::Threads;
@@ -28,19 +29,24 @@ impl Driver<MemDisk> {
     ghost use Rattle.std.specs.Prelude.{◌≡◌, IfOk, IfErr};
     ghost use Rattle.mvo_script.specs.Fresh.{IsFresh};
 
-    /// A driver with the clock at 0, no rows and no names. Refused with 90 alone.
-    pub fn new(rt: &(impl Threads + Sync), alloc: Global) -> Result<Driver<MemDisk>, Refusal>
+    /// A driver with the clock at 0, no rows and no names. Who chooses the keys of rows must not
+    /// know the seed, as `World::open` says. Refused with 90 alone.
+    pub fn new(
+        rt: &(impl Threads + Sync),
+        alloc: Global,
+        seed: u64,
+    ) -> Result<Driver<MemDisk>, Refusal>
         ensures fresh { IfOk result IsFresh }
         ensures memory { IfErr result (λ r. r ≡ Refusal.OutOfMemory) }
     {
-        let world = fresh_world(rt, alloc)?;
+        let world = fresh_world(rt, alloc, seed)?;
         Ok(Driver::over(alloc, world))
     }
 }
 
 impl<D: Disk> Driver<D> {
     ghost use Rattle.std.specs.Prelude.{◌≡◌, MatchOption};
-    ghost use Rattle.mvo_script.specs.Answers.{AreStepsOf, IsAnswer, IsBegun, IsCommit, IsInserted, IsOfNoName};
+    ghost use Rattle.mvo_script.specs.Answers.{AreStepsOf, IsAnswer, IsBegun, IsCommit, IsOfNoName, IsRowStep};
     ghost use Rattle.mvo_script.specs.Answers.{IsSettled, IsStepOf};
     ghost use Rattle.mvo_script.specs.Bound.{bound_by, is_covered, BindsNone};
     ghost use Rattle.mvo_script.specs.Forms.{HasForm};
@@ -86,12 +92,15 @@ impl<D: Disk> Driver<D> {
     {
         match line {
             Line::Begin(name) => Some(self.begin(name)),
-            Line::Read(name, key) => Some(self.step(CoreEvent::Read(self.bound(name)?.tx, key))),
+            Line::Read(name, key) => Some(self.ask(Event::Read(self.bound(name)?.tx, key))),
+            Line::Scan(name, range) => Some(self.scan(self.bound(name)?.tx, range)),
             Line::Insert(name, row) => Some(self.insert(self.bound(name)?.tx, row)),
-            Line::Precommit(name) => Some(self.step(CoreEvent::Precommit(self.bound(name)?.tx))),
-            Line::Validate(name) => Some(self.step(CoreEvent::Validate(self.bound(name)?.tx))),
-            Line::Rollback(name) => Some(self.step(CoreEvent::Rollback(self.bound(name)?.tx))),
-            Line::Finish(name) => Some(self.step(CoreEvent::Finish(self.bound(name)?.tx))),
+            Line::Update(name, row) => Some(self.update(self.bound(name)?.tx, row)),
+            Line::Delete(name, key) => Some(self.ask(Event::Delete(self.bound(name)?.tx, key))),
+            Line::Precommit(name) => Some(self.ask(Event::Precommit(self.bound(name)?.tx))),
+            Line::Validate(name) => Some(self.ask(Event::Validate(self.bound(name)?.tx))),
+            Line::Rollback(name) => Some(self.ask(Event::Rollback(self.bound(name)?.tx))),
+            Line::Finish(name) => Some(self.ask(Event::Finish(self.bound(name)?.tx))),
             Line::Settle(name) => Some(self.settle(name, self.bound(name)?.tx)),
             Line::Commit(name) => Some(self.commit(name, self.bound(name)?.tx)),
             Line::Poll(name) => Some(self.poll(self.bound(name)?)),
@@ -120,14 +129,6 @@ impl<D: Disk> Driver<D> {
         self.names.get(name)
     }
 
-    /// One step of a transaction.
-    fn step(&mut self, event: CoreEvent) -> Reply
-        ensures { let step = IsReplyTo D.Disk in
-            IsStepOf step self.old (Event.Core event) result self.new }
-    {
-        self.ask(Event::Core(event))
-    }
-
     /// One step of the world.
     fn ask(&mut self, event: Event) -> Reply
         ensures { let step = IsReplyTo D.Disk in
@@ -146,15 +147,31 @@ impl<D: Disk> Driver<D> {
         }
     }
 
-    fn insert(&mut self, tx: TxId, row: RowText<'_>) -> Reply
+    fn scan(&mut self, tx: TxId, range: SortRange) -> Reply
         ensures { let step = IsReplyTo D.Disk in
-            IsInserted step self.old tx row.entry result self.new }
+            IsStepOf step self.old (Event.Scan tx range.table range.lo range.hi) result self.new }
     {
-        let RowText { key, sort, digits } = row;
-        // The digits are even in number and hexadecimal, so only memory can be lacking.
-        match hex::decode(self.alloc, digits) {
-            Ok(bytes) => self.ask(Event::Core(CoreEvent::Insert(tx, Row { key, sort, bytes }))),
-            Err(_) => Reply::Refused(Refusal::OutOfMemory),
+        let SortRange { table, lo, hi } = range;
+        self.ask(Event::Scan(tx, table, lo, hi))
+    }
+
+    fn insert(&mut self, tx: TxId, text: RowText<'_>) -> Reply
+        ensures { let step = IsReplyTo D.Disk in
+            IsRowStep step self.old (Event.Insert tx) text.entry result self.new }
+    {
+        match decoded(self.alloc, text) {
+            Some(row) => self.ask(Event::Insert(tx, row)),
+            None => Reply::Refused(Refusal::OutOfMemory),
+        }
+    }
+
+    fn update(&mut self, tx: TxId, text: RowText<'_>) -> Reply
+        ensures { let step = IsReplyTo D.Disk in
+            IsRowStep step self.old (Event.Update tx) text.entry result self.new }
+    {
+        match decoded(self.alloc, text) {
+            Some(row) => self.ask(Event::Update(tx, row)),
+            None => Reply::Refused(Refusal::OutOfMemory),
         }
     }
 
@@ -163,8 +180,8 @@ impl<D: Disk> Driver<D> {
         ensures { let step = IsReplyTo D.Disk in
             IsSettled step self.old name.now tx result self.new }
     {
-        let settled = self.step(CoreEvent::Settle(tx));
-        if let Reply::Core(CoreReply::Committed(end)) = settled {
+        let settled = self.ask(Event::Settle(tx));
+        if let Reply::Settled(Settlement::Committed(end)) = settled {
             self.names.note_end(name, end);
         }
         settled
@@ -176,50 +193,50 @@ impl<D: Disk> Driver<D> {
         ensures { let step = IsReplyTo D.Disk in
             IsCommit step self.old name.now tx result self.new }
     {
-        match self.step(CoreEvent::Precommit(tx)) {
-            Reply::Core(CoreReply::Preparing(_)) => {}
+        match self.ask(Event::Precommit(tx)) {
+            Reply::Prepared(_) => {}
             refused => return refused,
         }
         match self.validate(tx) {
-            Reply::Core(CoreReply::Valid) => {}
+            Reply::Validated(Validation::Valid) => {}
             refused => return refused,
         }
         let settled = self.settle(name, tx);
-        let Reply::Core(CoreReply::Committed(_)) = settled else {
+        let Reply::Settled(Settlement::Committed(_)) = settled else {
             return settled;
         };
         match self.finish(tx) {
-            Reply::Core(CoreReply::Done) => settled,
+            Reply::Finished(Finishing::Done) => settled,
             refused => refused,
         }
     }
 
     /// Checks entries while more are left.
     fn validate(&mut self, tx: TxId) -> Reply
-        ensures { let step = IsReplyTo D.Disk in
-            AreStepsOf step self.old (Event.Core (CoreEvent.Validate tx)) result self.new }
+        ensures { let step = IsReplyTo D.Disk in let more = Reply.Validated Validation.More in
+            AreStepsOf step more self.old (Event.Validate tx) result self.new }
     {
         for _ in 0..u64::MAX {
-            match self.step(CoreEvent::Validate(tx)) {
-                Reply::Core(CoreReply::More) => {}
+            match self.ask(Event::Validate(tx)) {
+                Reply::Validated(Validation::More) => {}
                 reply => return reply,
             }
         }
-        Reply::Core(CoreReply::More)
+        Reply::Validated(Validation::More)
     }
 
     /// Finishes while more is left.
     fn finish(&mut self, tx: TxId) -> Reply
-        ensures { let step = IsReplyTo D.Disk in
-            AreStepsOf step self.old (Event.Core (CoreEvent.Finish tx)) result self.new }
+        ensures { let step = IsReplyTo D.Disk in let more = Reply.Finished Finishing.More in
+            AreStepsOf step more self.old (Event.Finish tx) result self.new }
     {
         for _ in 0..u64::MAX {
-            match self.step(CoreEvent::Finish(tx)) {
-                Reply::Core(CoreReply::More) => {}
+            match self.ask(Event::Finish(tx)) {
+                Reply::Finished(Finishing::More) => {}
                 reply => return reply,
             }
         }
-        Reply::Core(CoreReply::More)
+        Reply::Finished(Finishing::More)
     }
 
     /// Whether the store's mark is at least the end of the transaction, which may be none yet.
@@ -235,7 +252,11 @@ impl<D: Disk> Driver<D> {
 }
 
 /// A world over a fresh disk in memory. Such a disk fails only where memory is refused.
-fn fresh_world(rt: &(impl Threads + Sync), alloc: Global) -> Result<World<MemDisk>, Refusal>
+fn fresh_world(
+    rt: &(impl Threads + Sync),
+    alloc: Global,
+    seed: u64,
+) -> Result<World<MemDisk>, Refusal>
     ensures fresh { IfOk result IsFreshWorld }
     ensures memory { IfErr result (λ r. r ≡ Refusal.OutOfMemory) }
 {
@@ -243,8 +264,20 @@ fn fresh_world(rt: &(impl Threads + Sync), alloc: Global) -> Result<World<MemDis
     let Ok(disk) = format(alloc, disk) else {
         return Err(Refusal::OutOfMemory);
     };
-    match World::open(rt, alloc, disk) {
+    match World::open(rt, alloc, seed, disk) {
         Ok(world) => Ok(world),
         Err(_) => Err(Refusal::OutOfMemory),
+    }
+}
+
+/// The row that a line gives, with its data. None where memory is lacking: the digits are even in
+/// number and hexadecimal, so nothing else can be.
+fn decoded(alloc: Global, text: RowText<'_>) -> Option<Row>
+    ensures { IfSome result (IsRowOf text.entry) }
+{
+    let RowText { key, sort, digits } = text;
+    match hex::decode(alloc, digits) {
+        Ok(bytes) => Some(Row { key, sort, bytes }),
+        Err(_) => None,
     }
 }

@@ -14,6 +14,6 @@ mod script;
 mod words;
 
 pub use driver::Driver;
-pub use line::{Line, MAX_LINE_LEN, RowText};
+pub use line::{Line, MAX_LINE_LEN, RowText, SortRange};
 pub use reply::LineReply;
 pub use script::{ScriptError, run_over, run_script};

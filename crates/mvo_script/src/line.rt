@@ -15,8 +15,14 @@ pub enum Line<'a> {
     Begin(&'a str),
     /// `read NAME TABLE KEY`
     Read(&'a str, RowKey),
+    /// `scan NAME TABLE LO HI`
+    Scan(&'a str, SortRange),
     /// `insert NAME TABLE KEY SORT DATA`
     Insert(&'a str, RowText<'a>),
+    /// `update NAME TABLE KEY SORT DATA`
+    Update(&'a str, RowText<'a>),
+    /// `delete NAME TABLE KEY`
+    Delete(&'a str, RowKey),
     /// `precommit NAME`
     Precommit(&'a str),
     /// `validate NAME`
@@ -61,6 +67,14 @@ pub enum Line<'a> {
     Checkpoint,
     /// `reclaim`
     Reclaim,
+}
+
+/// The rows of a table with a sort from `lo` to `hi`, both with.
+#[derive(Clone, Copy, Debug)]
+pub struct SortRange {
+    pub table: u8,
+    pub lo: u64,
+    pub hi: u64,
 }
 
 /// A row as a line gives it.
@@ -123,7 +137,10 @@ fn named_line_of<'a>(first: &str, rest: &mut str::Split<'a, char>) -> Option<Lin
     match first {
         "begin" => Some(Line::Begin(name)),
         "read" => Some(Line::Read(name, key_of(rest)?)),
+        "scan" => Some(Line::Scan(name, range_of(rest)?)),
         "insert" => Some(Line::Insert(name, row_of(rest)?)),
+        "update" => Some(Line::Update(name, row_of(rest)?)),
+        "delete" => Some(Line::Delete(name, key_of(rest)?)),
         "precommit" => Some(Line::Precommit(name)),
         "validate" => Some(Line::Validate(name)),
         "settle" => Some(Line::Settle(name)),
@@ -140,6 +157,14 @@ fn key_of(words: &mut str::Split<'_, char>) -> Option<RowKey> {
     let table = table_of(words.next()?)?;
     let key = number_of(words.next()?)?;
     Some(RowKey { table, key })
+}
+
+/// The words TABLE LO HI.
+fn range_of(words: &mut str::Split<'_, char>) -> Option<SortRange> {
+    let table = table_of(words.next()?)?;
+    let lo = number_of(words.next()?)?;
+    let hi = number_of(words.next()?)?;
+    Some(SortRange { table, lo, hi })
 }
 
 /// The words TABLE KEY SORT DATA.

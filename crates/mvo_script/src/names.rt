@@ -3,7 +3,6 @@ ghost use Rattle.mvo_world.specs.Replies.{IsReplyTo};
 ghost use Rattle.mvo_script.specs.Bound.{bound_by, BindsNone, BindsBegun, Ends, KeepsBound};
 
 use crate::bound::BoundTx;
-use mvo_core::{Event as CoreEvent, Reply as CoreReply};
 use mvo_disk::Disk;
 use mvo_types::Stamp;
 use mvo_world::{Event, Reply, World};
@@ -40,16 +39,15 @@ impl Names {
     /// Committed. Where that is refused, each name stays as it was. Room for the name is taken
     /// first: an error has asked for nothing.
     pub fn begin<D: Disk>(&mut self, name: &str, world: &mut World<D>) -> Result<Reply, AllocError>
-        ensures asked { let begin = Event.Core CoreEvent.Begin in
-            IfOk result (λ r. IsReplyTo D.Disk world.old begin r world.new) }
+        ensures asked { IfOk result (λ r. IsReplyTo D.Disk world.old Event.Begin r world.new) }
         ensures names { IfOk result (BindsBegun self.old self.new name.now) }
         ensures names_err { OnErr result (KeepsBound self.old self.new) }
         ensures world_err { OnErr result (world.new ≡ world.old) }
     {
         let name = String::from_str(self.alloc, name)?;
         let place = self.bound.entry(name)?.or_insert(None);
-        let reply = world.step(Event::Core(CoreEvent::Begin));
-        if let Reply::Core(CoreReply::Began(tx)) = &reply {
+        let reply = world.step(Event::Begin);
+        if let Reply::Began(tx) = &reply {
             *place = Some(BoundTx::begun(*tx));
         }
         Ok(reply)

@@ -1,6 +1,6 @@
-use mvo_core::Closed;
 use mvo_store::{Generation, Progress, Reclaimed};
 use mvo_types::{Answer, Row};
+use mvo_version_core::{Closed, Finishing, Settlement, Validation};
 use mvo_world::Reply;
 use std::fmt;
 
@@ -25,7 +25,16 @@ impl fmt::Display for LineReply {
 /// Writes the text of a reply.
 fn write_reply<W: fmt::Write>(f: &mut fmt::Formatter<W>, reply: &Reply) -> fmt::Result {
     match reply {
-        Reply::Core(reply) => write_core_reply(f, reply),
+        Reply::Began(id) => write!(f, "began {id}"),
+        Reply::Answered(answer) => write_answer(f, answer),
+        Reply::Prepared(end) => write!(f, "preparing {end}"),
+        Reply::Validated(Validation::More) => write!(f, "more"),
+        Reply::Validated(Validation::Valid) => write!(f, "valid"),
+        Reply::Settled(Settlement::Committed(end)) => write!(f, "committed {end}"),
+        Reply::Settled(Settlement::Waiting(id)) => write!(f, "waiting {id}"),
+        Reply::RolledBack => write!(f, "rolled back"),
+        Reply::Finished(Finishing::More) => write!(f, "more"),
+        Reply::Finished(Finishing::Done) => write!(f, "done"),
         Reply::Closed(Closed { prev, mark }) => write!(f, "closed {prev} {mark}"),
         Reply::Taken => write!(f, "taken"),
         Reply::Written => write!(f, "written"),
@@ -39,26 +48,6 @@ fn write_reply<W: fmt::Write>(f: &mut fmt::Formatter<W>, reply: &Reply) -> fmt::
         Reply::Installed(Generation(count)) => write!(f, "installed {count}"),
         Reply::Reclaimed(Reclaimed::More) => write!(f, "more"),
         Reply::Reclaimed(Reclaimed::Done) => write!(f, "done"),
-        Reply::Refused(refusal) => write!(f, "{refusal}"),
-    }
-}
-
-/// Writes the text of a reply to a step of a transaction.
-fn write_core_reply<W: fmt::Write>(
-    f: &mut fmt::Formatter<W>,
-    reply: &mvo_core::Reply,
-) -> fmt::Result {
-    use mvo_core::Reply;
-    match reply {
-        Reply::Began(id) => write!(f, "began {id}"),
-        Reply::Answered(answer) => write_answer(f, answer),
-        Reply::Preparing(end) => write!(f, "preparing {end}"),
-        Reply::More => write!(f, "more"),
-        Reply::Valid => write!(f, "valid"),
-        Reply::Committed(end) => write!(f, "committed {end}"),
-        Reply::Waiting(id) => write!(f, "waiting {id}"),
-        Reply::RolledBack => write!(f, "rolled back"),
-        Reply::Done => write!(f, "done"),
         Reply::Refused(refusal) => write!(f, "{refusal}"),
     }
 }

@@ -21,14 +21,16 @@ pub enum ScriptError {
     OutOfMemory,
 }
 
-/// Runs a script over a fresh store in memory, as `run_over` does.
+/// Runs a script over a fresh store in memory, as `run_over` does. Who writes the script must not
+/// know the seed, as `World::open` says.
 pub fn run_script<R: Read + Drop, W: Write + Drop>(
     rt: &(impl Threads + Sync),
     alloc: Global,
+    seed: u64,
     reader: R,
     writer: W,
 ) -> Result<(), ScriptError> {
-    let driver = Driver::new(rt, alloc).map_err(|_| ScriptError::OutOfMemory)?;
+    let driver = Driver::new(rt, alloc, seed).map_err(|_| ScriptError::OutOfMemory)?;
     run_driver(alloc, driver, reader, writer)
 }
 

@@ -14,7 +14,7 @@ pub fn assert_replies(
     expected: &[u8],
 ) -> Result<(), Fail> {
     let mut replies = Vec::new(alloc);
-    run_script(rt, alloc, script, &mut replies)?;
+    run_script(rt, alloc, 0, script, &mut replies)?;
     assert_eq!(rt; replies.as_slice(), expected);
     Ok(())
 }

@@ -18,4 +18,6 @@ mod streams;
 #[cfg(test)]
 mod transactions;
 #[cfg(test)]
+mod transcripts;
+#[cfg(test)]
 mod worlds;

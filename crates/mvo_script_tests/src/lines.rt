@@ -5,7 +5,7 @@ use std::alloc::AllocError;
 use std::test::Fail;
 
 /// Lines that are none of a script, where t1 was begun.
-const BAD_LINES: [&[u8]; 70] = [
+const BAD_LINES: [&[u8]; 78] = [
     b"",
     b" ",
     b"begin",
@@ -50,7 +50,15 @@ const BAD_LINES: [&[u8]; 70] = [
     b"insert t1 0 5 50 ",
     b"insert t1 0 5 050 61",
     b"insert t1 0 5 50 61 61",
-    b"delete t1 0 5",
+    b"update t1 0 5 50",
+    b"update t1 0 5 50 6",
+    b"update t2 0 5 50 61",
+    b"delete t1 0",
+    b"delete t1 0 5 50",
+    b"scan t1 0 5",
+    b"scan t1 0 5 6 7",
+    b"scan t1 256 0 1",
+    b"scan t1 0 0 18446744073709551616",
     b"# a comment",
     b"poll",
     b"poll t2",
@@ -86,7 +94,7 @@ fn bad_lines_change_nothing(rt: HostRuntime) -> Result<(), Fail> {
         script.extend_from_slice(bad)?;
         script.extend_from_slice(b"\nread t1 0 5\nbegin t1\n")?;
         let mut replies = Vec::new(alloc);
-        run_script(&rt, alloc, script.as_slice(), &mut replies)?;
+        run_script(&rt, alloc, 0, script.as_slice(), &mut replies)?;
         let expected = b"began 1\nbad line\nnone\nbegan 2\n".as_slice();
         assert_eq!(rt; replies.as_slice(), expected, "at {bad:?}");
     }

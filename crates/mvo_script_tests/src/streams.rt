@@ -25,7 +25,7 @@ fn a_reader_that_fails_ends_the_run(rt: HostRuntime) -> Result<(), Fail> {
         bytes: b"begin t1\nbegin t2",
     };
     let mut replies = Vec::new(alloc);
-    let ran = run_script(&rt, alloc, reader, &mut replies);
+    let ran = run_script(&rt, alloc, 0, reader, &mut replies);
     assert!(rt; matches!(ran, Err(ScriptError::Read(_))));
     assert_eq!(rt; replies.as_slice(), b"began 1\n".as_slice());
     Ok(())
@@ -48,12 +48,12 @@ impl Write for Full {
 #[test]
 fn a_writer_that_fails_ends_the_run(rt: HostRuntime) -> Result<(), Fail> {
     let alloc = rt.alloc();
-    let ran = run_script(&rt, alloc, b"begin t1\n".as_slice(), Full);
+    let ran = run_script(&rt, alloc, 0, b"begin t1\n".as_slice(), Full);
     assert!(rt; matches!(ran, Err(ScriptError::Write(_))));
-    let ran = run_script(&rt, alloc, b"".as_slice(), Full);
+    let ran = run_script(&rt, alloc, 0, b"".as_slice(), Full);
     assert!(rt; ran.is_ok());
     let lines = vec![in alloc; b'\n'; 10_000]?;
-    let ran = run_script(&rt, alloc, lines.as_slice(), Full);
+    let ran = run_script(&rt, alloc, 0, lines.as_slice(), Full);
     assert!(rt; matches!(ran, Err(ScriptError::Write(_))));
     Ok(())
 }

@@ -14,9 +14,10 @@ fn a_row_is_read_after_its_commit(rt: HostRuntime) -> Result<(), Fail> {
 fn each_step_has_its_own_line(rt: HostRuntime) -> Result<(), Fail> {
     let script = b"begin t1\ninsert t1 0 5 50 -\ninsert t1 15 5 18446744073709551615 00ff\n\
         insert t1 0 5 1 61\nprecommit t1\nvalidate t1\nvalidate t1\nsettle t1\nfinish t1\n\
-        finish t1\nbegin t2\nread t2 0 5\nread t2 15 5\nrollback t2\nfinish t2";
+        finish t1\nfinish t1\nbegin t2\nread t2 0 5\nread t2 15 5\nrollback t2\nfinish t2";
     let expected = b"began 1\ninserted\ninserted\nexists\npreparing 2\nmore\nvalid\ncommitted 2\n\
-        done\nrefused 10\nbegan 3\nrow 50 -\nrow 18446744073709551615 00ff\nrolled back\ndone\n";
+        more\ndone\nrefused 10\nbegan 3\nrow 50 -\nrow 18446744073709551615 00ff\nrolled back\n\
+        done\n";
     assert_replies(&rt, rt.alloc(), script.as_slice(), expected.as_slice())
 }
 
@@ -26,7 +27,7 @@ fn a_commit_stops_at_the_first_refusal(rt: HostRuntime) -> Result<(), Fail> {
         precommit t1\ncommit t1\ncommit t3\nvalidate t1\nsettle t1\ncommit t2\ncommit t2\n\
         finish t2\ncommit t2\n";
     let expected = b"began 1\nbegan 2\nbegan 3\ninserted\ninserted\n\
-        preparing 4\nrefused 12\nrefused 52\nvalid\ncommitted 4\nrefused 21 4\nrefused 11\n\
+        preparing 4\nrefused 12\ncommitted 5\nvalid\ncommitted 4\nrefused 21 4\nrefused 11\n\
         done\nrefused 10\n";
     assert_replies(&rt, rt.alloc(), script.as_slice(), expected.as_slice())
 }

@@ -9,7 +9,7 @@ use std::test::Fail;
 fn a_script_goes_on_over_a_world(rt: HostRuntime) -> Result<(), Fail> {
     let alloc = rt.alloc();
     let disk = format(alloc, MemDisk::new(alloc)?).map_err(|refused| refused.0)?;
-    let world = World::open(&rt, alloc, disk).map_err(|refused| refused.0)?;
+    let world = World::open(&rt, alloc, 0, disk).map_err(|refused| refused.0)?;
     let mut replies = Vec::new(alloc);
     let script = b"begin t1\ninsert t1 0 5 50 61\ncommit t1\nflush\nread t1 0 5\n";
     run_over(alloc, world, script.as_slice(), &mut replies)?;

@@ -7,101 +7,109 @@ use Rattle.mvo_types.specs.Keys.{Map}
 use Rattle.mvo_model.specs.History.{History, after_history, after_histories}
 use Rattle.mvo_model.specs.Trace.{Step, history_of, rows_up_to}
 use Rattle.mvo_group.specs.Data.{RecordData, GroupData}
-use Rattle.mvo_state.specs.Line.{State, Slot}
-use Rattle.mvo_state.specs.Sound.{IsRising}
-use Rattle.mvo_state.specs.Marks.{StaysBelow, settled_to}
-use Rattle.mvo_state.specs.Stands.{Stands, pairs}
-use Rattle.mvo_state.proofs.Each.{each_weaker}
-use Rattle.mvo_core.specs.Groups.{AreRecordsOf}
+use Rattle.mvo_theory.specs.State.{State, StampedTx, timeline}
+use Rattle.mvo_theory.specs.Sound.{IsRising}
+use Rattle.mvo_theory.specs.Marks.{StaysBelow, settled_to}
+use Rattle.mvo_theory.specs.AfterTrace.{IsAfterTrace, pairs}
+use Rattle.mvo_theory.proofs.Tales.{pairs-append}
+use Rattle.mvo_theory.proofs.Each.{each_weaker}
+use Rattle.mvo_theory.specs.Groups.{is_due}
+use Rattle.mvo_tale.specs.Records.{AreRecordsOf}
 use Rattle.mvo_frame.specs.Frames.{mark_after}
 use Rattle.mvo_image.specs.Rows.{after_record, after_groups}
 use Rattle.mvo_recovery.proofs.Grown.{after_groups-append}
-use Rattle.mvo_world.specs.Groups.{is_due, AreGroupsOf}
+use Rattle.mvo_world.specs.Groups.{AreGroupsOf}
 use Rattle.mvo_world.proofs.Rows.{left_by_all, left_by_all-append, is_after, records_rows}
 
 -- ---- rows up to a mark, by the line
-rows_of_line : (m : ℕ) (line : List Slot) (steps : List Step) (rows : Map) → AllByRecursion (λ (x : Slot). history_of x.id steps ≡ x.told) line → after_histories (map (λ (c : ℕ × ℕ). history_of c.1 steps) (filter (λ (c : ℕ × ℕ). nat_le c.0 m) (pairs line))) rows ≡ left_by_all (settled_to m line) rows
+rows_of_line : (m : ℕ) (line : List StampedTx) (steps : List Step) (rows : Map) → AllByRecursion (λ (x : StampedTx). history_of x.id steps ≡ x.history) line → after_histories (map (λ (c : ℕ × ℕ). history_of c.1 steps) (filter (λ (c : ℕ × ℕ). nat_le c.0 m) (pairs line))) rows ≡ left_by_all (settled_to m line) rows
 rows_of_line m [] steps rows h = refl
-rows_of_line m (x ∷ xs) steps rows h = go x.settled (nat_le x.stop m) (λ ms. rows_of_line m xs steps ms h.1)
+rows_of_line m (x ∷ xs) steps rows h = go x.settled (nat_le x.end m) (λ ms. rows_of_line m xs steps ms h.1)
   where
     go : (s b : Bool) → ((ms : Map) → after_histories (map (λ (c : ℕ × ℕ). history_of c.1 steps) (filter (λ (c : ℕ × ℕ). nat_le c.0 m) (pairs xs))) ms ≡ left_by_all (settled_to m xs) ms) →
-        after_histories (map (λ (c : ℕ × ℕ). history_of c.1 steps) (filter (λ (c : ℕ × ℕ). nat_le c.0 m) (cond s ((x.stop, x.id) ∷ pairs xs) (pairs xs)))) rows ≡ left_by_all (cond (s && nat_le x.stop m) ((x.stop, x.told) ∷ settled_to m xs) (settled_to m xs)) rows
+        after_histories (map (λ (c : ℕ × ℕ). history_of c.1 steps) (filter (λ (c : ℕ × ℕ). nat_le c.0 m) (cond s ((x.end, x.id) ∷ pairs xs) (pairs xs)))) rows ≡ left_by_all (cond (s && nat_le x.end m) ((x.end, x.history) ∷ settled_to m xs) (settled_to m xs)) rows
     go false b ih = ih rows
-    go true b ih = here (nat_le x.stop m)
+    go true b ih = here (nat_le x.end m)
       where
-        here : (c : Bool) → after_histories (map (λ (d : ℕ × ℕ). history_of d.1 steps) (cond c ((x.stop, x.id) ∷ filter (λ (d : ℕ × ℕ). nat_le d.0 m) (pairs xs)) (filter (λ (d : ℕ × ℕ). nat_le d.0 m) (pairs xs)))) rows ≡ left_by_all (cond c ((x.stop, x.told) ∷ settled_to m xs) (settled_to m xs)) rows
+        here : (c : Bool) → after_histories (map (λ (d : ℕ × ℕ). history_of d.1 steps) (cond c ((x.end, x.id) ∷ filter (λ (d : ℕ × ℕ). nat_le d.0 m) (pairs xs)) (filter (λ (d : ℕ × ℕ). nat_le d.0 m) (pairs xs)))) rows ≡ left_by_all (cond c ((x.end, x.history) ∷ settled_to m xs) (settled_to m xs)) rows
         here true = ih (after_history (history_of x.id steps) rows) ∙ ap (λ (ts : History). left_by_all (settled_to m xs) (after_history ts rows)) h.0
         here false = ih rows
 
-pub rows_up_to_is : (m : ℕ) (opening : Map) (steps : List Step) (s : State) → Stands opening steps s → rows_up_to m opening steps ≡ left_by_all (settled_to m s.line) opening
+each_both : {X : Type 0} (P : X → Type 0) (xs ys : List X) → AllByRecursion P xs → AllByRecursion P ys → AllByRecursion P (xs ++ ys)
+each_both P [] ys h k = k
+each_both P (x ∷ xs) ys h k = (h.0, each_both P xs ys h.1 k)
+
+-- the tale is not trimmed
+pub rows_up_to_is : (m : ℕ) (opening : Map) (steps : List Step) (s : State) → IsAfterTrace opening steps s → rows_up_to m opening steps ≡ left_by_all (settled_to m (timeline s)) opening
 rows_up_to_is m opening steps s h =
-    ap (λ (cs : List (ℕ × ℕ)). after_histories (map (λ (c : ℕ × ℕ). history_of c.1 steps) (filter (λ (c : ℕ × ℕ). nat_le c.0 m) cs)) opening) h.tale ∙ rows_of_line m s.line steps opening h.ended
+    ap (λ (cs : List (ℕ × ℕ)). after_histories (map (λ (c : ℕ × ℕ). history_of c.1 steps) (filter (λ (c : ℕ × ℕ). nat_le c.0 m) cs)) opening) (h.tale ∙ sym (pairs-append s.past s.stamped))
+    ∙ rows_of_line m (timeline s) steps opening (each_both (λ (x : StampedTx). history_of x.id steps ≡ x.history) s.past s.stamped h.past h.stamped)
 
 -- ---- the commits up to one mark, and those up to a later one
-none_to : (m : ℕ) (xs : List Slot) → AllByRecursion (λ (x : Slot). m < x.stop) xs → settled_to m xs ≡ []
+none_to : (m : ℕ) (xs : List StampedTx) → AllByRecursion (λ (x : StampedTx). m < x.end) xs → settled_to m xs ≡ []
 none_to m [] h = refl
-none_to m (x ∷ xs) h = ap (λ (b : Bool). cond (x.settled && b) ((x.stop, x.told) ∷ settled_to m xs) (settled_to m xs)) (lt-leb x.stop m h.0) ∙ go x.settled (none_to m xs h.1)
+none_to m (x ∷ xs) h = ap (λ (b : Bool). cond (x.settled && b) ((x.end, x.history) ∷ settled_to m xs) (settled_to m xs)) (lt-leb x.end m h.0) ∙ go x.settled (none_to m xs h.1)
   where
-    go : (s : Bool) → settled_to m xs ≡ [] → cond (s && false) ((x.stop, x.told) ∷ settled_to m xs) (settled_to m xs) ≡ []
+    go : (s : Bool) → settled_to m xs ≡ [] → cond (s && false) ((x.end, x.history) ∷ settled_to m xs) (settled_to m xs) ≡ []
     go true e = e
     go false e = e
 
-rows_after_all : (m n : ℕ) (xs : List Slot) → AllByRecursion (λ (x : Slot). m < x.stop) xs → filter (is_after m) (settled_to n xs) ≡ settled_to n xs
+rows_after_all : (m n : ℕ) (xs : List StampedTx) → AllByRecursion (λ (x : StampedTx). m < x.end) xs → filter (is_after m) (settled_to n xs) ≡ settled_to n xs
 rows_after_all m n [] h = refl
-rows_after_all m n (x ∷ xs) h = go (x.settled && nat_le x.stop n) (rows_after_all m n xs h.1)
+rows_after_all m n (x ∷ xs) h = go (x.settled && nat_le x.end n) (rows_after_all m n xs h.1)
   where
-    go : (b : Bool) → filter (is_after m) (settled_to n xs) ≡ settled_to n xs → filter (is_after m) (cond b ((x.stop, x.told) ∷ settled_to n xs) (settled_to n xs)) ≡ cond b ((x.stop, x.told) ∷ settled_to n xs) (settled_to n xs)
-    go true e = ap (λ (c : Bool). cond c ((x.stop, x.told) ∷ filter (is_after m) (settled_to n xs)) (filter (is_after m) (settled_to n xs))) (lt-ltb m x.stop h.0) ∙ ap (λ cs. (x.stop, x.told) ∷ cs) e
+    go : (b : Bool) → filter (is_after m) (settled_to n xs) ≡ settled_to n xs → filter (is_after m) (cond b ((x.end, x.history) ∷ settled_to n xs) (settled_to n xs)) ≡ cond b ((x.end, x.history) ∷ settled_to n xs) (settled_to n xs)
+    go true e = ap (λ (c : Bool). cond c ((x.end, x.history) ∷ filter (is_after m) (settled_to n xs)) (filter (is_after m) (settled_to n xs))) (lt-ltb m x.end h.0) ∙ ap (λ cs. (x.end, x.history) ∷ cs) e
     go false e = e
 
-pub parts : (m n : ℕ) (xs : List Slot) → m ≤ n → IsRising xs → settled_to n xs ≡ settled_to m xs ++ filter (is_after m) (settled_to n xs)
+pub parts : (m n : ℕ) (xs : List StampedTx) → m ≤ n → IsRising xs → settled_to n xs ≡ settled_to m xs ++ filter (is_after m) (settled_to n xs)
 parts m n [] le h = refl
-parts m n (x ∷ xs) le h = go (nat_le x.stop m) refl (parts m n xs le h.1)
+parts m n (x ∷ xs) le h = go (nat_le x.end m) refl (parts m n xs le h.1)
   where
-    go : (b : Bool) → nat_le x.stop m ≡ b → settled_to n xs ≡ settled_to m xs ++ filter (is_after m) (settled_to n xs) →
-        cond (x.settled && nat_le x.stop n) ((x.stop, x.told) ∷ settled_to n xs) (settled_to n xs) ≡ cond (x.settled && nat_le x.stop m) ((x.stop, x.told) ∷ settled_to m xs) (settled_to m xs) ++ filter (is_after m) (cond (x.settled && nat_le x.stop n) ((x.stop, x.told) ∷ settled_to n xs) (settled_to n xs))
+    go : (b : Bool) → nat_le x.end m ≡ b → settled_to n xs ≡ settled_to m xs ++ filter (is_after m) (settled_to n xs) →
+        cond (x.settled && nat_le x.end n) ((x.end, x.history) ∷ settled_to n xs) (settled_to n xs) ≡ cond (x.settled && nat_le x.end m) ((x.end, x.history) ∷ settled_to m xs) (settled_to m xs) ++ filter (is_after m) (cond (x.settled && nat_le x.end n) ((x.end, x.history) ∷ settled_to n xs) (settled_to n xs))
     go true e r =
-        let low = leb-true x.stop m e in
-        ap (λ (b : Bool). cond (x.settled && b) ((x.stop, x.told) ∷ settled_to n xs) (settled_to n xs)) (le-leb x.stop n (omega arith))
+        let low = leb-true x.end m e in
+        ap (λ (b : Bool). cond (x.settled && b) ((x.end, x.history) ∷ settled_to n xs) (settled_to n xs)) (le-leb x.end n (omega arith))
         ∙ here x.settled r
-        ∙ sym (ap (λ (b : Bool). cond (x.settled && b) ((x.stop, x.told) ∷ settled_to m xs) (settled_to m xs) ++ filter (is_after m) (cond (x.settled && nat_le x.stop n) ((x.stop, x.told) ∷ settled_to n xs) (settled_to n xs))) e
-        ∙ ap (λ (b : Bool). cond (x.settled && true) ((x.stop, x.told) ∷ settled_to m xs) (settled_to m xs) ++ filter (is_after m) (cond (x.settled && b) ((x.stop, x.told) ∷ settled_to n xs) (settled_to n xs))) (le-leb x.stop n (omega arith)))
+        ∙ sym (ap (λ (b : Bool). cond (x.settled && b) ((x.end, x.history) ∷ settled_to m xs) (settled_to m xs) ++ filter (is_after m) (cond (x.settled && nat_le x.end n) ((x.end, x.history) ∷ settled_to n xs) (settled_to n xs))) e
+        ∙ ap (λ (b : Bool). cond (x.settled && true) ((x.end, x.history) ∷ settled_to m xs) (settled_to m xs) ++ filter (is_after m) (cond (x.settled && b) ((x.end, x.history) ∷ settled_to n xs) (settled_to n xs))) (le-leb x.end n (omega arith)))
       where
-        here : (s : Bool) → settled_to n xs ≡ settled_to m xs ++ filter (is_after m) (settled_to n xs) → cond (s && true) ((x.stop, x.told) ∷ settled_to n xs) (settled_to n xs) ≡ cond (s && true) ((x.stop, x.told) ∷ settled_to m xs) (settled_to m xs) ++ filter (is_after m) (cond (s && true) ((x.stop, x.told) ∷ settled_to n xs) (settled_to n xs))
+        here : (s : Bool) → settled_to n xs ≡ settled_to m xs ++ filter (is_after m) (settled_to n xs) → cond (s && true) ((x.end, x.history) ∷ settled_to n xs) (settled_to n xs) ≡ cond (s && true) ((x.end, x.history) ∷ settled_to m xs) (settled_to m xs) ++ filter (is_after m) (cond (s && true) ((x.end, x.history) ∷ settled_to n xs) (settled_to n xs))
         here false q = q
-        here true q = ap (λ cs. (x.stop, x.told) ∷ cs) q ∙ ap (λ (c : Bool). ((x.stop, x.told) ∷ settled_to m xs) ++ cond c ((x.stop, x.told) ∷ filter (is_after m) (settled_to n xs)) (filter (is_after m) (settled_to n xs))) (sym (le-ltb m x.stop (leb-true x.stop m e)))
+        here true q = ap (λ cs. (x.end, x.history) ∷ cs) q ∙ ap (λ (c : Bool). ((x.end, x.history) ∷ settled_to m xs) ++ cond c ((x.end, x.history) ∷ filter (is_after m) (settled_to n xs)) (filter (is_after m) (settled_to n xs))) (sym (le-ltb m x.end (leb-true x.end m e)))
     go false e r =
-        let high : m < x.stop = ltb-true m x.stop (over (nat_le x.stop m) e) in
-        let all : AllByRecursion (λ (y : Slot). m < y.stop) (x ∷ xs) = (high, each_weaker (λ (y : Slot). x.stop < y.stop) (λ (y : Slot). m < y.stop) (λ y lt. omega arith) xs h.0) in
+        let high : m < x.end = ltb-true m x.end (over (nat_le x.end m) e) in
+        let all : AllByRecursion (λ (y : StampedTx). m < y.end) (x ∷ xs) = (high, each_weaker (λ (y : StampedTx). x.end < y.end) (λ (y : StampedTx). m < y.end) (λ y lt. omega arith) xs h.0) in
         sym (rows_after_all m n (x ∷ xs) all)
         ∙ ap (λ cs. cs ++ filter (is_after m) (settled_to n (x ∷ xs))) (sym (none_to m (x ∷ xs) all))
       where
-        over : (b : Bool) → nat_le x.stop m ≡ false → nat_lt m x.stop ≡ true
-        over b f = lt-ltb m x.stop (above f)
+        over : (b : Bool) → nat_le x.end m ≡ false → nat_lt m x.end ≡ true
+        over b f = lt-ltb m x.end (above f)
           where
-            above : nat_le x.stop m ≡ false → m < x.stop
-            above g = split (nat_lt m x.stop) refl
+            above : nat_le x.end m ≡ false → m < x.end
+            above g = split (nat_lt m x.end) refl
               where
-                split : (c : Bool) → nat_lt m x.stop ≡ c → m < x.stop
-                split true t = ltb-true m x.stop t
-                split false t = absurd (true≢false (sym (le-leb x.stop m (ltb-false m x.stop t)) ∙ g))
+                split : (c : Bool) → nat_lt m x.end ≡ c → m < x.end
+                split true t = ltb-true m x.end t
+                split false t = absurd (true≢false (sym (le-leb x.end m (ltb-false m x.end t)) ∙ g))
 
 -- ---- the rows that the groups leave
-pub chain_rows : (s : State) (mark : ℕ) (gs : List GroupData) (rows : Map) → IsRising s.line → AreGroupsOf s mark gs → after_groups (left_by_all (settled_to mark s.line) rows) gs ≡ left_by_all (settled_to (mark_after mark gs) s.line) rows
+pub chain_rows : (s : State) (mark : ℕ) (gs : List GroupData) (rows : Map) → IsRising (timeline s) → AreGroupsOf s mark gs → after_groups (left_by_all (settled_to mark (timeline s)) rows) gs ≡ left_by_all (settled_to (mark_after mark gs) (timeline s)) rows
 chain_rows s mark [] rows h gs = refl
 chain_rows s mark (g ∷ more) rows h gs =
     let prev = gs.0 in
     let it = gs.1 in
     let lt = it.rules.above in
     let le : mark ≤ g.mark = omega arith in
-    let before = left_by_all (settled_to mark s.line) rows in
+    let before = left_by_all (settled_to mark (timeline s)) rows in
     after_groups-append before (g ∷ []) more
     ∙ ap (λ (m : Map). after_groups m more) (
     ap (λ (rs : List RecordData). fold after_record before rs) (append-nil g.records)
-    ∙ records_rows g.prev (settled_to g.mark s.line) g.records (left_by_all (settled_to mark s.line) rows) it.records
-    ∙ ap (λ (n : ℕ). left_by_all (filter (is_after n) (settled_to g.mark s.line)) (left_by_all (settled_to mark s.line) rows)) prev
-    ∙ sym (left_by_all-append (settled_to mark s.line) (filter (is_after mark) (settled_to g.mark s.line)) rows)
-    ∙ ap (λ cs. left_by_all cs rows) (sym (parts mark g.mark s.line le h)))
+    ∙ records_rows g.prev (settled_to g.mark (timeline s)) g.records (left_by_all (settled_to mark (timeline s)) rows) it.records
+    ∙ ap (λ (n : ℕ). left_by_all (filter (is_after n) (settled_to g.mark (timeline s))) (left_by_all (settled_to mark (timeline s)) rows)) prev
+    ∙ sym (left_by_all-append (settled_to mark (timeline s)) (filter (is_after mark) (settled_to g.mark (timeline s))) rows)
+    ∙ ap (λ cs. left_by_all cs rows) (sym (parts mark g.mark (timeline s) le h)))
     ∙ chain_rows s g.mark more rows h gs.2
 
 -- ---- what stays

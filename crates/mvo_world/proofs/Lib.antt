@@ -2,7 +2,10 @@ pub mod Rows
 pub mod Chain
 pub mod Closed
 pub mod Standing
-pub mod Marks
 pub mod Moves
 pub mod Runs
 pub mod Opened
+pub mod Marked
+pub mod Happened
+pub mod Asked
+pub mod Sound

@@ -13,20 +13,18 @@ use Rattle.mvo_model.specs.Trace.{Step}
 use Rattle.mvo_disk.specs.declared.disk.Disk.{Ghosts}
 use Rattle.mvo_disk.specs.Moments.{weaker}
 use Rattle.mvo_group.specs.Data.{GroupData}
-use Rattle.mvo_group.specs.Rules.{KeepsRules}
-use Rattle.mvo_state.specs.Line.{State, opened}
-use Rattle.mvo_state.specs.Sound.{IsSound}
-use Rattle.mvo_state.specs.Marks.{IsClosedAt, StaysBelow, settled_to}
-use Rattle.mvo_state.specs.Stands.{Stands}
-use Rattle.mvo_state.specs.Causes.{if_stands}
-use Rattle.mvo_state.proofs.Each.{each_weaker, each_append}
-use Rattle.mvo_state.proofs.Stood.{stands_opened}
-use Rattle.mvo_core.specs.Groups.{IsNextGroup, closed_at, why_not_closed}
-use Rattle.mvo_core.specs.Events as core
-use Rattle.mvo_core.specs.Replies as core_replies
-use Rattle.mvo_core.specs.declared.event.Event as asked
-use Rattle.mvo_core.specs.declared.reply.Reply as answered
-use Rattle.mvo_core.specs.declared.closed.Closed as closing
+use Rattle.mvo_theory.specs.State.{State, Marks, opened}
+use Rattle.mvo_theory.specs.Marks.{IsClosedAt}
+use Rattle.mvo_theory.specs.Causes.{when, first_cause}
+use Rattle.mvo_theory.specs.Changes.{after_close}
+use Rattle.mvo_theory.specs.Calls as theory
+use Rattle.mvo_theory.specs.Calls.{Call, after_call, steps_of}
+use Rattle.mvo_theory.proofs.Each.{each_weaker, each_append}
+use Rattle.mvo_theory.proofs.Stays.{stays_after_call}
+use Rattle.mvo_version_core.specs.declared.answers.Closed as closing
+use Rattle.mvo_version_core.specs.Standing.{StandsFor}
+use Rattle.mvo_version_core.specs.Closing.{why_not_closed}
+use Rattle.mvo_version_core.proofs.Begun.{still_closed}
 use Rattle.mvo_frame.specs.Frames.{mark_after}
 use Rattle.mvo_image.specs.Rows.{after_groups}
 use Rattle.mvo_recovery.proofs.Grown.{after_groups-append}
@@ -36,16 +34,16 @@ use Rattle.mvo_store.specs.Standing.{MayBeLeft, KeepsRows, LeavesRows, after_tak
 use Rattle.mvo_store.specs.Causes.{why_not_take}
 use Rattle.mvo_store.specs.Steps.{RefusedFor, LeftBy, LeftByRead, IsMarkOf, IsInstalledBy}
 use Rattle.mvo_store.proofs.Keeping.{OnlyNow, refused_keeps, same_keeps}
-use Rattle.mvo_world.specs.WorldData.{WorldData, waiting, Follow, IsLinked}
+use Rattle.mvo_world.specs.WorldData.{WorldData, waiting, Follow, IsLinked, HasBegun}
 use Rattle.mvo_world.specs.Past.{Past, happened, acknowledged_by, closed_by, with_event, opened_over}
 use Rattle.mvo_world.specs.Groups.{AreGroupsOf}
 use Rattle.mvo_world.specs.Standing.{IsAfter, RecoversPrefix, LeavesPrefix}
-use Rattle.mvo_world.specs.Replies.{IsReplyTo, IsBodyRefusal, IsGateRefusal}
+use Rattle.mvo_world.specs.Replies.{IsReplyTo, IsAsked, HasComeTo, HasRow, IsBodyRefusal, IsGateRefusal}
 use Rattle.mvo_world.specs.Steps.{IsStepBy, IsStep}
 use Rattle.mvo_world.specs.declared.event.Event.{Event}
-use Rattle.mvo_world.specs.declared.event.Event.TheVariants.{Core as Asked, CloseGroup, TakeGroup, AppendBody, AppendOpen, Poll, RotateWrite, CheckpointRead, CheckpointData, CheckpointDelta, InstallClose, InstallBody, InstallOpen, Reclaim}
+use Rattle.mvo_world.specs.declared.event.Event.TheVariants.{Begin, Read, Scan, Insert, Update, Delete, Precommit, Validate, Settle, Rollback, Finish, CloseGroup, TakeGroup, AppendBody, AppendOpen, Poll, RotateWrite, CheckpointRead, CheckpointData, CheckpointDelta, InstallClose, InstallBody, InstallOpen, Reclaim}
 use Rattle.mvo_world.specs.declared.reply.Reply.{Reply}
-use Rattle.mvo_world.specs.declared.reply.Reply.TheVariants.{Core as Answered, Closed, Durable, Polled, Refused}
+use Rattle.mvo_world.specs.declared.reply.Reply.TheVariants.{Closed, Durable, Polled, Refused}
 use Rattle.mvo_world.proofs.Chain.{groups_stay}
 use Rattle.mvo_world.proofs.Closed.{group_of_next}
 use Rattle.mvo_world.proofs.Standing.{mark_after-append, groups_front, groups_back, groups_push, marks_rise, follow_to, prefix_image}
@@ -90,19 +88,19 @@ follow_push m last (x ∷ gs) g h e = (h.0, follow_push x.mark last gs g h.1 e)
 with_place : {D : Type 0} (w : WorldData D) (g : GroupData) → w.place ≡ None → option_to_list w.store.pending ++ g ∷ [] ≡ waiting w ++ g ∷ []
 with_place w g e = ap (λ gs. gs ++ g ∷ []) (sym (append-nil (option_to_list w.store.pending)) ∙ ap (λ (p : Option GroupData). option_to_list w.store.pending ++ option_to_list p) (sym e))
 
-pub linked_closed : {D : Type 0} (w : WorldData D) (g : GroupData) → w.place ≡ None → g.prev ≡ w.core.marks.closed.0 → IsLinked w → Follow w.store.mark (option_to_list w.store.pending ++ g ∷ []) g.mark
-linked_closed w g none e h = subst (λ gs. Follow w.store.mark gs g.mark) (sym (with_place w g none)) (follow_push w.store.mark w.core.marks.closed.0 (waiting w) g h e)
+pub linked_closed : {D : Type 0} (w : WorldData D) (g : GroupData) → w.place ≡ None → g.prev ≡ w.core.closed → IsLinked w → Follow w.store.mark (option_to_list w.store.pending ++ g ∷ []) g.mark
+linked_closed w g none e h = subst (λ gs. Follow w.store.mark gs g.mark) (sym (with_place w g none)) (follow_push w.store.mark w.core.closed (waiting w) g h e)
 
-groups_closed : (s : State) (n m : ℕ) (gs : List GroupData) → AreGroupsOf s m gs → AreGroupsOf (closed_at s n) m gs
+groups_closed : (s : State) (n m : ℕ) (gs : List GroupData) → AreGroupsOf s m gs → AreGroupsOf (after_close s n) m gs
 groups_closed s n m [] h = tt
 groups_closed s n m (g ∷ gs) h = (h.0, record { closed = record { drawn = h.1.closed.drawn; above = h.1.closed.above }; records = h.1.records; rules = h.1.rules }, groups_closed s n g.mark gs h.2)
 
 -- ---- what a call answered
-pub none_closed : (s : State) (o : Option GroupData) → why_not_closed s (is_some o) ≡ None → o ≡ None
+pub none_closed : (s : State) (o : Option GroupData) → why_not_closed s o ≡ None → o ≡ None
 none_closed s None e = refl
 none_closed s (Some g) e = absurd (go _ _ e)
   where
-    go : (a b : Bool) → if_stands a Busy (if_stands b NothingToDo (if_stands true RingFull None)) ≡ None → ⊥
+    go : (a b : Bool) → first_cause (when a Busy ∷ first_cause (when b NothingToDo ∷ when true RingFull ∷ []) ∷ []) ≡ None → ⊥
     go true b f = cc
     go false true f = cc
     go false false f = cc
@@ -154,27 +152,61 @@ pub record IsSilent (e : Event) (r : Reply) : Type 0 where
   pub acknowledged : acknowledged_by e r ≡ []
   pub closed : closed_by e r ≡ []
 
-pub silent_refused : (e : Event) (r : Refusal) → IsSilent e (Refused r)
-silent_refused (Asked e) r = record { steps = refl; acknowledged = refl; closed = refl }
-silent_refused CloseGroup r = record { steps = refl; acknowledged = refl; closed = refl }
-silent_refused TakeGroup r = record { steps = refl; acknowledged = refl; closed = refl }
-silent_refused AppendBody r = record { steps = refl; acknowledged = refl; closed = refl }
-silent_refused AppendOpen r = record { steps = refl; acknowledged = refl; closed = refl }
-silent_refused (Poll stamp) r = record { steps = refl; acknowledged = refl; closed = refl }
-silent_refused RotateWrite r = record { steps = refl; acknowledged = refl; closed = refl }
-silent_refused CheckpointRead r = record { steps = refl; acknowledged = refl; closed = refl }
-silent_refused CheckpointData r = record { steps = refl; acknowledged = refl; closed = refl }
-silent_refused CheckpointDelta r = record { steps = refl; acknowledged = refl; closed = refl }
-silent_refused InstallClose r = record { steps = refl; acknowledged = refl; closed = refl }
-silent_refused InstallBody r = record { steps = refl; acknowledged = refl; closed = refl }
-silent_refused InstallOpen r = record { steps = refl; acknowledged = refl; closed = refl }
-silent_refused Reclaim r = record { steps = refl; acknowledged = refl; closed = refl }
+pub silent_refused : (e : Event) (r : Refusal) → happened e (Refused r) ≡ [] → IsSilent e (Refused r)
+silent_refused Begin r is = record { steps = is; acknowledged = refl; closed = refl }
+silent_refused (Read t k) r is = record { steps = is; acknowledged = refl; closed = refl }
+silent_refused (Scan t table lo hi) r is = record { steps = is; acknowledged = refl; closed = refl }
+silent_refused (Insert t row) r is = record { steps = is; acknowledged = refl; closed = refl }
+silent_refused (Update t row) r is = record { steps = is; acknowledged = refl; closed = refl }
+silent_refused (Delete t k) r is = record { steps = is; acknowledged = refl; closed = refl }
+silent_refused (Precommit t) r is = record { steps = is; acknowledged = refl; closed = refl }
+silent_refused (Validate t) r is = record { steps = is; acknowledged = refl; closed = refl }
+silent_refused (Settle t) r is = record { steps = is; acknowledged = refl; closed = refl }
+silent_refused (Rollback t) r is = record { steps = is; acknowledged = refl; closed = refl }
+silent_refused (Finish t) r is = record { steps = is; acknowledged = refl; closed = refl }
+silent_refused CloseGroup r is = record { steps = is; acknowledged = refl; closed = refl }
+silent_refused TakeGroup r is = record { steps = is; acknowledged = refl; closed = refl }
+silent_refused AppendBody r is = record { steps = is; acknowledged = refl; closed = refl }
+silent_refused AppendOpen r is = record { steps = is; acknowledged = refl; closed = refl }
+silent_refused (Poll stamp) r is = record { steps = is; acknowledged = refl; closed = refl }
+silent_refused RotateWrite r is = record { steps = is; acknowledged = refl; closed = refl }
+silent_refused CheckpointRead r is = record { steps = is; acknowledged = refl; closed = refl }
+silent_refused CheckpointData r is = record { steps = is; acknowledged = refl; closed = refl }
+silent_refused CheckpointDelta r is = record { steps = is; acknowledged = refl; closed = refl }
+silent_refused InstallClose r is = record { steps = is; acknowledged = refl; closed = refl }
+silent_refused InstallBody r is = record { steps = is; acknowledged = refl; closed = refl }
+silent_refused InstallOpen r is = record { steps = is; acknowledged = refl; closed = refl }
+silent_refused Reclaim r is = record { steps = is; acknowledged = refl; closed = refl }
+
+-- nor is an event whose copy was refused
+pub silent_copy : (e : Event) → HasRow e → IsSilent e (Refused OutOfMemory)
+silent_copy Begin h = absurd h
+silent_copy (Read t k) h = absurd h
+silent_copy (Scan t table lo hi) h = absurd h
+silent_copy (Insert t row) h = record { steps = refl; acknowledged = refl; closed = refl }
+silent_copy (Update t row) h = record { steps = refl; acknowledged = refl; closed = refl }
+silent_copy (Delete t k) h = absurd h
+silent_copy (Precommit t) h = absurd h
+silent_copy (Validate t) h = absurd h
+silent_copy (Settle t) h = absurd h
+silent_copy (Rollback t) h = absurd h
+silent_copy (Finish t) h = absurd h
+silent_copy CloseGroup h = absurd h
+silent_copy TakeGroup h = absurd h
+silent_copy AppendBody h = absurd h
+silent_copy AppendOpen h = absurd h
+silent_copy (Poll stamp) h = absurd h
+silent_copy RotateWrite h = absurd h
+silent_copy CheckpointRead h = absurd h
+silent_copy CheckpointData h = absurd h
+silent_copy CheckpointDelta h = absurd h
+silent_copy InstallClose h = absurd h
+silent_copy InstallBody h = absurd h
+silent_copy InstallOpen h = absurd h
+silent_copy Reclaim h = absurd h
 
 silent_past : (p : Past) (e : Event) (r : Reply) → IsSilent e r → p ≡ with_event p e r
 silent_past p e r s = past_is p e r p.steps p.acknowledged p.closed (ap (λ xs. p.steps ++ xs) s.steps ∙ append-nil p.steps) (ap (λ ms. p.acknowledged ++ ms) s.acknowledged ∙ append-nil p.acknowledged) (ap (λ ms. p.closed ++ ms) s.closed ∙ append-nil p.closed)
-
-sound_closed : (s : State) (m : ℕ) → IsSound s → IsSound (closed_at s m)
-sound_closed s m h = record { legal = h.legal; rising = h.rising; clear = h.clear; placed = h.placed; preparing = h.preparing; running = h.running }
 
 module _ {D : Type 0} (d : Ghosts D) where
   -- ---- what a stop leaves meanwhile
@@ -185,13 +217,14 @@ module _ {D : Type 0} (d : Ghosts D) where
   moved_after : (p : Past) (w w' : WorldData D) → w'.core ≡ w.core → waiting w' ≡ waiting w → w'.store.mark ≡ w.store.mark → (h : IsAfter d p w) → KeepsRows d w'.store (after_groups p.rows h.sent) → IsAfter d p w'
   moved_after p w w' core wait mark h keeps = record {
     sent = h.sent;
-    sound = subst IsSound (sym core) h.sound;
-    core = subst (Stands p.rows p.steps) (sym core) h.core;
-    before = subst (IsClosedAt p.mark) (sym core) h.before;
-    none = ap (λ (s : State). settled_to p.mark s.line) core ∙ h.none;
+    state = h.state;
+    core = subst (StandsFor p.rows p.steps h.state) (sym core) h.core;
+    closed = h.closed;
+    before = h.before;
+    none = h.none;
     store = keeps;
     mark = mark ∙ h.mark;
-    groups = subst (λ (s : State). AreGroupsOf s p.mark (h.sent ++ waiting w')) (sym core) (subst (λ gs. AreGroupsOf w.core p.mark (h.sent ++ gs)) (sym wait) h.groups);
+    groups = subst (λ gs. AreGroupsOf h.state p.mark (h.sent ++ gs)) (sym wait) h.groups;
     marks = ap (λ gs. map (λ x. x.mark) (h.sent ++ gs)) wait ∙ h.marks;
     covers = subst (λ m. AllByRecursion (λ n. n ≤ m) p.acknowledged) (sym mark) h.covers;
   }
@@ -224,17 +257,18 @@ module _ {D : Type 0} (d : Ghosts D) where
           let before : waiting w ≡ g ∷ option_to_list w.place = ap (λ (q : Option GroupData). option_to_list q ++ option_to_list w.place) pending in
           let later : waiting w' ≡ option_to_list w.place = ap (λ (q : Option GroupData). option_to_list q ++ option_to_list w'.place) none ∙ ap option_to_list place in
           let list : h.sent ++ waiting w ≡ (h.sent ++ g ∷ []) ++ waiting w' = ap (λ gs. h.sent ++ gs) before ∙ sym (append_assoc h.sent (g ∷ []) (option_to_list w.place)) ∙ ap (λ gs. (h.sent ++ g ∷ []) ++ gs) (sym later) in
-          let groups = subst (AreGroupsOf w.core first) list h.groups in
-          let up : mark_after first h.sent ≤ g.mark = marks_rise w.core (mark_after first h.sent) (g ∷ []) (groups_back w.core first h.sent (g ∷ []) (groups_front w.core first (h.sent ++ g ∷ []) (waiting w') groups)) in
+          let groups = subst (AreGroupsOf h.state first) list h.groups in
+          let up : mark_after first h.sent ≤ g.mark = marks_rise h.state (mark_after first h.sent) (g ∷ []) (groups_back h.state first h.sent (g ∷ []) (groups_front h.state first (h.sent ++ g ∷ []) (waiting w') groups)) in
           subst (λ (q : Past). IsAfter d q w') (past_is p AppendOpen (Durable mark) p.steps (p.acknowledged ++ mark.0 ∷ []) p.closed (append-nil p.steps) refl (append-nil p.closed)) (record {
             sent = h.sent ++ g ∷ [];
-            sound = subst IsSound (sym core) h.sound;
-            core = subst (Stands p.rows p.steps) (sym core) h.core;
-            before = subst (IsClosedAt first) (sym core) h.before;
-            none = ap (λ (s : State). settled_to first s.line) core ∙ h.none;
+            state = h.state;
+            core = subst (StandsFor p.rows p.steps h.state) (sym core) h.core;
+            closed = h.closed;
+            before = h.before;
+            none = h.none;
             store = subst (KeepsRows d w'.store) (ap (after_taken (after_groups p.rows h.sent)) pending ∙ sym (after_groups-append p.rows h.sent (g ∷ []))) (keeps.keeps (after_groups p.rows h.sent) h.store);
             mark = at ∙ sym (mark_after-append first h.sent (g ∷ []));
-            groups = subst (λ (s : State). AreGroupsOf s first ((h.sent ++ g ∷ []) ++ waiting w')) (sym core) groups;
+            groups = groups;
             marks = ap (map (λ x. x.mark)) (sym list) ∙ h.marks;
             covers = each_append (λ n. n ≤ w'.store.mark) p.acknowledged (mark.0 ∷ []) (each_weaker (λ n. n ≤ w.store.mark) (λ n. n ≤ w'.store.mark) (λ n le. omega (arith, le, h.mark, up, at)) p.acknowledged h.covers) (omega (arith, at, is), tt);
           })
@@ -244,61 +278,101 @@ module _ {D : Type 0} (d : Ghosts D) where
     pub still : (IsReply : WorldData D → Event → Reply → WorldData D → Type 0) (w : WorldData D) (e : Event) (r : Reply) → IsSilent e r → IsReply w e r w → IsStepBy IsReply d w e r w
     still IsReply w e r silent reply = moved IsReply w w e r silent reply refl refl refl (refused_keeps d only_now w.store)
 
-    -- a step of the core
-    pub asked_step : (w : WorldData D) (s : State) (e : asked.Event) (r : answered.Reply) → core_replies.IsReplyTo w.core e r s → IsSound s → ((opening : Map) (xs : List Step) → Stands opening xs w.core → Stands opening (xs ++ core.happened e r) s) → StaysBelow w.core s
-        → IsStep d w (Asked e) (Answered r) (record { core = s; place = w.place; store = w.store })
-    asked_step w s e r reply sound stands stays = record {
-      reply = (reply, refl);
-      after = λ p h.
-          let below = stays p.mark h.before in
-          subst (λ (q : Past). IsAfter d q (record { core = s; place = w.place; store = w.store })) (past_is p (Asked e) (Answered r) (p.steps ++ core.happened e r) p.acknowledged p.closed refl (append-nil p.acknowledged) (append-nil p.closed)) (record {
-            sent = h.sent;
-            sound = sound;
-            core = stands p.rows p.steps h.core;
-            before = below.0;
-            none = below.1 ∙ h.none;
-            store = h.store;
-            mark = h.mark;
-            groups = groups_stay w.core s p.mark (h.sent ++ waiting w) stays h.groups;
-            marks = h.marks;
-            covers = h.covers;
-          });
-      any_moment = λ p h. meanwhile p w (record { core = s; place = w.place; store = w.store }) h ((refused_keeps d only_now w.store).any_moment (after_groups p.rows h.sent) h.store);
-    }
-
-    -- a group is closed
-    pub closed_step : (w w' : WorldData D) (c : closing.Closed) (g : GroupData) → why_not_closed w.core (is_some w.place) ≡ None → w'.core ≡ closed_at w.core c.mark.0 → w'.place ≡ Some g → w'.store ≡ w.store
-        → IsNextGroup w.core g → KeepsRules g → g.prev ≡ c.prev.0 → g.mark ≡ c.mark.0 → IsLinked w → IsReplyTo d w CloseGroup (Closed c) w' → IsStep d w CloseGroup (Closed c) w'
-    closed_step w w' c g why core place store next rules prev mark linked reply = record {
+    -- a call of the core that closes no group
+    pub asked_step : (w w' : WorldData D) (e : Event) (r : Reply) (c : Call) (result : theory.Result) → IsReplyTo d w e r w' → IsAsked w c result w' → ((opening : Map) (xs : List Step) (s : State) → StandsFor opening xs s w.core → happened e r ≡ steps_of s c result) → acknowledged_by e r ≡ [] → closed_by e r ≡ []
+        → IsStep d w e r w'
+    asked_step w w' e r c result reply asked is silent unclosed = record {
       reply = reply;
-      after = after;
-      any_moment = λ p h. meanwhile p w w' h ((same_keeps d only_now w.store w'.store store).any_moment (after_groups p.rows h.sent) h.store);
+      after = λ p h. subst (λ (v : WorldData D). IsAfter d (with_event p e r) v) (sym asked.rest) (after p h);
+      any_moment = λ p h. subst (λ (v : WorldData D). LeavesPrefix d p w v) (sym asked.rest) (meanwhile p w (record w { core = w'.core }) h ((refused_keeps d only_now w.store).any_moment (after_groups p.rows h.sent) h.store));
     }
       where
-        at_mark : w'.core ≡ closed_at w.core g.mark
-        at_mark = core ∙ ap (closed_at w.core) (sym mark)
+        after : (p : Past) → IsAfter d p w → IsAfter d (with_event p e r) (record w { core = w'.core })
+        after p h =
+            let l = asked.leads p.rows p.steps h.state h.core in
+            let kept = h.core.versions.kept in
+            let stays = stays_after_call h.state c result kept.sound in
+            let below = stays p.mark h.before in
+            subst (λ (q : Past). IsAfter d q (record w { core = w'.core })) (past_is p e r (p.steps ++ steps_of h.state c result) p.acknowledged p.closed (ap (λ xs. p.steps ++ xs) (is p.rows p.steps h.state h.core)) (ap (λ ms. p.acknowledged ++ ms) silent ∙ append-nil p.acknowledged) (ap (λ ms. p.closed ++ ms) unclosed ∙ append-nil p.closed)) (record {
+              sent = h.sent;
+              state = after_call h.state c result;
+              core = l.stands;
+              closed = still_closed p.rows p.steps h.state c result l.may kept h.closed;
+              before = below.0;
+              none = below.1 ∙ h.none;
+              store = h.store;
+              mark = h.mark;
+              groups = groups_stay h.state (after_call h.state c result) p.mark (h.sent ++ waiting w) stays h.groups;
+              marks = h.marks;
+              covers = h.covers;
+            })
 
+    -- a group is closed
+    pub closed_step : (w w' : WorldData D) (c : closing.Closed) → IsLinked w → HasComeTo w (Ok c) w' → IsStep d w CloseGroup (Closed c) w'
+    closed_step w w' c linked reply = record {
+      reply = reply;
+      after = after;
+      any_moment = λ p h. meanwhile p w w' h ((same_keeps d only_now w.store w'.store reply.store).any_moment (after_groups p.rows h.sent) h.store);
+    }
+      where
         after : (p : Past) → IsAfter d p w → IsAfter d (with_event p CloseGroup (Closed c)) w'
         after p h =
             let first = p.mark in
-            let none = none_closed w.core w.place why in
-            let wait : waiting w' ≡ waiting w ++ g ∷ [] = ap (λ (s : StoreData D). option_to_list s.pending ++ option_to_list w'.place) store ∙ ap (λ (o : Option GroupData). option_to_list w.store.pending ++ option_to_list o) place ∙ with_place w g none in
+            let s = h.state in
+            let store = reply.store in
+            let came = reply.closing p.rows p.steps s h.core in
+            let g = came.1.0 in
+            let place = came.1.1 in
+            let now = came.1.2 in
+            let none = none_closed s w.place came.0 in
+            let is = group_of_next p.rows p.steps s g now.commits h.core.versions.kept h.closed now.next now.records now.rules in
+            let up : IsClosedAt c.mark.0 s = subst (λ (m : ℕ). IsClosedAt m s) now.mark is.closed in
+            let wait : waiting w' ≡ waiting w ++ g ∷ [] = ap (λ (t : StoreData D). option_to_list t.pending ++ option_to_list w'.place) store ∙ ap (λ (o : Option GroupData). option_to_list w.store.pending ++ option_to_list o) place ∙ with_place w g none in
             let list : (h.sent ++ waiting w) ++ g ∷ [] ≡ h.sent ++ waiting w' = append_assoc h.sent (waiting w) (g ∷ []) ∙ ap (λ gs. h.sent ++ gs) (sym wait) in
             let prev_is : g.prev ≡ mark_after first (h.sent ++ waiting w) =
-            next.prev ∙ sym (follow_to w.store.mark w.core.marks.closed.0 (waiting w) linked)
+            now.next.prev ∙ ap (λ (m : Marks). m.closed) h.core.marks
+            ∙ sym (follow_to w.store.mark w.core.closed (waiting w) linked)
             ∙ ap (λ (m : ℕ). mark_after m (waiting w)) h.mark
             ∙ sym (mark_after-append first h.sent (waiting w)) in
-            subst (λ (q : Past). IsAfter d q w') (past_is p CloseGroup (Closed c) p.steps p.acknowledged (p.closed ++ g.mark ∷ []) (append-nil p.steps) (append-nil p.acknowledged) (ap (λ n. p.closed ++ n ∷ []) (sym mark))) (record {
+            subst (λ (q : Past). IsAfter d q w') (past_is p CloseGroup (Closed c) p.steps p.acknowledged (p.closed ++ g.mark ∷ []) (append-nil p.steps) (append-nil p.acknowledged) (ap (λ n. p.closed ++ n ∷ []) (sym now.mark))) (record {
               sent = h.sent;
-              sound = subst IsSound (sym at_mark) (sound_closed w.core g.mark h.sound);
-              core = subst (Stands p.rows p.steps) (sym at_mark) (record { base = h.core.base; tale = h.core.tale; ended = h.core.ended; running = h.core.running; fresh = h.core.fresh; phases = h.core.phases });
-              before = subst (IsClosedAt first) (sym at_mark) (record { drawn = h.before.drawn; above = h.before.above });
-              none = ap (λ (s : State). settled_to first s.line) at_mark ∙ h.none;
-              store = subst (λ (s : StoreData D). KeepsRows d s (after_groups p.rows h.sent)) (sym store) h.store;
-              mark = ap (λ (s : StoreData D). s.mark) store ∙ h.mark;
-              groups = subst (λ (s : State). AreGroupsOf s first (h.sent ++ waiting w')) (sym at_mark) (subst (AreGroupsOf (closed_at w.core g.mark) first) list (groups_closed w.core g.mark first ((h.sent ++ waiting w) ++ g ∷ []) (groups_push w.core first (h.sent ++ waiting w) g h.groups prev_is (group_of_next w.core g h.sound next rules))));
+              state = after_close s c.mark.0;
+              core = now.stands;
+              closed = record { drawn = up.drawn; above = up.above };
+              before = record { drawn = h.before.drawn; above = h.before.above };
+              none = h.none;
+              store = subst (λ (t : StoreData D). KeepsRows d t (after_groups p.rows h.sent)) (sym store) h.store;
+              mark = ap (λ (t : StoreData D). t.mark) store ∙ h.mark;
+              groups = subst (AreGroupsOf (after_close s c.mark.0) first) list (groups_closed s c.mark.0 first ((h.sent ++ waiting w) ++ g ∷ []) (groups_push s first (h.sent ++ waiting w) g h.groups prev_is is));
               marks = ap (map (λ x. x.mark)) (sym list) ∙ map-append (λ x. x.mark) (h.sent ++ waiting w) (g ∷ []) ∙ ap (λ ms. ms ++ g.mark ∷ []) h.marks;
-              covers = subst (λ (s : StoreData D). AllByRecursion (λ m. m ≤ s.mark) p.acknowledged) (sym store) h.covers;
+              covers = subst (λ (t : StoreData D). AllByRecursion (λ m. m ≤ t.mark) p.acknowledged) (sym store) h.covers;
+            })
+
+    -- closing a group is refused
+    pub unclosed_step : (w w' : WorldData D) (r : Refusal) → HasComeTo w (Err r) w' → IsStep d w CloseGroup (Refused r) w'
+    unclosed_step w w' r reply = record {
+      reply = reply;
+      after = after;
+      any_moment = λ p h. meanwhile p w w' h ((same_keeps d only_now w.store w'.store reply.store).any_moment (after_groups p.rows h.sent) h.store);
+    }
+      where
+        after : (p : Past) → IsAfter d p w → IsAfter d (with_event p CloseGroup (Refused r)) w'
+        after p h =
+            let store = reply.store in
+            let came = reply.closing p.rows p.steps h.state h.core in
+            let wait : waiting w' ≡ waiting w = ap (λ (t : StoreData D). option_to_list t.pending ++ option_to_list w'.place) store ∙ ap (λ (o : Option GroupData). option_to_list w.store.pending ++ option_to_list o) came.1 in
+            subst (λ (q : Past). IsAfter d q w') (silent_past p CloseGroup (Refused r) (silent_refused CloseGroup r refl)) (record {
+              sent = h.sent;
+              state = h.state;
+              core = came.2;
+              closed = h.closed;
+              before = h.before;
+              none = h.none;
+              store = subst (λ (t : StoreData D). KeepsRows d t (after_groups p.rows h.sent)) (sym store) h.store;
+              mark = ap (λ (t : StoreData D). t.mark) store ∙ h.mark;
+              groups = subst (λ gs. AreGroupsOf h.state p.mark (h.sent ++ gs)) (sym wait) h.groups;
+              marks = ap (λ gs. map (λ x. x.mark) (h.sent ++ gs)) wait ∙ h.marks;
+              covers = subst (λ (t : StoreData D). AllByRecursion (λ m. m ≤ t.mark) p.acknowledged) (sym store) h.covers;
             })
 
     -- a poll
@@ -308,8 +382,9 @@ module _ {D : Type 0} (d : Ghosts D) where
       reply = (is, refl);
       after = λ p h. subst (λ (q : Past). IsAfter d q w) (past_is p (Poll stamp) (Polled true) p.steps (p.acknowledged ++ stamp.0 ∷ []) p.closed (append-nil p.steps) refl (append-nil p.closed)) (record {
         sent = h.sent;
-        sound = h.sound;
+        state = h.state;
         core = h.core;
+        closed = h.closed;
         before = h.before;
         none = h.none;
         store = h.store;
@@ -322,18 +397,19 @@ module _ {D : Type 0} (d : Ghosts D) where
     }
 
   -- ---- a world that was just opened
-  pub begun : (rows : Map) (mark : ℕ) (s : State) (store : StoreData D) → s ≡ opened rows mark → store.mark ≡ mark → store.pending ≡ None → KeepsRows d store rows → IsAfter d (opened_over s.base store.mark) (record { core = s; place = None; store = store })
-  begun rows mark s store is at none keeps =
-      let wait : option_to_list store.pending ++ [] ≡ [] = ap (λ (q : Option GroupData). option_to_list q ++ []) none in
-      subst (λ (p : Past). IsAfter d p (record { core = s; place = None; store = store })) (ap (λ (m : ℕ). opened_over rows m) (sym at) ∙ ap (λ (b : Map). opened_over b store.mark) (ap (λ (t : State). t.base) (sym is))) (record {
+  pub begun : (rows : Map) (w : WorldData D) → HasBegun rows w → KeepsRows d w.store rows → IsAfter d (opened_over rows w.store.mark) w
+  begun rows w is keeps =
+      let wait : waiting w ≡ [] = ap (λ (q : Option GroupData). option_to_list q ++ option_to_list w.place) is.pending ∙ ap option_to_list is.place in
+      record {
         sent = [];
-        sound = subst IsSound (sym is) (record { legal = tt; rising = tt; clear = tt; placed = tt; preparing = tt; running = tt });
-        core = subst (Stands rows []) (sym is) (stands_opened rows mark);
-        before = subst (IsClosedAt mark) (sym is) (record { drawn = omega arith; above = tt });
-        none = ap (λ (t : State). settled_to mark t.line) is;
+        state = opened rows w.store.mark;
+        core = is.core;
+        closed = record { drawn = omega arith; above = tt };
+        before = record { drawn = omega arith; above = tt };
+        none = refl;
         store = keeps;
-        mark = at;
-        groups = subst (AreGroupsOf s mark) (sym wait) tt;
+        mark = refl;
+        groups = subst (AreGroupsOf (opened rows w.store.mark) w.store.mark) (sym wait) tt;
         marks = ap (map (λ x. x.mark)) wait;
-        covers = (omega (arith, at), tt);
-      })
+        covers = (omega arith, tt);
+      }

@@ -1,6 +1,6 @@
 -- The rows after the records of commits are those after what the commits were told.
 use Rattle.std.proofs.Common.{◌≡◌, ℕ, Bool, true, false, cond, List, [], ◌∷◌, ◌++◌, Option, None, Some, map, refl, sym, ap, ◌∙◌}
-use Rattle.std.specs.Prelude.{nat_lt, ◌&&◌}
+use Rattle.std.specs.Prelude.{nat_lt, ◌&&◌, ◌==◌, not, length}
 use Rattle.std.specs.Option.{option_map}
 use Rattle.std.specs.List.{AllByRecursion, filter, fold}
 use Rattle.std.specs.List.Sorted.{IsStrictlySortedBy}
@@ -8,7 +8,7 @@ use Rattle.std.specs.Ordering.{eq_by_cmp}
 use Rattle.std.specs.declared.cmp.Ordering.{Ordering}
 use Rattle.std.specs.declared.cmp.Ordering.TheVariants.{Less, Equal, Greater}
 use Rattle.std.specs.FinMap as fin
-use Rattle.std.proofs.lemmas.Bool.{true≢false, false≢true}
+use Rattle.std.proofs.lemmas.Bool.{true≢false, false≢true, ne_eqb}
 use Rattle.mvo_types.specs.declared.row.RowKey.{RowKey}
 use Rattle.mvo_types.specs.Keys.{Map, key_cmp}
 use Rattle.mvo_types.proofs.Maps.{keys_total, exact_keys}
@@ -16,10 +16,10 @@ use Rattle.mvo_types.specs.Write.{Write, content_after, content_after_last}
 use Rattle.mvo_model.specs.History.{History, write_of, after_write, after_effect, after_history}
 use Rattle.mvo_model.proofs.Serials.{get-after_effect, get-after_history}
 use Rattle.mvo_group.specs.Data.{RecordData}
-use Rattle.mvo_state.specs.Entries.{noted, noted_key, written_from, written_keys}
+use Rattle.mvo_theory.specs.Entries.{noted, noted_key, written_from, written_keys}
+use Rattle.mvo_theory.specs.Groups.{is_due, is_writing}
 use Rattle.mvo_image.specs.Rows.{after_record}
-use Rattle.mvo_core.specs.Writers.{is_there}
-use Rattle.mvo_core.specs.Groups.{IsRecordOf, AreRecordsOf, write_in}
+use Rattle.mvo_tale.specs.Records.{IsRecordOf, AreRecordsOf, write_in}
 
 -- ---- one record
 unequal : (o : Ordering) → o ≡ Less → o ≡ Equal → ⊥
@@ -68,6 +68,9 @@ record_rows : (c : ℕ × History) (r : RecordData) (m : Map) → IsRecordOf c r
 record_rows c r m is = fin.same_map keys_total exact_keys _ _ (λ q. get-after_writes q r.writes m is.rise ∙ ap (λ o. content_after_last o (fin.get m q)) (is.writes q) ∙ sym (get-after_history q c.1 m))
 
 -- ---- one that wrote no key
+some_length : (k : RowKey) (ks : List RowKey) → not (length (k ∷ ks) == 0) ≡ true
+some_length k ks = ap not (ne_eqb (length (k ∷ ks)) 0 (λ e. cc e))
+
 cons_nil : (k : RowKey) (ks : List RowKey) → ◌≡◌ {A = List RowKey} (k ∷ ks) [] → ⊥
 cons_nil k ks e = cc
 
@@ -97,12 +100,12 @@ nothing_from ks (t ∷ ts) m e =
     go None f = refl
     go (Some w) f = absurd (noted_some ks w.0 f)
 
-nothing : (ts : History) (m : Map) → is_there (written_keys ts) ≡ false → after_history ts m ≡ m
-nothing ts m f = nothing_from [] ts m (go (written_keys ts) refl f)
+nothing : (end' : ℕ) (ts : History) (m : Map) → is_writing (end', ts) ≡ false → after_history ts m ≡ m
+nothing end' ts m f = nothing_from [] ts m (go (written_keys ts) refl f)
   where
-    go : (ks : List RowKey) → written_keys ts ≡ ks → is_there ks ≡ false → written_keys ts ≡ []
+    go : (ks : List RowKey) → written_keys ts ≡ ks → not (length ks == 0) ≡ false → written_keys ts ≡ []
     go [] e g = e
-    go (j ∷ js) e g = absurd (true≢false g)
+    go (j ∷ js) e g = absurd (true≢false (sym (some_length j js) ∙ g))
 
 -- ---- one commit after another
 abbrev pub left_by_all : List (ℕ × History) → Map → Map
@@ -117,15 +120,15 @@ abbrev pub is_after : ℕ → ℕ × History → Bool
 is_after prev c = nat_lt prev c.0
 
 -- the records of those that wrote leave what they all leave
-pub records_rows : (prev : ℕ) (cs : List (ℕ × History)) (rs : List RecordData) (m : Map) → AreRecordsOf (filter (λ c. nat_lt prev c.0 && is_there (written_keys c.1)) cs) rs → fold after_record m rs ≡ left_by_all (filter (is_after prev) cs) m
+pub records_rows : (prev : ℕ) (cs : List (ℕ × History)) (rs : List RecordData) (m : Map) → AreRecordsOf (filter (is_due prev) cs) rs → fold after_record m rs ≡ left_by_all (filter (is_after prev) cs) m
 records_rows prev [] [] m h = refl
 records_rows prev [] (r ∷ rs) m h = absurd h
-records_rows prev (c ∷ cs) rs m h = go (nat_lt prev c.0) (is_there (written_keys c.1)) refl rs h (λ qs n k. records_rows prev cs qs n k)
+records_rows prev (c ∷ cs) rs m h = go (nat_lt prev c.0) (is_writing c) refl rs h (λ qs n k. records_rows prev cs qs n k)
   where
-    go : (a b : Bool) → is_there (written_keys c.1) ≡ b → (qs : List RecordData) → AreRecordsOf (cond (a && b) (c ∷ filter (λ d. nat_lt prev d.0 && is_there (written_keys d.1)) cs) (filter (λ d. nat_lt prev d.0 && is_there (written_keys d.1)) cs)) qs →
-        ((ps : List RecordData) (n : Map) → AreRecordsOf (filter (λ d. nat_lt prev d.0 && is_there (written_keys d.1)) cs) ps → fold after_record n ps ≡ left_by_all (filter (is_after prev) cs) n) →
+    go : (a b : Bool) → is_writing c ≡ b → (qs : List RecordData) → AreRecordsOf (cond (a && b) (c ∷ filter (is_due prev) cs) (filter (is_due prev) cs)) qs →
+        ((ps : List RecordData) (n : Map) → AreRecordsOf (filter (is_due prev) cs) ps → fold after_record n ps ≡ left_by_all (filter (is_after prev) cs) n) →
         fold after_record m qs ≡ left_by_all (cond a (c ∷ filter (is_after prev) cs) (filter (is_after prev) cs)) m
     go false b e qs k ih = ih qs m k
-    go true false e qs k ih = ih qs m k ∙ ap (left_by_all (filter (is_after prev) cs)) (sym (nothing c.1 m e))
+    go true false e qs k ih = ih qs m k ∙ ap (left_by_all (filter (is_after prev) cs)) (sym (nothing c.0 c.1 m e))
     go true true e [] k ih = absurd k
     go true true e (r ∷ qs) k ih = ap (λ (n : Map). fold after_record n qs) (record_rows c r m k.0) ∙ ih qs (after_history c.1 m) k.1

@@ -6,8 +6,9 @@ use Rattle.mvo_types.specs.Keys.{Map}
 use Rattle.mvo_disk.specs.declared.disk.Disk.{Ghosts}
 use Rattle.mvo_disk.specs.Disk.{Image}
 use Rattle.mvo_group.specs.Data.{GroupData}
-use Rattle.mvo_state.specs.Line.{State}
-use Rattle.mvo_state.proofs.Each.{each_weaker}
+use Rattle.mvo_theory.specs.State.{State}
+use Rattle.mvo_theory.proofs.AfterTrace.{rising_all}
+use Rattle.mvo_theory.proofs.Each.{each_weaker}
 use Rattle.mvo_frame.specs.Frames.{mark_after}
 use Rattle.mvo_image.specs.Rows.{after_groups}
 use Rattle.mvo_recovery.proofs.Grown.{after_groups-append}
@@ -52,7 +53,7 @@ follow_to m last (g ∷ gs) h = follow_to g.mark last gs h.1
 
 -- ---- what a stop leaves
 module _ {D : Type 0} (d : Ghosts D) (p : Past) (w : WorldData D) (h : IsAfter d p w) where
-  prefix_of : (image : Image) → HasSlots image → (gs hs : List GroupData) → AreGroupsOf w.core p.mark (gs ++ hs) → map (λ g. g.mark) (gs ++ hs) ≡ p.closed → AllByRecursion (λ m. m ≤ mark_after p.mark gs) p.acknowledged → Gives (after_groups p.rows gs) (mark_after p.mark gs) image → RecoversPrefix p image
+  prefix_of : (image : Image) → HasSlots image → (gs hs : List GroupData) → AreGroupsOf h.state p.mark (gs ++ hs) → map (λ g. g.mark) (gs ++ hs) ≡ p.closed → AllByRecursion (λ m. m ≤ mark_after p.mark gs) p.acknowledged → Gives (after_groups p.rows gs) (mark_after p.mark gs) image → RecoversPrefix p image
   prefix_of image slots gs hs groups marks covers gives = record {
     slots = slots;
     rows = after_groups p.rows gs;
@@ -60,8 +61,8 @@ module _ {D : Type 0} (d : Ghosts D) (p : Past) (w : WorldData D) (h : IsAfter d
     gives = gives;
     prefix = record {
       rows_are = ap (λ cs. after_groups (left_by_all cs p.rows) gs) (sym h.none)
-          ∙ chain_rows w.core p.mark gs p.rows h.sound.rising (groups_front w.core p.mark gs hs groups)
-          ∙ sym (rows_up_to_is (mark_after p.mark gs) p.rows p.steps w.core h.core);
+          ∙ chain_rows h.state p.mark gs p.rows (rising_all h.state h.core.versions.kept.sound h.core.versions.kept.started) (groups_front h.state p.mark gs hs groups)
+          ∙ sym (rows_up_to_is (mark_after p.mark gs) p.rows p.steps h.state h.core.versions.kept.after_trace);
       known = subst (λ (ms : List ℕ). IsOneOf (mark_after p.mark gs) (p.mark ∷ ms)) marks (one_after p.mark gs hs);
       covers = covers;
     };
@@ -76,9 +77,9 @@ module _ {D : Type 0} (d : Ghosts D) (p : Past) (w : WorldData D) (h : IsAfter d
   with_opening image slots g e gives =
       let wait : waiting w ≡ g ∷ option_to_list w.place = ap (λ (q : Option GroupData). option_to_list q ++ option_to_list w.place) e in
       let list : h.sent ++ waiting w ≡ (h.sent ++ g ∷ []) ++ option_to_list w.place = ap (λ (gs : List GroupData). h.sent ++ gs) wait ∙ sym (append_assoc h.sent (g ∷ []) (option_to_list w.place)) in
-      let groups = subst (AreGroupsOf w.core p.mark) list h.groups in
+      let groups = subst (AreGroupsOf h.state p.mark) list h.groups in
       let last : mark_after p.mark (h.sent ++ g ∷ []) ≡ g.mark = mark_after-append p.mark h.sent (g ∷ []) in
-      let up : mark_after p.mark h.sent ≤ g.mark = marks_rise w.core (mark_after p.mark h.sent) (g ∷ []) (groups_back w.core p.mark h.sent (g ∷ []) (groups_front w.core p.mark (h.sent ++ g ∷ []) (option_to_list w.place) groups)) in
+      let up : mark_after p.mark h.sent ≤ g.mark = marks_rise h.state (mark_after p.mark h.sent) (g ∷ []) (groups_back h.state p.mark h.sent (g ∷ []) (groups_front h.state p.mark (h.sent ++ g ∷ []) (option_to_list w.place) groups)) in
       prefix_of image slots (h.sent ++ g ∷ []) (option_to_list w.place) groups (ap (map (λ x. x.mark)) (sym list) ∙ h.marks)
       (each_weaker (λ n. n ≤ w.store.mark) (λ n. n ≤ mark_after p.mark (h.sent ++ g ∷ [])) (λ n le. omega (arith, le, h.mark, up, last)) p.acknowledged h.covers)
       (subst (λ (m : ℕ). Gives (after_groups p.rows (h.sent ++ g ∷ [])) m image) (sym last)

@@ -1,13 +1,22 @@
 -- What each event of a world is answered, and what it leaves.
-use Rattle.std.specs.Prelude.{◌≡◌, ◌⊎◌, ℕ, nat_le, true, false, Option, None, Some, is_some}
+use Rattle.std.specs.Prelude.{◌≡◌, ◌⊎◌, ◌+◌, ℕ, nat_le, true, false, List, Option, None, Some, Result, Ok, Err, ⊤}
 use Rattle.mvo_types.specs.declared.refusal.Refusal.{Refusal}
 use Rattle.mvo_types.specs.declared.refusal.Refusal.TheVariants.{NothingToDo, DiskFault, OutOfMemory}
 use Rattle.mvo_disk.specs.declared.disk.Disk.{Ghosts}
 use Rattle.mvo_group.specs.Data.{GroupData}
-use Rattle.mvo_group.specs.Rules.{KeepsRules}
-use Rattle.mvo_state.specs.Causes.{IsRefusal}
-use Rattle.mvo_core.specs.Replies as core
-use Rattle.mvo_core.specs.Groups.{IsNextGroup, why_not_closed, closed_at}
+use Rattle.mvo_types.specs.declared.answer.Answer.{Answer}
+use Rattle.mvo_types.specs.declared.op.Op.{Op}
+use Rattle.mvo_types.specs.declared.op.Op.TheVariants as op
+use Rattle.mvo_types.specs.Keys.{Map}
+use Rattle.mvo_model.specs.Trace.{Step}
+use Rattle.mvo_theory.specs.State.{State}
+use Rattle.mvo_theory.specs.Calls as theory
+use Rattle.mvo_theory.specs.Calls.Call.{Begin as BeginCall, Precommit as PrecommitCall, Validate as ValidateCall, Settle as SettleCall, Rollback as RollbackCall, Finish as FinishCall, Do}
+use Rattle.mvo_theory.specs.Calls.Result.{Accepted, Refused as RefusedCall}
+use Rattle.mvo_version_core.specs.declared.answers.Closed as closing
+use Rattle.mvo_version_core.specs.Standing.{StandsFor}
+use Rattle.mvo_version_core.specs.Steps.{LeadsOn, InEach, IsAnswered, IsValidation, IsSettlement, IsFinishing}
+use Rattle.mvo_version_core.specs.Closing.{IsClosing}
 use Rattle.mvo_store.specs.declared.due.Due.{Due}
 use Rattle.mvo_store.specs.declared.due.Due.TheVariants.{Data, Delta, Close, Body, Open}
 use Rattle.mvo_store.specs.declared.progress.Progress.{Progress}
@@ -21,9 +30,9 @@ use Rattle.mvo_store.specs.Steps.{progress_of, with_delta, IsInstalledBy}
 use Rattle.mvo_store.specs.Reclaiming.{HasReclaimed}
 use Rattle.mvo_world.specs.WorldData.{WorldData}
 use Rattle.mvo_world.specs.declared.event.Event.{Event}
-use Rattle.mvo_world.specs.declared.event.Event.TheVariants.{Core as Asked, CloseGroup, TakeGroup, AppendBody, AppendOpen, Poll, RotateWrite, CheckpointRead, CheckpointData, CheckpointDelta, InstallClose, InstallBody, InstallOpen, Reclaim}
+use Rattle.mvo_world.specs.declared.event.Event.TheVariants.{Begin, Read, Scan, Insert, Update, Delete, Precommit, Validate, Settle, Rollback, Finish, CloseGroup, TakeGroup, AppendBody, AppendOpen, Poll, RotateWrite, CheckpointRead, CheckpointData, CheckpointDelta, InstallClose, InstallBody, InstallOpen, Reclaim}
 use Rattle.mvo_world.specs.declared.reply.Reply.{Reply}
-use Rattle.mvo_world.specs.declared.reply.Reply.TheVariants.{Core as Answered, Closed, Taken, Written, Durable, Polled, Ready, Progress as Progressed, Shut, Installed, Reclaimed, Refused}
+use Rattle.mvo_world.specs.declared.reply.Reply.TheVariants.{Began, Answered, Prepared, Validated, Settled, RolledBack, Finished, Closed, Taken, Written, Durable, Polled, Ready, Progress as Progressed, Shut, Installed, Reclaimed, Refused}
 
 -- ---- the first refusal whose cause stands
 
@@ -48,14 +57,28 @@ IsGateRefusal None r = r ≡ DiskFault
 
 -- ---- what an accepted event makes of a world
 
--- the next group stands in the place
-pub record IsClosed {D : Type 0} (w : WorldData D) (prev mark : ℕ) (w' : WorldData D) : Type 0 where
-  pub group : GroupData
-  pub next : IsNextGroup w.core group
-  pub rules : KeepsRules group
-  pub prev_is : group.prev ≡ prev
-  pub mark_is : group.mark ≡ mark
-  pub after : w' ≡ record { core = closed_at w.core mark; place = Some group; store = w.store }
+-- The core was asked: from each state that it stands for the call may come to this, and it stands
+-- for what that leaves. The place and the store stay.
+pub record IsAsked {D : Type 0} (w : WorldData D) (c : theory.Call) (r : theory.Result)
+    (w' : WorldData D) : Type 0 where
+  pub leads : (opening : Map) (steps : List Step) (s : State) → StandsFor opening steps s w.core
+      → LeadsOn opening steps s c r w'.core
+  pub rest : w' ≡ record w { core = w'.core }
+
+-- an operation was answered: as the serial step answers on the transaction's snapshot
+abbrev pub IsDone : {D : Type 0} → WorldData D → ℕ → Op → Answer → WorldData D → Type 0
+IsDone w t op a w' = IsAsked w (Do t op) Accepted w' × IsAnswered w.core t op a
+
+-- it is the next timestamp
+abbrev pub IsDrawn : {D : Type 0} → WorldData D → ℕ → Type 0
+IsDrawn w n = InEach w.core (λ s. n ≡ s.clock + 1)
+
+-- Closing a group came to this: the next group stands in the place, or what is refused leaves all.
+-- The store stays.
+pub record HasComeTo {D : Type 0} (w : WorldData D) (result : Result closing.Closed Refusal)
+    (w' : WorldData D) : Type 0 where
+  pub closing : IsClosing w.core w.place result w'.core w'.place
+  pub store : w'.store ≡ w.store
 
 -- the store has the group that stood in the place
 pub record IsTaken {D : Type 0} (w w' : WorldData D) : Type 0 where
@@ -154,12 +177,39 @@ pub record IsLeftByRead {D : Type 0} (d : Ghosts D) (w : WorldData D) (r : Refus
 -- The first refusal whose cause stands; where none does, the event's own answer, and what that
 -- makes of the world.
 abbrev pub IsReplyTo : {D : Type 0} → Ghosts D → WorldData D → Event → Reply → WorldData D → Type 0
-IsReplyTo d w (Asked e) (Answered r) w' =
-    core.IsReplyTo w.core e r w'.core × (w' ≡ record w { core = w'.core })
-IsReplyTo d w CloseGroup (Closed c) w' =
-    (why_not_closed w.core (is_some w.place) ≡ None) × IsClosed w c.prev.0 c.mark.0 w'
-IsReplyTo d w CloseGroup (Refused r) w' =
-    IsRefusal (why_not_closed w.core (is_some w.place)) r × (w' ≡ w)
+IsReplyTo d w Begin (Began t) w' = IsAsked w BeginCall Accepted w' × IsDrawn w t.0
+IsReplyTo d w Begin (Refused r) w' = IsAsked w BeginCall (RefusedCall r) w'
+IsReplyTo d w (Read t k) (Answered a) w' = IsDone w t.0 (op.Read k) a w'
+IsReplyTo d w (Read t k) (Refused r) w' =
+    IsAsked w (Do t.0 (op.Read k)) (RefusedCall r) w'
+IsReplyTo d w (Scan t table lo hi) (Answered a) w' = IsDone w t.0 (op.Scan table lo hi) a w'
+IsReplyTo d w (Scan t table lo hi) (Refused r) w' =
+    IsAsked w (Do t.0 (op.Scan table lo hi)) (RefusedCall r) w'
+IsReplyTo d w (Insert t row) (Answered a) w' = IsDone w t.0 (op.Insert row) a w'
+IsReplyTo d w (Insert t row) (Refused r) w' =
+    IsAsked w (Do t.0 (op.Insert row)) (RefusedCall r) w'
+IsReplyTo d w (Update t row) (Answered a) w' = IsDone w t.0 (op.Update row) a w'
+IsReplyTo d w (Update t row) (Refused r) w' =
+    IsAsked w (Do t.0 (op.Update row)) (RefusedCall r) w'
+IsReplyTo d w (Delete t k) (Answered a) w' = IsDone w t.0 (op.Delete k) a w'
+IsReplyTo d w (Delete t k) (Refused r) w' =
+    IsAsked w (Do t.0 (op.Delete k)) (RefusedCall r) w'
+IsReplyTo d w (Precommit t) (Prepared e) w' =
+    IsAsked w (PrecommitCall t.0) Accepted w' × IsDrawn w e.0
+IsReplyTo d w (Precommit t) (Refused r) w' = IsAsked w (PrecommitCall t.0) (RefusedCall r) w'
+IsReplyTo d w (Validate t) (Validated v) w' =
+    IsAsked w (ValidateCall t.0) Accepted w' × IsValidation w.core t.0 v
+IsReplyTo d w (Validate t) (Refused r) w' = IsAsked w (ValidateCall t.0) (RefusedCall r) w'
+IsReplyTo d w (Settle t) (Settled a) w' =
+    IsAsked w (SettleCall t.0) Accepted w' × IsSettlement w.core t.0 a
+IsReplyTo d w (Settle t) (Refused r) w' = IsAsked w (SettleCall t.0) (RefusedCall r) w'
+IsReplyTo d w (Rollback t) RolledBack w' = IsAsked w (RollbackCall t.0) Accepted w'
+IsReplyTo d w (Rollback t) (Refused r) w' = IsAsked w (RollbackCall t.0) (RefusedCall r) w'
+IsReplyTo d w (Finish t) (Finished a) w' =
+    IsAsked w (FinishCall t.0) Accepted w' × IsFinishing w.core t.0 a
+IsReplyTo d w (Finish t) (Refused r) w' = IsAsked w (FinishCall t.0) (RefusedCall r) w'
+IsReplyTo d w CloseGroup (Closed c) w' = HasComeTo w (Ok c) w'
+IsReplyTo d w CloseGroup (Refused r) w' = HasComeTo w (Err r) w'
 IsReplyTo d w TakeGroup Taken w' = (why_not_taken w ≡ None) × IsTaken w w'
 IsReplyTo d w TakeGroup (Refused r) w' = (why_not_taken w ≡ Some r) × (w' ≡ w)
 IsReplyTo d w AppendBody Written w' =
@@ -207,7 +257,8 @@ IsReplyTo d w e r w' = ⊥
 
 -- a copy of the event takes memory: it has a row
 abbrev pub HasRow : Event → Type 0
-HasRow (Asked e) = core.HasRow e
+HasRow (Insert t row) = ⊤
+HasRow (Update t row) = ⊤
 HasRow e = ⊥
 
 -- the copy was refused, and nothing happens

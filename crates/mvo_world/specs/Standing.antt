@@ -8,9 +8,9 @@ use Rattle.mvo_model.specs.Trace.{rows_up_to}
 use Rattle.mvo_disk.specs.declared.disk.Disk.{Ghosts}
 use Rattle.mvo_disk.specs.Disk.{Image, AllOf, LeavesOnly}
 use Rattle.mvo_group.specs.Data.{GroupData}
-use Rattle.mvo_state.specs.Marks.{IsClosedAt, settled_to}
-use Rattle.mvo_state.specs.Sound.{IsSound}
-use Rattle.mvo_state.specs.Stands.{Stands}
+use Rattle.mvo_theory.specs.State.{State, timeline}
+use Rattle.mvo_theory.specs.Marks.{IsClosedAt, settled_to}
+use Rattle.mvo_version_core.specs.Standing.{StandsFor}
 use Rattle.mvo_frame.specs.Frames.{mark_after}
 use Rattle.mvo_image.specs.Rows.{after_groups}
 use Rattle.mvo_pair.specs.Writing.{IsStop}
@@ -43,14 +43,17 @@ pub record RecoversPrefix (p : Past) (image : Image) : Type 0 where
 pub record IsAfter {D : Type 0} (d : Ghosts D) (p : Past) (w : WorldData D) : Type 0 where
   -- the groups that are durable since the opening
   pub sent : List GroupData
-  pub sound : IsSound w.core
-  pub core : Stands p.rows p.steps w.core
+  -- the state that the steps since the opening lead to
+  pub state : State
+  pub core : StandsFor p.rows p.steps state w.core
+  -- up to the mark of the group that was closed last all are settled
+  pub closed : IsClosedAt state.marks.closed state
   -- no commit ends at or below the opening mark
-  pub before : IsClosedAt p.mark w.core
-  pub none : settled_to p.mark w.core.line ≡ []
+  pub before : IsClosedAt p.mark state
+  pub none : settled_to p.mark (timeline state) ≡ []
   pub store : KeepsRows d w.store (after_groups p.rows sent)
   pub mark : w.store.mark ≡ mark_after p.mark sent
-  pub groups : AreGroupsOf w.core p.mark (sent ++ waiting w)
+  pub groups : AreGroupsOf state p.mark (sent ++ waiting w)
   pub marks : map (λ g. g.mark) (sent ++ waiting w) ≡ p.closed
   pub covers : AllByRecursion (λ m. m ≤ w.store.mark) p.acknowledged
 

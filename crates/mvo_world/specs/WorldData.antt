@@ -1,13 +1,15 @@
 -- What a world holds.
 use Rattle.std.specs.Prelude.{◌≡◌, ℕ, List, [], ◌∷◌, ◌++◌, Option, None, false}
 use Rattle.std.specs.Option.{option_to_list}
+use Rattle.mvo_types.specs.Keys.{Map}
 use Rattle.mvo_group.specs.Data.{GroupData}
-use Rattle.mvo_state.specs.Line.{State, opened}
+use Rattle.mvo_version_core.specs.Data.{CoreData}
+use Rattle.mvo_version_core.specs.Standing.{Stands, OpensAs}
 use Rattle.mvo_store.specs.StoreData.{StoreData}
 
--- the state of its core, the group that was closed and not taken yet, and its store
+-- what its core has, the group that was closed and not taken yet, and its store
 pub record WorldData (D : Type 0) : Type 0 where
-  pub core : State
+  pub core : CoreData
   pub place : Option GroupData
   pub store : StoreData D
 
@@ -22,11 +24,16 @@ Follow mark (g ∷ gs) last = (g.prev ≡ mark) × Follow g.mark gs last
 
 -- the groups that wait lead from the store's mark to that of the last closed group
 abbrev pub IsLinked : {D : Type 0} → WorldData D → Type 0
-IsLinked w = Follow w.store.mark (waiting w) w.core.marks.closed.0
+IsLinked w = Follow w.store.mark (waiting w) w.core.closed
 
--- nothing happened since the opening
-pub record HasBegun {D : Type 0} (w : WorldData D) : Type 0 where
-  pub core : w.core ≡ opened w.core.base w.store.mark
+-- the core stands for a state, whatever steps led there, and the groups that wait are linked
+pub record IsSound {D : Type 0} (w : WorldData D) : Type 0 where
+  pub core : Stands w.core
+  pub linked : IsLinked w
+
+-- nothing happened since the opening over these rows
+pub record HasBegun {D : Type 0} (rows : Map) (w : WorldData D) : Type 0 where
+  pub core : OpensAs rows w.store.mark w.core
   pub place : w.place ≡ None
   pub down : w.store.down ≡ false
   pub pending : w.store.pending ≡ None

@@ -1,11 +1,31 @@
-use mvo_types::Stamp;
+use mvo_types::{Row, RowKey, Stamp, TxId};
 use std::alloc::AllocError;
 
-/// A step that is asked for.
+/// A step that is asked for: of a transaction, of the log, or a poll.
 #[derive(Debug, Drop)]
 pub enum Event {
-    /// A step of a transaction.
-    Core(mvo_core::Event),
+    /// A transaction is to begin.
+    Begin,
+    /// A transaction asks for the row at a key.
+    Read(TxId, RowKey),
+    /// A transaction asks for the rows of a table with a sort between two.
+    Scan(TxId, u8, u64, u64),
+    /// A transaction puts a row where none is shown.
+    Insert(TxId, Row),
+    /// A transaction replaces the row that is shown at a key.
+    Update(TxId, Row),
+    /// A transaction deletes the row that is shown at a key.
+    Delete(TxId, RowKey),
+    /// A transaction draws its end timestamp.
+    Precommit(TxId),
+    /// The next entry of a transaction is checked.
+    Validate(TxId),
+    /// A validated transaction becomes Committed.
+    Settle(TxId),
+    /// A transaction becomes Aborted.
+    Rollback(TxId),
+    /// A word of a transaction that is Committed or Aborted is replaced.
+    Finish(TxId),
     /// The next group of commits is closed into the place of closed groups.
     CloseGroup,
     /// The store takes the closed group.
@@ -44,7 +64,17 @@ impl Event {
         ensures memory { OnErr result (HasRow self.now) }
     {
         match self {
-            Event::Core(event) => Ok(Event::Core(event.copy()?)),
+            Event::Begin => Ok(Event::Begin),
+            Event::Read(tx, key) => Ok(Event::Read(*tx, *key)),
+            Event::Scan(tx, table, lo, hi) => Ok(Event::Scan(*tx, *table, *lo, *hi)),
+            Event::Insert(tx, row) => Ok(Event::Insert(*tx, row.copy()?)),
+            Event::Update(tx, row) => Ok(Event::Update(*tx, row.copy()?)),
+            Event::Delete(tx, key) => Ok(Event::Delete(*tx, *key)),
+            Event::Precommit(tx) => Ok(Event::Precommit(*tx)),
+            Event::Validate(tx) => Ok(Event::Validate(*tx)),
+            Event::Settle(tx) => Ok(Event::Settle(*tx)),
+            Event::Rollback(tx) => Ok(Event::Rollback(*tx)),
+            Event::Finish(tx) => Ok(Event::Finish(*tx)),
             Event::CloseGroup => Ok(Event::CloseGroup),
             Event::TakeGroup => Ok(Event::TakeGroup),
             Event::AppendBody => Ok(Event::AppendBody),

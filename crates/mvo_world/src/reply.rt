@@ -1,12 +1,24 @@
-use mvo_core::Closed;
 use mvo_store::{Generation, Progress, Reclaimed};
-use mvo_types::{Refusal, Stamp};
+use mvo_types::{Answer, Refusal, Stamp, TxId};
+use mvo_version_core::{Closed, Finishing, Settlement, Validation};
 
 /// What is answered to a step.
 #[derive(Debug, Drop)]
 pub enum Reply {
-    /// The answer to a step of a transaction, its refusals too.
-    Core(mvo_core::Reply),
+    /// The transaction that began.
+    Began(TxId),
+    /// The answer to an operation.
+    Answered(Answer),
+    /// The transaction is Preparing, with this end timestamp.
+    Prepared(Stamp),
+    /// The entry is as it was, and whether others are left.
+    Validated(Validation),
+    /// The transaction is Committed, or whom it waits for.
+    Settled(Settlement),
+    /// The transaction is Aborted.
+    RolledBack,
+    /// Whether words that name the transaction are left.
+    Finished(Finishing),
     /// The group that was closed.
     Closed(Closed),
     /// The store took the group.

@@ -1,13 +1,14 @@
 mod steps;
+mod transactions;
 
 use crate::event::Event;
 use crate::push::push_reserved;
 use crate::reply::Reply;
-use mvo_core::Core;
 use mvo_disk::Disk;
 use mvo_group::Group;
 use mvo_store::Store;
 use mvo_types::{Refusal, Stamp};
+use mvo_version_core::Core;
 use std::alloc::Global;
 use std::marker::Model;
 use std::thread::Threads;
@@ -28,17 +29,27 @@ pub struct World<D: Disk> {
 
 impl<D: Disk> Model for World<D> {
     ghost use Rattle.std.specs.Coded.{codes};
-    ghost use Rattle.mvo_types.specs.Keys.{coded_map};
+    ghost use Rattle.mvo_hash.specs.Lists.{coded_lists};
+    ghost use Rattle.mvo_range.specs.Place.{coded_map};
+    ghost use Rattle.mvo_txn.specs.Txns.{coded_txns};
+    ghost use Rattle.mvo_types.specs.Keys.{coded_map as coded_rows};
     ghost use Rattle.mvo_ckpt.specs.Places.{coded_places};
-    ghost use Rattle.mvo_world.specs.WorldData.{WorldData, IsLinked};
+    ghost use Rattle.mvo_world.specs.WorldData.{WorldData, IsSound};
 
     ghost Value = { WorldData D };
 
-    ghost coded = { Prim.hlevel (codes, coded_map, coded_places) };
+    ghost coded = { Prim.hlevel (
+      codes,
+      coded_lists,
+      coded_map,
+      coded_txns,
+      coded_rows,
+      coded_places,
+    ) };
 
     ghost view = { λ w. record { core = w.core; place = w.place; store = w.store } };
 
-    ghost invariant = { λ w. IsLinked {D = D} (record {
+    ghost invariant = { λ w. IsSound {D = D} (record {
       core = w.core;
       place = w.place;
       store = w.store;
@@ -58,23 +69,27 @@ impl<D: Disk> World<D> {
     ghost use Rattle.mvo_world.specs.Steps.{IsStep, IsRunStep, AreSteps};
 
     /// A world over what is on the disk. It writes and cuts nothing. Refused as `Store::open` is,
-    /// or with OutOfMemory; the disk comes back.
+    /// or with OutOfMemory; the disk comes back. Who chooses the keys of rows must not know the
+    /// seed, which decides where keys stand in memory.
     ///
     /// The world stands after its past where both manifest slots hold a byte (`HasSlots`), as
     /// `format` leaves them.
     pub fn open(
         rt: &(impl Threads + Sync),
         alloc: Global,
+        seed: u64,
         disk: D,
     ) -> Result<World<D>, (Refusal, D)>
-        ensures answer { IfOk result (λ w.
-            IsAnswer (D.content disk) (Ok (w.core.base, w.store.mark))) }
-        ensures gives { IfOk result (λ w. Gives w.core.base w.store.mark (D.content disk)) }
-        ensures after { IfOk result (λ w. HasSlots (D.content disk) →
-            IsAfter D.Disk (opened_over w.core.base w.store.mark) w) }
-        ensures prefix { IfOk result (λ w. (past : Past) → RecoversPrefix past (D.content disk) →
-            IsPrefix past w.core.base w.store.mark) }
-        ensures begins { IfOk result (λ w. HasBegun w) }
+        ensures answer { IfOk result (λ w. (rows : Map) ×
+            IsAnswer (D.content disk) (Ok (rows, w.store.mark))) }
+        ensures gives { IfOk result (λ w. (rows : Map) × Gives rows w.store.mark (D.content disk)) }
+        ensures after { IfOk result (λ w. (rows : Map) → Gives rows w.store.mark (D.content disk) →
+            HasSlots (D.content disk) → IsAfter D.Disk (opened_over rows w.store.mark) w) }
+        ensures prefix { IfOk result (λ w. (rows : Map) → Gives rows w.store.mark (D.content disk) →
+            (past : Past) → RecoversPrefix past (D.content disk) →
+            IsPrefix past rows w.store.mark) }
+        ensures begins { IfOk result (λ w. (rows : Map) → Gives rows w.store.mark (D.content disk) →
+            HasBegun rows w) }
         ensures content { IfOk result (λ w. KeepsContent D.Disk disk w.store.disk) }
         ensures any_moment { IfOk result (λ w. LeavesAsBefore D.Disk disk w.store.disk) }
         ensures refused { IfErr result (λ e. IsNotOpened D.Disk disk e.0 e.1) }
@@ -87,7 +102,7 @@ impl<D: Disk> World<D> {
             Ok(opened) => opened,
             Err(refused) => return Err(refused),
         };
-        let Ok(core) = Core::open(alloc, rows, mark) else {
+        let Ok(core) = Core::open(alloc, seed, rows, mark) else {
             return Err((Refusal::OutOfMemory, store.into_disk()));
         };
         Ok(World {
@@ -124,7 +139,17 @@ impl<D: Disk> World<D> {
         ensures { IsStep D.Disk self.old event result self.new }
     {
         match event {
-            Event::Core(event) => self.ask(event),
+            Event::Begin => self.begin(),
+            Event::Read(tx, key) => self.read(tx, key),
+            Event::Scan(tx, table, lo, hi) => self.scan(tx, table, lo, hi),
+            Event::Insert(tx, row) => self.insert(tx, row),
+            Event::Update(tx, row) => self.update(tx, row),
+            Event::Delete(tx, key) => self.delete(tx, key),
+            Event::Precommit(tx) => self.precommit(tx),
+            Event::Validate(tx) => self.validate(tx),
+            Event::Settle(tx) => self.settle(tx),
+            Event::Rollback(tx) => self.roll_back(tx),
+            Event::Finish(tx) => self.finish(tx),
             Event::CloseGroup => self.close_group(),
             Event::TakeGroup => self.take_group(),
             Event::AppendBody => self.append_body(),

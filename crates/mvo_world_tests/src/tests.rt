@@ -1,3 +1,4 @@
+mod answers;
 mod checked;
 mod draws;
 mod events;
@@ -7,8 +8,8 @@ mod observed;
 mod openings;
 mod random;
 mod runs;
+mod told;
 
-use mvo_core::{Event as Step, Reply as Answered};
 use mvo_disk::{Disk, FileImage, MemDisk};
 use mvo_store::format;
 use mvo_types::{Answer, Row, RowKey, Stamp, TxId};
@@ -60,12 +61,14 @@ const FRESH: [u8; 9] = [0x4d, 0x56, 0x4f, 0x4c, 1, 0, 0, 0, 0];
 
 const KEY: RowKey = RowKey { table: 0, key: 5 };
 
+const SEED: u64 = 7;
+
 fn opened(
     rt: &(impl Threads + Sync),
     alloc: Global,
     disk: MemDisk,
 ) -> Result<World<MemDisk>, Fail> {
-    match World::open(rt, alloc, disk) {
+    match World::open(rt, alloc, SEED, disk) {
         Ok(world) => Ok(world),
         Err((refusal, _)) => Err(Fail::from(refusal)),
     }
@@ -78,21 +81,26 @@ fn fresh(rt: &(impl Threads + Sync), alloc: Global) -> Result<World<MemDisk>, Fa
     }
 }
 
+fn row_with(alloc: Global, sort: u64, byte: u8) -> Result<Row, Fail> {
+    let bytes = [byte].to_vec(alloc)?;
+    Ok(Row {
+        key: KEY,
+        sort,
+        bytes,
+    })
+}
+
 // The steps of a transaction that begins at 1 and puts the row at 2.
 fn one_put(alloc: Global) -> Result<Vec<Event>, Fail> {
     let tx = TxId(1);
-    let row = Row {
-        key: KEY,
-        sort: 50,
-        bytes: [0x61].to_vec(alloc)?,
-    };
+    let row = row_with(alloc, 50, 0x61)?;
     let events = vec![in alloc;
-        Event::Core(Step::Begin),
-        Event::Core(Step::Insert(tx, row)),
-        Event::Core(Step::Precommit(tx)),
-        Event::Core(Step::Validate(tx)),
-        Event::Core(Step::Settle(tx)),
-        Event::Core(Step::Finish(tx)),
+        Event::Begin,
+        Event::Insert(tx, row),
+        Event::Precommit(tx),
+        Event::Validate(tx),
+        Event::Settle(tx),
+        Event::Finish(tx),
         Event::Poll(Stamp(2)),
         Event::CloseGroup,
         Event::TakeGroup,
@@ -119,12 +127,10 @@ fn found(
 ) -> Result<(u64, Option<usize>), Fail> {
     let mut world = opened(rt, alloc, disk)?;
     let mark = world.mark();
-    let _ = world.step(Event::Core(Step::Begin));
-    let reply = world.step(Event::Core(Step::Read(TxId(mark.0.saturating_add(1)), KEY)));
+    let _ = world.step(Event::Begin);
+    let reply = world.step(Event::Read(TxId(mark.0.saturating_add(1)), KEY));
     match reply {
-        Reply::Core(Answered::Answered(Answer::Found(row))) => {
-            Ok((mark.0, row.map(|row| row.data_len())))
-        }
+        Reply::Answered(Answer::Found(row)) => { Ok((mark.0, row.map(|row| row.data_len()))) }
         _ => Err(Fail::from("a read that is answered")),
     }
 }
@@ -150,12 +156,12 @@ fn one_put_is_durable(rt: HostRuntime) -> Result<(), Fail> {
     let alloc = rt.alloc();
     let mut world = fresh(&rt, alloc)?;
     let texts = [
-        "Core(Began(TxId(1)))",
-        "Core(Answered(Inserted))",
-        "Core(Preparing(Stamp(2)))",
-        "Core(Valid)",
-        "Core(Committed(Stamp(2)))",
-        "Core(Done)",
+        "Began(TxId(1))",
+        "Answered(Inserted)",
+        "Prepared(Stamp(2))",
+        "Validated(Valid)",
+        "Settled(Committed(Stamp(2)))",
+        "Finished(Done)",
         "Polled(false)",
         "Closed(Closed { prev: Stamp(0), mark: Stamp(2) })",
         "Taken",
@@ -327,11 +333,11 @@ fn a_commit_that_wrote_nothing_is_polled_yes(rt: HostRuntime) -> Result<(), Fail
     let mut world = fresh(&rt, alloc)?;
     let tx = TxId(1);
     let events = vec![in alloc;
-        Event::Core(Step::Begin),
-        Event::Core(Step::Read(tx, KEY)),
-        Event::Core(Step::Precommit(tx)),
-        Event::Core(Step::Validate(tx)),
-        Event::Core(Step::Settle(tx)),
+        Event::Begin,
+        Event::Read(tx, KEY),
+        Event::Precommit(tx),
+        Event::Validate(tx),
+        Event::Settle(tx),
         Event::Poll(Stamp(2)),
         Event::CloseGroup,
         Event::TakeGroup,
@@ -341,11 +347,11 @@ fn a_commit_that_wrote_nothing_is_polled_yes(rt: HostRuntime) -> Result<(), Fail
         Event::Poll(Stamp(3)),
     ]?;
     let texts = [
-        "Core(Began(TxId(1)))",
-        "Core(Answered(Found(None)))",
-        "Core(Preparing(Stamp(2)))",
-        "Core(Valid)",
-        "Core(Committed(Stamp(2)))",
+        "Began(TxId(1))",
+        "Answered(Found(None))",
+        "Prepared(Stamp(2))",
+        "Validated(Valid)",
+        "Settled(Committed(Stamp(2)))",
         "Polled(false)",
         "Closed(Closed { prev: Stamp(0), mark: Stamp(2) })",
         "Taken",
@@ -361,35 +367,119 @@ fn a_commit_that_wrote_nothing_is_polled_yes(rt: HostRuntime) -> Result<(), Fail
     Ok(())
 }
 
+// The steps of a transaction that puts the row, which another replaces before the first is settled.
+fn put_and_replace(alloc: Global) -> Result<Vec<Event>, Fail> {
+    let (first, second) = (TxId(1), TxId(3));
+    let events = vec![in alloc;
+        Event::Begin,
+        Event::Insert(first, row_with(alloc, 50, 0x61)?),
+        Event::Precommit(first),
+        Event::Begin,
+        Event::Update(second, row_with(alloc, 60, 0x62)?),
+        Event::Scan(second, 0, 0, 100),
+        Event::Precommit(second),
+        Event::Validate(second),
+        Event::Validate(second),
+        Event::Settle(second),
+    ]?;
+    Ok(events)
+}
+
+const WAITING: [&str; 10] = [
+    "Began(TxId(1))",
+    "Answered(Inserted)",
+    "Prepared(Stamp(2))",
+    "Began(TxId(3))",
+    "Answered(Updated)",
+    "Answered(Rows([Row { key: RowKey { table: 0, key: 5 }, sort: 60, bytes: [98] }]))",
+    "Prepared(Stamp(4))",
+    "Validated(More)",
+    "Validated(Valid)",
+    "Settled(Waiting(TxId(1)))",
+];
+
+#[test]
+fn a_transaction_falls_with_the_one_it_waits_for(rt: HostRuntime) -> Result<(), Fail> {
+    let alloc = rt.alloc();
+    let mut world = fresh(&rt, alloc)?;
+    assert_replies(&rt, &mut world, &put_and_replace(alloc)?, &WAITING)?;
+    let (first, second, third) = (TxId(1), TxId(3), TxId(5));
+    let events = vec![in alloc;
+        Event::Rollback(first),
+        Event::Settle(second),
+        Event::Begin,
+        Event::Delete(third, KEY),
+        Event::Scan(third, 0, 0, 100),
+    ]?;
+    let texts = [
+        "RolledBack",
+        "Refused(DependencyAborted(TxId(1)))",
+        "Began(TxId(5))",
+        "Answered(Absent)",
+        "Answered(Rows([]))",
+    ];
+    assert_replies(&rt, &mut world, &events, &texts)
+}
+
+#[test]
+fn a_transaction_is_settled_after_the_one_it_waits_for(rt: HostRuntime) -> Result<(), Fail> {
+    let alloc = rt.alloc();
+    let mut world = fresh(&rt, alloc)?;
+    assert_replies(&rt, &mut world, &put_and_replace(alloc)?, &WAITING)?;
+    let (first, second, third) = (TxId(1), TxId(3), TxId(5));
+    let events = vec![in alloc;
+        Event::Validate(first),
+        Event::Settle(first),
+        Event::Settle(second),
+        Event::Begin,
+        Event::Delete(third, KEY),
+        Event::Scan(third, 0, 0, 100),
+    ]?;
+    let texts = [
+        "Validated(Valid)",
+        "Settled(Committed(Stamp(2)))",
+        "Settled(Committed(Stamp(4)))",
+        "Began(TxId(5))",
+        "Answered(Deleted)",
+        "Answered(Rows([]))",
+    ];
+    assert_replies(&rt, &mut world, &events, &texts)
+}
+
 #[test]
 fn refuses_steps_out_of_turn(rt: HostRuntime) -> Result<(), Fail> {
     let alloc = rt.alloc();
     let mut world = fresh(&rt, alloc)?;
-    // With nothing written, a group is empty and its mark goes on.
+    // With nothing written, a group is empty and its mark goes on. None is closed while one is
+    // Preparing.
     let events = vec![in alloc;
         Event::CloseGroup,
         Event::TakeGroup,
         Event::AppendBody,
         Event::AppendOpen,
-        Event::Core(Step::Begin),
+        Event::Begin,
         Event::CloseGroup,
         Event::CloseGroup,
-        Event::Core(Step::Begin),
+        Event::Begin,
         Event::CloseGroup,
         Event::TakeGroup,
         Event::TakeGroup,
+        Event::Precommit(TxId(2)),
+        Event::CloseGroup,
     ]?;
     let texts = [
         "Refused(NothingToDo)",
         "Refused(NothingToDo)",
         "Refused(NothingToDo)",
         "Refused(NothingToDo)",
-        "Core(Began(TxId(1)))",
+        "Began(TxId(1))",
         "Closed(Closed { prev: Stamp(0), mark: Stamp(1) })",
         "Refused(NothingToDo)",
-        "Core(Began(TxId(2)))",
+        "Began(TxId(2))",
         "Refused(RingFull)",
         "Taken",
+        "Refused(Busy)",
+        "Prepared(Stamp(3))",
         "Refused(Busy)",
     ];
     assert_replies(&rt, &mut world, &events, &texts)

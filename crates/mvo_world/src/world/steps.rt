@@ -1,4 +1,4 @@
-//! The step of each event.
+//! The step of each event of the log, and the poll.
 
 use super::World;
 use crate::event::Event;
@@ -9,16 +9,6 @@ use mvo_types::{Refusal, Stamp};
 
 impl<D: Disk> World<D> {
     ghost use Rattle.mvo_world.specs.Steps.{IsStep};
-
-    /// A step of a transaction.
-    pub(super) fn ask(&mut self, event: mvo_core::Event) -> Reply
-        ensures { IsStep D.Disk self.old (Event.Core event) result self.new }
-    {
-        let reply = self.core.step(event);
-        // From then on the proof knows what the core keeps.
-        let _clock = self.core.clock();
-        Reply::Core(reply)
-    }
 
     pub(super) fn close_group(&mut self) -> Reply
         ensures { IsStep D.Disk self.old Event.CloseGroup result self.new }

@@ -1,9 +1,10 @@
 //! Opens what a run or a stop of it left, and compares it with what is due.
 
+use super::events::TABLES;
 use super::images::files_on;
 use super::runs::{Run, Start, opened};
-use mvo_core::{Event as Step, Reply as Answered};
 use mvo_disk::MemDisk;
+use mvo_model::Serial;
 use mvo_store::format;
 use mvo_types::{Answer, Row, RowKey, Rows, Stamp, TxId};
 use mvo_world::{Event, Reply, World};
@@ -24,31 +25,42 @@ pub fn is_same(answer: &Answer, other: &Answer) -> bool {
     match (answer, other) {
         (Answer::Found(Some(row)), Answer::Found(Some(other))) => row.same(other),
         (Answer::Found(None), Answer::Found(None)) => true,
+        (Answer::Rows(rows), Answer::Rows(others)) => are_same(rows, others),
         (Answer::Inserted, Answer::Inserted) => true,
         (Answer::Exists, Answer::Exists) => true,
+        (Answer::Updated, Answer::Updated) => true,
+        (Answer::Deleted, Answer::Deleted) => true,
+        (Answer::Absent, Answer::Absent) => true,
         _ => false,
     }
 }
 
+fn are_same(rows: &[Row], others: &[Row]) -> bool {
+    let mut pairs = rows.iter().zip(others);
+    rows.len() == others.len() && pairs.all(|pair| pair.0.same(pair.1))
+}
+
 fn begin(world: &mut World<MemDisk>) -> Result<TxId, Fail> {
-    match world.step(Event::Core(Step::Begin)) {
-        Reply::Core(Answered::Began(id)) => Ok(id),
+    match world.step(Event::Begin) {
+        Reply::Began(id) => Ok(id),
         _ => Err(Fail::from("a transaction that begins")),
     }
 }
 
-fn read(world: &mut World<MemDisk>, id: TxId, key: RowKey) -> Result<Answer, Fail> {
-    match world.step(Event::Core(Step::Read(id, key))) {
-        Reply::Core(Answered::Answered(answer)) => Ok(answer),
-        _ => Err(Fail::from("a read that is answered")),
+fn ask(world: &mut World<MemDisk>, event: Event) -> Result<Answer, Fail> {
+    match world.step(event) {
+        Reply::Answered(answer) => Ok(answer),
+        _ => Err(Fail::from("an operation that is answered")),
     }
 }
 
 /// Copies of all rows, by table and key.
 fn all_rows(alloc: Global, rows: &Rows) -> Result<Vec<Row>, AllocError> {
-    let mut all = rows.within(alloc, 0, 0, u64::MAX)?;
-    for row in rows.within(alloc, 1, 0, u64::MAX)? {
-        all.push(row)?;
+    let mut all = Vec::new(alloc);
+    for table in 0..TABLES {
+        for row in rows.within(alloc, table, 0, u64::MAX)? {
+            all.push(row)?;
+        }
     }
     Ok(all)
 }
@@ -58,12 +70,17 @@ fn compare_rows(
     rt: &impl Abort,
     world: &mut World<MemDisk>,
     keys: &[RowKey],
-    rows: &Rows,
+    serial: &Serial,
 ) -> Result<(), Fail> {
     let id = begin(world)?;
     for key in keys {
-        let answer = read(world, id, *key)?;
-        let wanted = Answer::Found(rows.get(*key)?);
+        let answer = ask(world, Event::Read(id, *key))?;
+        let wanted = Answer::Found(serial.rows().get(*key)?);
+        assert!(rt; is_same(&answer, &wanted), "{answer:?}, and not {wanted:?}");
+    }
+    for table in 0..TABLES {
+        let answer = ask(world, Event::Scan(id, table, 0, u64::MAX))?;
+        let wanted = Answer::Rows(serial.scan(table, 0, u64::MAX)?);
         assert!(rt; is_same(&answer, &wanted), "{answer:?}, and not {wanted:?}");
     }
     Ok(())
@@ -86,7 +103,7 @@ pub fn check_world(
         "after {answered} events"
     );
     let serial = run.serial_up_to(answered, mark)?;
-    compare_rows(rt, world, keys, serial.rows())?;
+    compare_rows(rt, world, keys, &serial)?;
     let rows = all_rows(run.alloc, serial.rows())?;
     Ok(Found { mark, rows })
 }
@@ -118,7 +135,6 @@ pub fn fresh(alloc: Global) -> Result<Start, Fail> {
 
 /// Each count is above its floor.
 pub fn assert_floors(rt: &impl Abort, floors: &[(u64, u64)]) {
-    for (place, (number, floor)) in floors.iter().enumerate() {
-        assert!(rt; number > floor, "count {place}: {number}");
-    }
+    let holds = floors.iter().all(|pair| pair.0 > pair.1);
+    assert!(rt; holds, "counts and floors: {floors:?}");
 }

@@ -2,20 +2,43 @@
 
 use super::draws::Draws;
 use super::observed::{Job, Known, Observed, Open, Phase};
-use mvo_core::Event as Step;
 use mvo_types::{Row, RowKey, Stamp, TxId};
 use mvo_world::Event;
 use std::alloc::AllocError;
 
-const MOST_AT_ONCE: u64 = 4;
+const MOST_AT_ONCE: u64 = 6;
+
+/// Again and again transactions gather that are Preparing, and then are settled: for so many events
+/// in all.
+const PATTERN: usize = 64;
+
+/// For so many of them they gather.
+const GATHERING: usize = 40;
 
 /// So many keys are in use at a time.
-pub const KEYS: u64 = 6;
+pub const KEYS: u64 = 4;
+
+/// So many tables have rows.
+pub const TABLES: u8 = 2;
 
 /// The key of a number, which tells its table too.
 pub fn key_at(number: u64) -> RowKey {
     let table = if number % 2 == 0 { 0 } else { 1 };
     RowKey { table, key: number }
+}
+
+/// So many sorts are drawn.
+const SORTS: u64 = 100;
+
+/// Whether what was gathered is settled now.
+fn is_settling(observed: &Observed) -> bool {
+    observed.events % PATTERN >= GATHERING
+}
+
+/// The first that is Preparing, or that isn't, from a place on, and else from the start on.
+fn wanted(open: &[Open], from: usize, preparing: bool) -> Option<&Open> {
+    let is_wanted = |tx: &&Open| tx.phase.is_preparing() == preparing;
+    open.iter().skip(from).chain(open.iter()).find(is_wanted)
 }
 
 /// The step that a group, or the place for one, waits for.
@@ -47,12 +70,13 @@ impl Draws {
     /// An event. The keys in use begin at the number.
     pub fn event(&mut self, observed: &Observed, first_key: u64) -> Result<Event, AllocError> {
         let key = key_at(first_key.saturating_add(self.below(KEYS)));
-        match self.below(18) {
-            0..=2 => Ok(self.event_of_groups(&observed.known)),
-            16..=17 => Ok(self.event_of_jobs(&observed.known)),
-            3 => Ok(Event::Poll(self.stamp(observed))),
-            4 => Ok(Event::Core(self.any_step(observed, key)?)),
-            _ => Ok(Event::Core(self.due_step(observed, key)?)),
+        match self.below(32) {
+            0..=1 => Ok(self.event_of_groups(&observed.known)),
+            2..=7 if is_settling(observed) => Ok(self.event_of_groups(&observed.known)),
+            27 => self.any_step(observed, key),
+            28 => Ok(Event::Poll(self.stamp(observed))),
+            29..=31 => Ok(self.event_of_jobs(&observed.known)),
+            _ => self.due_step(observed, key),
         }
     }
 
@@ -89,72 +113,92 @@ impl Draws {
     }
 
     /// A step that may be out of turn, of a transaction that may not be there.
-    fn any_step(&mut self, observed: &Observed, key: RowKey) -> Result<Step, AllocError> {
-        let id = match self.one_of(&observed.open) {
+    fn any_step(&mut self, observed: &Observed, key: RowKey) -> Result<Event, AllocError> {
+        let id = match self.one_of(observed) {
             Some((id, _)) => id,
             None => TxId(self.stamp(observed).0),
         };
         match self.below(7) {
-            0 => Ok(Step::Read(id, key)),
-            1 => Ok(Step::Insert(id, self.row_at(key)?)),
-            2 => Ok(Step::Precommit(id)),
-            3 => Ok(Step::Validate(id)),
-            4 => Ok(Step::Settle(id)),
-            5 => Ok(Step::Rollback(id)),
-            _ => Ok(Step::Finish(id)),
+            0..=1 => self.operation(id, key),
+            2 => Ok(Event::Precommit(id)),
+            3 => Ok(Event::Validate(id)),
+            4 => Ok(Event::Settle(id)),
+            5 => Ok(Event::Rollback(id)),
+            _ => Ok(Event::Finish(id)),
         }
     }
 
     /// A step of a transaction that begins or of one that is open.
-    fn due_step(&mut self, observed: &Observed, key: RowKey) -> Result<Step, AllocError> {
-        match self.one_of(&observed.open) {
-            None => Ok(Step::Begin),
-            Some((id, Phase::Active)) => self.step_of_active(id, key),
+    fn due_step(&mut self, observed: &Observed, key: RowKey) -> Result<Event, AllocError> {
+        match self.one_of(observed) {
+            None => Ok(Event::Begin),
+            Some((id, Phase::Active)) => self.step_of_active(id, key, is_settling(observed)),
             Some((id, Phase::Preparing)) => Ok(self.step_of_preparing(id)),
             Some((id, Phase::Valid)) => Ok(self.step_of_valid(id)),
-            Some((id, Phase::Over)) => Ok(Step::Finish(id)),
+            Some((id, Phase::Over)) => Ok(Event::Finish(id)),
         }
     }
 
-    /// Often the Preparing transaction, which the others wait for, and else any or none.
-    fn one_of(&mut self, open: &[Open]) -> Option<(TxId, Phase)> {
-        if self.below(4) != 0 {
-            let preparing = |tx: &&Open| matches!(tx.phase, Phase::Preparing | Phase::Valid);
-            if let Some(tx) = open.iter().find(preparing) {
+    /// Often one that is Preparing while they settle, and one that isn't while they gather; else
+    /// any or none.
+    fn one_of(&mut self, observed: &Observed) -> Option<(TxId, Phase)> {
+        let settles = is_settling(observed);
+        let often = if settles { 7 } else { 5 };
+        if self.below(8) < often {
+            let from = self.below(observed.open.len() as u64) as usize;
+            if let Some(tx) = wanted(&observed.open, from, settles) {
                 return Some((tx.id, tx.phase));
             }
         }
-        let tx = open.get(self.below(MOST_AT_ONCE) as usize)?;
+        let tx = observed.open.get(self.below(MOST_AT_ONCE) as usize)?;
         Some((tx.id, tx.phase))
     }
 
-    fn step_of_active(&mut self, id: TxId, key: RowKey) -> Result<Step, AllocError> {
+    fn step_of_active(
+        &mut self,
+        id: TxId,
+        key: RowKey,
+        settles: bool,
+    ) -> Result<Event, AllocError> {
         match self.below(32) {
-            0..=7 => Ok(Step::Read(id, key)),
-            8..=19 => Ok(Step::Insert(id, self.row_at(key)?)),
-            20..=30 => Ok(Step::Precommit(id)),
-            _ => Ok(Step::Rollback(id)),
+            0 => Ok(Event::Rollback(id)),
+            1..=9 if !settles => Ok(Event::Precommit(id)),
+            _ => self.operation(id, key),
         }
     }
 
-    fn step_of_preparing(&mut self, id: TxId) -> Step {
+    fn operation(&mut self, id: TxId, key: RowKey) -> Result<Event, AllocError> {
         match self.below(16) {
-            0 => Step::Rollback(id),
-            1..=2 => Step::Settle(id),
-            _ => Step::Validate(id),
+            0..=3 => Ok(Event::Read(id, key)),
+            4..=5 => {
+                let low = self.below(SORTS / 2);
+                let high = low.saturating_add(self.below(SORTS));
+                Ok(Event::Scan(id, key.table, low, high))
+            }
+            6..=8 => Ok(Event::Insert(id, self.row_at(key)?)),
+            9..=12 => Ok(Event::Update(id, self.row_at(key)?)),
+            _ => Ok(Event::Delete(id, key)),
         }
     }
 
-    fn step_of_valid(&mut self, id: TxId) -> Step {
+    fn step_of_preparing(&mut self, id: TxId) -> Event {
         match self.below(16) {
-            0 => Step::Rollback(id),
-            1..=2 => Step::Validate(id),
-            _ => Step::Settle(id),
+            0 => Event::Rollback(id),
+            1..=2 => Event::Settle(id),
+            _ => Event::Validate(id),
+        }
+    }
+
+    fn step_of_valid(&mut self, id: TxId) -> Event {
+        match self.below(16) {
+            0 => Event::Rollback(id),
+            1..=2 => Event::Validate(id),
+            _ => Event::Settle(id),
         }
     }
 
     fn row_at(&mut self, key: RowKey) -> Result<Row, AllocError> {
-        let sort = self.below(100);
+        let sort = self.below(SORTS);
         let mut bytes = self.draw().to_be_bytes().to_vec(self.alloc)?;
         bytes.truncate(self.below(9) as usize);
         Ok(Row { key, sort, bytes })

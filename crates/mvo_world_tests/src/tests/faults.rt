@@ -5,7 +5,8 @@ use super::checked::{Found, assert_floors, check_disk, fresh};
 use super::draws::Draws;
 use super::images::{disk_after, disk_of, is_look};
 use super::observed::{Counts, count};
-use super::runs::{RUNS, Run, Start, all_keys};
+use super::runs::{RUNS, Run, Start, all_keys, try_open};
+use super::told::is_of_store;
 use mvo_disk::{Disk, MemDisk};
 use mvo_types::{Refusal, RowKey};
 use mvo_world::{Event, Reply, World};
@@ -74,11 +75,6 @@ impl Met {
     }
 }
 
-/// Whether the event is a step of the store.
-fn is_of_store(event: &Event) -> bool {
-    !matches!(event, Event::Core(_) | Event::CloseGroup | Event::Poll(_))
-}
-
 /// The faults of runs that follow one another.
 #[derive(Drop)]
 struct Trial {
@@ -142,7 +138,7 @@ impl Trial {
     ) -> Result<(), Fail> {
         let mut disk = disk_of(self.alloc, &run.start.files)?;
         disk.fail_at(calls);
-        match World::open(rt, self.alloc, disk) {
+        match try_open(rt, self.alloc, disk) {
             Ok(world) => self.run_on(rt, run, world),
             Err((refusal, disk)) => {
                 assert_eq!(rt; refusal, Refusal::DiskFault);
@@ -231,20 +227,20 @@ impl Trial {
 /// None of the things that faults are to meet is rare.
 fn assert_met(rt: &impl Abort, counts: &Counts, met: &Met) {
     let floors = [
-        (counts.groups, 30),
-        (counts.installed, 5),
-        (counts.checkpoints, 0),
-        (counts.emptied, 0),
-        (met.in_opening, 2),
-        (met.in_append, 10),
-        (met.in_rotate, 2),
-        (met.in_checkpoint, 2),
-        (met.in_install, 4),
-        (met.in_reclaim, 0),
-        (met.down, 100),
-        (met.torn, 10),
-        (met.unanswered, 2),
-        (met.rows, 100),
+        (counts.groups, 18),
+        (counts.installed, 10),
+        (counts.checkpoints, 4),
+        (counts.emptied, 3),
+        (met.in_opening, 26),
+        (met.in_append, 75),
+        (met.in_rotate, 19),
+        (met.in_checkpoint, 33),
+        (met.in_install, 59),
+        (met.in_reclaim, 95),
+        (met.down, 7_000),
+        (met.torn, 218),
+        (met.unanswered, 43),
+        (met.rows, 2_600),
     ];
     assert_floors(rt, &floors);
     assert_eq!(rt; met.strange, 0);

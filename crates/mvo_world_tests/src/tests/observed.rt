@@ -1,8 +1,9 @@
 //! What happened in a run, as its events and their replies tell.
 
-use mvo_core::{Event as Step, Reply as Answered};
+use super::told::{op_of, tx_of};
 use mvo_store::{Progress, Reclaimed};
 use mvo_types::{Answer, Op, Refusal, Stamp, TxId};
+use mvo_version_core::{Finishing, Settlement, Validation};
 use mvo_world::{Event, Reply};
 use std::alloc::{AllocError, Global};
 use std::mem;
@@ -14,6 +15,12 @@ pub enum Phase {
     /// Preparing, and every entry is checked.
     Valid,
     Over,
+}
+
+impl Phase {
+    pub fn is_preparing(&self) -> bool {
+        matches!(self, Phase::Preparing | Phase::Valid)
+    }
 }
 
 /// An unfinished transaction, with what it asked for and what it was told.
@@ -76,7 +83,16 @@ pub struct Known {
 #[derive(Clone, Copy)]
 pub struct Counts {
     pub commits: u64,
+    /// Of them, answers with rows to scans, and rows that were replaced and deleted.
+    pub scans: u64,
+    pub updates: u64,
+    pub deletes: u64,
+    /// Transactions that became Preparing while another was.
+    pub together: u64,
+    pub waiting: u64,
+    pub conflicts: u64,
     pub failed: u64,
+    pub dependents: u64,
     pub busy: u64,
     pub early: u64,
     pub rolled_back: u64,
@@ -94,7 +110,14 @@ impl Counts {
     pub fn new() -> Counts {
         Counts {
             commits: 0,
+            scans: 0,
+            updates: 0,
+            deletes: 0,
+            together: 0,
+            waiting: 0,
+            conflicts: 0,
             failed: 0,
+            dependents: 0,
             busy: 0,
             early: 0,
             rolled_back: 0,
@@ -115,7 +138,7 @@ impl Counts {
 pub struct Observed {
     alloc: Global,
     /// How many events were answered.
-    events: usize,
+    pub events: usize,
     /// The greatest timestamp that was told.
     pub latest: u64,
     pub open: Vec<Open>,
@@ -128,27 +151,6 @@ pub struct Observed {
 
 pub fn count(number: &mut u64) {
     *number = number.saturating_add(1);
-}
-
-fn id_of(step: &Step) -> Option<TxId> {
-    match step {
-        Step::Begin => None,
-        Step::Read(id, _) => Some(*id),
-        Step::Insert(id, _) => Some(*id),
-        Step::Precommit(id) => Some(*id),
-        Step::Validate(id) => Some(*id),
-        Step::Settle(id) => Some(*id),
-        Step::Rollback(id) => Some(*id),
-        Step::Finish(id) => Some(*id),
-    }
-}
-
-fn op_of(step: &Step) -> Result<Option<Op>, AllocError> {
-    match step {
-        Step::Read(_, key) => Ok(Some(Op::Read(*key))),
-        Step::Insert(_, row) => Ok(Some(Op::Insert(row.copy()?))),
-        _ => Ok(None),
-    }
 }
 
 impl Observed {
@@ -176,8 +178,18 @@ impl Observed {
 
     /// Notes an event and its reply.
     pub fn note(&mut self, event: &Event, reply: Reply) -> Result<(), AllocError> {
+        match tx_of(event) {
+            Some(id) => self.note_of(id, event, reply)?,
+            None => self.note_reply(event, reply)?,
+        }
+        self.events = self.events.saturating_add(1);
+        Ok(())
+    }
+
+    /// A reply to a begin, to a step of the log or to a poll.
+    fn note_reply(&mut self, event: &Event, reply: Reply) -> Result<(), AllocError> {
         match reply {
-            Reply::Core(reply) => self.note_core(event, reply)?,
+            Reply::Began(id) => self.note_begin(id)?,
             Reply::Closed(closed) => {
                 self.known.closed = Some(closed.mark);
                 self.groups.push(ClosedGroup {
@@ -202,8 +214,8 @@ impl Observed {
             }
             Reply::Reclaimed(Reclaimed::Done) => {}
             Reply::Refused(refusal) => self.note_refusal(refusal),
+            _ => count(&mut self.counts.strange),
         }
-        self.events = self.events.saturating_add(1);
         Ok(())
     }
 
@@ -258,78 +270,85 @@ impl Observed {
         }
     }
 
-    fn note_core(&mut self, event: &Event, reply: Answered) -> Result<(), AllocError> {
-        let Event::Core(step) = event else {
-            count(&mut self.counts.strange);
-            return Ok(());
-        };
-        match self.place_of(step) {
-            Some(at) if at < self.open.len() => {
-                let tx = self.open.swap_remove(at);
-                self.note_step(tx, step, reply)
-            }
-            _ => self.note_begin(reply),
-        }
-    }
-
-    fn place_of(&self, step: &Step) -> Option<usize> {
-        let id = id_of(step)?;
-        self.open.iter().position(|tx: &Open| tx.id == id)
-    }
-
-    /// A reply to a begin, or to a step of a transaction that isn't there.
-    fn note_begin(&mut self, reply: Answered) -> Result<(), AllocError> {
-        match reply {
-            Answered::Began(id) => {
-                self.latest = id.0;
-                self.open.push(Open {
-                    id,
-                    phase: Phase::Active,
-                    ops: Vec::new(self.alloc),
-                    answers: Vec::new(self.alloc),
-                })?;
-            }
-            Answered::Refused(Refusal::NoSuchTransaction) => count(&mut self.counts.out_of_turn),
-            _ => count(&mut self.counts.strange),
-        }
+    fn note_begin(&mut self, id: TxId) -> Result<(), AllocError> {
+        self.latest = id.0;
+        self.open.push(Open {
+            id,
+            phase: Phase::Active,
+            ops: Vec::new(self.alloc),
+            answers: Vec::new(self.alloc),
+        })?;
         Ok(())
     }
 
-    /// A reply to a step of an unfinished transaction, which goes back unless it left.
-    fn note_step(&mut self, tx: Open, step: &Step, reply: Answered) -> Result<(), AllocError> {
+    /// A reply to a step of a transaction, which may not be there.
+    fn note_of(&mut self, id: TxId, event: &Event, reply: Reply) -> Result<(), AllocError> {
+        match self.open.iter().position(|tx: &Open| tx.id == id) {
+            Some(at) if at < self.open.len() => {
+                let tx = self.open.swap_remove(at);
+                self.note_step(tx, event, reply)
+            }
+            _ => {
+                match reply {
+                    Reply::Refused(Refusal::NoSuchTransaction) => {
+                        count(&mut self.counts.out_of_turn)
+                    }
+                    _ => count(&mut self.counts.strange),
+                }
+                Ok(())
+            }
+        }
+    }
+
+    /// A reply to a step of an unfinished transaction, which goes back unless it is finished.
+    fn note_step(&mut self, tx: Open, event: &Event, reply: Reply) -> Result<(), AllocError> {
         let mut tx = tx;
         match reply {
-            Answered::Answered(answer) => self.note_answer(&mut tx, step, answer)?,
-            Answered::Preparing(end) => {
-                self.latest = end.0;
-                tx.phase = Phase::Preparing;
-            }
-            Answered::More => {}
-            Answered::Valid => tx.phase = Phase::Valid,
-            Answered::Committed(end) => self.keep(&mut tx, end)?,
-            Answered::RolledBack => {
+            Reply::Answered(answer) => self.note_answer(&mut tx, event, answer)?,
+            Reply::Prepared(end) => self.note_end(&mut tx, end),
+            Reply::Validated(Validation::More) => {}
+            Reply::Validated(Validation::Valid) => tx.phase = Phase::Valid,
+            Reply::Settled(Settlement::Committed(end)) => self.keep(&mut tx, end)?,
+            Reply::Settled(Settlement::Waiting(_)) => count(&mut self.counts.waiting),
+            Reply::RolledBack => {
                 tx.phase = Phase::Over;
                 count(&mut self.counts.rolled_back);
             }
-            Answered::Done => return Ok(()),
-            Answered::Refused(Refusal::ValidationFailed(_)) => {
-                tx.phase = Phase::Over;
-                count(&mut self.counts.failed);
-            }
-            Answered::Refused(refusal) => self.note_refusal(refusal),
+            Reply::Finished(Finishing::More) => {}
+            Reply::Finished(Finishing::Done) => return Ok(()),
+            Reply::Refused(refusal) => self.note_failure(&mut tx, refusal),
             _ => count(&mut self.counts.strange),
         }
         self.open.push(tx)?;
         Ok(())
     }
 
+    fn note_end(&mut self, tx: &mut Open, end: Stamp) {
+        if self.open.iter().any(|other| other.phase.is_preparing()) {
+            count(&mut self.counts.together);
+        }
+        self.latest = end.0;
+        tx.phase = Phase::Preparing;
+    }
+
+    /// A refusal to a step of a transaction, which may abort it.
+    fn note_failure(&mut self, tx: &mut Open, refusal: Refusal) {
+        match refusal {
+            Refusal::WriteConflict(_) => count(&mut self.counts.conflicts),
+            Refusal::ValidationFailed(_) => count(&mut self.counts.failed),
+            Refusal::DependencyAborted(_) => count(&mut self.counts.dependents),
+            _ => return self.note_refusal(refusal),
+        }
+        tx.phase = Phase::Over;
+    }
+
     fn note_answer(
         &mut self,
         tx: &mut Open,
-        step: &Step,
+        event: &Event,
         answer: Answer,
     ) -> Result<(), AllocError> {
-        match op_of(step)? {
+        match op_of(event)? {
             Some(op) => {
                 tx.ops.push(op)?;
                 tx.answers.push(answer)?;
@@ -352,8 +371,20 @@ impl Observed {
         }
     }
 
+    fn note_kept(&mut self, answer: &Answer) {
+        match answer {
+            Answer::Rows(rows) if !rows.is_empty() => count(&mut self.counts.scans),
+            Answer::Updated => count(&mut self.counts.updates),
+            Answer::Deleted => count(&mut self.counts.deletes),
+            _ => {}
+        }
+    }
+
     /// Keeps a committed transaction, in its place by end timestamp.
     fn keep(&mut self, tx: &mut Open, end: Stamp) -> Result<(), AllocError> {
+        for answer in &tx.answers {
+            self.note_kept(answer);
+        }
         let commit = Commit {
             event: self.events,
             end,

@@ -5,10 +5,9 @@ use super::checked::{Found, assert_floors, check_disk, check_world, fresh};
 use super::draws::Draws;
 use super::images::{disk_after, disk_in_part, is_look};
 use super::observed::{Counts, Job, count};
-use super::runs::{RUNS, Run, Start, all_keys, opened};
+use super::runs::{RUNS, Run, Start, all_keys, opened, try_open};
 use mvo_disk::{Call, Disk, MemDisk};
 use mvo_types::{Refusal, RowKey, Stamp};
-use mvo_world::World;
 use std::alloc::{AllocError, Global};
 use std::process::Abort;
 use std::test::Fail;
@@ -193,7 +192,7 @@ impl Trial {
         let number = calls.len().saturating_sub(from) as u64;
         let mut disk = disk_after(self.alloc, calls, from)?;
         disk.fail_at(self.draws.below(number));
-        let Err((refusal, disk)) = World::open(rt, self.alloc, disk) else {
+        let Err((refusal, disk)) = try_open(rt, self.alloc, disk) else {
             return Err(Fail::from("an opening that is refused"));
         };
         assert_eq!(rt; refusal, Refusal::DiskFault);
@@ -237,17 +236,17 @@ impl Trial {
 /// None of the things that openings are to meet is rare.
 fn assert_met(rt: &impl Abort, counts: &Counts, met: &Met) {
     let floors = [
-        (counts.groups, 30),
-        (counts.installed, 5),
-        (counts.emptied, 1),
-        (met.openings, 20),
-        (met.unanswered, 2),
-        (met.rotating, 4),
-        (met.stops, 100),
-        (met.ends, 20),
-        (met.faults, 40),
-        (met.torn, 20),
-        (met.rows, 500),
+        (counts.groups, 15),
+        (counts.installed, 12),
+        (counts.emptied, 5),
+        (met.openings, 215),
+        (met.unanswered, 31),
+        (met.rotating, 150),
+        (met.stops, 2_300),
+        (met.ends, 215),
+        (met.faults, 430),
+        (met.torn, 640),
+        (met.rows, 10_000),
     ];
     assert_floors(rt, &floors);
 }

@@ -1,13 +1,13 @@
 //! Random events over a disk that stops at each of its calls, against one map that runs the
 //! committed transactions one after another.
 
-use super::checked::{Found, assert_floors, check_disk, fresh, is_same};
+use super::checked::{Found, assert_floors, check_disk, fresh};
 use super::draws::Draws;
 use super::images::{Drawn, disk_after, is_look, last_write};
 use super::observed::{Counts, Known, count};
 use super::runs::{RUNS, Run, Start, all_keys};
 use mvo_disk::{Call, MemDisk};
-use mvo_types::{Op, RowKey, Stamp};
+use mvo_types::{RowKey, Stamp};
 use mvo_world::Event;
 use std::alloc::{AllocError, Global};
 use std::process::Abort;
@@ -111,14 +111,6 @@ fn mark_within(known: &Known, event: &Event, is_open: bool) -> Stamp {
     }
 }
 
-fn key_of(op: &Op) -> Option<RowKey> {
-    match op {
-        Op::Read(key) => Some(*key),
-        Op::Insert(row) => Some(row.key),
-        _ => None,
-    }
-}
-
 impl Trial {
     fn new(alloc: Global, seed: u64, met: Met) -> Result<Trial, AllocError> {
         Ok(Trial {
@@ -140,28 +132,12 @@ impl Trial {
             }
             let run = Run::of(rt, start, &mut self.draws, counts, number)?;
             counts = run.observed.counts;
-            self.compare_answers(rt, &run)?;
+            let old = run.compare_answers(rt)?;
+            self.met.old_answers = self.met.old_answers.saturating_add(old);
             self.stop_everywhere(rt, &run)?;
             start = self.next.take().ok_or("a start of the next run")?;
         }
         Ok(counts)
-    }
-
-    /// Compares what the committed transactions of the run were told.
-    fn compare_answers(&mut self, rt: &impl Abort, run: &Run) -> Result<(), Fail> {
-        let old = run.serial()?;
-        let mut serial = run.serial()?;
-        for commit in &run.observed.commits {
-            let wanted = serial.run_one(&commit.ops)?;
-            assert_eq!(rt; commit.answers.len(), wanted.len());
-            for (answer, other) in commit.answers.iter().zip(wanted.iter()) {
-                assert!(rt; is_same(answer, other), "{answer:?}, and not {other:?}");
-            }
-            let is_old = |op: &&Op| key_of(op).is_some_and(|key| old.rows().contains(key));
-            let more = commit.ops.iter().filter(is_old).count() as u64;
-            self.met.old_answers = self.met.old_answers.saturating_add(more);
-        }
-        Ok(())
     }
 
     /// Stops the run after each call of the disk, before and after the events that make them, and
@@ -288,46 +264,36 @@ impl Trial {
     }
 }
 
-/// None of the things that are to happen is rare.
-fn assert_counts(rt: &impl Abort, counts: &Counts) {
+/// No kind of stop is rare, nor what is to be found again after one.
+fn assert_met(rt: &impl Abort, counts: &Counts, met: &Met) {
     let floors = [
         (counts.commits, 60),
-        (counts.failed, 5),
-        (counts.busy, 50),
-        (counts.early, 20),
-        (counts.rolled_back, 30),
-        (counts.out_of_turn, 80),
-        (counts.groups, 30),
-        (counts.installed, 5),
-        (counts.checkpoints, 5),
-        (counts.polled_yes, 30),
-        (counts.polled_no, 15),
+        (counts.updates, 10),
+        (counts.deletes, 6),
+        (counts.waiting, 1),
+        (counts.groups, 17),
+        (counts.installed, 10),
+        (counts.checkpoints, 4),
+        (met.between, 230),
+        (met.in_body, 70),
+        (met.after_body, 18),
+        (met.gate_left_open, 47),
+        (met.gate_left_closed, 21),
+        (met.after_gate, 17),
+        (met.in_rotate, 58),
+        (met.in_checkpoint, 93),
+        (met.in_install, 100),
+        (met.slot_left_open, 43),
+        (met.slot_left_closed, 9),
+        (met.in_reclaim, 20),
+        (met.torn, 300),
+        (met.rows, 2_100),
+        (met.old_answers, 14),
+        (met.reopened, 3),
     ];
-    assert_floors(rt, &floors);
     assert_eq!(rt; counts.strange, 0);
-}
-
-/// Nor is any kind of stop.
-fn assert_met(rt: &impl Abort, met: &Met) {
-    let floors = [
-        (met.between, 200),
-        (met.in_body, 100),
-        (met.after_body, 30),
-        (met.gate_left_open, 60),
-        (met.gate_left_closed, 30),
-        (met.after_gate, 30),
-        (met.in_rotate, 30),
-        (met.in_checkpoint, 30),
-        (met.in_install, 30),
-        (met.slot_left_open, 10),
-        (met.slot_left_closed, 2),
-        (met.torn, 200),
-        (met.rows, 5_000),
-        (met.old_answers, 10),
-        (met.reopened, 4),
-    ];
-    assert_floors(rt, &floors);
     assert_eq!(rt; met.strange, 0);
+    assert_floors(rt, &floors);
 }
 
 #[test]
@@ -340,7 +306,6 @@ fn stops_leave_the_rows_of_serial(rt: HostRuntime) -> Result<(), Fail> {
         counts = trial.go(&rt, counts)?;
         met = trial.met;
     }
-    assert_counts(&rt, &counts);
-    assert_met(&rt, &met);
+    assert_met(&rt, &counts, &met);
     Ok(())
 }

@@ -1,14 +1,16 @@
 //! A run of random events, and what is due after a stop of it.
 
+use super::checked::is_same;
 use super::draws::Draws;
 use super::events::{KEYS, key_at};
 use super::images::disk_of;
 use super::observed::{Counts, Job, Known, Observed};
 use mvo_disk::{FileImage, MemDisk};
 use mvo_model::Serial;
-use mvo_types::{Row, RowKey, Rows, Stamp};
+use mvo_types::{Op, Refusal, Row, RowKey, Rows, Stamp};
 use mvo_world::{Event, World};
 use std::alloc::{AllocError, Global};
+use std::process::Abort;
 use std::test::Fail;
 use std::thread::Threads;
 
@@ -16,13 +18,13 @@ use std::thread::Threads;
 pub const RUNS: u64 = 4;
 
 /// The events of a run.
-const EVENTS: u64 = 256;
+const EVENTS: u64 = 320;
 
-/// The keys in use move on by one after so many events: rows are inserted alone.
-const EVENTS_OF_A_KEY: u64 = 16;
+/// The keys in use move on by one after so many events.
+const EVENTS_OF_A_KEY: u64 = 64;
 
 /// The keys of a run begin where those of the one before were after so many events.
-const EVENTS_APART: u64 = 80;
+const EVENTS_APART: u64 = 128;
 
 /// As many keys as are ever in use, and some more.
 const KEYS_IN_ALL: u64 = (RUNS * EVENTS_APART + EVENTS) / EVENTS_OF_A_KEY + KEYS;
@@ -45,12 +47,22 @@ pub struct Run {
     pub observed: Observed,
 }
 
+/// A world over the disk, with another seed at most times: no answer depends on it.
+pub fn try_open(
+    rt: &(impl Threads + Sync),
+    alloc: Global,
+    disk: MemDisk,
+) -> Result<World<MemDisk>, (Refusal, MemDisk)> {
+    let seed = disk.calls().len() as u64;
+    World::open(rt, alloc, seed, disk)
+}
+
 pub fn opened(
     rt: &(impl Threads + Sync),
     alloc: Global,
     disk: MemDisk,
 ) -> Result<World<MemDisk>, Fail> {
-    match World::open(rt, alloc, disk) {
+    match try_open(rt, alloc, disk) {
         Ok(world) => Ok(world),
         Err((refusal, _)) => Err(Fail::from(refusal)),
     }
@@ -59,6 +71,17 @@ pub fn opened(
 /// All keys that may hold a row.
 pub fn all_keys(alloc: Global) -> Result<Vec<RowKey>, AllocError> {
     (0..KEYS_IN_ALL).map(key_at).collect(alloc)
+}
+
+/// The key that the operation is on.
+fn key_of(op: &Op) -> Option<RowKey> {
+    match op {
+        Op::Read(key) => Some(*key),
+        Op::Scan(_, _, _) => None,
+        Op::Insert(row) => Some(row.key),
+        Op::Update(row) => Some(row.key),
+        Op::Delete(key) => Some(*key),
+    }
 }
 
 impl Run {
@@ -129,6 +152,25 @@ impl Run {
         self.known
             .get(number)
             .is_some_and(|known| known.job != Job::None)
+    }
+
+    /// Compares what the committed transactions were told, by end timestamp. It answers how many of
+    /// the operations were on keys that had rows at the start.
+    pub fn compare_answers(&self, rt: &impl Abort) -> Result<u64, Fail> {
+        let old = self.serial()?;
+        let mut serial = self.serial()?;
+        let mut number = 0u64;
+        for commit in &self.observed.commits {
+            let wanted = serial.run_one(&commit.ops)?;
+            assert_eq!(rt; commit.answers.len(), wanted.len());
+            for (answer, other) in commit.answers.iter().zip(wanted.iter()) {
+                assert!(rt; is_same(answer, other), "{answer:?}, and not {other:?}");
+            }
+            let is_old = |op: &&Op| key_of(op).is_some_and(|key| old.rows().contains(key));
+            let more = commit.ops.iter().filter(is_old).count() as u64;
+            number = number.saturating_add(more);
+        }
+        Ok(number)
     }
 
     /// The slow program at the start of the run.

@@ -1,13 +1,16 @@
-use Rattle.std.proofs.Common.{◌≡◌, ◌⊎◌, ◌∙◌, inl, inr, refl, ap₂, ℕ, arith}
+use Rattle.std.proofs.Common.{◌≡◌, ◌⊎◌, ◌∙◌, inl, inr, refl, subst, ℕ, arith}
 use Rattle.std.specs.FinMap as map
-use Rattle.mvo_state.specs.Line.{opened}
+use Rattle.mvo_types.specs.Keys.{Map}
+use Rattle.mvo_version_core.specs.Standing.{OpensAs}
 use Rattle.mvo_world.specs.Past.{opened_over}
 use Rattle.mvo_script.proofs.driver.fresh_world.Goals as goal
 
 pub returns-in-Ok-open-clause-fresh : goal.returns-in-Ok-open-clause-fresh
 returns-in-Ok-open-clause-fresh g c =
-    let begins = c.in-Ok-open.ensures.begins in
-    let found = c.in-Ok-open.ensures.prefix (opened_over map.empty 0) (record {
+    let w = c.in-Ok-open.world in
+    let given = c.in-Ok-open.ensures.gives in
+    let begins = c.in-Ok-open.ensures.begins given.0 given.1 in
+    let found = c.in-Ok-open.ensures.prefix given.0 given.1 (opened_over map.empty 0) (record {
       slots = c.in-Ok.ensures.formatted.slots;
       rows = map.empty;
       mark = 0;
@@ -16,7 +19,7 @@ returns-in-Ok-open-clause-fresh g c =
     }) in
     let mark_is = only found.known in
     record {
-      core = begins.core ∙ ap₂ opened found.rows_are mark_is;
+      core = subst (λ (rows : Map). OpensAs rows 0 w.core) found.rows_are (subst (λ (mark : ℕ). OpensAs given.0 mark w.core) mark_is begins.core);
       mark = mark_is;
       place = begins.place;
       pending = begins.pending;

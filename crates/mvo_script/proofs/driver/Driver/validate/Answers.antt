@@ -10,5 +10,8 @@ loop-preserved g c = (suc c.loop.invariant.0, (c.loop.self, c.loop.invariant.1, 
 pub returns-in_default : goal.returns-in_default
 returns-in_default g c = record { count = c.loop.invariant.0; before = c.loop.self; more = c.loop.invariant.1; last = inl (search rules) }
 
+pub returns-in_default-2 : goal.returns-in_default-2
+returns-in_default-2 g c = record { count = c.loop.invariant.0; before = c.loop.self; more = c.loop.invariant.1; last = inl (search rules) }
+
 pub returns : goal.returns
 returns g c = record { count = c.loop.invariant.0; before = c.loop.self; more = c.loop.invariant.1; last = inr (refl, refl) }

@@ -26,7 +26,7 @@ returns g c =
           (accepted (why_not_append_open old) w.in-Ok.durable f.refused, record { group = taken.0; there = taken.1; mark_is = sym taken.2 ∙ sym is; after = ap (λ (s : StoreData _). record before { store = s }) made }, f.count)
           refl refl taken.1 (ap (λ (s : StoreData _). s.pending) f.ok) (f.durable ∙ taken.2) (is ∙ taken.2) f.keeps)
       | in-Err w ↦ rw (w.result-is, ← c.self.view_is) (
-          store_moved d before new AppendOpen (Refused w.in-Err.refusal) (silent_refused AppendOpen w.in-Err.refusal)
+          store_moved d before new AppendOpen (Refused w.in-Err.refusal) (silent_refused AppendOpen w.in-Err.refusal refl)
           (gate_refusal _ (why_not_append_open old) w.in-Err.refusal w.in-Err.ensures.refused (λ e. w.in-Err.ensures.no_memory (ap (λ x. Err x) e)), record { rest = refl; store = w.in-Err.ensures.err })
           (left_taken d w.in-Err.refusal old new w.in-Err.ensures.err) w.in-Err.ensures.keeps_err)
     ]

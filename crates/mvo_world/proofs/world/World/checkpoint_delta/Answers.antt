@@ -23,7 +23,7 @@ returns g c =
           (accepted (why_not_install Delta old) _ w.in-Ok.ensures.refused, record { progress_is = w.in-Ok.ensures.progress; after = ap (λ (s : StoreData _). record before { store = s }) ok }, w.in-Ok.ensures.count)
           (record { mark = ap (λ (s : StoreData _). s.mark) ok; pending = ap (λ (s : StoreData _). s.pending) ok }) e.keeps)
       | in-Err w ↦ rw (w.result-is, ← c.self.view_is) (
-          store_moved d before new CheckpointDelta (Refused w.in-Err.refusal) (silent_refused CheckpointDelta w.in-Err.refusal)
+          store_moved d before new CheckpointDelta (Refused w.in-Err.refusal) (silent_refused CheckpointDelta w.in-Err.refusal refl)
           (body_refusal _ (why_not_install Delta old) w.in-Err.refusal w.in-Err.ensures.refused, record { rest = refl; store = w.in-Err.ensures.err })
           (left_taken d w.in-Err.refusal old new w.in-Err.ensures.err) e.keeps)
     ]

@@ -22,7 +22,7 @@ returns g c =
           (accepted (why_not_install_open old) _ w.in-Ok.ensures.refused, record { rest = refl; installed = ok; generation_is = w.in-Ok.ensures.generation }, w.in-Ok.ensures.count)
           (installed_taken old.job old new ok) e.keeps)
       | in-Err w ↦ rw (w.result-is, ← c.self.view_is) (
-          store_moved d before new InstallOpen (Refused w.in-Err.refusal) (silent_refused InstallOpen w.in-Err.refusal)
+          store_moved d before new InstallOpen (Refused w.in-Err.refusal) (silent_refused InstallOpen w.in-Err.refusal refl)
           (gate_refusal _ (why_not_install_open old) w.in-Err.refusal w.in-Err.ensures.refused (λ e. w.in-Err.ensures.no_memory (ap (λ x. Err x) e)), record { rest = refl; store = w.in-Err.ensures.err })
           (left_taken d w.in-Err.refusal old new w.in-Err.ensures.err) e.keeps)
     ]

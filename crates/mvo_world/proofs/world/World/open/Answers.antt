@@ -1,19 +1,36 @@
-use Rattle.mvo_world.proofs.Moves.{begun}
-use Rattle.mvo_world.proofs.Opened.{answer_here, answer_prefix, not_of_files}
+use Rattle.std.proofs.Common.{None, refl, sym, subst}
+use Rattle.std.specs.Prelude.{ℕ}
+use Rattle.mvo_store.specs.Standing.{Gives}
+use Rattle.mvo_world.specs.WorldData.{WorldData}
+use Rattle.mvo_world.proofs.Marked.{gives_stamp}
+use Rattle.mvo_world.proofs.Opened.{answer_here, world_begins, world_after, world_prefix, not_of_files}
 use Rattle.mvo_world.proofs.world.World.open.Goals as goal
+
+pub open-requires-2 : goal.open-requires-2
+open-requires-2 g c = gives_stamp (g.D.Disk.content c.args.disk) c.in-Ok.opened.1 c.in-Ok.opened.2.0 c.in-Ok.ensures.gives
 
 pub returns-clause-answer : goal.returns-clause-answer
 returns-clause-answer g c =
-    let e = c.in-Ok.ensures in
-    answer_here (g.D.Disk.content c.args.disk) c.in-Ok.opened.1 c.in-Ok.opened.2.0 c.in-Ok-open.core c.in-Ok.opened.0.mark c.in-Ok-open.ensures.ok e.begins.mark_is e.answer
+    let w : WorldData _ = record { core = c.in-Ok-open.core; place = None; store = c.in-Ok.opened.0 } in
+    (c.in-Ok.opened.1, answer_here g.D.Disk c.args.disk w c.in-Ok.opened.1 c.in-Ok.opened.2.0 c.in-Ok.ensures.answer c.in-Ok.ensures.begins c.in-Ok-open.ensures.ok refl)
 
-pub returns-clause-prefix : goal.returns-clause-prefix
-returns-clause-prefix g c = answer_prefix (g.D.Disk.content c.args.disk) c.in-Ok-open.core.base c.in-Ok.opened.0.mark (returns-clause-answer g c)
+pub returns-clause-gives : goal.returns-clause-gives
+returns-clause-gives g c = (c.in-Ok.opened.1, subst (λ (m : ℕ). Gives c.in-Ok.opened.1 m (g.D.Disk.content c.args.disk)) (sym c.in-Ok.ensures.begins.mark_is) c.in-Ok.ensures.gives)
+
+pub returns-clause-begins : goal.returns-clause-begins
+returns-clause-begins g c =
+    let w : WorldData _ = record { core = c.in-Ok-open.core; place = None; store = c.in-Ok.opened.0 } in
+    world_begins g.D.Disk c.args.disk w c.in-Ok.opened.1 c.in-Ok.opened.2.0 c.in-Ok.ensures.answer c.in-Ok.ensures.begins c.in-Ok-open.ensures.ok refl
 
 pub returns-clause-after : goal.returns-clause-after
-returns-clause-after g c = λ slots.
-    let e = c.in-Ok.ensures in
-    begun g.D.Disk c.in-Ok.opened.1 c.in-Ok.opened.2.0 c.in-Ok-open.core c.in-Ok.opened.0 c.in-Ok-open.ensures.ok e.begins.mark_is e.begins.pending (e.keeps slots)
+returns-clause-after g c =
+    let w : WorldData _ = record { core = c.in-Ok-open.core; place = None; store = c.in-Ok.opened.0 } in
+    world_after g.D.Disk c.args.disk w c.in-Ok.opened.1 c.in-Ok.opened.2.0 c.in-Ok.ensures.answer c.in-Ok.ensures.begins c.in-Ok-open.ensures.ok refl c.in-Ok.ensures.keeps
+
+pub returns-clause-prefix : goal.returns-clause-prefix
+returns-clause-prefix g c =
+    let w : WorldData _ = record { core = c.in-Ok-open.core; place = None; store = c.in-Ok.opened.0 } in
+    world_prefix g.D.Disk c.args.disk w c.in-Ok.opened.1 c.in-Ok.opened.2.0 c.in-Ok.ensures.answer c.in-Ok.ensures.begins c.in-Ok-open.ensures.ok refl
 
 pub returns-in-Err-clause-well_formed : goal.returns-in-Err-clause-well_formed
 returns-in-Err-clause-well_formed g c = not_of_files g.D.Disk c.args.disk c.in-Err.refused.1 c.in-Err.refused.0 c.in-Err.ensures.refused

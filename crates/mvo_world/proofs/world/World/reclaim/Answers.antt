@@ -22,7 +22,7 @@ returns g c =
           (accepted (why_not_reclaim old) _ w.in-Ok.ensures.refused, record { after = ap (λ (s : StoreData _). record before { store = s }) ok; reclaimed = w.in-Ok.ensures.reclaimed }, w.in-Ok.ensures.count)
           (record { mark = ap (λ (s : StoreData _). s.mark) ok; pending = ap (λ (s : StoreData _). s.pending) ok }) e.keeps)
       | in-Err w ↦ rw (w.result-is, ← c.self.view_is) (
-          store_moved d before new Reclaim (Refused w.in-Err.refusal) (silent_refused Reclaim w.in-Err.refusal)
+          store_moved d before new Reclaim (Refused w.in-Err.refusal) (silent_refused Reclaim w.in-Err.refusal refl)
           (gate_refusal _ (why_not_reclaim old) w.in-Err.refusal w.in-Err.ensures.refused (λ e. w.in-Err.ensures.no_memory (ap (λ x. Err x) e)), record { rest = refl; store = w.in-Err.ensures.err })
           (left_taken d w.in-Err.refusal old new w.in-Err.ensures.err) e.keeps)
     ]

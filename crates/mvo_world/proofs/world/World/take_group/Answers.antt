@@ -14,7 +14,7 @@ use Rattle.mvo_world.proofs.world.World.take_group.Goals as goal
 pub returns-in-Some : goal.returns-in-Some
 returns-in-Some g c =
     let before : WorldData _ = record { core = c.self.inside.core; place = c.self.inside.place; store = c.self.inside.store } in
-    rw (← c.self.view_is) (still g.D.Disk g.met.D.Disk.only_now (IsReplyTo g.D.Disk) before TakeGroup (Refused c.in-Some.refusal) (silent_refused TakeGroup c.in-Some.refusal)
+    rw (← c.self.view_is) (still g.D.Disk g.met.D.Disk.only_now (IsReplyTo g.D.Disk) before TakeGroup (Refused c.in-Some.refusal) (silent_refused TakeGroup c.in-Some.refusal refl)
     (ap (λ why. or_nothing why c.self.inside.place) (sym c.can_take.ensures ∙ c.in-Some.is), refl))
 
 pub returns-in_default-take : goal.returns-in_default-take
@@ -22,7 +22,7 @@ returns-in_default-take g c =
     let before : WorldData _ = record { core = c.self.inside.core; place = c.self.inside.place; store = c.self.inside.store } in
     let none : why_not_take c.self.inside.store ≡ None = sym c.can_take.ensures ∙ c.in_default.is in
     let nothing : c.self.inside.place ≡ None = sym c.take.ensures.value ∙ c.in_default-take.is in
-    rw (c.take.ensures.after, ← nothing, ← c.self.view_is) (still g.D.Disk g.met.D.Disk.only_now (IsReplyTo g.D.Disk) before TakeGroup (Refused NothingToDo) (silent_refused TakeGroup NothingToDo)
+    rw (c.take.ensures.after, ← nothing, ← c.self.view_is) (still g.D.Disk g.met.D.Disk.only_now (IsReplyTo g.D.Disk) before TakeGroup (Refused NothingToDo) (silent_refused TakeGroup NothingToDo refl)
     (ap (λ why. or_nothing why c.self.inside.place) none ∙ ap (or_nothing None) nothing, refl))
 
 pub returns-in-Ok : goal.returns-in-Ok

@@ -1,0 +1,50 @@
+-- The mark that an image gives is a timestamp of the clock.
+use Rattle.std.proofs.Common.{◌≡◌, ℕ, ◌+◌, ◌≤◌, length, Bool, true, false, cond, List, [], ◌∷◌, Option, None, Some, Ok, sym, subst, arith}
+use Rattle.std.specs.Prelude.{nat_lt}
+use Rattle.mvo_types.specs.declared.limits.TheConstants.{MAX_STAMP}
+use Rattle.mvo_types.specs.Keys.{Map}
+use Rattle.mvo_group.specs.Data.{GroupData}
+use Rattle.mvo_group.specs.Body.{body_of}
+use Rattle.mvo_format.specs.declared.format.TheConstants.{FIRST_FORMAT}
+use Rattle.mvo_format.specs.declared.header.TheConstants.{HEADER_LEN}
+use Rattle.mvo_frame.specs.Frames.{Frames, sized, mark_after}
+use Rattle.mvo_pair.specs.declared.pair.Pair.{Pair}
+use Rattle.mvo_manifest.specs.Data.{ManifestData}
+use Rattle.mvo_manifest.specs.Rules.{PairsRise, IsManifest}
+use Rattle.mvo_manifest.specs.Slots.{newest, SlotSays}
+use Rattle.mvo_image.specs.Opens.{Image}
+use Rattle.mvo_image.specs.Gives.{HaveGroups}
+use Rattle.mvo_image.specs.Files.{SegmentSays}
+use Rattle.mvo_store.specs.Standing.{Gives}
+
+after_frames : (place mark : ℕ) (gs : List GroupData) (bytes : List ℕ) → mark ≤ MAX_STAMP → Frames place mark gs bytes → mark_after mark gs ≤ MAX_STAMP
+after_frames place mark [] bytes le f = le
+after_frames place mark (g ∷ gs) bytes le f = after_frames (place + 1 + length (sized (body_of g))) g.mark gs f.1 f.3.is.rules.mark f.4
+
+after_segments : (image : Image) (ns : List ℕ) (mark : ℕ) (gs : List GroupData) (upto : ℕ) → mark ≤ MAX_STAMP → HaveGroups (SegmentSays FIRST_FORMAT) image ns mark gs upto → upto ≤ MAX_STAMP
+after_segments image [] mark gs upto le h = subst (λ (m : ℕ). m ≤ MAX_STAMP) (sym h.1) le
+after_segments image (n ∷ ns) mark gs upto le h =
+    after_segments image ns (mark_after mark h.0) h.1 upto (after_frames HEADER_LEN mark h.0 h.3.has.rest le h.3.has.frames) h.4
+
+after_pairs : (lo : ℕ) (ps : List Pair) (hi : ℕ) → lo ≤ MAX_STAMP → PairsRise lo ps hi → hi ≤ MAX_STAMP
+after_pairs lo [] hi le h = subst (λ (m : ℕ). m ≤ MAX_STAMP) h le
+after_pairs lo (p ∷ ps) hi le h = after_pairs p.hi.0 ps hi h.0.top h.1
+
+of_newest : (a b : Option ManifestData) (m : ManifestData) → newest a b ≡ Some m → ((x : ManifestData) → a ≡ Some x → IsManifest x) → ((x : ManifestData) → b ≡ Some x → IsManifest x) → IsManifest m
+of_newest None b m e first second = second m e
+of_newest (Some x) None m e first second = first m e
+of_newest (Some x) (Some y) m e first second = go (nat_lt x.generation y.generation) e
+  where
+    go : (c : Bool) → cond c (Some y) (Some x) ≡ Some m → IsManifest m
+    go true f = second m f
+    go false f = first m f
+
+is_manifest : (slot : ℕ) (bytes : List ℕ) (o : Option ManifestData) → SlotSays FIRST_FORMAT.version slot bytes (Ok o) → (x : ManifestData) → o ≡ Some x → IsManifest x
+is_manifest slot bytes None h x e = absurd (cc e)
+is_manifest slot bytes (Some m) h x e = let same : m ≡ x = cc e in subst IsManifest same h.is
+
+pub gives_stamp : (image : Image) (rows : Map) (mark : ℕ) → Gives rows mark image → mark ≤ MAX_STAMP
+gives_stamp image rows mark h =
+    let i = h.installed in
+    let is = of_newest i.first i.second h.manifest i.is (is_manifest 0 (image 0) i.first i.first_has) (is_manifest 1 (image 1) i.second i.second_has) in
+    after_segments image h.manifest.segments h.manifest.checkpoint_mark h.groups mark (after_pairs 0 h.manifest.pairs h.manifest.checkpoint_mark (omega arith) is.rules.rise) h.have

@@ -1,0 +1,52 @@
+//! What committed transactions are told, against one map that runs them one after another.
+
+use super::checked::{assert_floors, fresh};
+use super::draws::Draws;
+use super::observed::Counts;
+use super::runs::Run;
+use std::process::Abort;
+use std::test::Fail;
+
+/// So many runs, each from a new store.
+const RUNS_IN_ALL: u64 = 100;
+
+/// None of the things that are to happen is rare.
+fn assert_counts(rt: &impl Abort, counts: &Counts) {
+    let floors = [
+        (counts.commits, 800),
+        (counts.scans, 43),
+        (counts.updates, 69),
+        (counts.deletes, 51),
+        (counts.together, 940),
+        (counts.waiting, 64),
+        (counts.conflicts, 57),
+        (counts.failed, 113),
+        (counts.dependents, 46),
+        (counts.busy, 960),
+        (counts.early, 270),
+        (counts.rolled_back, 410),
+        (counts.out_of_turn, 1_230),
+        (counts.groups, 200),
+        (counts.installed, 112),
+        (counts.checkpoints, 49),
+        (counts.emptied, 14),
+        (counts.polled_yes, 245),
+        (counts.polled_no, 260),
+    ];
+    assert_eq!(rt; counts.strange, 0);
+    assert_floors(rt, &floors);
+}
+
+#[test]
+fn committed_answers_are_serial(rt: HostRuntime) -> Result<(), Fail> {
+    let alloc = rt.alloc();
+    let mut counts = Counts::new();
+    for number in 1..=RUNS_IN_ALL {
+        let mut draws = Draws::new(alloc, number.wrapping_mul(0x9e37_79b9_7f4a_7c15));
+        let run = Run::of(&rt, fresh(alloc)?, &mut draws, counts, 0)?;
+        run.compare_answers(&rt)?;
+        counts = run.observed.counts;
+    }
+    assert_counts(&rt, &counts);
+    Ok(())
+}
