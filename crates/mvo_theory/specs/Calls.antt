@@ -45,8 +45,10 @@ why_not s (Trim m) = why_not_trim s m
 why_not s (Close fits g full) = why_not_close s full
 
 -- ---- out of memory
--- whether the call may need memory. What settle, rollback and finish need was taken before
+-- whether the call may need memory. A check needs none; what settle, rollback and finish need was
+-- taken before
 abbrev pub takes_memory : Call → Bool
+takes_memory (Validate t) = false
 takes_memory (Settle t) = false
 takes_memory (Rollback t) = false
 takes_memory (Finish t) = false

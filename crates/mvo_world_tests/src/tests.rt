@@ -1,4 +1,5 @@
 mod answers;
+mod calls;
 mod checked;
 mod draws;
 mod events;
@@ -10,8 +11,8 @@ mod random;
 mod runs;
 mod told;
 
+use calls::{formatted, into_disk, mark, run, step, stop, try_open};
 use mvo_disk::{Disk, FileImage, MemDisk};
-use mvo_store::format;
 use mvo_types::{Answer, Row, RowKey, Stamp, TxId};
 use mvo_world::{Event, Reply, World};
 use std::alloc::Global;
@@ -68,17 +69,14 @@ fn opened(
     alloc: Global,
     disk: MemDisk,
 ) -> Result<World<MemDisk>, Fail> {
-    match World::open(rt, alloc, SEED, disk) {
+    match try_open(rt, alloc, SEED, disk) {
         Ok(world) => Ok(world),
         Err((refusal, _)) => Err(Fail::from(refusal)),
     }
 }
 
 fn fresh(rt: &(impl Threads + Sync), alloc: Global) -> Result<World<MemDisk>, Fail> {
-    match format(alloc, MemDisk::new(alloc)?) {
-        Ok(disk) => opened(rt, alloc, disk),
-        Err((refusal, _)) => Err(Fail::from(refusal)),
-    }
+    opened(rt, alloc, formatted(alloc)?)
 }
 
 fn row_with(alloc: Global, sort: u64, byte: u8) -> Result<Row, Fail> {
@@ -112,7 +110,7 @@ fn one_put(alloc: Global) -> Result<Vec<Event>, Fail> {
 // A world in which the row is put and its group's body is written.
 fn with_body(rt: &(impl Threads + Sync), alloc: Global) -> Result<World<MemDisk>, Fail> {
     let mut world = fresh(rt, alloc)?;
-    let replies = world.run(&one_put(alloc)?)?;
+    let replies = run(&mut world, &one_put(alloc)?)?;
     if replies.len() != 10 {
         return Err(Fail::from("ten replies"));
     }
@@ -126,9 +124,9 @@ fn found(
     disk: MemDisk,
 ) -> Result<(u64, Option<usize>), Fail> {
     let mut world = opened(rt, alloc, disk)?;
-    let mark = world.mark();
-    let _ = world.step(Event::Begin);
-    let reply = world.step(Event::Read(TxId(mark.0.saturating_add(1)), KEY));
+    let mark = mark(&world);
+    let _ = step(&mut world, Event::Begin);
+    let reply = step(&mut world, Event::Read(TxId(mark.0.saturating_add(1)), KEY));
     match reply {
         Reply::Answered(Answer::Found(row)) => { Ok((mark.0, row.map(|row| row.data_len()))) }
         _ => Err(Fail::from("a read that is answered")),
@@ -142,7 +140,7 @@ fn assert_replies(
     events: &[Event],
     texts: &[&str],
 ) -> Result<(), Fail> {
-    let replies = world.run(events)?;
+    let replies = run(world, events)?;
     let alloc = *replies.allocator();
     assert_eq!(rt; replies.len(), texts.len());
     for (reply, text) in replies.iter().zip(texts) {
@@ -168,12 +166,12 @@ fn one_put_is_durable(rt: HostRuntime) -> Result<(), Fail> {
         "Written",
     ];
     assert_replies(&rt, &mut world, &one_put(alloc)?, &texts)?;
-    assert_eq!(rt; world.mark(), Stamp(0));
+    assert_eq!(rt; mark(&world), Stamp(0));
     let ends = vec![in alloc; Event::AppendOpen, Event::Poll(Stamp(2))]?;
     let texts = ["Durable(Stamp(2))", "Polled(true)"];
     assert_replies(&rt, &mut world, &ends, &texts)?;
-    assert_eq!(rt; world.mark(), Stamp(2));
-    let disk = world.into_disk();
+    assert_eq!(rt; mark(&world), Stamp(2));
+    let disk = into_disk(world);
     assert_eq!(rt; disk.bytes(2), SEGMENT.as_slice());
     assert_eq!(rt; found(&rt, alloc, disk)?, (2, Some(1)));
     Ok(())
@@ -210,7 +208,7 @@ fn a_rotation_keeps_the_rows(rt: HostRuntime) -> Result<(), Fail> {
         "Polled(true)",
     ];
     assert_replies(&rt, &mut world, &events, &texts)?;
-    let disk = world.into_disk();
+    let disk = into_disk(world);
     assert_eq!(rt; disk.bytes(1), SLOT.as_slice());
     assert_eq!(rt; disk.bytes(2), SEGMENT.as_slice());
     assert_eq!(rt; disk.bytes(3), FRESH.as_slice());
@@ -281,7 +279,7 @@ fn a_checkpoint_keeps_the_rows(rt: HostRuntime) -> Result<(), Fail> {
     let events = vec![in alloc; Event::Reclaim, Event::Reclaim, Event::Poll(Stamp(2))]?;
     let texts = ["Reclaimed(More)", "Reclaimed(Done)", "Polled(true)"];
     assert_replies(&rt, &mut world, &events, &texts)?;
-    let disk = world.into_disk();
+    let disk = into_disk(world);
     assert_eq!(rt; disk.bytes(0), SLOT_OF_PAIR.as_slice());
     assert_eq!(rt; disk.bytes(1), SLOT.as_slice());
     assert!(rt; disk.bytes(2).is_empty());
@@ -304,8 +302,7 @@ fn a_rotation_that_a_stop_ends_is_reclaimed(rt: HostRuntime) -> Result<(), Fail>
     ]?;
     let texts = ["Durable(Stamp(2))", "Ready", "Shut", "Written"];
     assert_replies(&rt, &mut world, &events, &texts)?;
-    let mut disk = world.into_disk();
-    disk.stop(&[])?;
+    let disk = stop(into_disk(world), &[])?;
     assert_eq!(rt; disk.bytes(3), FRESH.as_slice());
     let mut world = opened(&rt, alloc, disk)?;
     let events = vec![in alloc;
@@ -321,7 +318,7 @@ fn a_rotation_that_a_stop_ends_is_reclaimed(rt: HostRuntime) -> Result<(), Fail>
         "Polled(true)",
     ];
     assert_replies(&rt, &mut world, &events, &texts)?;
-    let disk = world.into_disk();
+    let disk = into_disk(world);
     assert!(rt; disk.bytes(3).is_empty());
     assert_eq!(rt; found(&rt, alloc, disk)?, (2, Some(1)));
     Ok(())
@@ -361,7 +358,7 @@ fn a_commit_that_wrote_nothing_is_polled_yes(rt: HostRuntime) -> Result<(), Fail
         "Polled(false)",
     ];
     assert_replies(&rt, &mut world, &events, &texts)?;
-    let disk = world.into_disk();
+    let disk = into_disk(world);
     assert_eq!(rt; disk.bytes(2), EMPTY.as_slice());
     assert_eq!(rt; found(&rt, alloc, disk)?, (2, None));
     Ok(())
@@ -488,8 +485,7 @@ fn refuses_steps_out_of_turn(rt: HostRuntime) -> Result<(), Fail> {
 #[test]
 fn stops_after_the_body(rt: HostRuntime) -> Result<(), Fail> {
     let alloc = rt.alloc();
-    let mut disk = with_body(&rt, alloc)?.into_disk();
-    disk.stop(&[])?;
+    let disk = stop(into_disk(with_body(&rt, alloc)?), &[])?;
     assert_eq!(rt; disk.bytes(2).len(), 63);
     assert_eq!(rt; found(&rt, alloc, disk)?, (0, None));
     Ok(())
@@ -501,7 +497,7 @@ fn found_at_gate(
     alloc: Global,
     gate: u8,
 ) -> Result<(u64, Option<usize>), Fail> {
-    let mut disk = with_body(rt, alloc)?.into_disk();
+    let mut disk = into_disk(with_body(rt, alloc)?);
     if disk.faults() != 0 || disk.bytes(2).len() < 9 {
         return Err(Fail::from("the body is written"));
     }
@@ -509,7 +505,7 @@ fn found_at_gate(
     disk.write_at(2, 8, &[0xa5])?;
     let mut bytes = SEGMENT.to_vec(alloc)?;
     bytes[8] = gate;
-    disk.stop(&[FileImage { file: 2, bytes }])?;
+    let disk = stop(disk, &[FileImage { file: 2, bytes }])?;
     found(rt, alloc, disk)
 }
 

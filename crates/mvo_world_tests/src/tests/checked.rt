@@ -1,11 +1,11 @@
 //! Opens what a run or a stop of it left, and compares it with what is due.
 
+use super::calls::{formatted, mark, step};
 use super::events::TABLES;
 use super::images::files_on;
 use super::runs::{Run, Start, opened};
 use mvo_disk::MemDisk;
 use mvo_model::Serial;
-use mvo_store::format;
 use mvo_types::{Answer, Row, RowKey, Rows, Stamp, TxId};
 use mvo_world::{Event, Reply, World};
 use std::alloc::{AllocError, Global};
@@ -41,14 +41,14 @@ fn are_same(rows: &[Row], others: &[Row]) -> bool {
 }
 
 fn begin(world: &mut World<MemDisk>) -> Result<TxId, Fail> {
-    match world.step(Event::Begin) {
+    match step(world, Event::Begin) {
         Reply::Began(id) => Ok(id),
         _ => Err(Fail::from("a transaction that begins")),
     }
 }
 
 fn ask(world: &mut World<MemDisk>, event: Event) -> Result<Answer, Fail> {
-    match world.step(event) {
+    match step(world, event) {
         Reply::Answered(answer) => Ok(answer),
         _ => Err(Fail::from("an operation that is answered")),
     }
@@ -96,7 +96,7 @@ pub fn check_world(
     answered: usize,
     world: &mut World<MemDisk>,
 ) -> Result<Found, Fail> {
-    let mark = world.mark();
+    let mark = mark(world);
     assert!(rt; run.is_mark(answered, mark), "after {answered} events");
     assert!(rt;
         run.is_acknowledged(answered, mark),
@@ -122,12 +122,8 @@ pub fn check_disk(
 
 /// A new store.
 pub fn fresh(alloc: Global) -> Result<Start, Fail> {
-    let disk = match format(alloc, MemDisk::new(alloc)?) {
-        Ok(disk) => disk,
-        Err((refusal, _)) => return Err(Fail::from(refusal)),
-    };
     Ok(Start {
-        files: files_on(alloc, &disk, 3)?,
+        files: files_on(alloc, &formatted(alloc)?, 3)?,
         rows: Vec::new(alloc),
         mark: Stamp(0),
     })

@@ -1,6 +1,7 @@
 //! Random events over a disk of which a call fails, once at each place of a run, against one map
 //! that runs the committed transactions one after another.
 
+use super::calls::{into_disk, step_copy, stop};
 use super::checked::{Found, assert_floors, check_disk, fresh};
 use super::draws::Draws;
 use super::images::{disk_after, disk_of, is_look};
@@ -158,7 +159,7 @@ impl Trial {
         let mut world = world;
         let mut failed = None;
         for (number, event) in run.events.iter().enumerate() {
-            let reply = world.step(event.copy()?);
+            let reply = step_copy(&mut world, event)?;
             if failed.is_some() && is_of_store(event) {
                 assert!(rt;
                     matches!(&reply, Reply::Refused(Refusal::Down)),
@@ -172,7 +173,7 @@ impl Trial {
             }
         }
         let answered = failed.ok_or("an event that meets the fault")?;
-        self.check_left(rt, run, answered, world.into_disk())
+        self.check_left(rt, run, answered, into_disk(world))
     }
 
     /// Opens what stops leave after a fault, and the disk as it stands.
@@ -200,13 +201,12 @@ impl Trial {
         answered: usize,
         disk: MemDisk,
     ) -> Result<(), Fail> {
-        let mut disk = disk;
         let drawn = self.draws.images(&disk)?;
         if drawn.is_torn {
             count(&mut self.met.torn);
         }
         let files = drawn.images;
-        disk.stop(&files)?;
+        let disk = stop(disk, &files)?;
         let found = check_disk(rt, run, &self.keys, answered, disk)?;
         self.met.rows = self.met.rows.saturating_add(found.rows.len() as u64);
         if run

@@ -1,6 +1,7 @@
 //! Openings of a disk that no stop made whole, stopped and refused at each of their calls, against
 //! one map that runs the committed transactions one after another.
 
+use super::calls::{into_disk, stop};
 use super::checked::{Found, assert_floors, check_disk, check_world, fresh};
 use super::draws::Draws;
 use super::images::{disk_after, disk_in_part, is_look};
@@ -120,7 +121,7 @@ impl Trial {
         let mut world = opened(rt, self.alloc, disk)?;
         let found = check_world(rt, run, &self.keys, answered, &mut world)?;
         self.note_opening(run, answered, &found);
-        let disk = world.into_disk();
+        let disk = into_disk(world);
         self.stop_opening(rt, run, answered, from, found.mark, disk.calls())?;
         for _ in 0..FAULTS {
             self.fail_opening(rt, run, answered, from, disk.calls())?;
@@ -213,13 +214,12 @@ impl Trial {
         answered: usize,
         disk: MemDisk,
     ) -> Result<Start, Fail> {
-        let mut disk = disk;
         let drawn = self.draws.images(&disk)?;
         if drawn.is_torn {
             count(&mut self.met.torn);
         }
         let files = drawn.images;
-        disk.stop(&files)?;
+        let disk = stop(disk, &files)?;
         let Found { mark, rows } = check_disk(rt, run, &self.keys, answered, disk)?;
         self.met.rows = self.met.rows.saturating_add(rows.len() as u64);
         Ok(Start { files, rows, mark })

@@ -1,6 +1,7 @@
 //! Random events over a disk that stops at each of its calls, against one map that runs the
 //! committed transactions one after another.
 
+use super::calls::stop;
 use super::checked::{Found, assert_floors, check_disk, fresh};
 use super::draws::Draws;
 use super::images::{Drawn, disk_after, is_look, last_write};
@@ -245,12 +246,11 @@ impl Trial {
         disk: MemDisk,
         drawn: Drawn,
     ) -> Result<(), Fail> {
-        let mut disk = disk;
         if drawn.is_torn {
             count(&mut self.met.torn);
         }
         let files = drawn.images;
-        disk.stop(&files)?;
+        let disk = stop(disk, &files)?;
         let found = check_disk(rt, run, &self.keys, answered, disk)?;
         assert_eq!(rt; found.mark, wanted, "after {answered} events");
         self.met.rows = self.met.rows.saturating_add(found.rows.len() as u64);

@@ -1,5 +1,6 @@
 //! A run of random events, and what is due after a stop of it.
 
+use super::calls::{self, into_disk, step_copy};
 use super::checked::is_same;
 use super::draws::Draws;
 use super::events::{KEYS, key_at};
@@ -54,7 +55,7 @@ pub fn try_open(
     disk: MemDisk,
 ) -> Result<World<MemDisk>, (Refusal, MemDisk)> {
     let seed = disk.calls().len() as u64;
-    World::open(rt, alloc, seed, disk)
+    calls::try_open(rt, alloc, seed, disk)
 }
 
 pub fn opened(
@@ -102,7 +103,7 @@ impl Run {
             let now = run.saturating_mul(EVENTS_APART).saturating_add(number);
             let event = draws.event(&observed, now / EVENTS_OF_A_KEY)?;
             known.push(observed.known)?;
-            let reply = world.step(event.copy()?);
+            let reply = step_copy(&mut world, &event)?;
             observed.note(&event, reply)?;
             events.push(event)?;
         }
@@ -120,9 +121,9 @@ impl Run {
     pub fn disk_after(&self, rt: &(impl Threads + Sync), number: usize) -> Result<MemDisk, Fail> {
         let mut world = opened(rt, self.alloc, disk_of(self.alloc, &self.start.files)?)?;
         for event in self.events.iter().take(number) {
-            let _ = world.step(event.copy()?);
+            let _ = step_copy(&mut world, event)?;
         }
-        Ok(world.into_disk())
+        Ok(into_disk(world))
     }
 
     /// Whether the event before or after the first ones wrote to the disk.

@@ -1,0 +1,60 @@
+//! The calls of a world and of its disk, without what their clauses say: no test's proof needs it.
+
+use mvo_disk::{Disk, FileImage, MemDisk};
+use mvo_store::format;
+use mvo_types::{Refusal, Stamp};
+use mvo_world::{Event, Reply, World};
+use std::alloc::Global;
+use std::test::Fail;
+use std::thread::Threads;
+
+/// A new store on a new disk.
+pub fn formatted(alloc: Global) -> Result<MemDisk, Fail> {
+    match format(alloc, MemDisk::new(alloc)?) {
+        Ok(disk) => Ok(disk),
+        Err((refusal, _)) => Err(Fail::from(refusal)),
+    }
+}
+
+/// A world over the disk.
+pub fn try_open(
+    rt: &(impl Threads + Sync),
+    alloc: Global,
+    seed: u64,
+    disk: MemDisk,
+) -> Result<World<MemDisk>, (Refusal, MemDisk)> {
+    World::open(rt, alloc, seed, disk)
+}
+
+/// One step.
+pub fn step(world: &mut World<MemDisk>, event: Event) -> Reply {
+    world.step(event)
+}
+
+/// The step of an event that is kept.
+pub fn step_copy(world: &mut World<MemDisk>, event: &Event) -> Result<Reply, Fail> {
+    let event = event.copy()?;
+    Ok(step(world, event))
+}
+
+/// The steps of the events.
+pub fn run(world: &mut World<MemDisk>, events: &[Event]) -> Result<Vec<Reply>, Refusal> {
+    world.run(events)
+}
+
+/// The mark of what is durable.
+pub fn mark(world: &World<MemDisk>) -> Stamp {
+    world.mark()
+}
+
+/// The disk, as it stands.
+pub fn into_disk(world: World<MemDisk>) -> MemDisk {
+    world.into_disk()
+}
+
+/// Stops the disk, which leaves these images.
+pub fn stop(disk: MemDisk, images: &[FileImage]) -> Result<MemDisk, Fail> {
+    let mut disk = disk;
+    disk.stop(images)?;
+    Ok(disk)
+}
