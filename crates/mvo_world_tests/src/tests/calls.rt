@@ -4,16 +4,24 @@ use mvo_disk::{Disk, FileImage, MemDisk};
 use mvo_store::format;
 use mvo_types::{Refusal, Stamp};
 use mvo_world::{Event, Reply, World};
-use std::alloc::Global;
+use std::alloc::{AllocError, Global};
 use std::test::Fail;
 use std::thread::Threads;
 
-/// A new store on a new disk.
-pub fn formatted(alloc: Global) -> Result<MemDisk, Fail> {
-    match format(alloc, MemDisk::new(alloc)?) {
+fn new_disk(alloc: Global) -> Result<MemDisk, AllocError> {
+    MemDisk::new(alloc)
+}
+
+fn with_store(alloc: Global, disk: MemDisk) -> Result<MemDisk, Fail> {
+    match format(alloc, disk) {
         Ok(disk) => Ok(disk),
         Err((refusal, _)) => Err(Fail::from(refusal)),
     }
+}
+
+/// A new store on a new disk.
+pub fn formatted(alloc: Global) -> Result<MemDisk, Fail> {
+    with_store(alloc, new_disk(alloc)?)
 }
 
 /// A world over the disk.

@@ -187,7 +187,7 @@ impl Drawn {
 }
 
 /// The bytes of a file.
-fn bytes_of(disk: &MemDisk, file: u16) -> &[u8] {
+pub fn bytes_of(disk: &MemDisk, file: u16) -> &[u8] {
     if file < FILE_COUNT {
         disk.bytes(file)
     } else {
