@@ -4,8 +4,10 @@ use crate::session::Call::{
     Begin, Commit, Delete, Finish, Insert, Precommit, Read, Settle, Update, Validate,
 };
 use crate::session::{Call, Session};
+use mvo_group::Group;
 use mvo_types::{Refusal, Stamp};
 use mvo_version_core::Closed;
+use std::process::Abort;
 use std::test::Fail;
 
 /// It leaves no row, where none was.
@@ -39,15 +41,55 @@ const IS_COMMITTED: [(Call, &str); 3] = [
     (Finish(1), "done"),
 ];
 
+const CLOSED: Closed = Closed {
+    prev: Stamp(0),
+    mark: Stamp(2),
+};
+
+/// Calls, and what the closing of a group is answered behind them.
+type Turn = (&'static [(Call, &'static str)], Result<Closed, Refusal>);
+
+const UP_TO_A_PREPARING_ONE: [Turn; 2] = [
+    (&[], Err(Refusal::NothingToDo)),
+    (&IS_PREPARING, Err(Refusal::Busy)),
+];
+
+const BEHIND_A_COMMITTED_ONE: [Turn; 3] = [
+    (&[], Ok(CLOSED)),
+    (&[], Err(Refusal::NothingToDo)),
+    (&[(Begin, "began 3")], Err(Refusal::RingFull)),
+];
+
+/// The group goes to the place.
+fn take_turns(
+    rt: &impl Abort,
+    session: &mut Session,
+    place: &mut Option<Group>,
+    turns: &[Turn],
+) -> Result<(), Fail> {
+    for (lines, answer) in turns {
+        session.follow(rt, *lines)?;
+        assert_eq!(rt; session.close(place), *answer);
+    }
+    Ok(())
+}
+
+fn has_body(rt: &impl Abort, group: &Group) -> Result<(), Fail> {
+    assert_eq!(rt; group.encode()?.as_slice(), BODY.as_slice());
+    Ok(())
+}
+
 #[test]
 fn a_group_has_the_net_writes(rt: HostRuntime) -> Result<(), Fail> {
     let mut session = Session::new(rt.alloc())?;
-    session.follow(&rt, &INSERTS_AND_DELETES)?;
     let mut place = None;
-    let (prev, mark) = (Stamp(0), Stamp(2));
-    assert_eq!(rt; session.close(&mut place), Ok(Closed { prev, mark }));
-    let group = place.ok_or("a group")?;
-    assert_eq!(rt; group.encode()?.as_slice(), BODY.as_slice());
+    take_turns(
+        &rt,
+        &mut session,
+        &mut place,
+        &[(&INSERTS_AND_DELETES, Ok(CLOSED))],
+    )?;
+    has_body(&rt, &place.ok_or("a group")?)?;
     session.follow(&rt, &LATER_READ)?;
     Ok(())
 }
@@ -56,16 +98,9 @@ fn a_group_has_the_net_writes(rt: HostRuntime) -> Result<(), Fail> {
 fn no_group_closes_while_one_is_preparing(rt: HostRuntime) -> Result<(), Fail> {
     let mut session = Session::new(rt.alloc())?;
     let mut place = None;
-    assert_eq!(rt; session.close(&mut place), Err(Refusal::NothingToDo));
-    session.follow(&rt, &IS_PREPARING)?;
-    assert_eq!(rt; session.close(&mut place), Err(Refusal::Busy));
+    take_turns(&rt, &mut session, &mut place, &UP_TO_A_PREPARING_ONE)?;
     session.follow(&rt, &IS_COMMITTED)?;
     assert_eq!(rt; session.tale_len(), 1);
     assert_eq!(rt; session.clock(), Stamp(2));
-    let (prev, mark) = (Stamp(0), Stamp(2));
-    assert_eq!(rt; session.close(&mut place), Ok(Closed { prev, mark }));
-    assert_eq!(rt; session.close(&mut place), Err(Refusal::NothingToDo));
-    session.follow(&rt, &[(Begin, "began 3")])?;
-    assert_eq!(rt; session.close(&mut place), Err(Refusal::RingFull));
-    Ok(())
+    take_turns(&rt, &mut session, &mut place, &BEHIND_A_COMMITTED_ONE)
 }

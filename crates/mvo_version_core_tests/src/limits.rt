@@ -1,19 +1,20 @@
 //! Each limit holds one, and not one more.
 
 use crate::reply::Reply;
-use crate::session::Session;
-use mvo_types::{Answer, Refusal, Row, RowKey, TxId};
+use crate::session::Call::{Begin, Finish, Insert, Read, Rollback, Scan};
+use crate::session::{Call, Session};
+use mvo_types::{Row, RowKey, TxId};
 use std::alloc::{AllocError, Global};
 use std::process::Abort;
 use std::test::Fail;
 
 const TX: TxId = TxId(1);
 
-fn refusal(reply: &Reply) -> Option<Refusal> {
-    match reply {
-        Reply::Refused(refusal) => Some(*refusal),
-        _ => None,
-    }
+/// A session in which the transaction 1 has begun.
+fn begun(rt: &impl Abort, alloc: Global) -> Result<Session, Fail> {
+    let mut session = Session::new(alloc)?;
+    session.follow(rt, &[(Begin, "began 1")])?;
+    Ok(session)
 }
 
 /// A row of so many bytes.
@@ -25,84 +26,97 @@ fn row(alloc: Global, key: u64, len: usize) -> Result<Row, AllocError> {
     })
 }
 
+fn says(rt: &impl Abort, alloc: Global, reply: &Reply, text: &str) -> Result<(), Fail> {
+    assert_eq!(rt; format!(in alloc; "{reply}")?.as_str(), text);
+    Ok(())
+}
+
+/// One that is aborted counts until it is finished.
+const NO_MORE_BEGIN: [(Call, &str); 5] = [
+    (Begin, "refused 30"),
+    (Rollback(77), "rolled back"),
+    (Begin, "refused 30"),
+    (Finish(77), "done"),
+    (Begin, "began 1025"),
+];
+
 #[test]
 fn transactions_are_1024(rt: HostRuntime) -> Result<(), Fail> {
     let mut session = Session::new(rt.alloc())?;
     for _ in 0..1_024 {
         assert!(rt; matches!(session.begin(), Reply::Began(_)));
     }
-    assert_eq!(rt; refusal(&session.begin()), Some(Refusal::TableFull));
-    // One that is aborted counts until it is finished.
-    assert!(rt; matches!(session.roll_back(TxId(77)), Reply::RolledBack));
-    assert_eq!(rt; refusal(&session.begin()), Some(Refusal::TableFull));
-    assert!(rt; matches!(session.finish(TxId(77)), Reply::Finished(_)));
-    assert!(rt; matches!(session.begin(), Reply::Began(TxId(1_025))));
+    session.follow(&rt, &NO_MORE_BEGIN)?;
     Ok(())
 }
+
+const ANOTHER_KEY: [(Call, &str); 1] = [(Insert(1, 256, 256, 97), "refused 31")];
 
 #[test]
 fn written_keys_are_256(rt: HostRuntime) -> Result<(), Fail> {
     let alloc = rt.alloc();
-    let mut session = Session::new(alloc)?;
-    let _ = session.begin();
+    let mut session = begun(&rt, alloc)?;
     for key in 0..256 {
-        let reply = session.insert(TX, row(alloc, key, 1)?);
-        assert!(rt; matches!(reply, Reply::Answered(Answer::Inserted)));
+        session.follow(&rt, &[(Insert(1, key, key, 97), "inserted")])?;
     }
-    let reply = session.insert(TX, row(alloc, 256, 1)?);
-    assert_eq!(rt; refusal(&reply), Some(Refusal::TooManyWrites));
+    session.follow(&rt, &ANOTHER_KEY)?;
     // A key that is written already isn't another.
     let reply = session.update(TX, row(alloc, 255, 2)?);
-    assert!(rt; matches!(reply, Reply::Answered(Answer::Updated)));
-    Ok(())
+    says(&rt, alloc, &reply, "updated")
 }
+
+/// What it has looked at already isn't another entry.
+const NO_MORE_ENTRIES: [(Call, &str); 4] = [
+    (Scan(1, 0, 10), "rows 0"),
+    (Read(1, 4_095), "refused 32"),
+    (Scan(1, 0, 11), "refused 32"),
+    (Read(1, 0), "none"),
+];
 
 #[test]
 fn entries_are_4096(rt: HostRuntime) -> Result<(), Fail> {
-    let mut session = Session::new(rt.alloc())?;
-    let _ = session.begin();
+    let mut session = begun(&rt, rt.alloc())?;
     for key in 0..4_095 {
-        let reply = session.read(TX, RowKey { table: 0, key });
-        assert!(rt; matches!(reply, Reply::Answered(Answer::Found(None))));
+        session.follow(&rt, &[(Read(1, key), "none")])?;
     }
-    let reply = session.scan(TX, 0, 0, 10);
-    assert!(rt; matches!(reply, Reply::Answered(Answer::Rows(_))));
-    let reply = session.read(
-        TX,
-        RowKey {
-            table: 0,
-            key: 4_095,
-        },
-    );
-    assert_eq!(rt; refusal(&reply), Some(Refusal::TooManyReads));
-    let reply = session.scan(TX, 0, 0, 11);
-    assert_eq!(rt; refusal(&reply), Some(Refusal::TooManyReads));
-    // What it has looked at already isn't another entry.
-    let reply = session.read(TX, RowKey { table: 0, key: 0 });
-    assert!(rt; matches!(reply, Reply::Answered(Answer::Found(None))));
+    session.follow(&rt, &NO_MORE_ENTRIES)?;
     Ok(())
+}
+
+/// The insert of a row of so many bytes is answered so.
+fn inserts(
+    rt: &impl Abort,
+    alloc: Global,
+    session: &mut Session,
+    key: u64,
+    len: usize,
+    text: &str,
+) -> Result<(), Fail> {
+    let reply = session.insert(TX, row(alloc, key, len)?);
+    says(rt, alloc, &reply, text)
+}
+
+fn check_reads(rt: &impl Abort, alloc: Global, session: &mut Session) -> Result<(), Fail> {
+    for (table, text) in [(15, "none"), (16, "refused 34")] {
+        let reply = session.read(TX, RowKey { table, key: 1 });
+        says(rt, alloc, &reply, text)?;
+    }
+    Ok(())
+}
+
+fn check_table_16(rt: &impl Abort, alloc: Global, session: &mut Session) -> Result<(), Fail> {
+    let reply = session.scan(TX, 16, 0, 1);
+    says(rt, alloc, &reply, "refused 34")?;
+    let reply = session.delete(TX, RowKey { table: 16, key: 1 });
+    says(rt, alloc, &reply, "refused 34")
 }
 
 #[test]
 fn data_has_1024_bytes_and_tables_are_16(rt: HostRuntime) -> Result<(), Fail> {
     let alloc = rt.alloc();
-    let mut session = Session::new(alloc)?;
-    let _ = session.begin();
-    let reply = session.insert(TX, row(alloc, 1, 1_024)?);
-    assert!(rt; matches!(reply, Reply::Answered(Answer::Inserted)));
-    let reply = session.insert(TX, row(alloc, 2, 1_025)?);
-    assert_eq!(rt; refusal(&reply), Some(Refusal::DataTooLong));
-    check_tables(&rt, &mut session);
-    Ok(())
-}
-
-fn check_tables(rt: &impl Abort, session: &mut Session) {
-    let reply = session.read(TX, RowKey { table: 15, key: 1 });
-    assert!(rt; matches!(reply, Reply::Answered(Answer::Found(None))));
-    let reply = session.read(TX, RowKey { table: 16, key: 1 });
-    assert_eq!(rt; refusal(&reply), Some(Refusal::BadTable));
-    let reply = session.scan(TX, 16, 0, 1);
-    assert_eq!(rt; refusal(&reply), Some(Refusal::BadTable));
-    let reply = session.delete(TX, RowKey { table: 16, key: 1 });
-    assert_eq!(rt; refusal(&reply), Some(Refusal::BadTable));
+    let mut session = begun(&rt, alloc)?;
+    inserts(&rt, alloc, &mut session, 1, 1_024, "inserted")?;
+    inserts(&rt, alloc, &mut session, 2, 1_025, "refused 33")?;
+    check_reads(&rt, alloc, &mut session)?;
+    check_table_16(&rt, alloc, &mut session)
 }

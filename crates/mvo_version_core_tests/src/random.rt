@@ -429,37 +429,57 @@ fn compare(rt: &impl Abort, told: &[Vec<Answer>], wanted: &[Vec<Answer>]) -> u64
 /// Enough of each came about.
 fn check_counts(rt: &impl Abort, counts: &Counts) {
     assert_eq!(rt; counts.strange, 0);
-    assert!(rt; counts.conflicts > 100);
-    assert!(rt; counts.failed > 100);
-    assert!(rt; counts.by_dependency > 30);
-    assert!(rt; counts.waiting > 30);
-    assert!(rt; counts.early > 50);
-    assert!(rt; counts.rolled_back > 100);
-    assert!(rt; counts.more_words > 500);
-    assert!(rt; counts.busy > 300);
-    assert!(rt; counts.groups > 50);
-    assert!(rt; counts.most_preparing > 3);
+    for (met, least) in [
+        (counts.conflicts, 100),
+        (counts.failed, 100),
+        (counts.by_dependency, 30),
+        (counts.waiting, 30),
+        (counts.early, 50),
+        (counts.rolled_back, 100),
+        (counts.more_words, 500),
+        (counts.busy, 300),
+        (counts.groups, 50),
+        (counts.most_preparing, 3),
+    ] {
+        assert!(rt; met > least, "{met}, and not more than {least}");
+    }
 }
 
-/// The committed answers are those of one map, and the groups leave its rows.
-fn follow(rt: &impl Abort, alloc: Global, seed: u64) -> Result<(), Fail> {
+/// A whole course.
+fn ended(alloc: Global, seed: u64) -> Result<Course, Fail> {
     let mut course = Course::new(alloc, seed)?;
     for _ in 0..STEPS {
         course.advance()?;
     }
     course.end()?;
-    let mut serial = Serial::new(alloc, opening_rows(alloc)?);
+    Ok(course)
+}
+
+/// The committed answers are those of one map.
+fn check_answers(rt: &impl Abort, serial: &mut Serial, course: &Course) -> Result<(), Fail> {
     let wanted = serial.run(&course.ops)?;
     let rows = compare(rt, &course.answers, &wanted);
     assert!(rt; rows > 500);
     assert!(rt; course.ends.len() > 500);
-    check_counts(rt, &course.counts);
+    Ok(())
+}
+
+/// The groups leave its rows.
+fn check_rows(rt: &impl Abort, alloc: Global, serial: Serial, replayed: Rows) -> Result<(), Fail> {
     let left = serial.into_rows().into_rows(alloc)?;
-    let Course { replayed, .. } = course;
     let replayed = replayed.into_rows(alloc)?;
     assert!(rt; !left.is_empty());
     assert!(rt; are_same(&left, &replayed));
     Ok(())
+}
+
+fn follow(rt: &impl Abort, alloc: Global, seed: u64) -> Result<(), Fail> {
+    let course = ended(alloc, seed)?;
+    let mut serial = Serial::new(alloc, opening_rows(alloc)?);
+    check_answers(rt, &mut serial, &course)?;
+    check_counts(rt, &course.counts);
+    let Course { replayed, .. } = course;
+    check_rows(rt, alloc, serial, replayed)
 }
 
 #[test]
