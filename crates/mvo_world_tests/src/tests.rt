@@ -9,6 +9,7 @@ mod observed;
 mod openings;
 mod random;
 mod runs;
+mod step;
 mod steps;
 mod told;
 mod vectors;
@@ -16,18 +17,17 @@ mod vectors;
 use calls::{formatted, into_disk, mark, run, step, stop, try_open};
 use images::bytes_of;
 use mvo_disk::{Disk, FileImage, MemDisk};
-use mvo_types::{Answer, Row, RowKey, Stamp, TxId};
+use mvo_types::{Answer, RowKey, Stamp, TxId};
 use mvo_world::{Event, Reply, World};
 use std::alloc::Global;
 use std::process::Abort;
 use std::test::Fail;
 use std::thread::Threads;
+use step::Step;
 use steps::{
-    CHECKPOINTED, COMMITTED_NOTHING, DURABLE, FALLEN, OUT_OF_TURN, PUT, READ_TOO_EARLY, RECLAIMED,
-    RECLAIMED_A_ROTATION, ROTATED, ROTATED_BUT_FOR_ITS_GATE, ROTATED_OUT_OF_TURN, SETTLED, WAITING,
-    checkpoint, commit_of_nothing, fall, one_put, opening_of_the_gate, out_of_turn,
-    put_and_replace, read_too_early, reclaims, reclaims_of_a_rotation, rotation,
-    rotation_but_its_gate, rotation_out_of_turn, settles,
+    CHECKPOINT, COMMIT_OF_NOTHING, FALL, ONE_PUT, OPENING_OF_THE_GATE, OUT_OF_TURN,
+    PUT_AND_REPLACE, READ_TOO_EARLY, RECLAIMS, RECLAIMS_OF_A_ROTATION, ROTATION,
+    ROTATION_BUT_ITS_GATE, ROTATION_OUT_OF_TURN, SETTLES,
 };
 use vectors::{DATA, DELTA, EMPTY, FRESH, SEGMENT, SLOT, SLOT_OF_PAIR};
 
@@ -51,12 +51,9 @@ fn fresh(rt: &(impl Threads + Sync), alloc: Global) -> Result<World<MemDisk>, Fa
 }
 
 // A world in which the row is put and its group's body is written.
-fn with_body(rt: &(impl Threads + Sync), alloc: Global) -> Result<World<MemDisk>, Fail> {
+fn with_body(rt: &(impl Abort + Threads + Sync), alloc: Global) -> Result<World<MemDisk>, Fail> {
     let mut world = fresh(rt, alloc)?;
-    let replies = run(&mut world, &one_put(alloc)?)?;
-    if replies.len() != 10 {
-        return Err(Fail::from("ten replies"));
-    }
+    follow(rt, alloc, &mut world, &ONE_PUT)?;
     Ok(world)
 }
 
@@ -81,18 +78,30 @@ fn assert_bytes(rt: &impl Abort, disk: &MemDisk, file: u16, bytes: &[u8]) {
     assert_eq!(rt; bytes_of(disk, file), bytes, "file {file}");
 }
 
-/// Runs the events, and compares what is answered to each.
-fn assert_replies(
+fn events_of(alloc: Global, steps: &[(Step, &str)]) -> Result<Vec<Event>, Fail> {
+    let mut events = Vec::new(alloc);
+    for (step, _) in steps {
+        events.push(step.event(alloc)?)?;
+    }
+    Ok(events)
+}
+
+fn assert_reply(rt: &impl Abort, alloc: Global, reply: &Reply, text: &str) -> Result<(), Fail> {
+    assert_eq!(rt; format!(in alloc; "{reply:?}")?.as_str(), text);
+    Ok(())
+}
+
+/// Runs the steps, each of which is answered so.
+fn follow(
     rt: &impl Abort,
+    alloc: Global,
     world: &mut World<MemDisk>,
-    events: &[Event],
-    texts: &[&str],
+    steps: &[(Step, &str)],
 ) -> Result<(), Fail> {
-    let replies = run(world, events)?;
-    let alloc = *replies.allocator();
-    assert_eq!(rt; replies.len(), texts.len());
-    for (reply, text) in replies.iter().zip(texts) {
-        assert_eq!(rt; format!(in alloc; "{reply:?}")?.as_str(), *text);
+    let replies = run(world, &events_of(alloc, steps)?)?;
+    assert_eq!(rt; replies.len(), steps.len());
+    for (reply, (_, text)) in replies.iter().zip(steps) {
+        assert_reply(rt, alloc, reply, text)?;
     }
     Ok(())
 }
@@ -101,9 +110,9 @@ fn assert_replies(
 fn one_put_is_durable(rt: HostRuntime) -> Result<(), Fail> {
     let alloc = rt.alloc();
     let mut world = fresh(&rt, alloc)?;
-    assert_replies(&rt, &mut world, &one_put(alloc)?, &PUT)?;
+    follow(&rt, alloc, &mut world, &ONE_PUT)?;
     assert_eq!(rt; mark(&world), Stamp(0));
-    assert_replies(&rt, &mut world, &opening_of_the_gate(alloc)?, &DURABLE)?;
+    follow(&rt, alloc, &mut world, &OPENING_OF_THE_GATE)?;
     assert_eq!(rt; mark(&world), Stamp(2));
     let disk = into_disk(world);
     assert_bytes(&rt, &disk, 2, &SEGMENT);
@@ -115,12 +124,7 @@ fn one_put_is_durable(rt: HostRuntime) -> Result<(), Fail> {
 fn a_rotation_keeps_the_rows(rt: HostRuntime) -> Result<(), Fail> {
     let alloc = rt.alloc();
     let mut world = with_body(&rt, alloc)?;
-    assert_replies(
-        &rt,
-        &mut world,
-        &rotation_out_of_turn(alloc)?,
-        &ROTATED_OUT_OF_TURN,
-    )?;
+    follow(&rt, alloc, &mut world, &ROTATION_OUT_OF_TURN)?;
     let disk = into_disk(world);
     assert_bytes(&rt, &disk, 1, &SLOT);
     assert_bytes(&rt, &disk, 2, &SEGMENT);
@@ -133,10 +137,10 @@ fn a_rotation_keeps_the_rows(rt: HostRuntime) -> Result<(), Fail> {
 fn a_checkpoint_keeps_the_rows(rt: HostRuntime) -> Result<(), Fail> {
     let alloc = rt.alloc();
     let mut world = with_body(&rt, alloc)?;
-    assert_replies(&rt, &mut world, &read_too_early(alloc)?, &READ_TOO_EARLY)?;
-    assert_replies(&rt, &mut world, &rotation(alloc)?, &ROTATED)?;
-    assert_replies(&rt, &mut world, &checkpoint(alloc)?, &CHECKPOINTED)?;
-    assert_replies(&rt, &mut world, &reclaims(alloc)?, &RECLAIMED)?;
+    follow(&rt, alloc, &mut world, &READ_TOO_EARLY)?;
+    follow(&rt, alloc, &mut world, &ROTATION)?;
+    follow(&rt, alloc, &mut world, &CHECKPOINT)?;
+    follow(&rt, alloc, &mut world, &RECLAIMS)?;
     let disk = into_disk(world);
     assert_bytes(&rt, &disk, 0, &SLOT_OF_PAIR);
     assert_bytes(&rt, &disk, 1, &SLOT);
@@ -152,21 +156,11 @@ fn a_checkpoint_keeps_the_rows(rt: HostRuntime) -> Result<(), Fail> {
 fn a_rotation_that_a_stop_ends_is_reclaimed(rt: HostRuntime) -> Result<(), Fail> {
     let alloc = rt.alloc();
     let mut world = with_body(&rt, alloc)?;
-    assert_replies(
-        &rt,
-        &mut world,
-        &rotation_but_its_gate(alloc)?,
-        &ROTATED_BUT_FOR_ITS_GATE,
-    )?;
+    follow(&rt, alloc, &mut world, &ROTATION_BUT_ITS_GATE)?;
     let disk = stop(into_disk(world), &[])?;
     assert_bytes(&rt, &disk, 3, &FRESH);
     let mut world = opened(&rt, alloc, disk)?;
-    assert_replies(
-        &rt,
-        &mut world,
-        &reclaims_of_a_rotation(alloc)?,
-        &RECLAIMED_A_ROTATION,
-    )?;
+    follow(&rt, alloc, &mut world, &RECLAIMS_OF_A_ROTATION)?;
     let disk = into_disk(world);
     assert_bytes(&rt, &disk, 3, &[]);
     assert_eq!(rt; found(&rt, alloc, disk)?, (2, Some(1)));
@@ -177,12 +171,7 @@ fn a_rotation_that_a_stop_ends_is_reclaimed(rt: HostRuntime) -> Result<(), Fail>
 fn a_commit_that_wrote_nothing_is_polled_yes(rt: HostRuntime) -> Result<(), Fail> {
     let alloc = rt.alloc();
     let mut world = fresh(&rt, alloc)?;
-    assert_replies(
-        &rt,
-        &mut world,
-        &commit_of_nothing(alloc)?,
-        &COMMITTED_NOTHING,
-    )?;
+    follow(&rt, alloc, &mut world, &COMMIT_OF_NOTHING)?;
     let disk = into_disk(world);
     assert_bytes(&rt, &disk, 2, &EMPTY);
     assert_eq!(rt; found(&rt, alloc, disk)?, (2, None));
@@ -193,25 +182,23 @@ fn a_commit_that_wrote_nothing_is_polled_yes(rt: HostRuntime) -> Result<(), Fail
 fn a_transaction_falls_with_the_one_it_waits_for(rt: HostRuntime) -> Result<(), Fail> {
     let alloc = rt.alloc();
     let mut world = fresh(&rt, alloc)?;
-    assert_replies(&rt, &mut world, &put_and_replace(alloc)?, &WAITING)?;
-    assert_replies(&rt, &mut world, &fall(alloc)?, &FALLEN)
+    follow(&rt, alloc, &mut world, &PUT_AND_REPLACE)?;
+    follow(&rt, alloc, &mut world, &FALL)
 }
 
 #[test]
 fn a_transaction_is_settled_after_the_one_it_waits_for(rt: HostRuntime) -> Result<(), Fail> {
     let alloc = rt.alloc();
     let mut world = fresh(&rt, alloc)?;
-    assert_replies(&rt, &mut world, &put_and_replace(alloc)?, &WAITING)?;
-    assert_replies(&rt, &mut world, &settles(alloc)?, &SETTLED)
+    follow(&rt, alloc, &mut world, &PUT_AND_REPLACE)?;
+    follow(&rt, alloc, &mut world, &SETTLES)
 }
 
 #[test]
 fn refuses_steps_out_of_turn(rt: HostRuntime) -> Result<(), Fail> {
     let alloc = rt.alloc();
     let mut world = fresh(&rt, alloc)?;
-    // With nothing written, a group is empty and its mark goes on. None is closed while one is
-    // Preparing.
-    assert_replies(&rt, &mut world, &out_of_turn(alloc)?, &OUT_OF_TURN)
+    follow(&rt, alloc, &mut world, &OUT_OF_TURN)
 }
 
 #[test]
@@ -225,7 +212,7 @@ fn stops_after_the_body(rt: HostRuntime) -> Result<(), Fail> {
 
 // What is found after a stop within the write of the gate, which leaves it so.
 fn found_at_gate(
-    rt: &(impl Threads + Sync),
+    rt: &(impl Abort + Threads + Sync),
     alloc: Global,
     gate: u8,
 ) -> Result<(u64, Option<usize>), Fail> {

@@ -1,322 +1,167 @@
-//! The steps of the tests, and what is answered to them.
+//! The steps of the tests, each with what is answered to it.
 
-use super::KEY;
-use mvo_types::{Row, Stamp, TxId};
-use mvo_world::Event;
-use std::alloc::Global;
-use std::test::Fail;
+use super::step::Step::{
+    self, AppendBody, AppendOpen, Begin, CheckpointData, CheckpointDelta, CheckpointRead,
+    CloseGroup, Delete, Finish, Insert, InstallBody, InstallClose, InstallOpen, Poll, Precommit,
+    Read, Reclaim, Rollback, RotateWrite, Scan, Settle, TakeGroup, Update, Validate,
+};
 
-/// The steps of a transaction that begins at 1 and puts the row at 2.
-pub fn one_put(alloc: Global) -> Result<Vec<Event>, Fail> {
-    let tx = TxId(1);
-    let row = row_with(alloc, 50, 0x61)?;
-    let events = vec![in alloc;
-        Event::Begin,
-        Event::Insert(tx, row),
-        Event::Precommit(tx),
-        Event::Validate(tx),
-        Event::Settle(tx),
-        Event::Finish(tx),
-        Event::Poll(Stamp(2)),
-        Event::CloseGroup,
-        Event::TakeGroup,
-        Event::AppendBody,
-    ]?;
-    Ok(events)
-}
-
-pub fn opening_of_the_gate(alloc: Global) -> Result<Vec<Event>, Fail> {
-    let events = vec![in alloc; Event::AppendOpen, Event::Poll(Stamp(2))]?;
-    Ok(events)
-}
-
-pub fn rotation_out_of_turn(alloc: Global) -> Result<Vec<Event>, Fail> {
-    let events = vec![in alloc;
-        Event::RotateWrite,
-        Event::AppendOpen,
-        Event::RotateWrite,
-        Event::RotateWrite,
-        Event::InstallBody,
-        Event::InstallClose,
-        Event::InstallBody,
-        Event::InstallOpen,
-        Event::RotateWrite,
-        Event::Reclaim,
-        Event::Poll(Stamp(2)),
-    ]?;
-    Ok(events)
-}
-
-/// The steps of a rotation, and what is answered to them.
-pub fn rotation(alloc: Global) -> Result<Vec<Event>, Fail> {
-    let events = vec![in alloc;
-        Event::RotateWrite,
-        Event::InstallClose,
-        Event::InstallBody,
-        Event::InstallOpen,
-    ]?;
-    Ok(events)
-}
-
-/// The steps of a checkpoint, with some out of turn, and what is answered to them.
-pub fn checkpoint(alloc: Global) -> Result<Vec<Event>, Fail> {
-    let events = vec![in alloc;
-        Event::CheckpointData,
-        Event::CheckpointRead,
-        Event::CheckpointRead,
-        Event::RotateWrite,
-        Event::CheckpointDelta,
-        Event::CheckpointData,
-        Event::CheckpointData,
-        Event::InstallClose,
-        Event::CheckpointDelta,
-        Event::CheckpointDelta,
-        Event::InstallClose,
-        Event::InstallBody,
-        Event::InstallOpen,
-        Event::CheckpointRead,
-    ]?;
-    Ok(events)
-}
-
-pub fn read_too_early(alloc: Global) -> Result<Vec<Event>, Fail> {
-    let events = vec![in alloc; Event::AppendOpen, Event::CheckpointRead]?;
-    Ok(events)
-}
-
-pub fn reclaims(alloc: Global) -> Result<Vec<Event>, Fail> {
-    let events = vec![in alloc; Event::Reclaim, Event::Reclaim, Event::Poll(Stamp(2))]?;
-    Ok(events)
-}
-
-pub fn rotation_but_its_gate(alloc: Global) -> Result<Vec<Event>, Fail> {
-    let events = vec![in alloc;
-        Event::AppendOpen,
-        Event::RotateWrite,
-        Event::InstallClose,
-        Event::InstallBody,
-    ]?;
-    Ok(events)
-}
-
-pub fn reclaims_of_a_rotation(alloc: Global) -> Result<Vec<Event>, Fail> {
-    let events = vec![in alloc;
-        Event::InstallOpen,
-        Event::Reclaim,
-        Event::Reclaim,
-        Event::Poll(Stamp(2)),
-    ]?;
-    Ok(events)
-}
-
-pub fn commit_of_nothing(alloc: Global) -> Result<Vec<Event>, Fail> {
-    let tx = TxId(1);
-    let events = vec![in alloc;
-        Event::Begin,
-        Event::Read(tx, KEY),
-        Event::Precommit(tx),
-        Event::Validate(tx),
-        Event::Settle(tx),
-        Event::Poll(Stamp(2)),
-        Event::CloseGroup,
-        Event::TakeGroup,
-        Event::AppendBody,
-        Event::AppendOpen,
-        Event::Poll(Stamp(2)),
-        Event::Poll(Stamp(3)),
-    ]?;
-    Ok(events)
-}
-
-/// The steps of a transaction that puts the row, which another replaces before the first is settled.
-pub fn put_and_replace(alloc: Global) -> Result<Vec<Event>, Fail> {
-    let (first, second) = (TxId(1), TxId(3));
-    let events = vec![in alloc;
-        Event::Begin,
-        Event::Insert(first, row_with(alloc, 50, 0x61)?),
-        Event::Precommit(first),
-        Event::Begin,
-        Event::Update(second, row_with(alloc, 60, 0x62)?),
-        Event::Scan(second, 0, 0, 100),
-        Event::Precommit(second),
-        Event::Validate(second),
-        Event::Validate(second),
-        Event::Settle(second),
-    ]?;
-    Ok(events)
-}
-
-pub fn fall(alloc: Global) -> Result<Vec<Event>, Fail> {
-    let (first, second, third) = (TxId(1), TxId(3), TxId(5));
-    let events = vec![in alloc;
-        Event::Rollback(first),
-        Event::Settle(second),
-        Event::Begin,
-        Event::Delete(third, KEY),
-        Event::Scan(third, 0, 0, 100),
-    ]?;
-    Ok(events)
-}
-
-pub fn settles(alloc: Global) -> Result<Vec<Event>, Fail> {
-    let (first, second, third) = (TxId(1), TxId(3), TxId(5));
-    let events = vec![in alloc;
-        Event::Validate(first),
-        Event::Settle(first),
-        Event::Settle(second),
-        Event::Begin,
-        Event::Delete(third, KEY),
-        Event::Scan(third, 0, 0, 100),
-    ]?;
-    Ok(events)
-}
-
-pub fn out_of_turn(alloc: Global) -> Result<Vec<Event>, Fail> {
-    let events = vec![in alloc;
-        Event::CloseGroup,
-        Event::TakeGroup,
-        Event::AppendBody,
-        Event::AppendOpen,
-        Event::Begin,
-        Event::CloseGroup,
-        Event::CloseGroup,
-        Event::Begin,
-        Event::CloseGroup,
-        Event::TakeGroup,
-        Event::TakeGroup,
-        Event::Precommit(TxId(2)),
-        Event::CloseGroup,
-    ]?;
-    Ok(events)
-}
-
-pub fn row_with(alloc: Global, sort: u64, byte: u8) -> Result<Row, Fail> {
-    let bytes = [byte].to_vec(alloc)?;
-    Ok(Row {
-        key: KEY,
-        sort,
-        bytes,
-    })
-}
-
-pub const PUT: [&str; 10] = [
-    "Began(TxId(1))",
-    "Answered(Inserted)",
-    "Prepared(Stamp(2))",
-    "Validated(Valid)",
-    "Settled(Committed(Stamp(2)))",
-    "Finished(Done)",
-    "Polled(false)",
-    "Closed(Closed { prev: Stamp(0), mark: Stamp(2) })",
-    "Taken",
-    "Written",
+/// A transaction that begins at 1 and puts the row at 2, up to the body of its group.
+pub const ONE_PUT: [(Step, &str); 10] = [
+    (Begin, "Began(TxId(1))"),
+    (Insert(1), "Answered(Inserted)"),
+    (Precommit(1), "Prepared(Stamp(2))"),
+    (Validate(1), "Validated(Valid)"),
+    (Settle(1), "Settled(Committed(Stamp(2)))"),
+    (Finish(1), "Finished(Done)"),
+    (Poll(2), "Polled(false)"),
+    (
+        CloseGroup,
+        "Closed(Closed { prev: Stamp(0), mark: Stamp(2) })",
+    ),
+    (TakeGroup, "Taken"),
+    (AppendBody, "Written"),
 ];
 
-pub const DURABLE: [&str; 2] = ["Durable(Stamp(2))", "Polled(true)"];
-
-pub const ROTATED_OUT_OF_TURN: [&str; 11] = [
-    "Refused(NothingToDo)",
-    "Durable(Stamp(2))",
-    "Ready",
-    "Refused(Busy)",
-    "Refused(NothingToDo)",
-    "Shut",
-    "Written",
-    "Installed(Generation(1))",
-    "Refused(NothingToDo)",
-    "Reclaimed(Done)",
-    "Polled(true)",
+pub const OPENING_OF_THE_GATE: [(Step, &str); 2] = [
+    (AppendOpen, "Durable(Stamp(2))"),
+    (Poll(2), "Polled(true)"),
 ];
 
-pub const ROTATED: [&str; 4] = ["Ready", "Shut", "Written", "Installed(Generation(1))"];
-
-pub const CHECKPOINTED: [&str; 14] = [
-    "Refused(NothingToDo)",
-    "Progress(More)",
-    "Refused(Busy)",
-    "Refused(Busy)",
-    "Refused(NothingToDo)",
-    "Progress(More)",
-    "Refused(NothingToDo)",
-    "Refused(NothingToDo)",
-    "Progress(Ready)",
-    "Refused(NothingToDo)",
-    "Shut",
-    "Written",
-    "Installed(Generation(2))",
-    "Refused(NothingToDo)",
+pub const ROTATION_OUT_OF_TURN: [(Step, &str); 11] = [
+    (RotateWrite, "Refused(NothingToDo)"),
+    (AppendOpen, "Durable(Stamp(2))"),
+    (RotateWrite, "Ready"),
+    (RotateWrite, "Refused(Busy)"),
+    (InstallBody, "Refused(NothingToDo)"),
+    (InstallClose, "Shut"),
+    (InstallBody, "Written"),
+    (InstallOpen, "Installed(Generation(1))"),
+    (RotateWrite, "Refused(NothingToDo)"),
+    (Reclaim, "Reclaimed(Done)"),
+    (Poll(2), "Polled(true)"),
 ];
 
-pub const READ_TOO_EARLY: [&str; 2] = ["Durable(Stamp(2))", "Refused(NothingToDo)"];
-
-pub const RECLAIMED: [&str; 3] = ["Reclaimed(More)", "Reclaimed(Done)", "Polled(true)"];
-
-pub const ROTATED_BUT_FOR_ITS_GATE: [&str; 4] = ["Durable(Stamp(2))", "Ready", "Shut", "Written"];
-
-pub const RECLAIMED_A_ROTATION: [&str; 4] = [
-    "Refused(NothingToDo)",
-    "Reclaimed(More)",
-    "Reclaimed(Done)",
-    "Polled(true)",
+/// A rotation.
+pub const ROTATION: [(Step, &str); 4] = [
+    (RotateWrite, "Ready"),
+    (InstallClose, "Shut"),
+    (InstallBody, "Written"),
+    (InstallOpen, "Installed(Generation(1))"),
 ];
 
-pub const COMMITTED_NOTHING: [&str; 12] = [
-    "Began(TxId(1))",
-    "Answered(Found(None))",
-    "Prepared(Stamp(2))",
-    "Validated(Valid)",
-    "Settled(Committed(Stamp(2)))",
-    "Polled(false)",
-    "Closed(Closed { prev: Stamp(0), mark: Stamp(2) })",
-    "Taken",
-    "Written",
-    "Durable(Stamp(2))",
-    "Polled(true)",
-    "Polled(false)",
+/// A checkpoint, with some steps out of turn.
+pub const CHECKPOINT: [(Step, &str); 14] = [
+    (CheckpointData, "Refused(NothingToDo)"),
+    (CheckpointRead, "Progress(More)"),
+    (CheckpointRead, "Refused(Busy)"),
+    (RotateWrite, "Refused(Busy)"),
+    (CheckpointDelta, "Refused(NothingToDo)"),
+    (CheckpointData, "Progress(More)"),
+    (CheckpointData, "Refused(NothingToDo)"),
+    (InstallClose, "Refused(NothingToDo)"),
+    (CheckpointDelta, "Progress(Ready)"),
+    (CheckpointDelta, "Refused(NothingToDo)"),
+    (InstallClose, "Shut"),
+    (InstallBody, "Written"),
+    (InstallOpen, "Installed(Generation(2))"),
+    (CheckpointRead, "Refused(NothingToDo)"),
 ];
 
-pub const WAITING: [&str; 10] = [
-    "Began(TxId(1))",
-    "Answered(Inserted)",
-    "Prepared(Stamp(2))",
-    "Began(TxId(3))",
-    "Answered(Updated)",
-    "Answered(Rows([Row { key: RowKey { table: 0, key: 5 }, sort: 60, bytes: [98] }]))",
-    "Prepared(Stamp(4))",
-    "Validated(More)",
-    "Validated(Valid)",
-    "Settled(Waiting(TxId(1)))",
+pub const READ_TOO_EARLY: [(Step, &str); 2] = [
+    (AppendOpen, "Durable(Stamp(2))"),
+    (CheckpointRead, "Refused(NothingToDo)"),
 ];
 
-pub const FALLEN: [&str; 5] = [
-    "RolledBack",
-    "Refused(DependencyAborted(TxId(1)))",
-    "Began(TxId(5))",
-    "Answered(Absent)",
-    "Answered(Rows([]))",
+pub const RECLAIMS: [(Step, &str); 3] = [
+    (Reclaim, "Reclaimed(More)"),
+    (Reclaim, "Reclaimed(Done)"),
+    (Poll(2), "Polled(true)"),
 ];
 
-pub const SETTLED: [&str; 6] = [
-    "Validated(Valid)",
-    "Settled(Committed(Stamp(2)))",
-    "Settled(Committed(Stamp(4)))",
-    "Began(TxId(5))",
-    "Answered(Deleted)",
-    "Answered(Rows([]))",
+pub const ROTATION_BUT_ITS_GATE: [(Step, &str); 4] = [
+    (AppendOpen, "Durable(Stamp(2))"),
+    (RotateWrite, "Ready"),
+    (InstallClose, "Shut"),
+    (InstallBody, "Written"),
 ];
 
-pub const OUT_OF_TURN: [&str; 13] = [
-    "Refused(NothingToDo)",
-    "Refused(NothingToDo)",
-    "Refused(NothingToDo)",
-    "Refused(NothingToDo)",
-    "Began(TxId(1))",
-    "Closed(Closed { prev: Stamp(0), mark: Stamp(1) })",
-    "Refused(NothingToDo)",
-    "Began(TxId(2))",
-    "Refused(RingFull)",
-    "Taken",
-    "Refused(Busy)",
-    "Prepared(Stamp(3))",
-    "Refused(Busy)",
+pub const RECLAIMS_OF_A_ROTATION: [(Step, &str); 4] = [
+    (InstallOpen, "Refused(NothingToDo)"),
+    (Reclaim, "Reclaimed(More)"),
+    (Reclaim, "Reclaimed(Done)"),
+    (Poll(2), "Polled(true)"),
+];
+
+pub const COMMIT_OF_NOTHING: [(Step, &str); 12] = [
+    (Begin, "Began(TxId(1))"),
+    (Read(1), "Answered(Found(None))"),
+    (Precommit(1), "Prepared(Stamp(2))"),
+    (Validate(1), "Validated(Valid)"),
+    (Settle(1), "Settled(Committed(Stamp(2)))"),
+    (Poll(2), "Polled(false)"),
+    (
+        CloseGroup,
+        "Closed(Closed { prev: Stamp(0), mark: Stamp(2) })",
+    ),
+    (TakeGroup, "Taken"),
+    (AppendBody, "Written"),
+    (AppendOpen, "Durable(Stamp(2))"),
+    (Poll(2), "Polled(true)"),
+    (Poll(3), "Polled(false)"),
+];
+
+/// A transaction puts the row, and another replaces it before the first is settled.
+pub const PUT_AND_REPLACE: [(Step, &str); 10] = [
+    (Begin, "Began(TxId(1))"),
+    (Insert(1), "Answered(Inserted)"),
+    (Precommit(1), "Prepared(Stamp(2))"),
+    (Begin, "Began(TxId(3))"),
+    (Update(3), "Answered(Updated)"),
+    (
+        Scan(3),
+        "Answered(Rows([Row { key: RowKey { table: 0, key: 5 }, sort: 60, bytes: [98] }]))",
+    ),
+    (Precommit(3), "Prepared(Stamp(4))"),
+    (Validate(3), "Validated(More)"),
+    (Validate(3), "Validated(Valid)"),
+    (Settle(3), "Settled(Waiting(TxId(1)))"),
+];
+
+pub const FALL: [(Step, &str); 5] = [
+    (Rollback(1), "RolledBack"),
+    (Settle(3), "Refused(DependencyAborted(TxId(1)))"),
+    (Begin, "Began(TxId(5))"),
+    (Delete(5), "Answered(Absent)"),
+    (Scan(5), "Answered(Rows([]))"),
+];
+
+pub const SETTLES: [(Step, &str); 6] = [
+    (Validate(1), "Validated(Valid)"),
+    (Settle(1), "Settled(Committed(Stamp(2)))"),
+    (Settle(3), "Settled(Committed(Stamp(4)))"),
+    (Begin, "Began(TxId(5))"),
+    (Delete(5), "Answered(Deleted)"),
+    (Scan(5), "Answered(Rows([]))"),
+];
+
+/// With nothing written, a group is empty and its mark goes on. None is closed while one is
+/// Preparing.
+pub const OUT_OF_TURN: [(Step, &str); 13] = [
+    (CloseGroup, "Refused(NothingToDo)"),
+    (TakeGroup, "Refused(NothingToDo)"),
+    (AppendBody, "Refused(NothingToDo)"),
+    (AppendOpen, "Refused(NothingToDo)"),
+    (Begin, "Began(TxId(1))"),
+    (
+        CloseGroup,
+        "Closed(Closed { prev: Stamp(0), mark: Stamp(1) })",
+    ),
+    (CloseGroup, "Refused(NothingToDo)"),
+    (Begin, "Began(TxId(2))"),
+    (CloseGroup, "Refused(RingFull)"),
+    (TakeGroup, "Taken"),
+    (TakeGroup, "Refused(Busy)"),
+    (Precommit(2), "Prepared(Stamp(3))"),
+    (CloseGroup, "Refused(Busy)"),
 ];
