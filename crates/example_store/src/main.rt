@@ -6,8 +6,9 @@ use mvo_disk::MemDisk;
 use mvo_store::format;
 use mvo_types::{Refusal, Row, RowKey, TxId};
 use mvo_world::{Event, Reply, World};
-use std::alloc::Global;
+use std::alloc::{AllocError, Global};
 use std::random::RandomSource;
+use std::rt::Runtime;
 use std::thread::Threads;
 
 /// The key of the row.
@@ -15,21 +16,46 @@ const KEY: RowKey = RowKey { table: 0, key: 5 };
 
 fn main(rt: HostRuntime) -> Result<(), anyhow::Error> {
     let alloc = rt.alloc();
-    let mut world = open(&rt, alloc, new_disk(alloc)?)?;
+    let disk = formatted(alloc, new_disk(alloc)?)?;
+    let disk = put(&rt, alloc, disk)?;
+    find(&rt, alloc, disk)
+}
+
+/// Puts the row, and tells what is answered. The disk comes back.
+fn put(
+    rt: &(impl Runtime + RandomSource + Threads + Sync),
+    alloc: Global,
+    disk: MemDisk,
+) -> Result<MemDisk, anyhow::Error> {
+    let mut world = open(rt, alloc, disk)?;
     let tx = begin(&mut world)?;
-    for reply in run(&mut world, &put_and_flush(alloc, tx)?)? {
+    let replies = run(&mut world, &put_and_flush(tx, row(alloc)?))?;
+    tell(rt, &replies)?;
+    Ok(into_disk(world))
+}
+
+/// Reads the row.
+fn find(
+    rt: &(impl Runtime + RandomSource + Threads + Sync),
+    alloc: Global,
+    disk: MemDisk,
+) -> Result<(), anyhow::Error> {
+    let mut world = open(rt, alloc, disk)?;
+    let tx = begin(&mut world)?;
+    let found = run(&mut world, &[Event::Read(tx, KEY)])?;
+    tell(rt, &found)
+}
+
+fn tell(rt: &impl Runtime, replies: &[Reply]) -> Result<(), anyhow::Error> {
+    for reply in replies {
         println!(rt; "{reply:?}")?;
     }
-    let mut world = open(&rt, alloc, into_disk(world))?;
-    let tx = begin(&mut world)?;
-    let found = step(&mut world, Event::Read(tx, KEY));
-    println!(rt; "{found:?}")?;
     Ok(())
 }
 
-/// A disk in memory with a store that has no rows.
-fn new_disk(alloc: Global) -> Result<MemDisk, anyhow::Error> {
-    match format(alloc, MemDisk::new(alloc)?) {
+/// The disk with a store that has no rows.
+fn formatted(alloc: Global, disk: MemDisk) -> Result<MemDisk, anyhow::Error> {
+    match format(alloc, disk) {
         Ok(disk) => Ok(disk),
         Err((refusal, _)) => bail!("no store is written: {refusal}"),
     }
@@ -37,7 +63,7 @@ fn new_disk(alloc: Global) -> Result<MemDisk, anyhow::Error> {
 
 /// The world of the disk. Who chooses the keys can't know the seed.
 fn open(
-    rt: &(impl Threads + RandomSource + Sync),
+    rt: &(impl Runtime + RandomSource + Threads + Sync),
     alloc: Global,
     disk: MemDisk,
 ) -> Result<World<MemDisk>, anyhow::Error> {
@@ -61,7 +87,12 @@ fn begin(world: &mut World<MemDisk>) -> Result<TxId, anyhow::Error> {
     }
 }
 
-// The calls of a world without their clauses, which the proof of this program doesn't need.
+// The calls of a disk and of a world without their clauses, which the proof of this program doesn't
+// need.
+
+fn new_disk(alloc: Global) -> Result<MemDisk, AllocError> {
+    MemDisk::new(alloc)
+}
 
 fn step(world: &mut World<MemDisk>, event: Event) -> Reply {
     world.step(event)
@@ -75,15 +106,17 @@ fn into_disk(world: World<MemDisk>) -> MemDisk {
     world.into_disk()
 }
 
-/// The transaction puts the row and commits, and its group becomes durable.
-fn put_and_flush(alloc: Global, tx: TxId) -> Result<Vec<Event>, anyhow::Error> {
-    let bytes = [0x61].to_vec(alloc)?;
-    let row = Row {
+fn row(alloc: Global) -> Result<Row, AllocError> {
+    Ok(Row {
         key: KEY,
         sort: 50,
-        bytes,
-    };
-    Ok(vec![in alloc;
+        bytes: [0x61].to_vec(alloc)?,
+    })
+}
+
+/// The transaction puts the row and commits, and its group becomes durable.
+fn put_and_flush(tx: TxId, row: Row) -> [Event; 9] {
+    [
         Event::Insert(tx, row),
         Event::Precommit(tx),
         Event::Validate(tx),
@@ -93,5 +126,5 @@ fn put_and_flush(alloc: Global, tx: TxId) -> Result<Vec<Event>, anyhow::Error> {
         Event::TakeGroup,
         Event::AppendBody,
         Event::AppendOpen,
-    ]?)
+    ]
 }
