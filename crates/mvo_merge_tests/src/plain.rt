@@ -1,10 +1,12 @@
 //! A plain slow merge, for what building one is compared with.
-use crate::making::{have_own_keys, key_of, live, rises};
+use crate::calls::{built, moved, place_of, put, renumbered};
+use crate::making::live;
 use crate::numbers::Numbers;
-use mvo_ckpt::{Place, Places};
-use mvo_merge::{Merged, build, move_places};
+use mvo_ckpt::Places;
+use mvo_merge::Merged;
 use mvo_pair::Live;
 use std::alloc::{AllocError, Global};
+use std::process::Abort;
 use std::test::Fail;
 
 /// A record: its number in its pair, its key, and whether it is still live when the merge is
@@ -67,39 +69,81 @@ fn names_others(entries: &[u32], all: &[Line]) -> bool {
         && entries.iter().all(|e| (*e as usize) < all.len())
 }
 
+/// The place of a line's record before the merge, in the pair's data file. A key whose record came
+/// late has its place in file 6, or none.
+fn put_line(places: &mut Places, data_file: u16, line: Line) -> Result<(), Fail> {
+    if line.2 {
+        put(places, line.1, data_file, line.0)?;
+    } else if line.0 % 2 == 0 {
+        put(places, line.1, 6, line.0)?;
+    }
+    Ok(())
+}
+
 /// The places of the live records: those of the left pair in file 2, those of the right one in
-/// file 4. A key whose record came late has its place in file 6, or none.
-fn places_of(alloc: Global, left: &[Line], right: &[Line]) -> Result<Places, AllocError> {
+/// file 4.
+fn places_of(alloc: Global, left: &[Line], right: &[Line]) -> Result<Places, Fail> {
     let mut places = Places::new(alloc, 9);
-    for (data_file, lines) in [(2u16, left), (4, right)] {
-        for line in lines {
-            let number = line.0 % 4_194_304;
-            if line.2 {
-                places.put(key_of(line.1), Place { data_file, number })?;
-            } else if line.0 % 2 == 0 {
-                let data_file = 6;
-                places.put(key_of(line.1), Place { data_file, number })?;
-            }
-        }
+    for line in left {
+        put_line(&mut places, 2, *line)?;
+    }
+    for line in right {
+        put_line(&mut places, 4, *line)?;
     }
     Ok(places)
 }
 
-/// Whether each key has its place after the merge into file 8.
+/// The place of a line's key after the merge into file 8, which has it as this record.
+fn wanted(at: usize, line: &Line) -> Option<(u16, usize)> {
+    if line.2 {
+        Some((8, at))
+    } else if line.0 % 2 == 0 {
+        Some((6, line.0 as usize))
+    } else {
+        None
+    }
+}
+
+/// Whether each key has its place then.
 fn has_places(places: &Places, all: &[Line]) -> bool {
-    all.iter().enumerate().all(|(at, line)| {
-        let wanted = if line.2 {
-            Some((8, at))
-        } else if line.0 % 2 == 0 {
-            Some((6, line.0 as usize))
-        } else {
-            None
-        };
-        places
-            .get(key_of(line.1))
-            .map(|p| (p.data_file, p.number as usize))
-            == wanted
-    })
+    all.iter()
+        .enumerate()
+        .all(|(at, line)| place_of(places, line.1) == wanted(at, line))
+}
+
+/// The merge of the two pairs' live records, which must be those of the lines.
+fn merge(rt: &impl Abort, alloc: Global, left: &[Line], right: &[Line]) -> Result<Merged, Fail> {
+    let merged = built(alloc, lives_of(alloc, left, 2)?, lives_of(alloc, right, 4)?)?;
+    assert!(rt; has_records(&merged, &both(alloc, left, right)?));
+    Ok(merged)
+}
+
+/// How many numbers the merged pair's delta gets, each of which must be one that came late.
+fn late_numbers(
+    rt: &impl Abort,
+    alloc: Global,
+    merged: &Merged,
+    left: &[Line],
+    right: &[Line],
+) -> Result<usize, Fail> {
+    let late = (late_of(alloc, left)?, late_of(alloc, right)?);
+    let entries = renumbered(alloc, merged, &late.0, &late.1)?;
+    assert!(rt; names_others(&entries, &both(alloc, left, right)?));
+    Ok(entries.len())
+}
+
+/// The keys have the places that a merge leaves them.
+fn places_stand(
+    rt: &impl Abort,
+    alloc: Global,
+    merged: &Merged,
+    left: &[Line],
+    right: &[Line],
+) -> Result<(), Fail> {
+    let mut places = places_of(alloc, left, right)?;
+    moved(&mut places, 8, &merged.records)?;
+    assert!(rt; has_places(&places, &both(alloc, left, right)?));
+    Ok(())
 }
 
 #[test]
@@ -107,25 +151,13 @@ fn agrees_with_a_plain_merge(rt: HostRuntime) -> Result<(), Fail> {
     let alloc = rt.alloc();
     let mut numbers = Numbers::new();
     let mut named = 0usize;
-    for round in 0u32..40 {
+    for _ in 0u32..40 {
         let left = some_lines(alloc, &mut numbers, 100)?;
         let right = some_lines(alloc, &mut numbers, 40)?;
-        let all = both(alloc, &left, &right)?;
-        let mut places = places_of(alloc, &left, &right)?;
-        let first = lives_of(alloc, &left, 2)?;
-        let second = lives_of(alloc, &right, 4)?;
-        assert!(rt; rises(&first) && rises(&second), "round {round}");
-        assert!(rt; first.len() < 100 && second.len() < 100);
-        let merged = build(alloc, first, second)?;
-        assert!(rt; has_records(&merged, &all), "round {round}");
-        let late_left = late_of(alloc, &left)?;
-        let late_right = late_of(alloc, &right)?;
-        let entries = merged.renumbering.renumber(alloc, &late_left, &late_right)?;
-        assert!(rt; names_others(&entries, &all), "round {round}");
-        named = named.saturating_add(entries.len());
-        assert!(rt; have_own_keys(&merged.records) && merged.records.len() < 200);
-        move_places(&mut places, 2, 4, 8, &merged.records);
-        assert!(rt; has_places(&places, &all), "round {round}");
+        let merged = merge(&rt, alloc, &left, &right)?;
+        let late = late_numbers(&rt, alloc, &merged, &left, &right)?;
+        named = named.saturating_add(late);
+        places_stand(&rt, alloc, &merged, &left, &right)?;
     }
     assert!(rt; named > 100);
     Ok(())
