@@ -12,6 +12,10 @@ mod open;
 #[cfg(test)]
 mod plain;
 #[cfg(test)]
+mod step;
+#[cfg(test)]
+mod stories;
+#[cfg(test)]
 mod story;
 #[cfg(test)]
 mod tests;

@@ -7,6 +7,7 @@ use mvo_txn::TxState;
 use mvo_types::{RowKey, Stamp, TxId};
 use mvo_validate::{Check, Entries, Entry};
 use mvo_visible::Shown;
+use std::alloc::Global;
 use std::mem::swap;
 use std::process::Abort;
 use std::test::Fail;
@@ -159,50 +160,76 @@ fn assert_run(rt: &impl Abort, counts: &Counts) {
     assert!(rt; counts.ended_unput > 0, "{counts:?}");
 }
 
+/// The steps of one seed. What they met is added.
+fn agree(
+    rt: &impl Abort,
+    alloc: Global,
+    seed: u64,
+    counts: &mut Counts,
+    run: &mut Counts,
+) -> Result<(), Fail> {
+    let mut draws = Draws(seed);
+    let mut engine = Engine::new(alloc, seed)?;
+    swap(&mut engine.counts, run);
+    for _step in 0..STEPS {
+        engine.advance(&mut draws)?;
+        compare(rt, &engine, &mut draws, counts);
+    }
+    swap(&mut engine.counts, run);
+    Ok(())
+}
+
 #[test]
 fn agrees_with_plain_walks(rt: HostRuntime) -> Result<(), Fail> {
-    let alloc = rt.alloc();
     let mut counts = Counts::new();
     let mut run = Counts::new();
     for seed in SEEDS {
-        let mut draws = Draws(seed);
-        let mut engine = Engine::new(alloc, seed)?;
-        swap(&mut engine.counts, &mut run);
-        for _step in 0..STEPS {
-            engine.advance(&mut draws)?;
-            compare(&rt, &engine, &mut draws, &mut counts);
-        }
-        swap(&mut engine.counts, &mut run);
+        agree(&rt, rt.alloc(), seed, &mut counts, &mut run)?;
     }
     assert_met(&rt, &counts);
     assert_run(&rt, &run);
     Ok(())
 }
 
-#[test]
-fn entries_stand_in_the_order_of_their_first_use(rt: HostRuntime) -> Result<(), Fail> {
-    let key = Entry::Key(key_of(7));
-    let range = Entry::Range(3, 7, 9);
-    let empty = Entry::Range(3, 9, 7);
-    let mut entries = Entries::new(rt.alloc());
+const KEY: Entry = Entry::Key(RowKey { table: 3, key: 7 });
+
+const RANGE: Entry = Entry::Range(3, 7, 9);
+
+const EMPTY: Entry = Entry::Range(3, 9, 7);
+
+/// Entries in turn, and whether each is new.
+const CALLS: [(Entry, bool); 5] = [
+    (RANGE, true),
+    (KEY, true),
+    (RANGE, false),
+    (EMPTY, true),
+    (KEY, false),
+];
+
+fn noted(rt: &impl Abort, alloc: Global) -> Result<Entries, Fail> {
+    let mut entries = Entries::new(alloc);
     assert_eq!(rt; entries.at(0), None);
-    let calls = [
-        (range, true),
-        (key, true),
-        (range, false),
-        (empty, true),
-        (key, false),
-    ];
-    for (entry, is_new) in calls {
+    for (entry, is_new) in CALLS {
         entries.make_room()?;
         assert_eq!(rt; entries.note(entry), is_new, "{entry:?}");
     }
+    Ok(entries)
+}
+
+const IN_ORDER: [Option<Entry>; 4] = [Some(RANGE), Some(KEY), Some(EMPTY), None];
+
+fn stand_in_order(rt: &impl Abort, entries: &Entries) {
     assert_eq!(rt; entries.len(), 3);
-    let want = [Some(range), Some(key), Some(empty), None];
-    for (place, entry) in want.into_iter().enumerate() {
-        assert_eq!(rt; entries.at(place), entry, "at {place}");
+    for (place, entry) in IN_ORDER.iter().enumerate() {
+        assert_eq!(rt; entries.at(place), *entry, "at {place}");
     }
-    assert!(rt; entries.contains(empty));
+}
+
+#[test]
+fn entries_stand_in_the_order_of_their_first_use(rt: HostRuntime) -> Result<(), Fail> {
+    let entries = noted(&rt, rt.alloc())?;
+    stand_in_order(&rt, &entries);
+    assert!(rt; entries.contains(EMPTY));
     assert!(rt; !entries.contains(Entry::Key(key_of(9))));
     Ok(())
 }

@@ -2,8 +2,20 @@
 #![tactic(auto)]
 
 #[cfg(test)]
+mod bodies;
+#[cfg(test)]
 mod checkpoints;
+#[cfg(test)]
+mod disks;
 #[cfg(test)]
 mod faults;
 #[cfg(test)]
+mod reply;
+#[cfg(test)]
+mod step;
+#[cfg(test)]
+mod stores;
+#[cfg(test)]
 mod tests;
+#[cfg(test)]
+mod vectors;

@@ -1,56 +1,21 @@
+use crate::bodies::Body::{OnePut, Round};
+use crate::disks::{are_long, formatted, hold, holding, new_disk, stopped, written};
+use crate::reply::Reply::{self, Done, Emptied, Installed, Marked, Refused};
+use crate::step::Step::{
+    self, Append, AppendBody, AppendOpen, CanTake, InstallBody, InstallClose, InstallOpen, Mark,
+    Reclaim, Rotate, RotateWrite, Take,
+};
+use crate::stores::{
+    after_stop, follow, following, gives, has_row, names, new_store, rows_on, store_on, store_with,
+};
+use crate::vectors::{FIRST, FRESH, ROTATED, SEGMENT};
 use mvo_disk::{Disk, MemDisk, Work};
-use mvo_group::Group;
 use mvo_store::{Generation, Reclaimed, Store, format};
-use mvo_types::{Refusal, RowKey, Rows, Stamp};
+use mvo_types::{Refusal, Stamp};
 use std::alloc::Global;
 use std::process::Abort;
 use std::test::Fail;
 use std::thread::Threads;
-
-// A segment without groups.
-const FRESH: [u8; 9] = [0x4d, 0x56, 0x4f, 0x4c, 1, 0, 0, 0, 0];
-
-// Slot 0 of a new store: generation 0, mark 0, no pairs, segment 2.
-const FIRST: [u8; 35] = [
-    0xa5, 0x1e, 0, 0, 0, 0x4d, 0x56, 0x4f, 0x4d, 1, 0, 0, 0, 0, 0, 0, 0, 0, 0, 0, 0, 0, 0, 0, 0, 0,
-    0, 0, 0, 0, 0, 1, 0, 2, 0,
-];
-
-// Slot 1 after a rotation: generation 1, mark 0, no pairs, segments 2 and 3.
-const ROTATED: [u8; 37] = [
-    0xa5, 0x20, 0, 0, 0, 0x4d, 0x56, 0x4f, 0x4d, 1, 0, 0, 0, 1, 0, 0, 0, 0, 0, 0, 0, 0, 0, 0, 0, 0,
-    0, 0, 0, 0, 0, 2, 0, 2, 0, 3, 0,
-];
-
-// The group (0, 2]: one record, end 2, one put at table 0, key 5, sort 50, data 61.
-pub(crate) const ONE_PUT: [u8; 49] = [
-    0, 0, 0, 0, 0, 0, 0, 0, 2, 0, 0, 0, 0, 0, 0, 0, 1, 0, 2, 0, 0, 0, 0, 0, 0, 0, 1, 0, 1, 0, 5, 0,
-    0, 0, 0, 0, 0, 0, 0x32, 0, 0, 0, 0, 0, 0, 0, 1, 0, 0x61,
-];
-
-// The segment with that group.
-const SEGMENT: [u8; 63] = [
-    0x4d, 0x56, 0x4f, 0x4c, 1, 0, 0, 0, 0xa5, 0x31, 0, 0, 0, 0, 0, 0, 0, 0, 0, 0, 0, 2, 0, 0, 0, 0,
-    0, 0, 0, 1, 0, 2, 0, 0, 0, 0, 0, 0, 0, 1, 0, 1, 0, 5, 0, 0, 0, 0, 0, 0, 0, 0x32, 0, 0, 0, 0, 0,
-    0, 0, 1, 0, 0x61, 0,
-];
-
-// A disk whose file has these bytes, synced or not.
-fn holding(alloc: Global, file: u16, bytes: &[u8]) -> Result<MemDisk, Fail> {
-    let mut disk = MemDisk::new(alloc)?;
-    if file > 7 || disk.faults() != 0 || !disk.bytes(file).is_empty() {
-        return Err(Fail::from("a new disk"));
-    }
-    disk.write_at(file, 0, bytes)?;
-    Ok(disk)
-}
-
-pub(crate) fn formatted(alloc: Global, disk: MemDisk) -> Result<MemDisk, Fail> {
-    match format(alloc, disk) {
-        Ok(disk) => Ok(disk),
-        Err((refusal, _)) => Err(Fail::from(refusal)),
-    }
-}
 
 // The refusal, and the bytes of slot 0, of slot 1 and of file 2 then.
 fn refused(alloc: Global, disk: MemDisk) -> Result<String, Fail> {
@@ -69,12 +34,8 @@ fn refused(alloc: Global, disk: MemDisk) -> Result<String, Fail> {
 
 #[test]
 fn a_new_store_is_written(rt: HostRuntime) -> Result<(), Fail> {
-    let alloc = rt.alloc();
-    let disk = formatted(alloc, MemDisk::new(alloc)?)?;
-    assert_eq!(rt; disk.bytes(0), FIRST.as_slice());
-    assert_eq!(rt; disk.bytes(1), [0].as_slice());
-    assert_eq!(rt; disk.bytes(2), FRESH.as_slice());
-    assert_eq!(rt; disk.bytes(3), [].as_slice());
+    let disk = new_disk(rt.alloc())?;
+    hold(&rt, &disk, &[(0, &FIRST), (1, &[0]), (2, &FRESH), (3, &[])]);
     assert_eq!(rt; disk.faults(), 0);
     Ok(())
 }
@@ -82,24 +43,30 @@ fn a_new_store_is_written(rt: HostRuntime) -> Result<(), Fail> {
 #[test]
 fn a_store_is_not_formatted_again(rt: HostRuntime) -> Result<(), Fail> {
     let alloc = rt.alloc();
-    let disk = formatted(alloc, MemDisk::new(alloc)?)?;
-    assert_eq!(rt; refused(alloc, disk)?.as_str(), "refused 57 35 1 9");
+    let again = refused(alloc, new_disk(alloc)?)?;
+    assert_eq!(rt; again.as_str(), "refused 57 35 1 9");
     Ok(())
 }
 
 #[test]
 fn an_open_gate_is_enough(rt: HostRuntime) -> Result<(), Fail> {
     let alloc = rt.alloc();
-    for slot in 0..2 {
-        let disk = holding(alloc, slot, &[0xa5])?;
-        let open = refused(alloc, disk)?;
-        let first = if slot == 0 {
-            "refused 57 1 0 0"
-        } else {
-            "refused 57 0 1 0"
-        };
-        assert_eq!(rt; open.as_str(), first);
+    for (slot, answer) in [(0, "refused 57 1 0 0"), (1, "refused 57 0 1 0")] {
+        let open = refused(alloc, holding(alloc, slot, &[0xa5])?)?;
+        assert_eq!(rt; open.as_str(), answer);
     }
+    Ok(())
+}
+
+// What the files hold once a store is formatted over this one.
+fn formatted_over(
+    rt: &impl Abort,
+    alloc: Global,
+    file: (u16, &[u8]),
+    files: &[(u16, &[u8])],
+) -> Result<(), Fail> {
+    let disk = formatted(alloc, holding(alloc, file.0, file.1)?)?;
+    hold(rt, &disk, files);
     Ok(())
 }
 
@@ -107,240 +74,168 @@ fn an_open_gate_is_enough(rt: HostRuntime) -> Result<(), Fail> {
 #[test]
 fn a_closed_slot_is_written_over(rt: HostRuntime) -> Result<(), Fail> {
     let alloc = rt.alloc();
-    let disk = formatted(alloc, holding(alloc, 1, &[1, 0xa5, 2])?)?;
-    assert_eq!(rt; disk.bytes(0), FIRST.as_slice());
-    assert_eq!(rt; disk.bytes(1), [1, 0xa5, 2].as_slice());
-    let disk = formatted(alloc, holding(alloc, 2, &[7; 20])?)?;
-    assert_eq!(rt; disk.bytes(2), FRESH.as_slice());
-    let disk = formatted(alloc, holding(alloc, 7, &[7; 20])?)?;
-    assert_eq!(rt; disk.bytes(7), [7; 20].as_slice());
-    Ok(())
+    let slots: [(u16, &[u8]); 2] = [(0, &FIRST), (1, &[1, 0xa5, 2])];
+    formatted_over(&rt, alloc, (1, &[1, 0xa5, 2]), &slots)?;
+    formatted_over(&rt, alloc, (2, &[7; 20]), &[(2, &FRESH)])?;
+    formatted_over(&rt, alloc, (7, &[7; 20]), &[(7, &[7; 20])])
 }
 
 // ---- a store
 
-pub(crate) fn opened(
-    rt: &(impl Threads + Sync),
-    alloc: Global,
-    disk: MemDisk,
-) -> Result<(Store<MemDisk>, Rows, Stamp), Fail> {
-    match Store::open(rt, alloc, disk) {
-        Ok(opened) => Ok(opened),
-        Err((refusal, _)) => Err(Fail::from(refusal)),
-    }
-}
-
-// A store over a new disk.
-pub(crate) fn new_store(rt: &(impl Threads + Sync), alloc: Global) -> Result<Store<MemDisk>, Fail> {
-    let (store, _, _) = opened(rt, alloc, formatted(alloc, MemDisk::new(alloc)?)?)?;
-    Ok(store)
-}
-
-pub(crate) fn take(store: &mut Store<MemDisk>, alloc: Global, body: &[u8]) -> Result<(), Fail> {
-    let group = Group::decode(alloc, body)?.ok_or("the bytes are a group")?;
-    if group.prev().0 != store.mark().0 {
-        return Err(Fail::from("the group follows the mark"));
-    }
-    match store.take_group(group) {
-        Ok(()) => Ok(()),
-        Err((refusal, _)) => Err(Fail::from(refusal)),
-    }
-}
-
-// Takes a group and appends it, and answers the mark that is durable then.
-pub(crate) fn append(
-    store: &mut Store<MemDisk>,
-    alloc: Global,
-    body: &[u8],
-) -> Result<Stamp, Fail> {
-    take(store, alloc, body)?;
-    store.append_body()?;
-    Ok(store.append_open()?.mark())
-}
-
-pub(crate) fn rotate(store: &mut Store<MemDisk>) -> Result<Generation, Fail> {
-    store.rotate_write()?;
-    store.install_close()?;
-    store.install_body()?;
-    Ok(store.install_open()?)
-}
-
-// The group of round k: (2k - 2, 2k], one put of key k.
-pub(crate) fn round(alloc: Global, k: u8) -> Result<Vec<u8>, Fail> {
-    let mut body = ONE_PUT.to_vec(alloc)?;
-    let mark = k.saturating_mul(2);
-    body[0] = mark.saturating_sub(2);
-    body[8] = mark;
-    body[18] = mark;
-    body[30] = k;
-    Ok(body)
-}
-
-// How long the data of the row at table 0 and this key is.
-pub(crate) fn len_at(rows: &Rows, key: u64) -> Result<Option<usize>, Fail> {
-    let row = rows.get(RowKey { table: 0, key })?;
-    Ok(row.map(|row| row.data_len()))
-}
+const ONE_GROUP: [(Step, Reply); 3] = [
+    (Mark, Marked(Stamp(0))),
+    (Append(OnePut), Marked(Stamp(2))),
+    (Mark, Marked(Stamp(2))),
+];
 
 #[test]
 fn a_group_is_appended(rt: HostRuntime) -> Result<(), Fail> {
     let alloc = rt.alloc();
-    let mut store = new_store(&rt, alloc)?;
-    assert_eq!(rt; store.mark(), Stamp(0));
-    assert_eq!(rt; append(&mut store, alloc, &ONE_PUT)?, Stamp(2));
-    assert_eq!(rt; store.mark(), Stamp(2));
-    let disk = store.into_disk();
-    assert_eq!(rt; disk.bytes(2), SEGMENT.as_slice());
-    let (_, rows, mark) = opened(&rt, alloc, disk)?;
-    assert_eq!(rt; mark, Stamp(2));
-    let row = rows.get(RowKey { table: 0, key: 5 })?.ok_or("the row")?;
-    assert_eq!(rt; row.sort, 50);
-    assert_eq!(rt; row.bytes.as_slice(), b"a".as_slice());
-    Ok(())
+    let disk = following(&rt, alloc, &ONE_GROUP)?.into_disk();
+    hold(&rt, &disk, &[(2, &SEGMENT)]);
+    let rows = rows_on(&rt, alloc, disk, 2)?;
+    has_row(&rt, &rows, b"a")
 }
+
+const ONE_BODY: [(Step, Reply); 2] = [(Take(OnePut), Done), (AppendBody, Done)];
 
 #[test]
 fn a_body_alone_counts_for_nothing(rt: HostRuntime) -> Result<(), Fail> {
     let alloc = rt.alloc();
-    let mut store = new_store(&rt, alloc)?;
-    take(&mut store, alloc, &ONE_PUT)?;
-    store.append_body()?;
-    let mut disk = store.into_disk();
-    disk.stop(&[])?;
-    assert_eq!(rt; disk.bytes(2).len(), 63);
-    let (_, rows, mark) = opened(&rt, alloc, disk)?;
-    assert_eq!(rt; mark, Stamp(0));
-    assert_eq!(rt; len_at(&rows, 5)?, None);
-    Ok(())
+    let disk = stopped(following(&rt, alloc, &ONE_BODY)?.into_disk())?;
+    are_long(&rt, &disk, &[(2, 63)]);
+    gives(&rt, alloc, disk, 0, &[(5, None)])
 }
+
+const GROUP_AND_ROTATION: [(Step, Reply); 3] = [
+    (Append(OnePut), Marked(Stamp(2))),
+    (Rotate, Installed(Generation(1))),
+    (Step::Generation, Installed(Generation(1))),
+];
+
+// A disk with one group and a rotation.
+fn rotated(rt: &(impl Abort + Threads + Sync), alloc: Global) -> Result<MemDisk, Fail> {
+    let store = following(rt, alloc, &GROUP_AND_ROTATION)?;
+    names(rt, &store, &[2, 3]);
+    Ok(store.into_disk())
+}
+
+// The next group goes to the fresh segment.
+const NEXT_GROUP: [(Step, Reply); 1] = [(Append(Round(2)), Marked(Stamp(4)))];
 
 #[test]
 fn a_rotation_is_installed(rt: HostRuntime) -> Result<(), Fail> {
     let alloc = rt.alloc();
-    let mut store = new_store(&rt, alloc)?;
-    let _ = append(&mut store, alloc, &ONE_PUT)?;
-    assert_eq!(rt; rotate(&mut store)?, Generation(1));
-    assert_eq!(rt; store.manifest().generation(), 1);
-    assert_eq!(rt; store.manifest().segments(), [2, 3].as_slice());
-    let disk = store.into_disk();
-    assert_eq!(rt; disk.bytes(0), FIRST.as_slice());
-    assert_eq!(rt; disk.bytes(1), ROTATED.as_slice());
-    assert_eq!(rt; disk.bytes(2), SEGMENT.as_slice());
-    assert_eq!(rt; disk.bytes(3), FRESH.as_slice());
-    let (mut store, rows, mark) = opened(&rt, alloc, disk)?;
-    assert_eq!(rt; mark, Stamp(2));
-    assert_eq!(rt; len_at(&rows, 5)?, Some(1));
-    // The next group goes to the fresh segment.
-    assert_eq!(rt; append(&mut store, alloc, &round(alloc, 2)?)?, Stamp(4));
-    let disk = store.into_disk();
-    assert_eq!(rt; disk.bytes(2).len(), 63);
-    assert_eq!(rt; disk.bytes(3).len(), 63);
+    let disk = rotated(&rt, alloc)?;
+    hold(
+        &rt,
+        &disk,
+        &[(0, &FIRST), (1, &ROTATED), (2, &SEGMENT), (3, &FRESH)],
+    );
+    let mut store = store_with(&rt, alloc, disk, 2, &[(5, Some(1))])?;
+    follow(&rt, alloc, &mut store, &NEXT_GROUP)?;
+    are_long(&rt, &store.into_disk(), &[(2, 63), (3, 63)]);
     Ok(())
 }
 
-// The store after a stop, which must have these rounds.
-pub(crate) fn stopped(
-    rt: &(impl Abort + Threads + Sync),
-    alloc: Global,
-    store: Store<MemDisk>,
-    rounds: u8,
-) -> Result<Store<MemDisk>, Fail> {
-    let mut disk = store.into_disk();
-    disk.stop(&[])?;
-    let (store, rows, mark) = opened(rt, alloc, disk)?;
-    assert_eq!(rt; mark, Stamp(rounds.saturating_mul(2) as u64));
-    for key in 1..=3u8 {
-        let wanted = if key <= rounds { Some(1) } else { None };
-        assert_eq!(rt; len_at(&rows, key as u64)?, wanted);
-    }
-    Ok(store)
-}
+const EACH_ROUND: [[(Step, Reply); 2]; 3] = [
+    [
+        (Append(Round(1)), Marked(Stamp(2))),
+        (Rotate, Installed(Generation(1))),
+    ],
+    [
+        (Append(Round(2)), Marked(Stamp(4))),
+        (Rotate, Installed(Generation(2))),
+    ],
+    [
+        (Append(Round(3)), Marked(Stamp(6))),
+        (Rotate, Installed(Generation(3))),
+    ],
+];
 
 #[test]
 fn three_rounds_are_kept(rt: HostRuntime) -> Result<(), Fail> {
     let alloc = rt.alloc();
     let mut store = new_store(&rt, alloc)?;
-    for k in 1..=3u8 {
-        let _ = append(&mut store, alloc, &round(alloc, k)?)?;
-        assert_eq!(rt; rotate(&mut store)?.0, k as u64);
-        store = stopped(&rt, alloc, store, k)?;
+    let mut rounds = 0u8;
+    for steps in EACH_ROUND {
+        follow(&rt, alloc, &mut store, &steps)?;
+        rounds = rounds.saturating_add(1);
+        store = after_stop(&rt, alloc, store, rounds)?;
     }
-    assert_eq!(rt; store.manifest().segments(), [2, 3, 4, 5].as_slice());
+    names(&rt, &store, &[2, 3, 4, 5]);
     Ok(())
 }
 
-// The first steps of a rotation.
-fn rotate_so_far(store: &mut Store<MemDisk>, steps: u8) -> Result<(), Fail> {
-    if steps == 0 {
-        return Ok(());
-    }
-    store.rotate_write()?;
-    if steps == 1 {
-        return Ok(());
-    }
-    store.install_close()?;
-    if steps == 2 {
-        return Ok(());
-    }
-    store.install_body()?;
-    if steps == 3 {
-        return Ok(());
-    }
-    let _ = store.install_open()?;
-    Ok(())
-}
+// One round, and the steps of a rotation.
+const ROTATION: [(Step, Reply); 5] = [
+    (Append(Round(1)), Marked(Stamp(2))),
+    (RotateWrite, Done),
+    (InstallClose, Done),
+    (InstallBody, Done),
+    (InstallOpen, Installed(Generation(1))),
+];
 
 // A store with one round, and so many steps of a rotation.
-fn rotating(rt: &(impl Threads + Sync), alloc: Global, steps: u8) -> Result<Store<MemDisk>, Fail> {
-    let mut store = new_store(rt, alloc)?;
-    let _ = append(&mut store, alloc, &round(alloc, 1)?)?;
-    rotate_so_far(&mut store, steps)?;
-    Ok(store)
+fn rotating(
+    rt: &(impl Abort + Threads + Sync),
+    alloc: Global,
+    steps: usize,
+) -> Result<Store<MemDisk>, Fail> {
+    assert!(rt; steps < 5);
+    following(rt, alloc, &ROTATION[..steps + 1])
 }
 
 // A stop after each step of a rotation takes nothing away.
 #[test]
 fn a_rotation_may_be_stopped(rt: HostRuntime) -> Result<(), Fail> {
     let alloc = rt.alloc();
-    for steps in 0..=4u8 {
-        let store = stopped(&rt, alloc, rotating(&rt, alloc, steps)?, 1)?;
-        let wanted = if steps > 3 { 1 } else { 0 };
-        assert_eq!(rt; store.manifest().generation(), wanted);
+    for (steps, generation) in [(0, 0), (1, 0), (2, 0), (3, 0), (4, 1)] {
+        let store = after_stop(&rt, alloc, rotating(&rt, alloc, steps)?, 1)?;
+        assert_eq!(rt; store.manifest().generation(), generation);
     }
     Ok(())
 }
 
+const NOTHING_IS_DUE: [(Step, Reply); 4] = [
+    (CanTake, Done),
+    (AppendBody, Refused(Refusal::NothingToDo)),
+    (RotateWrite, Refused(Refusal::NothingToDo)),
+    (InstallClose, Refused(Refusal::NothingToDo)),
+];
+
 #[test]
 fn nothing_is_due_at_first(rt: HostRuntime) -> Result<(), Fail> {
-    let mut store = new_store(&rt, rt.alloc())?;
-    assert_eq!(rt; store.can_take(), None);
-    assert_eq!(rt; store.append_body(), Err(Refusal::NothingToDo));
-    assert_eq!(rt; store.rotate_write(), Err(Refusal::NothingToDo));
-    assert_eq!(rt; store.install_close(), Err(Refusal::NothingToDo));
+    let _ = following(&rt, rt.alloc(), &NOTHING_IS_DUE)?;
     Ok(())
 }
+
+const ANOTHER_ROTATION: [(Step, Reply); 2] = [
+    (RotateWrite, Refused(Refusal::Busy)),
+    (InstallBody, Refused(Refusal::NothingToDo)),
+];
 
 #[test]
 fn one_rotation_runs_at_a_time(rt: HostRuntime) -> Result<(), Fail> {
     let mut store = rotating(&rt, rt.alloc(), 1)?;
-    assert_eq!(rt; store.rotate_write(), Err(Refusal::Busy));
-    assert_eq!(rt; store.install_body(), Err(Refusal::NothingToDo));
-    Ok(())
+    follow(&rt, rt.alloc(), &mut store, &ANOTHER_ROTATION)
 }
+
+const A_GATE_IS_CLOSED: [(Step, Reply); 7] = [
+    (Take(Round(2)), Done),
+    (CanTake, Refused(Refusal::Busy)),
+    (AppendBody, Done),
+    (AppendBody, Refused(Refusal::Busy)),
+    (InstallOpen, Refused(Refusal::Busy)),
+    (AppendOpen, Marked(Stamp(4))),
+    (InstallOpen, Installed(Generation(1))),
+];
 
 // Nothing is installed behind a body whose gate is closed.
 #[test]
 fn an_install_waits_for_a_gate(rt: HostRuntime) -> Result<(), Fail> {
-    let alloc = rt.alloc();
-    let mut store = rotating(&rt, alloc, 3)?;
-    take(&mut store, alloc, &round(alloc, 2)?)?;
-    assert_eq!(rt; store.can_take(), Some(Refusal::Busy));
-    store.append_body()?;
-    assert_eq!(rt; store.append_body(), Err(Refusal::Busy));
-    assert_eq!(rt; store.install_open(), Err(Refusal::Busy));
-    assert_eq!(rt; store.append_open()?.mark(), Stamp(4));
-    assert_eq!(rt; store.install_open()?, Generation(1));
-    Ok(())
+    let mut store = rotating(&rt, rt.alloc(), 3)?;
+    follow(&rt, rt.alloc(), &mut store, &A_GATE_IS_CLOSED)
 }
 
 // ---- reclaiming
@@ -355,54 +250,60 @@ fn changes(disk: &MemDisk) -> (usize, usize) {
     (cuts.count(), syncs.count())
 }
 
+const DEAD_FILE_BESIDE_A_GROUP: [(Step, Reply); 3] = [
+    (Append(OnePut), Marked(Stamp(2))),
+    (Reclaim, Emptied(Reclaimed::More)),
+    (Reclaim, Emptied(Reclaimed::Done)),
+];
+
 #[test]
 fn a_dead_file_is_emptied(rt: HostRuntime) -> Result<(), Fail> {
     let alloc = rt.alloc();
     let disk = formatted(alloc, holding(alloc, 7, &[7; 20])?)?;
-    let (mut store, _, _) = opened(&rt, alloc, disk)?;
-    let _ = append(&mut store, alloc, &ONE_PUT)?;
-    assert_eq!(rt; store.reclaim()?, Reclaimed::More);
-    assert_eq!(rt; store.reclaim()?, Reclaimed::Done);
-    let mut disk = store.into_disk();
-    disk.stop(&[])?;
-    assert_eq!(rt; disk.bytes(7), [].as_slice());
-    assert_eq!(rt; disk.bytes(2), SEGMENT.as_slice());
-    assert_eq!(rt; disk.bytes(1), [0].as_slice());
+    let mut store = store_on(&rt, alloc, disk)?;
+    follow(&rt, alloc, &mut store, &DEAD_FILE_BESIDE_A_GROUP)?;
+    let disk = stopped(store.into_disk())?;
+    hold(&rt, &disk, &[(7, &[]), (2, &SEGMENT), (1, &[0])]);
     Ok(())
+}
+
+const A_FILE_IS_EMPTIED: [(Step, Reply); 1] = [(Reclaim, Emptied(Reclaimed::More))];
+
+// A store whose disk has bytes in the files 4 and 7, which are dead.
+fn two_dead_files(rt: &(impl Threads + Sync), alloc: Global) -> Result<Store<MemDisk>, Fail> {
+    let disk = formatted(alloc, holding(alloc, 7, &[7; 20])?)?;
+    store_on(rt, alloc, stopped(written(disk, 4, &[4])?)?)
 }
 
 #[test]
 fn one_file_is_emptied_by_a_call(rt: HostRuntime) -> Result<(), Fail> {
     let alloc = rt.alloc();
-    let mut disk = formatted(alloc, holding(alloc, 7, &[7; 20])?)?;
-    if disk.faults() != 0 || !disk.bytes(4).is_empty() {
-        return Err(Fail::from("an empty file"));
-    }
-    disk.write_at(4, 0, &[4])?;
-    disk.stop(&[])?;
-    let (mut store, _, _) = opened(&rt, alloc, disk)?;
-    assert_eq!(rt; store.reclaim()?, Reclaimed::More);
+    let mut store = two_dead_files(&rt, alloc)?;
+    follow(&rt, alloc, &mut store, &A_FILE_IS_EMPTIED)?;
     let disk = store.into_disk();
-    assert_eq!(rt; disk.bytes(4), [].as_slice());
-    assert_eq!(rt; disk.bytes(7).len(), 20);
+    are_long(&rt, &disk, &[(4, 0), (7, 20)]);
     // Opening syncs the two slots and the segment.
     assert_eq!(rt; changes(&disk), (1, 4));
     Ok(())
 }
+
+const ALL_IS_EMPTIED: [(Step, Reply); 1] = [(Reclaim, Emptied(Reclaimed::Done))];
+
+const A_SEGMENT_IS_EMPTIED: [(Step, Reply); 2] = [
+    (Reclaim, Emptied(Reclaimed::More)),
+    (Reclaim, Emptied(Reclaimed::Done)),
+];
 
 // The fresh segment of a rotation that runs is kept. It is dead where the rotation is abandoned.
 #[test]
 fn a_rotation_keeps_its_segment(rt: HostRuntime) -> Result<(), Fail> {
     let alloc = rt.alloc();
     let mut store = rotating(&rt, alloc, 1)?;
-    assert_eq!(rt; store.reclaim()?, Reclaimed::Done);
+    follow(&rt, alloc, &mut store, &ALL_IS_EMPTIED)?;
     let disk = store.into_disk();
-    assert_eq!(rt; disk.bytes(3), FRESH.as_slice());
-    let (mut store, _, _) = opened(&rt, alloc, disk)?;
-    assert_eq!(rt; store.reclaim()?, Reclaimed::More);
-    assert_eq!(rt; store.reclaim()?, Reclaimed::Done);
-    let disk = store.into_disk();
-    assert_eq!(rt; disk.bytes(3), [].as_slice());
-    assert_eq!(rt; disk.bytes(2).len(), 63);
+    hold(&rt, &disk, &[(3, &FRESH)]);
+    let mut store = store_on(&rt, alloc, disk)?;
+    follow(&rt, alloc, &mut store, &A_SEGMENT_IS_EMPTIED)?;
+    are_long(&rt, &store.into_disk(), &[(3, 0), (2, 63)]);
     Ok(())
 }

@@ -1,0 +1,112 @@
+//! Steps of a store.
+use crate::bodies::Body;
+use crate::reply::{Reply, done, emptied, free, installed, marked, written};
+use mvo_disk::MemDisk;
+use mvo_group::Group;
+use mvo_store::{Generation, Progress, Store};
+use mvo_types::{Refusal, Stamp};
+use std::alloc::Global;
+use std::test::Fail;
+
+#[derive(Clone, Copy)]
+pub(crate) enum Step {
+    /// The mark that the store has.
+    Mark,
+    /// The generation of its manifest.
+    Generation,
+    /// Whether it can take a group.
+    CanTake,
+    Take(Body),
+    AppendBody,
+    AppendOpen,
+    /// Takes a group and appends it: the mark that is durable then.
+    Append(Body),
+    RotateWrite,
+    CheckpointRead,
+    CheckpointData,
+    CheckpointDelta,
+    InstallClose,
+    InstallBody,
+    InstallOpen,
+    /// All steps of a rotation.
+    Rotate,
+    /// All steps of a checkpoint.
+    Checkpoint,
+    Reclaim,
+}
+
+fn take(store: &mut Store<MemDisk>, alloc: Global, body: Body) -> Result<Reply, Fail> {
+    let body = body.bytes(alloc)?;
+    let group = Group::decode(alloc, &body)?.ok_or("the bytes are a group")?;
+    if group.prev().0 != store.mark().0 {
+        return Err(Fail::from("the group follows the mark"));
+    }
+    match store.take_group(group) {
+        Ok(()) => Ok(Reply::Done),
+        Err((refusal, _)) => Ok(Reply::Refused(refusal)),
+    }
+}
+
+fn append(store: &mut Store<MemDisk>) -> Result<Stamp, Refusal> {
+    store.append_body()?;
+    Ok(store.append_open()?.mark())
+}
+
+fn take_and_append(store: &mut Store<MemDisk>, alloc: Global, body: Body) -> Result<Reply, Fail> {
+    match take(store, alloc, body)? {
+        Reply::Done => Ok(Reply::Marked(append(store)?)),
+        refused => Ok(refused),
+    }
+}
+
+fn install(store: &mut Store<MemDisk>) -> Result<Generation, Refusal> {
+    store.install_close()?;
+    store.install_body()?;
+    store.install_open()
+}
+
+fn rotate(store: &mut Store<MemDisk>) -> Result<Generation, Refusal> {
+    store.rotate_write()?;
+    install(store)
+}
+
+fn write_deltas(store: &mut Store<MemDisk>) -> Result<(), Refusal> {
+    for _ in 0..65 {
+        if store.checkpoint_delta()? == Progress::Ready {
+            break;
+        }
+    }
+    Ok(())
+}
+
+fn checkpoint(store: &mut Store<MemDisk>) -> Result<Generation, Refusal> {
+    store.checkpoint_read()?;
+    store.checkpoint_data()?;
+    write_deltas(store)?;
+    install(store)
+}
+
+impl Step {
+    /// What the step is answered.
+    pub(crate) fn of(self, store: &mut Store<MemDisk>, alloc: Global) -> Result<Reply, Fail> {
+        Ok(match self {
+            Step::Mark => Reply::Marked(store.mark()),
+            Step::Generation => Reply::Installed(Generation(store.manifest().generation())),
+            Step::CanTake => free(store.can_take()),
+            Step::Take(body) => take(store, alloc, body)?,
+            Step::AppendBody => done(store.append_body()),
+            Step::AppendOpen => marked(store.append_open()),
+            Step::Append(body) => take_and_append(store, alloc, body)?,
+            Step::RotateWrite => done(store.rotate_write()),
+            Step::CheckpointRead => done(store.checkpoint_read()),
+            Step::CheckpointData => done(store.checkpoint_data()),
+            Step::CheckpointDelta => written(store.checkpoint_delta()),
+            Step::InstallClose => done(store.install_close()),
+            Step::InstallBody => done(store.install_body()),
+            Step::InstallOpen => installed(store.install_open()),
+            Step::Rotate => installed(rotate(store)),
+            Step::Checkpoint => installed(checkpoint(store)),
+            Step::Reclaim => emptied(store.reclaim()),
+        })
+    }
+}
