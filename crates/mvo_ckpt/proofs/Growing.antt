@@ -19,7 +19,7 @@ use Rattle.mvo_ckpt.proofs.Lasts.{eq, eq_self}
 use Rattle.mvo_ckpt.proofs.Held.{Entries, first_of, found_among, keys-places_of}
 
 -- a key that stands behind others isn't one of them
-differs_before : (xs : List RowKey) (k : RowKey) (ys : List RowKey) (x : RowKey) → IsDistinct eq (xs ++ k ∷ ys) → Among xs x → eq x k ≡ false
+pub differs_before : (xs : List RowKey) (k : RowKey) (ys : List RowKey) (x : RowKey) → IsDistinct eq (xs ++ k ∷ ys) → Among xs x → eq x k ≡ false
 unfolding IsDistinct
 differs_before [] k ys x differ a = absurd a
 differs_before (z ∷ xs) k ys x differ (inl e) = subst (λ y. eq y k ≡ false) e (here xs differ.0)

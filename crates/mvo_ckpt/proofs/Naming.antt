@@ -53,7 +53,7 @@ rise_filter p (l ∷ live) up = go (p l) (rise_filter p live up.1)
 pub live_rises : (ns : List ℕ) (es : List EntryData) → Rises (numbers_in (live_of ns es))
 live_rises ns es = rise_filter (λ e. not (names ns e.0)) (enumerate_from 0 es) (counted_rise 0 es)
 
-counted_below : (n : ℕ) (es : List EntryData) → AllByRecursion (λ x. x < n + length es) (numbers_in (enumerate_from n es))
+pub counted_below : (n : ℕ) (es : List EntryData) → AllByRecursion (λ x. x < n + length es) (numbers_in (enumerate_from n es))
 counted_below n [] = tt
 counted_below n (e ∷ es) = (
   omega arith,
@@ -92,7 +92,7 @@ names_others gs below ns es counted are = record {
 
 -- ---- what they leave
 
-two_filters : {X : Type 0} (p q : X → Bool) (xs : List X) → filter (λ x. not (p x || q x)) xs ≡ filter (λ x. not (q x)) (filter (λ x. not (p x)) xs)
+pub two_filters : {X : Type 0} (p q : X → Bool) (xs : List X) → filter (λ x. not (p x || q x)) xs ≡ filter (λ x. not (q x)) (filter (λ x. not (p x)) xs)
 two_filters p q [] = refl
 two_filters p q (x ∷ xs) = go (p x) (q x) refl (two_filters p q xs)
   where
@@ -102,7 +102,7 @@ two_filters p q (x ∷ xs) = go (p x) (q x) refl (two_filters p q xs)
     go false true is later = later ∙ sym (ap (λ t. cond (not t) (x ∷ filter (λ y. not (q y)) (filter (λ y. not (p y)) xs)) (filter (λ y. not (q y)) (filter (λ y. not (p y)) xs))) is)
     go false false is later = ap (λ (l : List _). x ∷ l) later ∙ sym (ap (λ t. cond (not t) (x ∷ filter (λ y. not (q y)) (filter (λ y. not (p y)) xs)) (filter (λ y. not (q y)) (filter (λ y. not (p y)) xs))) is)
 
-same_filter : {X : Type 0} (p q : X → Bool) (xs : List X) → ((x : X) → Among xs x → p x ≡ q x) → filter p xs ≡ filter q xs
+pub same_filter : {X : Type 0} (p q : X → Bool) (xs : List X) → ((x : X) → Among xs x → p x ≡ q x) → filter p xs ≡ filter q xs
 same_filter p q [] same = refl
 same_filter p q (x ∷ xs) same =
     ap (λ b. cond b (x ∷ filter p xs) (filter p xs)) (same x (inl refl))

@@ -94,3 +94,9 @@ some_before (Some n) some = some
 
 pub some_placed : (m : Map) (q : RowKey) → IsSome (get (placed m) q) → IsSome (get m q)
 some_placed m q some = some_before (get m q) (subst (λ (o : Option Place). IsSome o) (get-placed m q) some)
+
+none_before : (o : Option ℕ) → o ≡ None → option_map place_of o ≡ None
+none_before o none = ap (option_map place_of) none
+
+pub none_placed : (m : Map) (q : RowKey) → get m q ≡ None → get (placed m) q ≡ None
+none_placed m q none = get-placed m q ∙ none_before (get m q) none

@@ -33,7 +33,7 @@ use Rattle.mvo_ckpt.proofs.Growing.{places-push, rise-push}
 
 -- ---- one more record
 
-enumerated-push : (n : ℕ) (es : List EntryData) (e : EntryData) → enumerate_from n (es ++ e ∷ []) ≡ enumerate_from n es ++ (n + length es, e) ∷ []
+pub enumerated-push : (n : ℕ) (es : List EntryData) (e : EntryData) → enumerate_from n (es ++ e ∷ []) ≡ enumerate_from n es ++ (n + length es, e) ∷ []
 enumerated-push n [] e = ap (λ (k : ℕ). (k, e) ∷ enumerate_from (n + 1) []) (omega arith)
 enumerated-push n (x ∷ es) e =
     let same : n + 1 + length es ≡ n + length (x ∷ es) = omega arith in
@@ -60,14 +60,14 @@ took file es n e at before after below is held put =
 
 -- ---- looking up
 
-found_none : (es : Entries) (k : RowKey) → ((v : Place) → Among es (k, v) → ⊥) → find key_cmp k es ≡ None
+pub found_none : (es : Entries) (k : RowKey) → ((v : Place) → Among es (k, v) → ⊥) → find key_cmp k es ≡ None
 found_none es k absent = go (find key_cmp k es) refl
   where
     go : (o : Option Place) → find key_cmp k es ≡ o → o ≡ None
     go None is = refl
     go (Some v) is = absurd (absent v (found_among es k v is))
 
-there_found : (es : Entries) (k : RowKey) → Among (map first_of es) k → find key_cmp k es ≡ None → ⊥
+pub there_found : (es : Entries) (k : RowKey) → Among (map first_of es) k → find key_cmp k es ≡ None → ⊥
 there_found [] k a none = a
 there_found (e ∷ es) k a none = go (eq k e.0) refl a none (there_found es k)
   where
@@ -92,7 +92,7 @@ get-without (k ∷ ks) at q =
     go false true = refl
     go false false = refl
 
-get-with : (file : ℕ) (live : List Numbered) (at : PlaceMap) (q : RowKey) → IsDistinct eq (map key_of live) → get (with_live file live at) q ≡ or_else (find key_cmp q (places_in file live)) (get at q)
+pub get-with : (file : ℕ) (live : List Numbered) (at : PlaceMap) (q : RowKey) → IsDistinct eq (map key_of live) → get (with_live file live at) q ≡ or_else (find key_cmp q (places_in file live)) (get at q)
 unfolding IsDistinct
 get-with file [] at q differ = refl
 get-with file (l ∷ live) at q differ =

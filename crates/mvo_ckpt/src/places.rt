@@ -1,4 +1,4 @@
-ghost use Rattle.std.specs.Prelude.{◌≡◌, ◌<◌, ◌≤◌, ◌+◌, length, All, OnOk, OnErr, IfOk, IsSome};
+ghost use Rattle.std.specs.Prelude.{◌≡◌, ◌<◌, ◌≤◌, ◌+◌, length, All, OnOk, OnErr, IfOk, IsSome, None};
 ghost use Rattle.std.specs.Option.{option_map};
 ghost use Rattle.std.specs.FinMap as map;
 ghost use Rattle.mvo_ckpt.specs.Places.{no_places, number_of, AreSmall, with_live};
@@ -95,6 +95,7 @@ impl Places {
         ensures room { self.old.room ≤ self.new.room + 1 }
         ensures again { IsSome (map.get self.old.at key) → self.new.room ≡ self.old.room }
         ensures err { OnErr result (self.new ≡ self.old) }
+        ensures absent { OnErr result (map.get self.old.at key ≡ None) }
         ensures full { OnErr result (self.old.room ≡ 0) }
     {
         let number = place.data_file as u32 * MAX_PAIR_RECORDS + place.number;

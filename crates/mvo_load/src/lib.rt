@@ -9,9 +9,11 @@ mod read;
 mod records;
 mod replay;
 mod segments;
+mod single;
 mod slots;
 mod stop;
 
 pub use loaded::Loaded;
 pub use loading::load;
 pub use segments::segment_on;
+pub use single::pair_on;

@@ -8,8 +8,11 @@ pub mod Rotations
 pub mod Planned
 pub mod Written
 pub mod Allowed
+pub mod Neighbours
 pub mod Installs
+pub mod MergePlanned
 pub mod Checkpoints
+pub mod Merges
 pub mod Synced
 pub mod Opens
 pub mod Formatted

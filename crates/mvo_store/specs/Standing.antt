@@ -14,18 +14,22 @@ use Rattle.mvo_frame.specs.Standing.{gate_of, IsWritten}
 use Rattle.mvo_manifest.specs.Data.{ManifestData}
 use Rattle.mvo_manifest.specs.Slots.{IsShut, IsStaged}
 use Rattle.mvo_ckpt.specs.Places.{PlaceTable, ArePlaces}
+use Rattle.mvo_merge.specs.Moved.{HaveOwnKeys}
 use Rattle.mvo_image.specs.Files.{GivesRows}
 use Rattle.mvo_image.specs.Rows.{after_groups}
 use Rattle.mvo_recovery.specs.Parts.{Parts, rows_of_parts, mark_of_parts, IsLastFile}
 use Rattle.mvo_recovery.specs.Settled.{IsSettled, other_slot, GivesWithOrWithout}
 use Rattle.mvo_recovery.specs.Rotation.{rotated, IsFresh, MayRotate}
 use Rattle.mvo_store.specs.declared.due.Due.{Due}
-use Rattle.mvo_store.specs.declared.due.Due.TheVariants.{Data, Delta, Close, Body, Open}
+use Rattle.mvo_store.specs.declared.due.Due.TheVariants.{Data, Delta, MergeData, MergeDelta}
+use Rattle.mvo_store.specs.declared.due.Due.TheVariants.{Close, Body, Open}
 use Rattle.mvo_store.specs.declared.checkpointing.Checkpointing.{Checkpointing}
+use Rattle.mvo_store.specs.declared.merging.Merging.{Merging}
 use Rattle.mvo_store.specs.declared.job.Job.{Job}
 use Rattle.mvo_store.specs.declared.work.Work.{Work}
-use Rattle.mvo_store.specs.declared.work.Work.TheVariants.{Rotation, Checkpoint}
+use Rattle.mvo_store.specs.declared.work.Work.TheVariants.{Rotation, Checkpoint, Merge}
 use Rattle.mvo_store.specs.Checkpoint.{IsOfInstall, IsCheckpointing}
+use Rattle.mvo_store.specs.Merging.{IsMerging}
 use Rattle.mvo_store.specs.StoreData.{StoreData, opening}
 
 -- ---- a group that is being appended
@@ -46,6 +50,8 @@ HasBody x (Some g) gate next bytes = IsWritten VERSION x.middle x.last g gate ne
 abbrev pub HasInstall : Due → ManifestData → ℕ → List ℕ → Type 0
 HasInstall Data next slot bytes = Unit {0}
 HasInstall Delta next slot bytes = Unit {0}
+HasInstall MergeData next slot bytes = Unit {0}
+HasInstall MergeDelta next slot bytes = Unit {0}
 HasInstall Close next slot bytes = Unit {0}
 HasInstall Body next slot bytes = IsShut bytes
 HasInstall Open next slot bytes = IsStaged VERSION slot next bytes
@@ -65,6 +71,7 @@ abbrev pub HasWork : Image → (ℕ → List ℕ → Type 0) → ManifestData �
     → Work → Type 0
 HasWork content may m x next due (Rotation fresh) = IsRotating content may m x fresh next due
 HasWork content may m x next due (Checkpoint c) = IsCheckpointing content may m x c next due
+HasWork content may m x next due (Merge g) = IsMerging content may m x g next due
 
 pub record IsRunning (content : Image) (may : ℕ → List ℕ → Type 0) (m : ManifestData) (x : Parts)
     (j : Job) : Type 0 where
@@ -79,6 +86,7 @@ HasJob content may m x (Some j) = IsRunning content may m x j
 abbrev pub WorkHasRoom : PlaceTable → Work → Type 0
 WorkHasRoom places (Rotation fresh) = Unit {0}
 WorkHasRoom places (Checkpoint c) = length c.made.records ≤ places.room
+WorkHasRoom places (Merge g) = Unit {0}
 
 -- there is room for the places of the records that the job installs
 abbrev pub HasRoom : PlaceTable → Option Job → Type 0
@@ -91,9 +99,16 @@ pub record FitsRecords (places : PlaceTable) (c : Checkpointing) : Type 0 where
   pub few : length c.made.records ≤ MAX_PAIR_RECORDS
   pub room : length c.made.records ≤ places.room
 
+-- the records of the merged pair may have their places in its data file
+pub record MovesRecords (g : Merging) : Type 0 where
+  pub file : g.pair.data_file ≤ MAX_FILE
+  pub few : length g.made.records ≤ MAX_PAIR_RECORDS
+  pub keys : HaveOwnKeys g.made.records
+
 abbrev pub MayTakeOver : PlaceTable → Work → Type 0
 MayTakeOver places (Rotation fresh) = Unit {0}
 MayTakeOver places (Checkpoint c) = FitsRecords places c
+MayTakeOver places (Merge g) = MovesRecords g
 
 -- ---- the store
 

@@ -12,6 +12,8 @@ pub(crate) enum Body {
     Updated,
     /// The group (2, 4]: one delete, of table 0 and key 5.
     Deleted,
+    /// The group of round k: a put of this key and these data, or a delete of it.
+    Write(u8, u8, Option<u8>),
 }
 
 fn round(mut body: Vec<u8>, k: u8) -> Vec<u8> {
@@ -46,6 +48,21 @@ fn deleted(mut body: Vec<u8>) -> Vec<u8> {
     body
 }
 
+fn write(body: Vec<u8>, k: u8, key: u8, data: Option<u8>) -> Vec<u8> {
+    let mut body = round(body, k);
+    if body.len() > 48 {
+        body[30] = key;
+        match data {
+            Some(byte) => body[48] = byte,
+            None => {
+                body[28] = 2;
+                body.truncate(38);
+            }
+        }
+    }
+    body
+}
+
 impl Body {
     pub(crate) fn bytes(self, alloc: Global) -> Result<Vec<u8>, AllocError> {
         let body = ONE_PUT.to_vec(alloc)?;
@@ -54,6 +71,7 @@ impl Body {
             Body::Round(k) => round(body, k),
             Body::Updated => updated(body),
             Body::Deleted => deleted(body),
+            Body::Write(k, key, data) => write(body, k, key, data),
         })
     }
 }

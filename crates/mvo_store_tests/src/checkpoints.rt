@@ -1,6 +1,6 @@
 //! Checkpoints of the oldest sealed segment.
 use crate::bodies::Body::{Deleted, OnePut, Round, Updated};
-use crate::disks::{are_long, hold, stopped};
+use crate::disks::{are_long, hold, stopped, stops_halfway};
 use crate::reply::Reply::{self, Done, Emptied, Installed, Marked, Refused, Written};
 use crate::step::Step::{
     self, Append, Checkpoint, CheckpointData, CheckpointDelta, CheckpointRead, InstallBody,
@@ -8,7 +8,7 @@ use crate::step::Step::{
 };
 use crate::stores::{after_stop, follow, following, gives, has_row, names, rows_on, store_on};
 use crate::vectors::{CHECKPOINTED, DATA, DELTA, ENDED};
-use mvo_disk::{FileImage, MemDisk, Work};
+use mvo_disk::MemDisk;
 use mvo_store::{Generation, Progress, Reclaimed, Store};
 use mvo_types::{Refusal, Stamp};
 use std::alloc::Global;
@@ -263,38 +263,6 @@ fn a_checkpoint_may_fail_at_each_call(rt: HostRuntime) -> Result<(), Fail> {
     }
     assert!(rt; !more);
     Ok(())
-}
-
-// The file that the last call wrote, with half of what it wrote at the file's end.
-fn half_written(alloc: Global, disk: &MemDisk) -> Result<Option<FileImage>, Fail> {
-    let Some(call) = disk.calls().last() else {
-        return Ok(None);
-    };
-    let Work::Write { at, len, .. } = &call.work else {
-        return Ok(None);
-    };
-    if call.file > 7 {
-        return Ok(None);
-    }
-    let kept = at.saturating_add(len / 2);
-    let whole = disk.bytes(call.file);
-    if at.saturating_add(*len) != whole.len() || kept > whole.len() {
-        return Ok(None);
-    }
-    let bytes = whole[..kept].to_vec(alloc)?;
-    Ok(Some(FileImage {
-        file: call.file,
-        bytes,
-    }))
-}
-
-// Whether the disk stops with half of the last write. Of a slot that was longer before, half isn't
-// left.
-fn stops_halfway(alloc: Global, disk: &mut MemDisk) -> Result<bool, Fail> {
-    match half_written(alloc, disk)? {
-        Some(image) => Ok(disk.stop(&[image]).is_ok()),
-        None => Ok(false),
-    }
 }
 
 // Whether a stop may leave half of the write before this call, after which the rounds must be

@@ -1,5 +1,5 @@
 //! Disks, and what their files hold.
-use mvo_disk::{Disk, MemDisk};
+use mvo_disk::{Disk, FileImage, MemDisk, Work};
 use mvo_store::format;
 use std::alloc::Global;
 use std::process::Abort;
@@ -40,9 +40,15 @@ pub(crate) fn stopped(mut disk: MemDisk) -> Result<MemDisk, Fail> {
 /// Each of these files holds its bytes.
 pub(crate) fn hold(rt: &impl Abort, disk: &MemDisk, files: &[(u16, &[u8])]) {
     for (file, bytes) in files {
-        assert!(rt; *file < 8);
+        assert!(rt; *file < 16);
         assert_eq!(rt; disk.bytes(*file), *bytes, "file {file}");
     }
+}
+
+/// The file begins with these bytes.
+pub(crate) fn begins(rt: &impl Abort, disk: &MemDisk, file: u16, bytes: &[u8]) {
+    assert!(rt; file < 16);
+    assert!(rt; disk.bytes(file).starts_with(bytes), "file {file}");
 }
 
 /// Each of these files is so long.
@@ -50,5 +56,37 @@ pub(crate) fn are_long(rt: &impl Abort, disk: &MemDisk, files: &[(u16, usize)]) 
     for (file, len) in files {
         assert!(rt; *file < 8);
         assert_eq!(rt; disk.bytes(*file).len(), *len, "file {file}");
+    }
+}
+
+// The file that the last call wrote, with half of what it wrote at the file's end.
+fn half_written(alloc: Global, disk: &MemDisk) -> Result<Option<FileImage>, Fail> {
+    let Some(call) = disk.calls().last() else {
+        return Ok(None);
+    };
+    let Work::Write { at, len, .. } = &call.work else {
+        return Ok(None);
+    };
+    if call.file > 15 {
+        return Ok(None);
+    }
+    let kept = at.saturating_add(len / 2);
+    let whole = disk.bytes(call.file);
+    if at.saturating_add(*len) != whole.len() || kept > whole.len() {
+        return Ok(None);
+    }
+    let bytes = whole[..kept].to_vec(alloc)?;
+    Ok(Some(FileImage {
+        file: call.file,
+        bytes,
+    }))
+}
+
+/// Whether the disk stops with half of the last write. Of a slot that was longer before, half isn't
+/// left.
+pub(crate) fn stops_halfway(alloc: Global, disk: &mut MemDisk) -> Result<bool, Fail> {
+    match half_written(alloc, disk)? {
+        Some(image) => Ok(disk.stop(&[image]).is_ok()),
+        None => Ok(false),
     }
 }

@@ -10,7 +10,13 @@ mod disks;
 #[cfg(test)]
 mod faults;
 #[cfg(test)]
+mod merges;
+#[cfg(test)]
+mod numbers;
+#[cfg(test)]
 mod reply;
+#[cfg(test)]
+mod runs;
 #[cfg(test)]
 mod step;
 #[cfg(test)]

@@ -3,8 +3,8 @@ use crate::bodies::Body;
 use crate::reply::{Reply, done, emptied, free, installed, marked, written};
 use mvo_disk::MemDisk;
 use mvo_group::Group;
-use mvo_store::{Generation, Progress, Store};
-use mvo_types::{Refusal, Stamp};
+use mvo_store::{Durable, Generation, Progress, Store};
+use mvo_types::Refusal;
 use std::alloc::Global;
 use std::test::Fail;
 
@@ -25,6 +25,9 @@ pub(crate) enum Step {
     CheckpointRead,
     CheckpointData,
     CheckpointDelta,
+    MergeRead(usize),
+    MergeData,
+    MergeDelta,
     InstallClose,
     InstallBody,
     InstallOpen,
@@ -32,6 +35,8 @@ pub(crate) enum Step {
     Rotate,
     /// All steps of a checkpoint.
     Checkpoint,
+    /// All steps of a merge of the pair at this place and the one behind it.
+    Merge(usize),
     Reclaim,
 }
 
@@ -47,14 +52,14 @@ fn take(store: &mut Store<MemDisk>, alloc: Global, body: Body) -> Result<Reply, 
     }
 }
 
-fn append(store: &mut Store<MemDisk>) -> Result<Stamp, Refusal> {
+fn append(store: &mut Store<MemDisk>) -> Result<Durable, Refusal> {
     store.append_body()?;
-    Ok(store.append_open()?.mark())
+    store.append_open()
 }
 
 fn take_and_append(store: &mut Store<MemDisk>, alloc: Global, body: Body) -> Result<Reply, Fail> {
     match take(store, alloc, body)? {
-        Reply::Done => Ok(Reply::Marked(append(store)?)),
+        Reply::Done => Ok(marked(append(store))),
         refused => Ok(refused),
     }
 }
@@ -86,6 +91,13 @@ fn checkpoint(store: &mut Store<MemDisk>) -> Result<Generation, Refusal> {
     install(store)
 }
 
+fn merge(store: &mut Store<MemDisk>, place: usize) -> Result<Generation, Refusal> {
+    store.merge_read(place)?;
+    store.merge_data()?;
+    store.merge_delta()?;
+    install(store)
+}
+
 impl Step {
     /// What the step is answered.
     pub(crate) fn of(self, store: &mut Store<MemDisk>, alloc: Global) -> Result<Reply, Fail> {
@@ -101,11 +113,15 @@ impl Step {
             Step::CheckpointRead => done(store.checkpoint_read()),
             Step::CheckpointData => done(store.checkpoint_data()),
             Step::CheckpointDelta => written(store.checkpoint_delta()),
+            Step::MergeRead(place) => done(store.merge_read(place)),
+            Step::MergeData => done(store.merge_data()),
+            Step::MergeDelta => done(store.merge_delta()),
             Step::InstallClose => done(store.install_close()),
             Step::InstallBody => done(store.install_body()),
             Step::InstallOpen => installed(store.install_open()),
             Step::Rotate => installed(rotate(store)),
             Step::Checkpoint => installed(checkpoint(store)),
+            Step::Merge(place) => installed(merge(store, place)),
             Step::Reclaim => emptied(store.reclaim()),
         })
     }

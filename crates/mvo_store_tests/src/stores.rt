@@ -12,7 +12,11 @@ use std::thread::Threads;
 
 type Opened = (Store<MemDisk>, Rows, Stamp);
 
-fn opened(rt: &(impl Threads + Sync), alloc: Global, disk: MemDisk) -> Result<Opened, Fail> {
+pub(crate) fn opened(
+    rt: &(impl Threads + Sync),
+    alloc: Global,
+    disk: MemDisk,
+) -> Result<Opened, Fail> {
     match Store::open(rt, alloc, disk) {
         Ok(opened) => Ok(opened),
         Err((refusal, _)) => Err(Fail::from(refusal)),
@@ -73,6 +77,15 @@ pub(crate) fn following(
 /// The store's manifest names these segments.
 pub(crate) fn names(rt: &impl Abort, store: &Store<MemDisk>, segments: &[u16]) {
     assert_eq!(rt; store.manifest().segments(), segments);
+}
+
+/// The store's manifest has pairs with these lo and hi.
+pub(crate) fn spans(rt: &impl Abort, store: &Store<MemDisk>, wanted: &[(u64, u64)]) {
+    let pairs = store.manifest().pairs();
+    assert_eq!(rt; pairs.len(), wanted.len());
+    for (pair, wanted) in pairs.iter().zip(wanted) {
+        assert_eq!(rt; (pair.lo.0, pair.hi.0), *wanted);
+    }
 }
 
 // How long the data of the row at table 0 and this key is.

@@ -37,6 +37,23 @@ pub(crate) const DATA: [u8; 36] = [
 /// A delta file without numbers.
 pub(crate) const DELTA: [u8; 8] = [0x4d, 0x56, 0x4f, 0x45, 1, 0, 0, 0];
 
+/// The data file of a merged pair: the put of the group (2, 4].
+pub(crate) const MERGED_DATA: [u8; 36] = [
+    0x4d, 0x56, 0x4f, 0x44, 1, 0, 0, 0, 4, 0, 0, 0, 0, 0, 0, 0, 0, 5, 0, 0, 0, 0, 0, 0, 0, 0x32, 0,
+    0, 0, 0, 0, 0, 0, 1, 0, 0x62,
+];
+
+/// Slot 1 after the merge, up to its body's end: generation 5, mark 4, the pair of files 3 and 8
+/// from 0 to 4 with one record, and segment 2.
+pub(crate) const MERGED: [u8; 63] = [
+    0xa5, 0x3a, 0, 0, 0, 0x4d, 0x56, 0x4f, 0x4d, 1, 0, 0, 0, 5, 0, 0, 0, 0, 0, 0, 0, 4, 0, 0, 0, 0,
+    0, 0, 0, 1, 0, 3, 0, 8, 0, 0, 0, 0, 0, 0, 0, 0, 0, 4, 0, 0, 0, 0, 0, 0, 0, 1, 0, 0, 0, 0, 0, 0,
+    0, 1, 0, 2, 0,
+];
+
+/// A delta file with the number 1.
+pub(crate) const SECOND_ENDED: [u8; 12] = [0x4d, 0x56, 0x4f, 0x45, 1, 0, 0, 0, 1, 0, 0, 0];
+
 /// One with the number 0.
 pub(crate) const ENDED: [u8; 12] = [0x4d, 0x56, 0x4f, 0x45, 1, 0, 0, 0, 0, 0, 0, 0];
 

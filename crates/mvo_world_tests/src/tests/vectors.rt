@@ -20,8 +20,8 @@ pub const SLOT: [u8; 37] = [
     0, 0, 0, 0, 0, 2, 0, 2, 0, 3, 0,
 ];
 
-/// Slot 0 with the manifest of generation 2: checkpoint mark 2, the pair of the files 4 and 5 from 0
-/// to 2 with one record and no entries, the segment 3.
+/// Slot 0 with the manifest of generation 2: checkpoint mark 2, the pair of the files 4 and 5 from
+/// 0 to 2 with one record and no entries, the segment 3.
 pub const SLOT_OF_PAIR: [u8; 63] = [
     0xa5, 0x3a, 0, 0, 0, 0x4d, 0x56, 0x4f, 0x4d, 1, 0, 0, 0, 2, 0, 0, 0, 0, 0, 0, 0, 2, 0, 0, 0, 0,
     0, 0, 0, 1, 0, 4, 0, 5, 0, 0, 0, 0, 0, 0, 0, 0, 0, 2, 0, 0, 0, 0, 0, 0, 0, 1, 0, 0, 0, 0, 0, 0,

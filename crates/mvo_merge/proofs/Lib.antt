@@ -1,0 +1,9 @@
+pub mod Ranks
+pub mod Lists
+pub mod Live
+pub mod Moves
+pub mod Loaded
+pub mod Late
+pub mod Kept
+pub mod Entries
+pub mod Placed

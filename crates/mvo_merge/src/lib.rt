@@ -1,0 +1,14 @@
+//! Builds a merged pair: the live records of two pairs as one data file, and their new numbers.
+#![tactic(auto)]
+
+mod building;
+mod laws;
+mod merged;
+mod moving;
+mod renumbering;
+
+pub use building::build;
+pub use laws::laws_of_merge;
+pub use merged::Merged;
+pub use moving::move_places;
+pub use renumbering::Renumbering;

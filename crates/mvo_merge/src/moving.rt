@@ -1,0 +1,53 @@
+//! Brings the places of live records up to date.
+ghost use Rattle.std.specs.Prelude.{◌≡◌, ◌<◌, ◌≤◌, length};
+ghost use Rattle.std.specs.FinMap.{get};
+ghost use Rattle.mvo_merge.specs.Moved.{HaveOwnKeys, lies_in, with_one, moved};
+
+use mvo_ckpt::{Place, Places};
+use mvo_pair::Entry;
+use mvo_types::{MAX_FILE, MAX_PAIR_RECORDS, RowKey};
+
+/// Whether the key has its place in one of the two data files.
+fn lies_in(places: &Places, left: u16, right: u16, key: RowKey) -> bool
+    ensures { result ≡ lies_in left right (get places.now.at key) }
+{
+    match places.get(key) {
+        Some(place) => place.data_file == left || place.data_file == right,
+        None => false,
+    }
+}
+
+/// Gives the key another place, where it has its place in one of the two data files.
+fn move_place(places: &mut Places, left: u16, right: u16, key: RowKey, place: Place)
+    requires file { place.data_file ≤ MAX_FILE }
+    requires number { place.number < MAX_PAIR_RECORDS }
+    ensures moved { places.new.at ≡ with_one left right key place places.old.at }
+    ensures room { places.new.room ≡ places.old.room }
+{
+    if lies_in(places, left, right, key) {
+        let Ok(()) = places.put(key, place) else {
+            unreachable!()
+        };
+    }
+}
+
+/// Takes over what a merge makes of the places: the records of the merged pair whose keys have
+/// their places in the left or the right pair's data file lie in this one, each at its own number.
+/// A key whose record came to a delta meanwhile has its place elsewhere, or none, and keeps it.
+///
+/// It takes no memory and no room, and the time of two look-ups a record.
+pub fn move_places(places: &mut Places, left: u16, right: u16, data_file: u16, records: &[Entry])
+    requires file { data_file ≤ MAX_FILE }
+    requires few { length records.now ≤ MAX_PAIR_RECORDS }
+    requires keys { HaveOwnKeys records.now }
+    ensures moved { places.new.at ≡ moved left right data_file records.now places.old.at }
+    ensures room { places.new.room ≡ places.old.room }
+{
+    for (number, entry) in records.iter().enumerate() {
+        let place = Place {
+            data_file,
+            number: number as u32,
+        };
+        move_place(places, left, right, entry.row.key, place);
+    }
+}

@@ -1,0 +1,279 @@
+//! Merges of neighbouring pairs.
+use crate::bodies::Body::{OnePut, Round, Updated, Write};
+use crate::disks::{begins, hold, stopped, stops_halfway};
+use crate::reply::Reply::{self, Done, Emptied, Installed, Marked, Refused};
+use crate::step::Step::{
+    self, Append, Checkpoint, CheckpointData, CheckpointDelta, CheckpointRead, InstallBody,
+    InstallClose, InstallOpen, Merge, MergeData, MergeDelta, MergeRead, Reclaim, Rotate,
+    RotateWrite,
+};
+use crate::stores::{after_stop, follow, following, gives, has_row, rows_on, spans, store_on};
+use crate::vectors::{DELTA, MERGED, MERGED_DATA, SECOND_ENDED};
+use mvo_disk::MemDisk;
+use mvo_store::{Generation, Reclaimed, Store};
+use mvo_types::{Refusal, Stamp};
+use std::alloc::Global;
+use std::process::Abort;
+use std::test::Fail;
+use std::thread::Threads;
+
+// The first pair's only record is ended by the second's.
+const TWO_PAIRS: [(Step, Reply); 6] = [
+    (Append(OnePut), Marked(Stamp(2))),
+    (Rotate, Installed(Generation(1))),
+    (Checkpoint, Installed(Generation(2))),
+    (Append(Updated), Marked(Stamp(4))),
+    (Rotate, Installed(Generation(3))),
+    (Checkpoint, Installed(Generation(4))),
+];
+
+const TO_ONE: [(Step, Reply); 6] = [
+    (MergeRead(0), Done),
+    (MergeData, Done),
+    (MergeDelta, Done),
+    (InstallClose, Done),
+    (InstallBody, Done),
+    (InstallOpen, Installed(Generation(5))),
+];
+
+const FOUR_ARE_EMPTIED: [(Step, Reply); 5] = [
+    (Reclaim, Emptied(Reclaimed::More)),
+    (Reclaim, Emptied(Reclaimed::More)),
+    (Reclaim, Emptied(Reclaimed::More)),
+    (Reclaim, Emptied(Reclaimed::More)),
+    (Reclaim, Emptied(Reclaimed::Done)),
+];
+
+// A disk whose two pairs became one.
+fn merged(rt: &(impl Abort + Threads + Sync), alloc: Global) -> Result<MemDisk, Fail> {
+    let mut store = following(rt, alloc, &TWO_PAIRS)?;
+    follow(rt, alloc, &mut store, &TO_ONE)?;
+    spans(rt, &store, &[(0, 4)]);
+    follow(rt, alloc, &mut store, &FOUR_ARE_EMPTIED)?;
+    Ok(store.into_disk())
+}
+
+// An older, longer body of the slot may have left bytes behind this one.
+#[test]
+fn a_merge_is_installed(rt: HostRuntime) -> Result<(), Fail> {
+    let disk = merged(&rt, rt.alloc())?;
+    begins(&rt, &disk, 1, &MERGED);
+    hold(&rt, &disk, &[(3, &MERGED_DATA), (8, &DELTA)]);
+    hold(&rt, &disk, &[(4, &[]), (5, &[]), (6, &[]), (7, &[])]);
+    has_row(&rt, &rows_on(&rt, rt.alloc(), disk, 4)?, b"b")
+}
+
+const NO_PAIRS: [(Step, Reply); 3] = [
+    (MergeRead(0), Refused(Refusal::NothingToDo)),
+    (MergeData, Refused(Refusal::NothingToDo)),
+    (MergeDelta, Refused(Refusal::NothingToDo)),
+];
+
+const NO_PAIR_BEHIND: [(Step, Reply); 3] = [
+    (MergeRead(1), Refused(Refusal::NothingToDo)),
+    (MergeRead(2), Refused(Refusal::NothingToDo)),
+    (MergeRead(usize::MAX), Refused(Refusal::NothingToDo)),
+];
+
+#[test]
+fn both_pairs_must_be_there(rt: HostRuntime) -> Result<(), Fail> {
+    let alloc = rt.alloc();
+    let _ = following(&rt, alloc, &NO_PAIRS)?;
+    let mut store = following(&rt, alloc, &TWO_PAIRS)?;
+    follow(&rt, alloc, &mut store, &NO_PAIR_BEHIND)
+}
+
+const BESIDE_A_CHECKPOINT: [(Step, Reply); 4] = [
+    (Append(Round(3)), Marked(Stamp(6))),
+    (Rotate, Installed(Generation(5))),
+    (CheckpointRead, Done),
+    (MergeRead(0), Refused(Refusal::Busy)),
+];
+
+const ONE_JOB: [(Step, Reply); 17] = [
+    (MergeRead(0), Done),
+    (MergeRead(0), Refused(Refusal::Busy)),
+    (CheckpointRead, Refused(Refusal::Busy)),
+    (RotateWrite, Refused(Refusal::Busy)),
+    (MergeDelta, Refused(Refusal::NothingToDo)),
+    (CheckpointData, Refused(Refusal::NothingToDo)),
+    (Append(Round(4)), Marked(Stamp(8))),
+    (MergeData, Done),
+    (MergeData, Refused(Refusal::NothingToDo)),
+    (CheckpointDelta, Refused(Refusal::NothingToDo)),
+    (InstallClose, Refused(Refusal::NothingToDo)),
+    (MergeDelta, Done),
+    (MergeDelta, Refused(Refusal::NothingToDo)),
+    (InstallClose, Done),
+    (InstallBody, Done),
+    (Append(Write(5, 1, Some(0x61))), Marked(Stamp(10))),
+    (InstallOpen, Installed(Generation(6))),
+];
+
+// One job runs at a time, and its steps have an order. Appends go on beside it.
+#[test]
+fn a_merge_runs_alone(rt: HostRuntime) -> Result<(), Fail> {
+    let alloc = rt.alloc();
+    let mut store = following(&rt, alloc, &TWO_PAIRS)?;
+    follow(&rt, alloc, &mut store, &BESIDE_A_CHECKPOINT)?;
+    let mut store = store_on(&rt, alloc, store.into_disk())?;
+    follow(&rt, alloc, &mut store, &ONE_JOB)?;
+    let rows = [(1, Some(1)), (3, Some(1)), (4, Some(1)), (5, Some(1))];
+    gives(&rt, alloc, store.into_disk(), 10, &rows)
+}
+
+// ---- three pairs
+
+const THREE_PAIRS: [(Step, Reply); 9] = [
+    (Append(Round(1)), Marked(Stamp(2))),
+    (Rotate, Installed(Generation(1))),
+    (Checkpoint, Installed(Generation(2))),
+    (Append(Round(2)), Marked(Stamp(4))),
+    (Rotate, Installed(Generation(3))),
+    (Checkpoint, Installed(Generation(4))),
+    (Append(Round(3)), Marked(Stamp(6))),
+    (Rotate, Installed(Generation(5))),
+    (Checkpoint, Installed(Generation(6))),
+];
+
+// A disk with the records of three rounds in three pairs.
+fn three_pairs(rt: &(impl Abort + Threads + Sync), alloc: Global) -> Result<MemDisk, Fail> {
+    stopped(following(rt, alloc, &THREE_PAIRS)?.into_disk())
+}
+
+const KEY_2_AGAIN: [(Step, Reply); 3] = [
+    (Append(Write(4, 2, Some(0x62))), Marked(Stamp(8))),
+    (Rotate, Installed(Generation(9))),
+    (Checkpoint, Installed(Generation(10))),
+];
+
+// A disk whose three pairs became one in files 6 and 7, after a checkpoint of a group that wrote
+// key 2 again.
+fn all_merged(rt: &(impl Abort + Threads + Sync), alloc: Global) -> Result<MemDisk, Fail> {
+    let mut store = store_on(rt, alloc, three_pairs(rt, alloc)?)?;
+    follow(
+        rt,
+        alloc,
+        &mut store,
+        &[(Merge(1), Installed(Generation(7)))],
+    )?;
+    spans(rt, &store, &[(0, 2), (2, 6)]);
+    follow(
+        rt,
+        alloc,
+        &mut store,
+        &[(Merge(0), Installed(Generation(8)))],
+    )?;
+    spans(rt, &store, &[(0, 6)]);
+    follow(rt, alloc, &mut store, &KEY_2_AGAIN)?;
+    Ok(store.into_disk())
+}
+
+// A checkpoint ends the second record of a merged pair.
+#[test]
+fn merged_records_have_their_places(rt: HostRuntime) -> Result<(), Fail> {
+    let alloc = rt.alloc();
+    let disk = all_merged(&rt, alloc)?;
+    hold(&rt, &disk, &[(7, &SECOND_ENDED)]);
+    let rows = [(1, Some(1)), (2, Some(1)), (3, Some(1))];
+    gives(&rt, alloc, disk, 8, &rows)
+}
+
+// ---- stops and faults
+
+// How many calls an opening of these pairs makes.
+fn opening_calls(rt: &(impl Abort + Threads + Sync), alloc: Global) -> Result<u64, Fail> {
+    let disk = store_on(rt, alloc, three_pairs(rt, alloc)?)?.into_disk();
+    Ok(disk.calls().len() as u64)
+}
+
+// The pairs on a disk of which this call fails.
+fn failing(
+    rt: &(impl Abort + Threads + Sync),
+    alloc: Global,
+    call: u64,
+) -> Result<Store<MemDisk>, Fail> {
+    let mut disk = three_pairs(rt, alloc)?;
+    disk.fail_at(call);
+    store_on(rt, alloc, disk)
+}
+
+const IS_DOWN: [(Step, Reply); 1] = [(MergeRead(0), Refused(Refusal::Down))];
+
+// Whether a merge ended with a fault, and not with the next manifest.
+fn has_failed(rt: &impl Abort, alloc: Global, store: &mut Store<MemDisk>) -> Result<bool, Fail> {
+    let reply = Merge(1).of(store, alloc)?;
+    if reply == Installed(Generation(7)) {
+        return Ok(false);
+    }
+    assert_eq!(rt; reply, Refused(Refusal::DiskFault));
+    follow(rt, alloc, store, &IS_DOWN)?;
+    Ok(true)
+}
+
+// What was abandoned counts for nothing: the next merge goes through.
+fn goes_through(rt: &impl Abort, alloc: Global, store: &mut Store<MemDisk>) -> Result<(), Fail> {
+    let reply = Merge(0).of(store, alloc)?;
+    assert!(rt; matches!(&reply, Installed(_)), "{reply:?}");
+    Ok(())
+}
+
+// Whether a merge failed at this call, after which the rounds must be there.
+fn fails_at(rt: &(impl Abort + Threads + Sync), alloc: Global, call: u64) -> Result<bool, Fail> {
+    let mut store = failing(rt, alloc, call)?;
+    let failed = has_failed(rt, alloc, &mut store)?;
+    let mut store = after_stop(rt, alloc, store, 3)?;
+    if failed {
+        goes_through(rt, alloc, &mut store)?;
+        let _ = after_stop(rt, alloc, store, 3)?;
+    }
+    Ok(failed)
+}
+
+// Whatever call fails, and whether or not the disk stops then, the rounds are there.
+#[test]
+fn a_merge_may_fail_at_each_call(rt: HostRuntime) -> Result<(), Fail> {
+    let alloc = rt.alloc();
+    let first = opening_calls(&rt, alloc)?;
+    let mut more = true;
+    for calls in 0..100u64 {
+        if more {
+            more = fails_at(&rt, alloc, first.saturating_add(calls))?;
+            assert!(rt; more || calls > 10);
+        }
+    }
+    assert!(rt; !more);
+    Ok(())
+}
+
+// Whether a stop may leave half of the write before this call, after which the rounds must be
+// there.
+fn halves_before(
+    rt: &(impl Abort + Threads + Sync),
+    alloc: Global,
+    call: u64,
+) -> Result<bool, Fail> {
+    let mut store = failing(rt, alloc, call)?;
+    let _ = has_failed(rt, alloc, &mut store)?;
+    let mut disk = store.into_disk();
+    if !stops_halfway(alloc, &mut disk)? {
+        return Ok(false);
+    }
+    let _ = after_stop(rt, alloc, store_on(rt, alloc, disk)?, 3)?;
+    Ok(true)
+}
+
+// A stop within a write may leave half of it.
+#[test]
+fn a_merge_may_stop_within_a_write(rt: HostRuntime) -> Result<(), Fail> {
+    let alloc = rt.alloc();
+    let first = opening_calls(&rt, alloc)?;
+    let mut halves = 0u8;
+    for calls in 0..30u64 {
+        if halves_before(&rt, alloc, first.saturating_add(calls))? {
+            halves = halves.saturating_add(1);
+        }
+    }
+    assert!(rt; halves >= 2);
+    Ok(())
+}
