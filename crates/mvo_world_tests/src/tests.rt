@@ -50,13 +50,6 @@ fn fresh(rt: &(impl Threads + Sync), alloc: Global) -> Result<World<MemDisk>, Fa
     opened(rt, alloc, formatted(alloc)?)
 }
 
-// A world in which the row is put and its group's body is written.
-fn with_body(rt: &(impl Abort + Threads + Sync), alloc: Global) -> Result<World<MemDisk>, Fail> {
-    let mut world = fresh(rt, alloc)?;
-    follow(rt, alloc, &mut world, &ONE_PUT)?;
-    Ok(world)
-}
-
 // The mark that the disk opens at, and how long the data of the row is there.
 fn found(
     rt: &(impl Threads + Sync),
@@ -76,6 +69,25 @@ fn found(
 /// Compares the bytes of a file.
 fn assert_bytes(rt: &impl Abort, disk: &MemDisk, file: u16, bytes: &[u8]) {
     assert_eq!(rt; bytes_of(disk, file), bytes, "file {file}");
+}
+
+/// Each file holds its bytes.
+fn hold(rt: &impl Abort, disk: &MemDisk, files: &[(u16, &[u8])]) {
+    for (file, bytes) in files {
+        assert_bytes(rt, disk, *file, bytes);
+    }
+}
+
+/// The disk opens at this mark, and the row's data is so long.
+fn gives(
+    rt: &(impl Abort + Threads + Sync),
+    alloc: Global,
+    disk: MemDisk,
+    mark: u64,
+    len: Option<usize>,
+) -> Result<(), Fail> {
+    assert_eq!(rt; found(rt, alloc, disk)?, (mark, len));
+    Ok(())
 }
 
 fn events_of(alloc: Global, steps: &[(Step, &str)]) -> Result<Vec<Event>, Fail> {
@@ -106,108 +118,155 @@ fn follow(
     Ok(())
 }
 
+/// The world after all these steps, from a new store.
+fn following(
+    rt: &(impl Abort + Threads + Sync),
+    alloc: Global,
+    tables: &[&[(Step, &str)]],
+) -> Result<World<MemDisk>, Fail> {
+    let mut world = fresh(rt, alloc)?;
+    for steps in tables {
+        follow(rt, alloc, &mut world, steps)?;
+    }
+    Ok(world)
+}
+
+/// The disk that it leaves.
+fn disk_after(
+    rt: &(impl Abort + Threads + Sync),
+    alloc: Global,
+    tables: &[&[(Step, &str)]],
+) -> Result<MemDisk, Fail> {
+    Ok(into_disk(following(rt, alloc, tables)?))
+}
+
 #[test]
 fn one_put_is_durable(rt: HostRuntime) -> Result<(), Fail> {
     let alloc = rt.alloc();
-    let mut world = fresh(&rt, alloc)?;
-    follow(&rt, alloc, &mut world, &ONE_PUT)?;
-    assert_eq!(rt; mark(&world), Stamp(0));
-    follow(&rt, alloc, &mut world, &OPENING_OF_THE_GATE)?;
-    assert_eq!(rt; mark(&world), Stamp(2));
-    let disk = into_disk(world);
-    assert_bytes(&rt, &disk, 2, &SEGMENT);
-    assert_eq!(rt; found(&rt, alloc, disk)?, (2, Some(1)));
+    let disk = disk_after(&rt, alloc, &[&ONE_PUT, &OPENING_OF_THE_GATE])?;
+    hold(&rt, &disk, &[(2, &SEGMENT)]);
+    gives(&rt, alloc, disk, 2, Some(1))
+}
+
+#[test]
+fn the_mark_rises_with_the_gate(rt: HostRuntime) -> Result<(), Fail> {
+    let alloc = rt.alloc();
+    let written = following(&rt, alloc, &[&ONE_PUT])?;
+    assert_eq!(rt; mark(&written), Stamp(0));
+    let durable = following(&rt, alloc, &[&ONE_PUT, &OPENING_OF_THE_GATE])?;
+    assert_eq!(rt; mark(&durable), Stamp(2));
     Ok(())
 }
 
 #[test]
 fn a_rotation_keeps_the_rows(rt: HostRuntime) -> Result<(), Fail> {
     let alloc = rt.alloc();
-    let mut world = with_body(&rt, alloc)?;
-    follow(&rt, alloc, &mut world, &ROTATION_OUT_OF_TURN)?;
-    let disk = into_disk(world);
-    assert_bytes(&rt, &disk, 1, &SLOT);
-    assert_bytes(&rt, &disk, 2, &SEGMENT);
-    assert_bytes(&rt, &disk, 3, &FRESH);
-    assert_eq!(rt; found(&rt, alloc, disk)?, (2, Some(1)));
-    Ok(())
+    let disk = disk_after(&rt, alloc, &[&ONE_PUT, &ROTATION_OUT_OF_TURN])?;
+    hold(&rt, &disk, &[(1, &SLOT), (2, &SEGMENT), (3, &FRESH)]);
+    gives(&rt, alloc, disk, 2, Some(1))
 }
+
+// What the files hold once the segment became a pair.
+const FILES_OF_A_PAIR: [(u16, &[u8]); 6] = [
+    (0, &SLOT_OF_PAIR),
+    (1, &SLOT),
+    (2, &[]),
+    (3, &FRESH),
+    (4, &DATA),
+    (5, &DELTA),
+];
 
 #[test]
 fn a_checkpoint_keeps_the_rows(rt: HostRuntime) -> Result<(), Fail> {
     let alloc = rt.alloc();
-    let mut world = with_body(&rt, alloc)?;
-    follow(&rt, alloc, &mut world, &READ_TOO_EARLY)?;
-    follow(&rt, alloc, &mut world, &ROTATION)?;
-    follow(&rt, alloc, &mut world, &CHECKPOINT)?;
-    follow(&rt, alloc, &mut world, &RECLAIMS)?;
-    let disk = into_disk(world);
-    assert_bytes(&rt, &disk, 0, &SLOT_OF_PAIR);
-    assert_bytes(&rt, &disk, 1, &SLOT);
-    assert_bytes(&rt, &disk, 2, &[]);
-    assert_bytes(&rt, &disk, 3, &FRESH);
-    assert_bytes(&rt, &disk, 4, &DATA);
-    assert_bytes(&rt, &disk, 5, &DELTA);
-    assert_eq!(rt; found(&rt, alloc, disk)?, (2, Some(1)));
-    Ok(())
+    let tables: [&[(Step, &str)]; 5] = [
+        &ONE_PUT,
+        &READ_TOO_EARLY,
+        &ROTATION,
+        &CHECKPOINT,
+        &RECLAIMS,
+    ];
+    let disk = disk_after(&rt, alloc, &tables)?;
+    hold(&rt, &disk, &FILES_OF_A_PAIR);
+    gives(&rt, alloc, disk, 2, Some(1))
+}
+
+// The disk that a stop leaves of a rotation that is all but installed.
+fn stopped_in_rotation(rt: &(impl Abort + Threads + Sync), alloc: Global) -> Result<MemDisk, Fail> {
+    let disk = disk_after(rt, alloc, &[&ONE_PUT, &ROTATION_BUT_ITS_GATE])?;
+    stop(disk, &[])
+}
+
+// The disk once more, after these steps.
+fn reclaimed(
+    rt: &(impl Abort + Threads + Sync),
+    alloc: Global,
+    disk: MemDisk,
+) -> Result<MemDisk, Fail> {
+    let mut world = opened(rt, alloc, disk)?;
+    follow(rt, alloc, &mut world, &RECLAIMS_OF_A_ROTATION)?;
+    Ok(into_disk(world))
 }
 
 #[test]
 fn a_rotation_that_a_stop_ends_is_reclaimed(rt: HostRuntime) -> Result<(), Fail> {
     let alloc = rt.alloc();
-    let mut world = with_body(&rt, alloc)?;
-    follow(&rt, alloc, &mut world, &ROTATION_BUT_ITS_GATE)?;
-    let disk = stop(into_disk(world), &[])?;
-    assert_bytes(&rt, &disk, 3, &FRESH);
-    let mut world = opened(&rt, alloc, disk)?;
-    follow(&rt, alloc, &mut world, &RECLAIMS_OF_A_ROTATION)?;
-    let disk = into_disk(world);
-    assert_bytes(&rt, &disk, 3, &[]);
-    assert_eq!(rt; found(&rt, alloc, disk)?, (2, Some(1)));
-    Ok(())
+    let disk = stopped_in_rotation(&rt, alloc)?;
+    hold(&rt, &disk, &[(3, &FRESH)]);
+    let disk = reclaimed(&rt, alloc, disk)?;
+    hold(&rt, &disk, &[(3, &[])]);
+    gives(&rt, alloc, disk, 2, Some(1))
 }
 
 #[test]
 fn a_commit_that_wrote_nothing_is_polled_yes(rt: HostRuntime) -> Result<(), Fail> {
     let alloc = rt.alloc();
-    let mut world = fresh(&rt, alloc)?;
-    follow(&rt, alloc, &mut world, &COMMIT_OF_NOTHING)?;
-    let disk = into_disk(world);
-    assert_bytes(&rt, &disk, 2, &EMPTY);
-    assert_eq!(rt; found(&rt, alloc, disk)?, (2, None));
-    Ok(())
+    let disk = disk_after(&rt, alloc, &[&COMMIT_OF_NOTHING])?;
+    hold(&rt, &disk, &[(2, &EMPTY)]);
+    gives(&rt, alloc, disk, 2, None)
 }
 
 #[test]
 fn a_transaction_falls_with_the_one_it_waits_for(rt: HostRuntime) -> Result<(), Fail> {
-    let alloc = rt.alloc();
-    let mut world = fresh(&rt, alloc)?;
-    follow(&rt, alloc, &mut world, &PUT_AND_REPLACE)?;
-    follow(&rt, alloc, &mut world, &FALL)
+    let _ = following(&rt, rt.alloc(), &[&PUT_AND_REPLACE, &FALL])?;
+    Ok(())
 }
 
 #[test]
 fn a_transaction_is_settled_after_the_one_it_waits_for(rt: HostRuntime) -> Result<(), Fail> {
-    let alloc = rt.alloc();
-    let mut world = fresh(&rt, alloc)?;
-    follow(&rt, alloc, &mut world, &PUT_AND_REPLACE)?;
-    follow(&rt, alloc, &mut world, &SETTLES)
+    let _ = following(&rt, rt.alloc(), &[&PUT_AND_REPLACE, &SETTLES])?;
+    Ok(())
 }
 
 #[test]
 fn refuses_steps_out_of_turn(rt: HostRuntime) -> Result<(), Fail> {
-    let alloc = rt.alloc();
-    let mut world = fresh(&rt, alloc)?;
-    follow(&rt, alloc, &mut world, &OUT_OF_TURN)
+    let _ = following(&rt, rt.alloc(), &[&OUT_OF_TURN])?;
+    Ok(())
 }
 
 #[test]
 fn stops_after_the_body(rt: HostRuntime) -> Result<(), Fail> {
     let alloc = rt.alloc();
-    let disk = stop(into_disk(with_body(&rt, alloc)?), &[])?;
+    let disk = stop(disk_after(&rt, alloc, &[&ONE_PUT])?, &[])?;
     assert_eq!(rt; bytes_of(&disk, 2).len(), 63);
-    assert_eq!(rt; found(&rt, alloc, disk)?, (0, None));
-    Ok(())
+    gives(&rt, alloc, disk, 0, None)
+}
+
+// The segment, with this gate of the group.
+fn segment_with(alloc: Global, gate: u8) -> Result<FileImage, Fail> {
+    let mut bytes = SEGMENT.to_vec(alloc)?;
+    bytes[8] = gate;
+    Ok(FileImage { file: 2, bytes })
+}
+
+// The disk after what opening the gate does first.
+fn with_gate(disk: MemDisk) -> Result<MemDisk, Fail> {
+    let mut disk = disk;
+    if disk.faults() != 0 || disk.bytes(2).len() < 9 {
+        return Err(Fail::from("the body is written"));
+    }
+    disk.write_at(2, 8, &[0xa5])?;
+    Ok(disk)
 }
 
 // What is found after a stop within the write of the gate, which leaves it so.
@@ -216,16 +275,9 @@ fn found_at_gate(
     alloc: Global,
     gate: u8,
 ) -> Result<(u64, Option<usize>), Fail> {
-    let mut disk = into_disk(with_body(rt, alloc)?);
-    if disk.faults() != 0 || disk.bytes(2).len() < 9 {
-        return Err(Fail::from("the body is written"));
-    }
-    // What opening the gate does first.
-    disk.write_at(2, 8, &[0xa5])?;
-    let mut bytes = SEGMENT.to_vec(alloc)?;
-    bytes[8] = gate;
-    let disk = stop(disk, &[FileImage { file: 2, bytes }])?;
-    found(rt, alloc, disk)
+    let disk = with_gate(disk_after(rt, alloc, &[&ONE_PUT])?)?;
+    let image = segment_with(alloc, gate)?;
+    found(rt, alloc, stop(disk, &[image])?)
 }
 
 #[test]
