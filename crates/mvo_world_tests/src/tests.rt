@@ -252,10 +252,19 @@ fn stops_after_the_body(rt: HostRuntime) -> Result<(), Fail> {
     gives(&rt, alloc, disk, 0, None)
 }
 
+// The bytes, with another one at a place.
+fn with_byte(alloc: Global, bytes: &[u8], at: usize, byte: u8) -> Result<Vec<u8>, Fail> {
+    let mut copy = bytes.to_vec(alloc)?;
+    if at >= copy.len() {
+        return Err(Fail::from("a byte that is there"));
+    }
+    copy[at] = byte;
+    Ok(copy)
+}
+
 // The segment, with this gate of the group.
 fn segment_with(alloc: Global, gate: u8) -> Result<FileImage, Fail> {
-    let mut bytes = SEGMENT.to_vec(alloc)?;
-    bytes[8] = gate;
+    let bytes = with_byte(alloc, &SEGMENT, 8, gate)?;
     Ok(FileImage { file: 2, bytes })
 }
 
