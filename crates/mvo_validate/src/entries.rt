@@ -6,6 +6,9 @@ use indexmap::IndexSet;
 use std::alloc::{AllocError, Global};
 use std::marker::Model;
 
+// The memory of more entries than this isn't kept for another transaction.
+const FEW: usize = 64;
+
 /// The entries of a transaction, in the order in which they were first noted, without repeats.
 /// Contracts see that list, and the room: how many more can be noted without memory.
 #[derive(Drop)]
@@ -65,6 +68,18 @@ impl Entries {
         ensures room { self.old.room ≤ self.new.room + 1 }
     {
         self.set.insert(entry).unwrap()
+    }
+
+    /// Forgets all entries. The memory of few is kept for those of another transaction.
+    pub fn clear(&mut self)
+        ensures { self.new.noted ≡ [] }
+    {
+        let alloc = *self.set.allocator();
+        if self.set.len() > FEW {
+            self.set = IndexSet::new(alloc);
+        } else {
+            self.set.clear();
+        }
     }
 
     /// The entry at a place, from 0 on.

@@ -13,3 +13,4 @@ pub mod Ending
 pub mod Inserting
 pub mod Checking
 pub mod Scanning
+pub mod Spare

@@ -1,3 +1,4 @@
+use crate::spares::Spares;
 use crate::transaction::{Table, begun};
 use mvo_tale::Tale;
 use mvo_txn::TxnTable;
@@ -23,6 +24,7 @@ pub struct Core {
     pub(crate) closed: Stamp,
     /// The place in the tale from which the next group goes on.
     pub(crate) grouped: usize,
+    pub(crate) spares: Spares,
 }
 
 impl Model for Core {
@@ -72,6 +74,7 @@ impl Core {
     {
         let table = TxnTable::new(alloc, mark)?;
         let versions = Versions::load(alloc, seed, rows, mark)?;
+        let spares = Spares::new(alloc)?;
         Ok(Core {
             alloc,
             versions,
@@ -80,6 +83,7 @@ impl Core {
             opening: mark,
             closed: mark,
             grouped: 0,
+            spares,
         })
     }
 
@@ -104,6 +108,7 @@ impl Core {
         ensures id { IfOk result (λ t. t.0 ≡ self.old.table.clock + 1) }
     {
         let alloc = self.alloc;
-        self.table.begin(begun(alloc))
+        let work = self.spares.take();
+        self.table.begin(begun(alloc, work))
     }
 }

@@ -38,7 +38,8 @@ impl Core {
         if next_own(&self.versions, &mut self.table, tx).is_some() {
             return Ok(Finishing::More);
         }
-        let _ = self.table.terminate(tx);
+        let node = self.table.terminate(tx);
+        self.spares.keep(node.own.work);
         Ok(Finishing::Done)
     }
 }

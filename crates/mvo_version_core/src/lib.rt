@@ -10,6 +10,7 @@ mod finishing;
 mod operating;
 mod refusing;
 mod scanning;
+mod spares;
 mod transaction;
 
 pub use answers::{Closed, Finishing, Settlement, Validation};

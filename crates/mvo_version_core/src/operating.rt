@@ -157,12 +157,14 @@ fn in_the_way(
 }
 
 /// Puts a version of the row, and lets the transaction depend on the other, if there is one; or
-/// does neither. Refused, the places are still just those of the versions, as always.
+/// does neither. Where the version `like` has the row's key and sort, no place is sought. Refused,
+/// the places are still just those of the versions, as always.
 fn put(
     versions: &mut Versions,
     table: &mut Table,
     tx: TxId,
     row: &Row,
+    like: Option<VersionNo>,
     on: Option<TxId>,
 ) -> Result<VersionNo, AllocError>
     requires id { tx.0 < 2 ^ 63 }
@@ -174,7 +176,7 @@ fn put(
     ensures alone { OnErr result (table.new ≡ table.old) }
     ensures indexed { AreIndexed versions.old → AreIndexed versions.new }
 {
-    let number = versions.put(row.copy()?, tx)?;
+    let number = versions.put(row.copy()?, tx, like)?;
     let Ok(()) = depend(table, tx, on) else {
         let _ = versions.take_out(number);
         return Err(AllocError);
@@ -203,7 +205,7 @@ fn insert_row(
     let clock = table.clock();
     prove!(clock.0 <= MAX_STAMP);
     make_room(table, tx)?;
-    let number = put(versions, table, tx, &row, on)?;
+    let number = put(versions, table, tx, &row, None, on)?;
     note_word(table, tx, WordPlace::Begin(number));
     tell(table, tx, Op::Insert(row), Answer::Inserted);
     Ok(())
@@ -259,7 +261,7 @@ fn put_instead(
     let clock = table.clock();
     prove!(clock.0 <= MAX_STAMP);
     make_room(table, tx)?;
-    let place = put(versions, table, tx, &row, on)?;
+    let place = put(versions, table, tx, &row, Some(number), on)?;
     versions.end(number, tx);
     note_word(table, tx, WordPlace::End(number));
     note_word(table, tx, WordPlace::Begin(place));

@@ -1,4 +1,4 @@
-ghost use Rattle.std.specs.Prelude.{◌≡◌, []};
+ghost use Rattle.std.specs.Prelude.{◌≡◌};
 ghost use Rattle.mvo_deps.specs.Data.{no_dependencies};
 
 use crate::answers::Validation;
@@ -52,16 +52,15 @@ impl Transaction {
     }
 }
 
-/// One that has done nothing.
-pub fn begun(alloc: Global) -> Node<Transaction>
+/// One that has done this work, and nothing else.
+pub fn begun(alloc: Global, work: Work) -> Node<Transaction>
     ensures dependencies { result.dependencies ≡ no_dependencies }
-    ensures history { result.own.work.history ≡ [] }
-    ensures words { result.own.work.words ≡ [] }
+    ensures work { result.own.work ≡ work }
 {
     Node {
         dependencies: Dependencies::new(alloc),
         own: Transaction {
-            work: Work::new(alloc),
+            work,
             place: 0,
             checked: 0,
             valid: false,

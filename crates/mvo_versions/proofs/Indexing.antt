@@ -268,7 +268,7 @@ given_back places p n b e = ap (λ c. less_place (not c) (and_place places p n) 
 
 -- ---- a version goes
 -- where a version stands at the place, one of the key's numbers does, and where one does, it does
-slot_there : (place : Place) (slots : Slots) (n : ℕ) → is_number_at slots place n ≡ true → list_any (is_at_place place) (all_versions slots) ≡ true
+pub slot_there : (place : Place) (slots : Slots) (n : ℕ) → is_number_at slots place n ≡ true → list_any (is_at_place place) (all_versions slots) ≡ true
 slot_there place [] zero e = absurd (true≢false (sym e))
 slot_there place [] (suc n) e = absurd (true≢false (sym e))
 slot_there place (None ∷ xs) zero e = absurd (true≢false (sym e))

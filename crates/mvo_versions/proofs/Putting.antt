@@ -1,7 +1,8 @@
 -- What a put leaves, where all of it was had and where some was refused.
-use Rattle.std.proofs.Common.{◌≡◌, ℕ, Bool, not, None, Some, IsSome, refl, sym, ap, ◌∙◌, subst, inl, inr, ◌⊎◌}
+use Rattle.std.proofs.Common.{◌≡◌, ℕ, Bool, true, Option, not, None, Some, IsSome, refl, sym, ap, ◌∙◌, subst, inl, inr, ◌⊎◌}
 use Rattle.std.specs.Prelude.{slice_index_or, is_some}
 use Rattle.std.specs.FinMap as fin
+use Rattle.std.proofs.lemmas.Bool.{true≢false}
 use Rattle.std.proofs.lemmas.List.{get_or-set_same}
 use Rattle.mvo_chain.specs.declared.version.Version.{Version}
 use Rattle.mvo_chain.specs.declared.version.VersionNo.{VersionNo}
@@ -12,8 +13,8 @@ use Rattle.mvo_range.specs.Place.{Map as Places}
 use Rattle.mvo_visible.specs.Fronts.{with_new}
 use Rattle.mvo_representation.specs.Indexes.{place_of}
 use Rattle.mvo_versions.specs.Data.{VersionsData, AreIndexed}
-use Rattle.mvo_versions.specs.Changes.{IsRoomed, and_place, less_place}
-use Rattle.mvo_versions.proofs.Indexing.{hole_inside, emptied_again, roomed, comes, given_back}
+use Rattle.mvo_versions.specs.Changes.{IsRoomed, is_one_at, and_place, less_place}
+use Rattle.mvo_versions.proofs.Indexing.{hole_inside, slot_there, emptied_again, roomed, comes, given_back}
 
 -- the version was put, and went again
 pub undone : (v : VersionsData) (n : VersionNo) (w : Version) (slots : Slots) (lists : Lists) (places : Places) → IsHole (with_room v.slots) n → slots ≡ with_slot (with_slot (with_room v.slots) n (Some w)) n None → lists ≡ v.lists → places ≡ v.places → IsRoomed v (record { slots = slots; lists = lists; places = places })
@@ -46,3 +47,8 @@ put_there slots new n w hole e = subst (λ o. IsSome o) (sym (ap (λ ss. slice_i
 -- the places are as they were
 pub places_back : (before taken after : Places) (p : Place) (i : ℕ) (b : Bool) → taken ≡ and_place before p i → b ≡ not (is_some (fin.get before p)) → after ≡ less_place (not b) taken p → after ≡ before
 places_back before taken after p i b t n g = g ∙ ap (λ x. less_place (not b) x p) t ∙ given_back before p i b n
+
+-- where a version stands at the place, it has an entry
+pub held_place : (v : VersionsData) (p : Place) (like : Option VersionNo) → AreIndexed v → is_one_at v.slots p like ≡ true → is_some (fin.get v.places p) ≡ true
+held_place v p None h e = absurd (true≢false (sym e))
+held_place v p (Some n) h e = h.order.at p ∙ slot_there p v.slots n.0 e

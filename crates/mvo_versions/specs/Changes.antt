@@ -55,6 +55,11 @@ is_slot_at place (Some v) = is_at_place place v
 abbrev pub is_number_at : Slots → Place → ℕ → Bool
 is_number_at slots place n = is_slot_at place (slice_index_or slots n None)
 
+-- whether there is such a version, and it stands at the place
+abbrev pub is_one_at : Slots → Place → Option VersionNo → Bool
+is_one_at slots place None = false
+is_one_at slots place (Some n) = is_number_at slots place n.0
+
 -- the version is gone
 pub record IsTakenOut (old new : VersionsData) (n : VersionNo) : Type 0 where
   pub slots : new.slots ≡ with_slot old.slots n None

@@ -1,10 +1,10 @@
-ghost use Rattle.std.specs.Prelude.{◌≡◌, not, is_some, IsSome, IfSome, IfOk, OnOk, OnErr};
+ghost use Rattle.std.specs.Prelude.{◌≡◌, not, is_some, true, IsSome, IfSome, IfOk, OnOk, OnErr};
 ghost use Rattle.std.specs.FinMap as map;
 ghost use Rattle.std.specs.List.{list_any};
 ghost use Rattle.mvo_chain.specs.Slots.{version_at};
 ghost use Rattle.mvo_hash.specs.Lists.{numbers_of};
 ghost use Rattle.mvo_validate.specs.Entries.{key_at};
-ghost use Rattle.mvo_versions.specs.Changes.{is_number_at, and_place, less_place};
+ghost use Rattle.mvo_versions.specs.Changes.{is_number_at, is_one_at, and_place, less_place};
 
 use mvo_chain::{Chains, Version, VersionNo};
 use mvo_hash::HashIndex;
@@ -94,8 +94,14 @@ impl Versions {
 
     /// Puts the row as a version of the transaction, which nobody has ended, in front of those of
     /// its key. Takes constant time, but for growth; an entry of the ordered index is made only
-    /// where no version of the key has that sort. Refused, it changes nothing that is shown.
-    pub fn put(&mut self, row: Row, by: TxId) -> Result<VersionNo, AllocError>
+    /// where no version of the key has that sort, and none is sought where the version `like` has
+    /// the row's key and sort. Refused, it changes nothing that is shown.
+    pub fn put(
+        &mut self,
+        row: Row,
+        by: TxId,
+        like: Option<VersionNo>,
+    ) -> Result<VersionNo, AllocError>
         requires { by.0 < 2 ^ 63 }
         ensures ok { IfOk result (λ n. IsPut self.old self.new row by.0 n) }
         ensures err { OnErr result (IsRoomed self.old self.new) }
@@ -103,8 +109,9 @@ impl Versions {
     {
         let key = row.row_key();
         let place = Place::new(key, row.sort);
+        let stands = is_one_at(&self.chains, like, place);
         let number = self.chains.add(row, Word::id(by))?;
-        let Ok(is_new) = take_place(&mut self.order, place, number) else {
+        let Ok(is_new) = take_place(&mut self.order, place, number, stands) else {
             let _ = self.chains.take_out(number);
             return Err(AllocError);
         };
@@ -176,13 +183,20 @@ fn key_of(chains: &Chains, number: VersionNo) -> RowKey
     chains.get(number).unwrap().row.row_key()
 }
 
-/// Makes an entry for the place, unless there is one. Answers whether there was none.
-fn take_place(order: &mut RangeIndex, place: Place, number: VersionNo) -> Result<bool, AllocError>
+/// Makes an entry for the place, unless there is one. Answers whether there was none. It seeks none
+/// where it is known to stand.
+fn take_place(
+    order: &mut RangeIndex,
+    place: Place,
+    number: VersionNo,
+    stands: bool,
+) -> Result<bool, AllocError>
+    requires { stands ≡ true → is_some (map.get order.old place) ≡ true }
     ensures ok { OnOk result (order.new ≡ and_place order.old place number.0) }
     ensures is_new { IfOk result (λ b. b ≡ not (is_some (map.get order.old place))) }
     ensures err { OnErr result (order.new ≡ order.old) }
 {
-    if order.get(place).is_some() {
+    if stands || order.get(place).is_some() {
         return Ok(false);
     }
     order.add(place, number.0)?;
@@ -204,6 +218,16 @@ fn is_at(chains: &Chains, number: VersionNo, place: Place) -> bool
 {
     match chains.get(number) {
         Some(version) => Place::new(version.row.row_key(), version.row.sort) == place,
+        None => false,
+    }
+}
+
+/// Whether there is such a version, and it stands at the place.
+fn is_one_at(chains: &Chains, number: Option<VersionNo>, place: Place) -> bool
+    ensures { result ≡ is_one_at chains.now place number }
+{
+    match number {
+        Some(number) => is_at(chains, number, place),
         None => false,
     }
 }

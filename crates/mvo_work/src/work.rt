@@ -10,6 +10,7 @@ ghost use Rattle.mvo_theory.specs.Limits.{AreLimited};
 ghost use Rattle.mvo_work.specs.Limits.{MayFollow};
 ghost use Rattle.mvo_work.specs.Work.{HasRoom};
 
+use crate::memory::{clear_items, clear_words, reserve_one, take_items};
 use crate::operations::Operations;
 use crate::told::{entry_of, is_among, key_written, note_write, push_reserved};
 use crate::word_place::WordPlace;
@@ -18,7 +19,6 @@ use mvo_validate::{Entries, Entry};
 use std::alloc::{AllocError, Global};
 use std::collections::VecDeque;
 use std::marker::Model;
-use std::mem;
 
 /// What an unfinished transaction has done. Contracts see its operations with their answers, in
 /// order, the words that finishing still has to replace, in order of writing, and the room.
@@ -118,9 +118,9 @@ impl Work {
         ensures ok { OnOk result (HasRoom self.new) }
         ensures err { OnErr result (¬ HasRoom self.old) }
     {
-        self.operations.reserve(1)?;
+        reserve_one(&mut self.operations)?;
         self.looked_at.make_room()?;
-        self.written.reserve(1)?;
+        reserve_one(&mut self.written)?;
         self.words.reserve(2)
     }
 
@@ -187,11 +187,22 @@ impl Work {
         ensures limits { AreLimited self.old.history }
         ensures left { self.new ≡ record self.old { history = []; room = self.new.room } }
     {
-        let alloc = *self.operations.allocator();
-        self.looked_at = Entries::new(alloc);
+        self.looked_at.clear();
         Operations {
-            told: mem::replace(&mut self.operations, Vec::new(alloc)),
-            written: mem::replace(&mut self.written, Vec::new(alloc)),
+            told: take_items(&mut self.operations),
+            written: take_items(&mut self.written),
         }
+    }
+
+    /// Forgets all that was done, and the words. The memory of few operations and words is kept for
+    /// another transaction.
+    pub fn clear(&mut self)
+        ensures history { self.new.history ≡ [] }
+        ensures words { self.new.words ≡ [] }
+    {
+        self.looked_at.clear();
+        clear_items(&mut self.operations);
+        clear_items(&mut self.written);
+        clear_words(&mut self.words);
     }
 }

@@ -18,8 +18,8 @@ pub next_own-requires : goal.next_own-requires
 next_own-requires c =
     replaced_kept c.self.inside.versions c.replace_next.new.versions c.self.inside.table c.replace_next.new.table c.args.tx.0 c.in_ok-word.word c.replace_next.ensures
 
-pub terminate-requires : goal.terminate-requires
-terminate-requires c =
+pub terminate-node-requires : goal.terminate-node-requires
+terminate-node-requires c =
     replaced_ended c.self.inside.versions c.replace_next.new.versions c.self.inside.table c.replace_next.new.table c.args.tx.0 c.in_ok-word.word c.replace_next.ensures
     c.next_own.new.table c.next_own.ensures.passed c.in_ok-word.ensures.ok
 
@@ -53,22 +53,22 @@ invariant_of-self-2 c =
     let f = c.self.inside in
     let i = c.self.invariant in
     let old : CoreData = record { versions = f.versions; table = f.table; tale = f.tale; opening = f.opening.0; closed = f.closed.0; grouped = f.grouped } in
-    stands_on i (Finish c.args.tx.0) Accepted (record old { versions = c.replace_next.new.versions; table = c.terminate.new.self })
-    (finish_done i.opening i.steps i.state old i.stands c.args.tx.0 c.in_ok-word.word c.in_ok-word.ensures.ok c.replace_next.new.versions c.replace_next.new.table c.next_own.new.table c.terminate.new.self
-    c.replace_next.ensures c.next_own.ensures.passed c.next_own.result c.next_own.ensures.first c.if-is_some.ensures c.terminate.ensures.gone).leads
+    stands_on i (Finish c.args.tx.0) Accepted (record old { versions = c.replace_next.new.versions; table = c.terminate-node.new.self })
+    (finish_done i.opening i.steps i.state old i.stands c.args.tx.0 c.in_ok-word.word c.in_ok-word.ensures.ok c.replace_next.new.versions c.replace_next.new.table c.next_own.new.table c.terminate-node.new.self
+    c.replace_next.ensures c.next_own.ensures.passed c.next_own.result c.next_own.ensures.first c.if-is_some.ensures c.terminate-node.ensures.gone).leads
 
 pub returns-clause-step : goal.returns-clause-step
 returns-clause-step c = λ opening steps s h.
     let f = c.self.inside in
     let old : CoreData = record { versions = f.versions; table = f.table; tale = f.tale; opening = f.opening.0; closed = f.closed.0; grouped = f.grouped } in
     (finish_done opening steps s old (subst (StandsFor opening steps s) (sym c.self.view_is) h) c.args.tx.0 c.in_ok-word.word c.in_ok-word.ensures.ok
-    c.replace_next.new.versions c.replace_next.new.table c.next_own.new.table c.terminate.new.self c.replace_next.ensures c.next_own.ensures.passed c.next_own.result c.next_own.ensures.first
-    c.if-is_some.ensures c.terminate.ensures.gone).leads
+    c.replace_next.new.versions c.replace_next.new.table c.next_own.new.table c.terminate-node.new.self c.replace_next.ensures c.next_own.ensures.passed c.next_own.result c.next_own.ensures.first
+    c.if-is_some.ensures c.terminate-node.ensures.gone).leads
 
 pub returns-clause-answer : goal.returns-clause-answer
 returns-clause-answer c = λ opening steps s h.
     let f = c.self.inside in
     let old : CoreData = record { versions = f.versions; table = f.table; tale = f.tale; opening = f.opening.0; closed = f.closed.0; grouped = f.grouped } in
     (finish_done opening steps s old (subst (StandsFor opening steps s) (sym c.self.view_is) h) c.args.tx.0 c.in_ok-word.word c.in_ok-word.ensures.ok
-    c.replace_next.new.versions c.replace_next.new.table c.next_own.new.table c.terminate.new.self c.replace_next.ensures c.next_own.ensures.passed c.next_own.result c.next_own.ensures.first
-    c.if-is_some.ensures c.terminate.ensures.gone).answer
+    c.replace_next.new.versions c.replace_next.new.table c.next_own.new.table c.terminate-node.new.self c.replace_next.ensures c.next_own.ensures.passed c.next_own.result c.next_own.ensures.first
+    c.if-is_some.ensures c.terminate-node.ensures.gone).answer

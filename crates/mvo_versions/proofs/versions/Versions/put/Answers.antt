@@ -17,8 +17,15 @@ use Rattle.mvo_representation.specs.Steps.{fresh}
 use Rattle.mvo_chain.specs.Slots.{added}
 use Rattle.mvo_visible.specs.Fronts.{with_new}
 use Rattle.mvo_representation.specs.Indexes.{place_of}
-use Rattle.mvo_versions.proofs.Putting.{undone, undone_right, put_right, put_there, places_back}
+use Rattle.mvo_versions.proofs.Putting.{undone, undone_right, put_right, put_there, places_back, held_place}
 use Rattle.mvo_versions.proofs.Indexing.{fresh_number, comes}
+
+-- where it is said to stand, it does
+pub take_place-requires : goal.take_place-requires
+take_place-requires c e = held_place (record { slots = c.self.inside.chains; lists = c.self.inside.index.versions; places = c.self.inside.order }) c.new-place.result c.args.like c.self.invariant (sym c.is_one_at-stands.ensures ∙ e)
+
+pub take_out-requires : goal.take_out-requires
+take_out-requires c = put_there c.self.inside.chains c.add.new.self c.in_ok-number.number _ c.in_ok-number.ensures.hole c.in_ok-number.ensures.ok
 
 -- the version went again
 pub invariant_of-self-in_default : goal.invariant_of-self-in_default

@@ -1,0 +1,56 @@
+use crate::checksum::Checksum;
+use crate::config::Config;
+use anyhow::Result;
+use std::time::Instant;
+
+/// A workload that runs: its name, and when it began.
+#[derive(Clone, Copy)]
+pub struct Figure<'a> {
+    name: &'a str,
+    rows: u64,
+    start: Instant,
+}
+
+impl<'a> Figure<'a> {
+    pub fn start(rt: &HostRuntime, config: &Config, name: &'a str) -> Result<Figure<'a>> {
+        Ok(Figure {
+            name,
+            rows: config.rows,
+            start: Instant::now(rt)?,
+        })
+    }
+
+    /// Prints the checksum, and the nanoseconds for one of so many operations.
+    pub fn tell(&self, rt: &HostRuntime, operations: u64, sum: Checksum) -> Result<()> {
+        let nanos = self.nanos(rt, operations)?;
+        self.tell_sum(rt, sum)?;
+        let (name, rows) = (self.name, self.rows);
+        eprintln!(rt;
+            "{{\"engine\":\"ravundi\",\"name\":\"{name}\",\"rows\":{rows},\"operations\":{operations},\"ns\":{nanos}}}"
+        )?;
+        Ok(())
+    }
+
+    /// The same, with the bytes of memory for one of the rows.
+    pub fn tell_bytes(&self, rt: &HostRuntime, bytes: u64, sum: Checksum) -> Result<()> {
+        let nanos = self.nanos(rt, self.rows)?;
+        self.tell_sum(rt, sum)?;
+        let (name, rows) = (self.name, self.rows);
+        let each = bytes.checked_div(rows).unwrap_or(0);
+        eprintln!(rt;
+            "{{\"engine\":\"ravundi\",\"name\":\"{name}\",\"rows\":{rows},\"operations\":{rows},\"ns\":{nanos},\"bytes_a_row\":{each}}}"
+        )?;
+        Ok(())
+    }
+
+    fn nanos(&self, rt: &HostRuntime, operations: u64) -> Result<u128> {
+        let nanos = self.start.elapsed(rt)?.as_nanos();
+        Ok(nanos.checked_div(u128::from(operations)).unwrap_or(0))
+    }
+
+    fn tell_sum(&self, rt: &HostRuntime, sum: Checksum) -> Result<()> {
+        let (name, rows, sum) = (self.name, self.rows, sum.0);
+        println!(rt; "{name} {rows}: {sum}")?;
+        Ok(())
+    }
+}

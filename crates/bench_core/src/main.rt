@@ -1,0 +1,62 @@
+//! Times of the event core under the workloads that `bench/peers` gives other stores: the same
+//! keys, rows and loops, so that the checksums on standard output are theirs. One line of JSON for
+//! each figure goes to standard error. An argument is NAME=NUMBER or the name of a workload;
+//! without a workload all of them run.
+#![tactic(auto)]
+
+mod checksum;
+mod config;
+mod crowd;
+mod figure;
+mod hot;
+mod keys;
+mod load;
+mod mixed;
+mod power;
+mod reads;
+mod resident;
+mod rows;
+mod scans;
+mod session;
+mod updates;
+mod zipf;
+
+use anyhow::Result;
+use config::{Config, Work};
+use session::Session;
+
+fn main(rt: HostRuntime) -> Result<()> {
+    let config = Config::given(&rt)?;
+    let mut session = Session::new(rt.alloc())?;
+    load::run(&rt, &config, &mut session)?;
+    run_plain(&rt, &config, &mut session)?;
+    run_beside_old(&rt, &config, &mut session)
+}
+
+/// One transaction at a time.
+fn run_plain(rt: &HostRuntime, config: &Config, session: &mut Session) -> Result<()> {
+    if config.has(Work::Reads) {
+        reads::run(rt, config, session)?;
+    }
+    if config.has(Work::Updates) {
+        updates::run(rt, config, session)?;
+    }
+    if config.has(Work::Scans) {
+        scans::run(rt, config, session)?;
+    }
+    if config.has(Work::Mixed) {
+        mixed::run(rt, config, session)?;
+    }
+    Ok(())
+}
+
+/// Beside transactions that began before and stay open.
+fn run_beside_old(rt: &HostRuntime, config: &Config, session: &mut Session) -> Result<()> {
+    if config.has(Work::Hot) {
+        hot::run(rt, config, session)?;
+    }
+    if config.has(Work::Crowd) {
+        crowd::run(rt, config, session)?;
+    }
+    Ok(())
+}

@@ -1,0 +1,44 @@
+use crate::checksum::Checksum;
+use crate::config::Config;
+use crate::figure::Figure;
+use crate::keys::{Keys, mixed};
+use crate::rows::change;
+use crate::session::Session;
+use anyhow::Result;
+
+const SEED: u64 = 4;
+
+/// One transaction of so many also updates.
+const SHARE: u64 = 5;
+
+/// Reads one row, and in every fifth transaction updates it; few rows come often.
+pub fn run(rt: &HostRuntime, config: &Config, session: &mut Session) -> Result<()> {
+    let keys = Keys::zipf(session.alloc(), config.rows, SEED, config.transactions)?;
+    let figure = Figure::start(rt, config, "W5_mixed_zipf")?;
+    let mut sum = Checksum(0);
+    for at in 0..config.transactions {
+        if mixed(at) % SHARE == 0 {
+            update_one(session, keys.at(at), &mut sum)?;
+        } else {
+            read_one(session, keys.at(at), &mut sum)?;
+        }
+    }
+    figure.tell(rt, config.transactions, sum)
+}
+
+/// Reads a row in a transaction.
+pub fn read_one(session: &mut Session, key: u64, sum: &mut Checksum) -> Result<()> {
+    let tx = session.begin()?;
+    sum.add(&session.read(tx, key)?);
+    session.commit(tx)
+}
+
+/// Reads a row and updates it in a transaction.
+pub fn update_one(session: &mut Session, key: u64, sum: &mut Checksum) -> Result<()> {
+    let tx = session.begin()?;
+    let mut row = session.read(tx, key)?;
+    sum.add(&row);
+    change(&mut row, 1);
+    session.update(tx, row)?;
+    session.commit(tx)
+}

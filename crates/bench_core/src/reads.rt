@@ -1,0 +1,59 @@
+use crate::checksum::Checksum;
+use crate::config::Config;
+use crate::figure::Figure;
+use crate::keys::Keys;
+use crate::session::Session;
+use anyhow::Result;
+
+const SEED: u64 = 1;
+
+/// Reads one row or ten in a transaction.
+pub fn run(rt: &HostRuntime, config: &Config, session: &mut Session) -> Result<()> {
+    let alloc = session.alloc();
+    let count = config.transactions.max(config.fewer.saturating_mul(10));
+    let uniform = Keys::uniform(alloc, config.rows, SEED, count)?;
+    run_one(rt, config, session, "W2_read1_uniform", &uniform)?;
+    run_ten(rt, config, session, "W2_read10_uniform", &uniform)?;
+    let zipf = Keys::zipf(alloc, config.rows, SEED, count)?;
+    run_one(rt, config, session, "W2_read1_zipf", &zipf)?;
+    run_ten(rt, config, session, "W2_read10_zipf", &zipf)
+}
+
+fn run_one(
+    rt: &HostRuntime,
+    config: &Config,
+    session: &mut Session,
+    name: &str,
+    keys: &Keys,
+) -> Result<()> {
+    let figure = Figure::start(rt, config, name)?;
+    let sum = read_all(session, keys, config.transactions, 1)?;
+    figure.tell(rt, config.transactions, sum)
+}
+
+fn run_ten(
+    rt: &HostRuntime,
+    config: &Config,
+    session: &mut Session,
+    name: &str,
+    keys: &Keys,
+) -> Result<()> {
+    let figure = Figure::start(rt, config, name)?;
+    let sum = read_all(session, keys, config.fewer, 10)?;
+    figure.tell(rt, config.fewer, sum)
+}
+
+/// So many transactions, each of which reads so many rows.
+fn read_all(session: &mut Session, keys: &Keys, count: u64, each: u64) -> Result<Checksum> {
+    let mut sum = Checksum(0);
+    for at in 0..count {
+        let tx = session.begin()?;
+        let first = at.wrapping_mul(each);
+        for index in 0..each {
+            let key = keys.at(first.wrapping_add(index));
+            sum.add(&session.read(tx, key)?);
+        }
+        session.commit(tx)?;
+    }
+    Ok(sum)
+}

@@ -1,0 +1,94 @@
+use crate::rows::{TABLE, key_of};
+use anyhow::{Result, bail};
+use mvo_types::{Answer, Row, Rows, Stamp, TxId};
+use mvo_version_core::{Core, Finishing, Settlement, Validation};
+use std::alloc::Global;
+
+/// More checks and more words than a transaction has.
+const MOST: u64 = 10_000;
+
+/// A core, whose transactions are all to be committed: what is refused ends the run.
+#[derive(Drop)]
+pub struct Session {
+    alloc: Global,
+    core: Core,
+}
+
+impl Session {
+    /// No rows yet.
+    pub fn new(alloc: Global) -> Result<Session> {
+        let core = Core::open(alloc, 7, Rows::new(alloc), Stamp(0))?;
+        Ok(Session { alloc, core })
+    }
+
+    pub fn alloc(&self) -> Global {
+        self.alloc
+    }
+
+    pub fn begin(&mut self) -> Result<TxId> {
+        Ok(self.core.begin_tx()?)
+    }
+
+    /// The row at a key, which has one.
+    pub fn read(&mut self, tx: TxId, key: u64) -> Result<Row> {
+        match self.core.read(tx, key_of(key))? {
+            Answer::Found(Some(row)) => Ok(row),
+            _ => bail!("a row is missing"),
+        }
+    }
+
+    pub fn insert(&mut self, tx: TxId, row: Row) -> Result<()> {
+        match self.core.insert(tx, row)? {
+            Answer::Inserted => Ok(()),
+            _ => bail!("a row stands there already"),
+        }
+    }
+
+    pub fn update(&mut self, tx: TxId, row: Row) -> Result<()> {
+        match self.core.update(tx, row)? {
+            Answer::Updated => Ok(()),
+            _ => bail!("a row to be updated is missing"),
+        }
+    }
+
+    pub fn scan(&mut self, tx: TxId, low: u64, high: u64) -> Result<Vec<Row>> {
+        match self.core.scan(tx, TABLE, low, high)? {
+            Answer::Rows(rows) => Ok(rows),
+            _ => bail!("a scan isn't answered with rows"),
+        }
+    }
+
+    /// The whole end of a transaction.
+    pub fn commit(&mut self, tx: TxId) -> Result<()> {
+        self.core.precommit(tx)?;
+        self.validate(tx)?;
+        match self.core.settle(tx)? {
+            Settlement::Committed(_) => self.finish(tx),
+            Settlement::Waiting(_) => bail!("a transaction waits"),
+        }
+    }
+
+    /// Takes a transaction back.
+    pub fn roll_back(&mut self, tx: TxId) -> Result<()> {
+        self.core.rollback_tx(tx)?;
+        self.finish(tx)
+    }
+
+    fn validate(&mut self, tx: TxId) -> Result<()> {
+        for _ in 0..MOST {
+            if self.core.validate_one(tx)? == Validation::Valid {
+                return Ok(());
+            }
+        }
+        bail!("a transaction has too many entries")
+    }
+
+    fn finish(&mut self, tx: TxId) -> Result<()> {
+        for _ in 0..MOST {
+            if self.core.finish_one(tx)? == Finishing::Done {
+                return Ok(());
+            }
+        }
+        bail!("a transaction has too many words")
+    }
+}

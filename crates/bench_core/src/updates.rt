@@ -1,0 +1,50 @@
+use crate::checksum::Checksum;
+use crate::config::Config;
+use crate::figure::Figure;
+use crate::keys::Keys;
+use crate::rows::{change, set_round};
+use crate::session::Session;
+use anyhow::Result;
+
+const SEED: u64 = 2;
+
+/// Reads two rows and updates both.
+pub fn run(rt: &HostRuntime, config: &Config, session: &mut Session) -> Result<()> {
+    let count = config.transactions.saturating_mul(2);
+    let keys = Keys::uniform(session.alloc(), config.rows, SEED, count)?;
+    let figure = Figure::start(rt, config, "W3_read2_update2")?;
+    let sum = update_all(session, &keys, config.transactions)?;
+    figure.tell(rt, config.transactions, sum)
+}
+
+/// So many transactions.
+pub fn update_all(session: &mut Session, keys: &Keys, count: u64) -> Result<Checksum> {
+    let mut sum = Checksum(0);
+    for round in 0..count {
+        let at = round.wrapping_mul(2);
+        let (one, other) = (keys.at(at), keys.at(at.wrapping_add(1)));
+        let other = if one == other { one ^ 1 } else { other };
+        update_two(session, one, other, round, &mut sum)?;
+    }
+    Ok(sum)
+}
+
+fn update_two(
+    session: &mut Session,
+    one: u64,
+    other: u64,
+    round: u64,
+    sum: &mut Checksum,
+) -> Result<()> {
+    let tx = session.begin()?;
+    let mut first = session.read(tx, one)?;
+    let mut second = session.read(tx, other)?;
+    sum.add(&first);
+    sum.add(&second);
+    change(&mut first, 1);
+    change(&mut second, u8::MAX);
+    set_round(&mut first, round);
+    session.update(tx, first)?;
+    session.update(tx, second)?;
+    session.commit(tx)
+}

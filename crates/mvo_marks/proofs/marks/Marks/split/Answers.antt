@@ -1,0 +1,8 @@
+use Rattle.std.proofs.Common.{◌≡◌, ◌≤◌, ◌<◌, ℕ, sym, ap, ◌∙◌, subst, refl, arith, rules}
+use mathlib.Core.Option.{none}
+use Rattle.atomic_table.specs.Table.{step}
+use Rattle.mvo_marks.proofs.Kept.{begins, splits, sees_durable, sees_closed, raises, publishes}
+use Rattle.mvo_marks.proofs.marks.Marks.split.Goals as goal
+
+pub split_seat-requires : goal.split_seat-requires
+split_seat-requires c = (ap (λ p. p.marks) c.seat.view_is ∙ (c.requires ∙ sym c.self.view_is), omega (arith, c.self.invariant), splits _ _)

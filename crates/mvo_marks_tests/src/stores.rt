@@ -1,0 +1,35 @@
+//! What a store on a new disk gives for a group.
+use mvo_disk::MemDisk;
+use mvo_group::Group;
+use mvo_store::{Durable, Store, format};
+use mvo_types::{Refusal, Stamp};
+use std::alloc::Global;
+use std::test::Fail;
+use std::thread::Threads;
+
+fn new_store(rt: &(impl Threads + Sync), alloc: Global) -> Result<Store<MemDisk>, Refusal> {
+    let disk = match format(alloc, MemDisk::new(alloc)?) {
+        Ok(disk) => disk,
+        Err((refusal, _)) => return Err(refusal),
+    };
+    match Store::open(rt, alloc, disk) {
+        Ok((store, _, _)) => Ok(store),
+        Err((refusal, _)) => Err(refusal),
+    }
+}
+
+/// All up to the mark is on a disk.
+pub(crate) fn durable(
+    rt: &(impl Threads + Sync),
+    alloc: Global,
+    mark: Stamp,
+) -> Result<Durable, Fail> {
+    let mut store = new_store(rt, alloc)?;
+    let prev = store.mark();
+    let group = Group::new(prev, mark, Vec::new(alloc)).ok_or("a group without records")?;
+    if let Err((refusal, _)) = store.take_group(group) {
+        return Err(Fail::from(refusal));
+    }
+    store.append_body()?;
+    Ok(store.append_open()?)
+}

@@ -1,0 +1,50 @@
+//! How lists of a transaction take memory, and keep it for the next transaction.
+ghost use Rattle.std.specs.Prelude.{◌≡◌, [], ◌<◌, ◌≤◌, OnOk, OnErr, vec_len, vec_capacity};
+
+use std::alloc::AllocError;
+use std::collections::VecDeque;
+use std::mem;
+
+// The memory of more items than this isn't kept for another transaction.
+const FEW: usize = 64;
+
+/// Sees to it that there is room for one item more. The first one takes no more memory than it
+/// needs: many transactions have one operation, and their lists are kept.
+pub fn reserve_one<T: Drop>(items: &mut Vec<T>) -> Result<(), AllocError>
+    ensures same { items.new.items ≡ items.old.items }
+    ensures ok { OnOk result (vec_len items.new < vec_capacity items.new) }
+    ensures err { OnErr result (vec_capacity items.old ≤ vec_len items.old) }
+{
+    if items.is_empty() {
+        return items.reserve_exact(1);
+    }
+    items.reserve(1)
+}
+
+/// Takes the items out. Where there are none, the memory stays.
+pub fn take_items<T: Drop>(items: &mut Vec<T>) -> Vec<T>
+    ensures taken { result.items ≡ items.old.items }
+    ensures left { items.new.items ≡ [] }
+{
+    let alloc = *items.allocator();
+    if items.is_empty() {
+        return Vec::new(alloc);
+    }
+    mem::replace(items, Vec::new(alloc))
+}
+
+/// Drops the items. The memory of few is kept.
+pub fn clear_items<T: Drop>(items: &mut Vec<T>)
+    ensures { items.new.items ≡ [] }
+{
+    items.clear();
+    items.shrink_to(FEW);
+}
+
+/// Drops the words. The memory of few is kept.
+pub fn clear_words<T: Drop>(words: &mut VecDeque<T>)
+    ensures { words.new.items ≡ [] }
+{
+    words.clear();
+    words.shrink_to(FEW);
+}
