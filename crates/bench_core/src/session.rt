@@ -1,7 +1,7 @@
 use crate::rows::{TABLE, key_of};
 use anyhow::{Result, bail};
+use mvo_core::{Core, Finishing, Settlement, Validation};
 use mvo_types::{Answer, Row, Rows, Stamp, TxId};
-use mvo_version_core::{Core, Finishing, Settlement, Validation};
 use std::alloc::Global;
 
 /// More checks and more words than a transaction has.

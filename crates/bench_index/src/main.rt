@@ -13,10 +13,11 @@ use anyhow::Result;
 const SIZES: [u64; 3] = [10_000, 100_000, 1_000_000];
 
 fn main(rt: HostRuntime) -> Result<()> {
+    stalls::run(&rt, 1_000_000)?;
     for count in SIZES {
         keys::run(&rt, count)?;
         versions::run(&rt, count)?;
         ranges::run(&rt, count)?;
     }
-    stalls::run(&rt, 1_000_000)
+    Ok(())
 }

@@ -1,49 +1,98 @@
+//! The longest single call, as each table grows to so many entries.
 use crate::keys::key_of;
 use crate::watch::mixed;
 use anyhow::Result;
-use mvo_chain::VersionNo;
+use mvo_chain::{Chains, VersionNo};
 use mvo_hash::{HashIndex, Heads};
+use mvo_types::{Row, Stamp};
+use mvo_word::Word;
 use std::rt::Clock;
 use std::time::Instant;
 
-pub fn run<R: AllocGlobal + Clock + Eprint + Print>(rt: &R, count: u64) -> Result<()> {
-    let grown = longest_put(rt, count, 0)?;
-    let reserved = longest_put(rt, count, count)?;
-    eprintln!(rt; "{count:>8} longest add of a key: {grown} ns, with room reserved {reserved} ns")?;
-    let grown = longest_add(rt, count, 0)?;
-    let reserved = longest_add(rt, count, count)?;
-    eprintln!(rt;
-        "{count:>8} longest add of a version: {grown} ns, with room reserved {reserved} ns"
-    )?;
+// Each call is made in so many rounds, and the least of its times counts, since other programs stop
+// a call too, but seldom the same one.
+const ROUNDS: usize = 5;
+
+pub fn run<R: AllocGlobal + Clock + Eprint + Print>(rt: &R, count: usize) -> Result<()> {
+    let mut puts = vec![in rt.alloc(); u128::MAX; count]?;
+    let mut adds = vec![in rt.alloc(); u128::MAX; count]?;
+    let mut slots = vec![in rt.alloc(); u128::MAX; count]?;
+    for round in 1..=ROUNDS {
+        time_puts(rt, puts.as_mut_slice())?;
+        time_adds(rt, adds.as_mut_slice())?;
+        time_slots(rt, slots.as_mut_slice())?;
+        if round == 1 || round == ROUNDS {
+            tell_longest(rt, "longest put of a key", round, puts.as_slice())?;
+            tell_longest(
+                rt,
+                "longest add of a version to its key",
+                round,
+                adds.as_slice(),
+            )?;
+            tell_longest(
+                rt,
+                "longest add of a version to its slot",
+                round,
+                slots.as_slice(),
+            )?;
+        }
+    }
     println!(rt; "stalls {count}")?;
     Ok(())
 }
 
-// The nanoseconds of the longest add of a key, with room reserved for so many.
-fn longest_put<R: AllocGlobal + Clock>(rt: &R, count: u64, room: u64) -> Result<u128> {
-    let mut index = Heads::new(rt.alloc(), mixed(room));
-    index.reserve(room as usize)?;
-    let mut longest = 0u128;
-    for at in 0..count {
+fn tell_longest<R: Eprint>(rt: &R, name: &str, rounds: usize, times: &[u128]) -> Result<()> {
+    let (count, longest) = (times.len(), times.iter().copied().max().unwrap_or(0));
+    eprintln!(rt;
+        "{{\"name\": \"{name}\", \"entries\": {count}, \"rounds\": {rounds}, \"ns\": {longest}}}"
+    )?;
+    Ok(())
+}
+
+// Nanoseconds of each put of a key, with no room reserved.
+fn time_puts<R: AllocGlobal + Clock>(rt: &R, times: &mut [u128]) -> Result<()> {
+    let mut index = Heads::new(rt.alloc(), mixed(1));
+    let mut at = 0u64;
+    for time in times {
         let start = Instant::now(rt)?;
         index.put(key_of(at), (at & 0xFFFF) as u32)?;
-        longest = longest.max(start.elapsed(rt)?.as_nanos());
+        *time = (*time).min(start.elapsed(rt)?.as_nanos());
+        at = at.wrapping_add(1);
     }
-    Ok(longest)
+    Ok(())
 }
 
 // The same of the first version of a key.
-fn longest_add<R: AllocGlobal + Clock>(rt: &R, count: u64, room: u64) -> Result<u128> {
-    let mut index = HashIndex::new(rt.alloc(), mixed(room));
-    index.reserve(room as usize)?;
-    let mut longest = 0u128;
-    for at in 0..count {
+fn time_adds<R: AllocGlobal + Clock>(rt: &R, times: &mut [u128]) -> Result<()> {
+    let mut index = HashIndex::new(rt.alloc(), mixed(1));
+    let mut at = 0u64;
+    for time in times {
         let version = VersionNo((at & 0xFFFF_FFFF) as u32);
         if !index.is_held(version) {
             let start = Instant::now(rt)?;
             index.add(key_of(at), version)?;
-            longest = longest.max(start.elapsed(rt)?.as_nanos());
+            *time = (*time).min(start.elapsed(rt)?.as_nanos());
         }
+        at = at.wrapping_add(1);
     }
-    Ok(longest)
+    Ok(())
+}
+
+// The same of a version, in its slot by number.
+fn time_slots<R: AllocGlobal + Clock>(rt: &R, times: &mut [u128]) -> Result<()> {
+    let mut chains = Chains::new(rt.alloc());
+    let mut at = 0u64;
+    for time in times {
+        let row = Row {
+            key: key_of(at),
+            sort: at,
+            bytes: Vec::new(rt.alloc()),
+        };
+        let begin = Word::stamp(Stamp(1));
+        let start = Instant::now(rt)?;
+        chains.add(row, begin)?;
+        *time = (*time).min(start.elapsed(rt)?.as_nanos());
+        at = at.wrapping_add(1);
+    }
+    Ok(())
 }

@@ -1,2 +1,4 @@
+pub mod Lends
+pub mod Pieces
 pub mod Slots
 pub mod Sound

@@ -1,6 +1,7 @@
-ghost use Rattle.std.specs.Prelude.{◌≡◌, ◌<◌, ◌^◌, [], length, IsSome, IfOk, OnOk, OnErr, IfSome, Some, None, option_copied};
+ghost use Rattle.std.specs.Prelude.{◌≡◌, ◌<◌, ◌≤◌, ◌^◌, [], length, vec_len, vec_capacity, IsSome, IfOk, OnOk, OnErr, IfSome, Some, None, option_copied};
 ghost use Rattle.mvo_chain.specs.Slots.{version_at, IsHole, hole_count, with_room, with_slot, with_change, added};
 
+use crate::pieces::Pieces;
 use crate::version::{Version, VersionNo};
 use mvo_types::{Row, TxId};
 use mvo_word::{Held, Word};
@@ -12,11 +13,12 @@ const MAX_SLOTS: usize = 1 << 32;
 
 /// Versions by number. Contracts see the list of slots, each with a version or empty.
 ///
-/// Every call takes constant time, but for the growth in `make_room` and `add`, which alone take
-/// memory. There are 2^32 numbers; once all are taken, room is refused as out of memory.
+/// Every call takes constant time, for no growth copies a version: that of `make_room` and `add`,
+/// which alone take memory, adds a piece of 1,024 slots. There are 2^32 numbers; once all are
+/// taken, room is refused as out of memory.
 #[derive(Drop)]
 pub struct Chains {
-    slots: Vec<Option<Version>>,
+    slots: Pieces<Option<Version>>,
     // The empty slots, with room for all numbers, so that taking out needs no memory.
     holes: Vec<VersionNo>,
 }
@@ -28,9 +30,24 @@ impl Model for Chains {
 
     ghost Value = { Slots };
 
-    ghost view = { λ c. c.slots.items };
+    ghost view = { λ c. c.slots };
 
-    ghost invariant = { λ c. IsSound c.slots.items c.holes.items (vec_capacity c.holes) };
+    ghost invariant = { λ c. IsSound c.slots c.holes.items (vec_capacity c.holes) };
+}
+
+// Makes room for so many numbers. A larger stack takes the place of the empty one, since a growth
+// of that one might copy its room, though nothing is there.
+fn widen(holes: &mut Vec<VersionNo>, count: usize) -> Result<(), AllocError>
+    requires empty { vec_len holes.old ≡ 0 }
+    requires small { count ≤ MAX_SLOTS }
+    ensures items { holes.new.items ≡ holes.old.items }
+    ensures capacity { vec_capacity holes.old ≤ vec_capacity holes.new }
+    ensures ok { OnOk result (count ≤ vec_capacity holes.new) }
+{
+    if holes.capacity() < count {
+        *holes = Vec::with_capacity(*holes.allocator(), 2 * count)?;
+    }
+    Ok(())
 }
 
 impl Chains {
@@ -39,7 +56,7 @@ impl Chains {
         ensures { result ≡ [] }
     {
         Chains {
-            slots: Vec::new(alloc),
+            slots: Pieces::new(alloc),
             holes: Vec::new(alloc),
         }
     }
@@ -75,7 +92,7 @@ impl Chains {
         if count >= MAX_SLOTS {
             return Err(AllocError);
         }
-        self.holes.reserve(count + 1)?;
+        widen(&mut self.holes, count + 1)?;
         self.slots.push(None)?;
         self.holes.push(VersionNo(count as u32))?;
         Ok(())
@@ -107,7 +124,7 @@ impl Chains {
         if count >= MAX_SLOTS {
             return Err(AllocError);
         }
-        self.holes.reserve(count + 1)?;
+        widen(&mut self.holes, count + 1)?;
         self.slots.push(Some(Version::added(row, begin)))?;
         Ok(VersionNo(count as u32))
     }

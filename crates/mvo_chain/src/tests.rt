@@ -1,4 +1,4 @@
-use crate::{Chains, Version, VersionNo};
+use crate::{Chains, Pieces, Version, VersionNo};
 use mvo_types::{Row, RowKey, Stamp, TxId};
 use mvo_word::{Held, Word};
 use std::alloc::{AllocError, Global};
@@ -163,6 +163,44 @@ fn random_calls_do_what_they_do_to_a_plain_list(rt: HostRuntime) -> Result<(), F
                 assert_eq!(rt; version, plain, "at {number}, seed {seed}, step {step}");
             }
         }
+    }
+    Ok(())
+}
+
+/// Looks whether both have the same at a place, and at those beside it.
+fn compare_near(rt: &impl Abort, pieces: &Pieces<u64>, list: &Vec<u64>, at: usize) {
+    for place in at.saturating_sub(2)..at.saturating_add(3) {
+        let item = pieces.get(place).copied();
+        assert_eq!(rt; item, list.get(place).copied(), "at {place}");
+        if place < pieces.len() {
+            assert_eq!(rt; Some(pieces[place]), item);
+        }
+    }
+}
+
+/// More than two pieces have, changed while they grow.
+#[test]
+fn pieces_do_what_a_plain_list_does(rt: HostRuntime) -> Result<(), Fail> {
+    let alloc = rt.alloc();
+    let mut draws = Draws(9);
+    let mut pieces = Pieces::new(alloc);
+    let mut list = Vec::new(alloc);
+    for item in 0..2500 {
+        compare_near(&rt, &pieces, &list, list.len());
+        pieces.push(item)?;
+        list.push(item)?;
+        assert_eq!(rt; pieces.len(), list.len());
+        let at = draws.below(list.len() as u64) as usize;
+        if at < pieces.len() {
+            pieces[at] = item + 5000;
+        }
+        if let Some(place) = list.get_mut(at) {
+            *place = item + 5000;
+        }
+        compare_near(&rt, &pieces, &list, at);
+    }
+    for at in 0..2503 {
+        assert_eq!(rt; pieces.get(at).copied(), list.get(at).copied(), "at {at}");
     }
     Ok(())
 }

@@ -5,7 +5,7 @@ ghost use Rattle.mvo_ckpt.specs.Places.{no_places, number_of, AreSmall, with_liv
 ghost use Rattle.mvo_ckpt.specs.Places.{without_keys, taken_over};
 
 use crate::place::Place;
-use mvo_hash::Heads;
+use mvo_hash::OpenTable;
 use mvo_pair::{Entry, Live};
 use mvo_types::{MAX_FILE, MAX_PAIR_RECORDS, RowKey};
 use std::alloc::{AllocError, Global};
@@ -18,7 +18,7 @@ use std::marker::Model;
 /// touched memory a key or more, and 48 of reserved memory.
 #[derive(Drop)]
 pub struct Places {
-    heads: Heads,
+    heads: OpenTable,
     seed: u64,
 }
 
@@ -41,7 +41,7 @@ impl Places {
         ensures { result ≡ no_places }
     {
         Places {
-            heads: Heads::new(alloc, seed),
+            heads: OpenTable::new(alloc, seed),
             seed,
         }
     }

@@ -1,9 +1,14 @@
 pub mod Chains
+pub mod Changes
 pub mod Counts
 pub mod Finds
 pub mod Fronts
+pub mod HeadsPut
+pub mod Homes
 pub mod Joins
 pub mod Puts
+pub mod Rooms
+pub mod Shared
 pub mod Tables
 pub mod Unlinks
 pub mod Uses

@@ -6,6 +6,7 @@ use Rattle.std.proofs.lemmas.List.Sums.{sum_by-cons}
 use Rattle.std.specs.FinMap.{get, empty, from_entries}
 use Rattle.mvo_types.specs.declared.row.RowKey.{RowKey}
 use Rattle.mvo_types.specs.Keys.{key_cmp}
+use Rattle.mvo_hash.specs.declared.seeds.Seeds.{Seeds}
 use Rattle.mvo_hash.specs.declared.slot.Slot.{Slot}
 use Rattle.mvo_hash.specs.declared.slot.State.TheVariants.{Empty, Live}
 use Rattle.mvo_hash.specs.Home.{home_of}
@@ -100,8 +101,8 @@ new_heads first second homes count ss is le = subst (IsHeads first second homes 
   half = omega arith;
 })
 
-pub new_table : (homes keys count : ℕ) (ss : List Slot) → homes ≡ keys * 2 → ss ≡ replicate count empty_slot → table_of homes 0 ss ≡ no_keys keys
-new_table homes keys count ss twice is =
+pub new_table : (seeds : Seeds) (homes keys count : ℕ) (ss : List Slot) → homes ≡ keys * 2 → ss ≡ replicate count empty_slot → table_of seeds homes 0 ss ≡ no_keys seeds keys
+new_table seeds homes keys count ss twice is =
     let numbers : map_of ss ≡ empty = ap map_of is ∙ ap (from_entries {R = key_cmp}) (entries_of-replicate count) in
     let room : homes / 2 - 0 ≡ keys = omega (arith, twice) in
     cc

@@ -1,8 +1,7 @@
 -- What the heads and the links show.
-use Rattle.std.proofs.Common.{◌≡◌, ◌≢◌, ℕ, ◌<◌, ◌≤◌, inl, inr, Bool, List, [], ◌∷◌, true, false, cond, length, map, get_or, take, drop, ◌++◌, Result, Ok, Err, Option, None, Some, refl, sym, ap, ◌∙◌, subst, arith}
+use Rattle.std.proofs.Common.{◌≡◌, ◌≢◌, ℕ, ◌<◌, ◌≤◌, inl, inr, Bool, List, [], ◌∷◌, true, false, cond, length, map, get_or, Result, Ok, Err, Option, None, Some, refl, sym, ap, ◌∙◌, subst, arith}
 use Rattle.std.proofs.lemmas.Bool.{cond-true, cond-false, cases_Bool, false_from_ne_true, false≢true}
 use Rattle.std.proofs.lemmas.List.{get_or_read, get_or_past}
-use Rattle.std.proofs.Math.Seq.{take-append_seam}
 use Rattle.std.specs.Option.{option_map}
 use Rattle.std.specs.Result.{OnErr}
 use Rattle.std.specs.Ordering.{eq_by_cmp}
@@ -11,7 +10,7 @@ use Rattle.mvo_types.specs.declared.row.RowKey.{RowKey}
 use Rattle.mvo_types.specs.Keys.{key_cmp}
 use Rattle.mvo_types.proofs.Maps.{keys_total, exact_keys}
 use Rattle.mvo_hash.specs.declared.link.Link.{Link}
-use Rattle.mvo_hash.specs.Table.{Map, Table, no_keys}
+use Rattle.mvo_hash.specs.Table.{Map, Table}
 use Rattle.mvo_hash.specs.Lists.{Lists, no_versions, newest_of, older_of, is_among, numbers_of, or_empty, with_numbers, IsHeld, IsFresh, IsPastAll}
 use Rattle.mvo_hash.specs.Links.{unheld, no_link, link, number_or_none, walk, numbers, listed, lists_of, index_of, first_or_none, some_unless_none, IsIndexOf, IsIndex, IsGrown}
 use Rattle.mvo_hash.proofs.Finds.{same_key, other_key}
@@ -181,10 +180,6 @@ pub on_err : {T E P : Type 0} (r : Result T E) → P → OnErr r P
 on_err (Ok x) p = tt
 on_err (Err e) p = p
 
--- what a slice of a vector's elements leaves in it
-pub given_back : (n : ℕ) (old new : List Link) → n ≡ length old → length new ≡ length old → take n (new ++ drop (length new) old) ≡ new
-given_back n old new is size = ap (λ k. take k (new ++ drop (length new) old)) (is ∙ sym size) ∙ take-append_seam new (drop (length new) old)
-
 -- nothing is held at first
 pub empty_index : IsIndexOf (empty {R = key_cmp}) [] (λ _. [])
 empty_index = record {
@@ -200,5 +195,5 @@ empty_lists : lists_of (empty {R = key_cmp}) [] ≡ empty
 unfolding none_if_empty
 empty_lists = same_map keys_total exact_keys _ _ (λ q. get_lists (empty {R = key_cmp}) [] (λ _. []) empty_index q ∙ sym (get-empty key_cmp q))
 
-pub new_index : index_of (no_keys 0) [] ≡ no_versions
-new_index = let e = empty_lists in cc
+pub new_index : (heads : Table) → heads.numbers ≡ empty → heads.room ≡ 0 → index_of heads [] ≡ no_versions
+new_index heads none no_room = let e = ap (λ (m : Map). lists_of m []) none ∙ empty_lists in cc

@@ -5,7 +5,8 @@ use Rattle.std.specs.FinMap as map
 use Rattle.mvo_types.specs.declared.row.RowKey.{RowKey}
 use Rattle.mvo_types.specs.Keys.{key_cmp, coded_key}
 use Rattle.mvo_hash.specs.declared.slot.Slot.{Slot}
-use Rattle.mvo_hash.specs.Home.{home_of}
+use Rattle.mvo_hash.specs.declared.seeds.Seeds.{Seeds}
+use Rattle.mvo_hash.specs.Home.{hash_of, home_of}
 use Rattle.mvo_hash.specs.Slots.{slot, slot_key, IsLive, IsReached, entries_of, used_count, live_count}
 
 -- a finite map from keys to numbers
@@ -18,23 +19,36 @@ coded_map = map.code coded_key coded_ℕ
 abbrev pub map_of : List Slot → Map
 map_of ss = map.from_entries (entries_of ss)
 
--- the number of each key, and how many more keys can be put before every key is moved
+abbrev pub coded_seeds : Coded Seeds
+coded_seeds =
+    code_by (ℕ × ℕ) (coded× coded_ℕ coded_ℕ) (λ s. (s.first, s.second))
+    (λ p. record { first = p.0; second = p.1 }) (λ _. refl)
+
+-- the number of each key, how many more keys can be put before a key is moved, and what the hashes
+-- of keys depend on
 pub record Table : Type 0 where
+  pub seeds : Seeds
   pub numbers : Map
   pub room : ℕ
 
 abbrev pub coded_table : Coded Table
 coded_table =
-    code_by (Map × ℕ) (coded× coded_map coded_ℕ) (λ t. (t.numbers, t.room))
-    (λ p. record { numbers = p.0; room = p.1 }) (λ _. refl)
+    code_by (Seeds × (Map × ℕ)) (coded× coded_seeds (coded× coded_map coded_ℕ))
+    (λ t. (t.seeds, (t.numbers, t.room)))
+    (λ p. record { seeds = p.0; numbers = p.1.0; room = p.1.1 }) (λ _. refl)
 
 -- no key yet, and room for so many
-abbrev pub no_keys : ℕ → Table
-no_keys room = record { numbers = map.empty; room = room }
+abbrev pub no_keys : Seeds → ℕ → Table
+no_keys seeds room = record { seeds = seeds; numbers = map.empty; room = room }
+
+-- the hash is that of the key
+abbrev pub IsHash : Table → RowKey → ℕ → Type 0
+IsHash t key hash = hash ≡ hash_of t.seeds.first t.seeds.second key
 
 -- at most half as many slots are to be used as there are homes
-abbrev pub table_of : ℕ → ℕ → List Slot → Table
-table_of homes used ss = record { numbers = map_of ss; room = homes / 2 - used }
+abbrev pub table_of : Seeds → ℕ → ℕ → List Slot → Table
+table_of seeds homes used ss =
+    record { seeds = seeds; numbers = map_of ss; room = homes / 2 - used }
 
 -- each key stands once, where a search finds it
 pub record IsTable (first second homes : ℕ) (ss : List Slot) : Type 0 where

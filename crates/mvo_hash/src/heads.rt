@@ -1,36 +1,32 @@
-ghost use Rattle.std.specs.Prelude.{◌≡◌, ◌<◌, ◌≤◌, ◌+◌, OnOk, OnErr, OnSome, IsSome, IfNone, IfOk, None};
+ghost use Rattle.std.specs.Prelude.{◌≡◌, ◌<◌, ◌≤◌, ◌+◌, ◌*◌, OnOk, OnErr, OnSome, IsSome, IfNone, IfOk, None};
 ghost use Rattle.std.specs.FinMap as map;
-ghost use Rattle.mvo_hash.specs.Table.{no_keys};
+ghost use Rattle.mvo_hash.specs.Home.{shard_count};
 
-use crate::probe::{find, free};
+use crate::open_table::OpenTable;
 use crate::seeds::Seeds;
-use crate::slot::Slot;
+use crate::shards::{SHARDS, least_room, make_shards, moved, shard_of};
 use mvo_types::RowKey;
 use std::alloc::{AllocError, Global};
 use std::marker::Model;
 
-// Slots behind the last home that a new table has, for keys whose search runs past it. There is
-// memory for as many more as there can be keys, which is touched where they are needed.
-const TAIL: usize = 64;
+// What `reserve` adds to the share of each table, since no hash shares keys out evenly: an eighth
+// of it, and so many more.
+const SPARE: usize = 16;
 
-const LEAST_ROOM: usize = 8;
-
-/// One number for each key, in one open table of slots of 16 bytes. Contracts see a finite map,
-/// and the room: how many more keys can be put before every key is moved to a larger table.
+/// One number for each key. Contracts see a finite map, and the room: how many more keys can be put
+/// before some key is moved, whichever keys they are.
 ///
-/// A search begins at the key's home and goes on to the first slot that was never used. At most
-/// half as many slots as there are homes are ever used, those of removed keys among them. The
-/// homes come from a seed, so that who chooses the keys without knowing it can't make them meet.
+/// The keys are shared out by hash among 256 open tables, each of which grows alone: where its room
+/// is used up, its keys move to a larger one, which are a 256th part of all, more or less. So no
+/// call but `reserve` takes the time of moving every key. One hash of a key gives its table and its
+/// home there, and is all that a call computes, but for those of keys that it moves.
 ///
-/// A move to another table frees the slots of removed keys, and takes a larger one only where the
-/// keys are too many, so that keys that come and go don't take ever more memory.
+/// The hashes come from a seed, so that who chooses the keys without knowing it can't make them
+/// meet in one table, or in one home.
 #[derive(Drop)]
 pub struct Heads {
     seeds: Seeds,
-    homes: usize,
-    used: usize,
-    keys: usize,
-    slots: Vec<Slot>,
+    shards: Vec<OpenTable>,
 }
 
 impl Model for Heads {
@@ -40,47 +36,55 @@ impl Model for Heads {
 
     ghost coded = { coded_table };
 
-    ghost use Rattle.std.specs.Prelude.{vec_capacity};
-    ghost use Rattle.mvo_hash.specs.Table.{table_of, IsHeads, IsSpacious};
+    ghost use Rattle.mvo_hash.specs.Shards.{heads_of, IsSharded};
 
-    ghost view = { λ t. table_of t.homes t.used t.slots.items };
+    ghost view = { λ t. heads_of t.seeds t.shards.items };
 
-    ghost invariant = { λ t.
-        IsHeads t.seeds.first t.seeds.second t.homes t.used t.keys t.slots.items
-        × IsSpacious t.homes (vec_capacity t.slots) };
+    ghost invariant = { λ t. IsSharded t.seeds t.shards.items };
 }
 
 impl Heads {
     /// No keys, and no room. It takes no memory. The seed is one that who chooses the keys can't
     /// know.
     pub fn new(alloc: Global, seed: u64) -> Heads
-        ensures { result ≡ no_keys 0 }
+        ensures numbers { result.numbers ≡ map.empty }
+        ensures room { result.room ≡ 0 }
     {
         Heads {
             seeds: Seeds::new(seed),
-            homes: 0,
-            used: 0,
-            keys: 0,
-            slots: Vec::new(alloc),
+            shards: Vec::new(alloc),
         }
     }
 
-    /// How many more keys can be put before every key is moved.
+    /// How many more keys can be put before some key is moved. It takes a step for each table.
     pub fn room(&self) -> usize
         ensures { result ≡ self.now.room }
     {
-        self.homes / 2 - self.used
+        least_room(&self.shards)
     }
 
     /// The number of a key.
     pub fn get(&self, key: RowKey) -> Option<u32>
         ensures { result ≡ map.get self.now.numbers key }
     {
-        let home = self.seeds.home(key, self.homes);
-        match find(&self.slots, home, key) {
-            Some(at) => Some(self.slots[at].number),
-            None => None,
+        let hash = self.seeds.hash(key);
+        let at = shard_of(hash);
+        if at >= self.shards.len() {
+            return None;
         }
+        self.shards[at].get_by_hash(key, hash)
+    }
+
+    /// How many slots a search for the key goes over before the one where it ends, which the time
+    /// of each call goes by. It is for measurements: no clause says what it answers, since
+    /// contracts don't see where keys stand.
+    pub fn steps(&self, key: RowKey) -> usize {
+        let hash = self.seeds.hash(key);
+        let at = shard_of(hash);
+        if at >= self.shards.len() {
+            return 0;
+        }
+        self.shards[at].steps_by_hash(key, hash)
     }
 
     /// Gives the key another number, and answers the one that it had. It takes no memory and no
@@ -91,13 +95,12 @@ impl Heads {
         ensures absent { IfNone result (self.new.numbers ≡ self.old.numbers) }
         ensures room { self.new.room ≡ self.old.room }
     {
-        let home = self.seeds.home(key, self.homes);
-        let Some(at) = find(&self.slots, home, key) else {
+        let hash = self.seeds.hash(key);
+        let at = shard_of(hash);
+        if at >= self.shards.len() {
             return None;
-        };
-        let before = self.slots[at].number;
-        self.slots[at] = Slot::live(key, number);
-        Some(before)
+        }
+        self.shards[at].set_by_hash(key, hash, number)
     }
 
     /// Removes the key, and answers its number. It takes no memory, and gives no room back.
@@ -106,76 +109,17 @@ impl Heads {
         ensures gone { self.new.numbers ≡ map.remove self.old.numbers key }
         ensures room { self.new.room ≡ self.old.room }
     {
-        let home = self.seeds.home(key, self.homes);
-        let Some(at) = find(&self.slots, home, key) else {
+        let hash = self.seeds.hash(key);
+        let at = shard_of(hash);
+        if at >= self.shards.len() {
             return None;
-        };
-        let number = self.slots[at].number;
-        self.slots[at] = Slot::left();
-        self.keys -= 1;
-        Some(number)
-    }
-
-    // Puts a key that isn't there at the first free slot from its home.
-    fn place(&mut self, key: RowKey, number: u32)
-        requires new { map.get self.old.numbers key ≡ None }
-        requires room { 0 < self.old.room }
-        ensures numbers { self.new.numbers ≡ map.insert self.old.numbers key number }
-        ensures room { self.old.room ≤ self.new.room + 1 }
-    {
-        let home = self.seeds.home(key, self.homes);
-        let at = free(&self.slots, home);
-        if at < self.slots.len() {
-            self.keys += 1;
-            if self.slots[at].is_empty() {
-                self.used += 1;
-            }
-            self.slots[at] = Slot::live(key, number);
-            return;
         }
-        self.slots.push_reserved(Slot::live(key, number));
-        self.used += 1;
-        self.keys += 1;
-    }
-
-    // No keys, and room for so many.
-    fn with_room(alloc: Global, seeds: Seeds, keys: usize) -> Result<Heads, AllocError>
-        ensures { IfOk result (λ t. t ≡ no_keys keys) }
-    {
-        let most = keys.checked_mul(3).ok_or(AllocError)?;
-        let homes = keys * 2;
-        let mut slots = Vec::with_capacity(alloc, most)?;
-        slots.resize(homes + keys.min(TAIL), Slot::empty())?;
-        Ok(Heads {
-            seeds,
-            homes,
-            used: 0,
-            keys: 0,
-            slots,
-        })
-    }
-
-    // The same keys in another table, with room for so many more, and so much at least that the
-    // time of all moves stays in proportion to the keys that were put.
-    fn moved(&self, keys: usize) -> Result<Heads, AllocError>
-        ensures numbers { IfOk result (λ t. t.numbers ≡ self.now.numbers) }
-        ensures room { IfOk result (λ t. keys ≤ t.room) }
-    {
-        let more = keys.max(self.keys).max(LEAST_ROOM);
-        let enough = self.keys.checked_add(more).ok_or(AllocError)?;
-        let all = enough.max(self.homes / 2);
-        let mut larger = Heads::with_room(*self.slots.allocator(), self.seeds, all)?;
-        for slot in &self.slots {
-            if slot.is_live() {
-                larger.place(slot.row_key(), slot.number);
-            }
-        }
-        Ok(larger)
+        self.shards[at].remove_by_hash(key, hash)
     }
 
     /// Gives the key the number, and answers the one that it had. A key that is there takes no
-    /// memory and no room. One that isn't takes room for one key at most; where there is none, it
-    /// takes the time of moving every key.
+    /// memory and no room. One that isn't takes room for one key at most; where its table has none,
+    /// it takes the time of moving the keys of that table.
     pub fn put(&mut self, key: RowKey, number: u32) -> Result<Option<u32>, AllocError>
         ensures ok { OnOk result (self.new.numbers ≡ map.insert self.old.numbers key number) }
         ensures before { IfOk result (λ r. r ≡ map.get self.old.numbers key) }
@@ -185,32 +129,29 @@ impl Heads {
         ensures absent { OnErr result (map.get self.old.numbers key ≡ None) }
         ensures full { OnErr result (self.old.room ≡ 0) }
     {
-        if let Some(before) = self.set(key, number) {
-            return Ok(Some(before));
-        }
-        if self.room() > 0 {
-            self.place(key, number);
-            return Ok(None);
-        }
-        let mut larger = self.moved(1)?;
-        larger.place(key, number);
-        *self = larger;
-        Ok(None)
+        make_shards(&mut self.shards, self.seeds)?;
+        let hash = self.seeds.hash(key);
+        self.shards[shard_of(hash)].put_by_hash(key, hash, number)
     }
 
-    /// Makes room for so many more keys, so that no key is moved while they are put. Where the room
-    /// is short it takes the time of moving every key, and 48 bytes or more for each of them and of
-    /// those that are to come, of which it touches 32.
+    /// Makes room in each table for a 256th part of so many more keys, and somewhat more, so that
+    /// few keys or none are moved while keys are put that the hash shares out evenly. Where the
+    /// room is short it takes the time of moving every key, so it is for a load. It takes 48 bytes
+    /// or more for each key and for each that is to come, of which it touches 32.
     pub fn reserve(&mut self, keys: usize) -> Result<(), AllocError>
         ensures numbers { self.new.numbers ≡ self.old.numbers }
-        ensures ok { OnOk result (keys ≤ self.new.room) }
+        ensures ok { OnOk result (keys ≤ shard_count * self.new.room) }
         ensures more { self.old.room ≤ self.new.room }
         ensures err { OnErr result (self.new ≡ self.old) }
         ensures short { OnErr result (self.old.room < keys) }
     {
-        if self.room() < keys {
-            *self = self.moved(keys)?;
+        let share = keys.div_ceil(SHARDS);
+        if self.room() >= share {
+            return Ok(());
         }
+        make_shards(&mut self.shards, self.seeds)?;
+        let alloc = *self.shards.allocator();
+        self.shards = moved(alloc, &self.shards, share + share / 8 + SPARE)?;
         Ok(())
     }
 }

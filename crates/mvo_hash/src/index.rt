@@ -1,7 +1,8 @@
-ghost use Rattle.std.specs.Prelude.{◌≡◌, ◌⊎◌, ◌≤◌, ◌+◌, ◌∷◌, map, OnOk, OnErr, IfOk, IsTrue, IsSome};
+ghost use Rattle.std.specs.Prelude.{◌≡◌, ◌⊎◌, ◌≤◌, ◌+◌, ◌*◌, ◌∷◌, map, OnOk, OnErr, IfOk, IsTrue, IsSome};
 ghost use Rattle.std.specs.Bool.{OnTrue, OnFalse};
 ghost use Rattle.std.specs.Option.{option_map};
 ghost use Rattle.std.specs.FinMap as finite_map;
+ghost use Rattle.mvo_hash.specs.Home.{shard_count};
 ghost use Rattle.mvo_hash.specs.Links.{beheaded};
 ghost use Rattle.mvo_hash.specs.Lists.{no_versions, numbers_of, with_numbers, newest_of, without};
 ghost use Rattle.mvo_hash.specs.Lists.{is_among, number, IsFresh, IsHeld, IsOlder, IsPastAll};
@@ -10,14 +11,14 @@ use crate::heads::Heads;
 use crate::link::{Link, NONE, UNHELD, or_none};
 use crate::links::{join, listed, reach, unlink};
 use crate::walk::Versions;
-use mvo_chain::VersionNo;
+use mvo_chain::{Pieces, VersionNo};
 use mvo_types::RowKey;
 use std::alloc::{AllocError, Global};
 use std::marker::Model;
 
 /// The versions of each key, newest first. Contracts see a finite map from each key that has a
 /// version to the list of the numbers of its versions, and the room: how many more versions can be
-/// added before every key is moved to a larger table.
+/// added before some key is moved to a larger table, whichever keys they are of.
 ///
 /// Every call takes constant time, or constant time a version that it answers, but for the growth
 /// in `add` and `reserve`. These two alone take memory, besides the list that `versions_of` makes:
@@ -26,7 +27,7 @@ use std::marker::Model;
 #[derive(Drop)]
 pub struct HashIndex {
     heads: Heads,
-    links: Vec<Link>,
+    links: Pieces<Link>,
 }
 
 impl Model for HashIndex {
@@ -38,9 +39,9 @@ impl Model for HashIndex {
 
     ghost use Rattle.mvo_hash.specs.Links.{index_of, IsIndex};
 
-    ghost view = { λ t. index_of t.heads t.links.items };
+    ghost view = { λ t. index_of t.heads t.links };
 
-    ghost invariant = { λ t. IsIndex t.heads.numbers t.links.items };
+    ghost invariant = { λ t. IsIndex t.heads.numbers t.links };
 }
 
 impl HashIndex {
@@ -51,26 +52,25 @@ impl HashIndex {
     {
         HashIndex {
             heads: Heads::new(alloc, seed),
-            links: Vec::new(alloc),
+            links: Pieces::new(alloc),
         }
     }
 
-    /// How many more versions can be added before every key is moved.
+    /// How many more versions can be added before some key is moved. It takes 256 steps.
     pub fn room(&self) -> usize
         ensures { result ≡ self.now.room }
     {
         self.heads.room()
     }
 
-    /// Makes room for so many more versions, so that no key is moved while they are added. It takes
-    /// memory for as many numbers behind the largest so far, too.
+    /// Makes room for so many more versions of keys that the hash shares out evenly, as `reserve`
+    /// of `Heads` does. The links take memory by pieces as versions are added.
     pub fn reserve(&mut self, versions: usize) -> Result<(), AllocError>
         ensures same { self.new.versions ≡ self.old.versions }
-        ensures ok { OnOk result (versions ≤ self.new.room) }
+        ensures ok { OnOk result (versions ≤ shard_count * self.new.room) }
         ensures more { self.old.room ≤ self.new.room }
         ensures err { OnErr result (self.new ≡ self.old) }
     {
-        self.links.reserve(versions)?;
         self.heads.reserve(versions)
     }
 
@@ -121,7 +121,8 @@ impl HashIndex {
     }
 
     /// Adds a version in front of those of its key. It takes room for one version at most, and none
-    /// where its key has versions; where there is none, it takes the time of moving every key.
+    /// where its key has versions; where there is none, it takes the time of moving a 256th part of
+    /// the keys, more or less.
     pub fn add(&mut self, key: RowKey, version: VersionNo) -> Result<(), AllocError>
         requires { IsFresh self.old.versions version.0 }
         ensures ok { OnOk result (self.new.versions ≡ with_numbers self.old.versions key

@@ -5,11 +5,14 @@ mod heads;
 mod index;
 mod link;
 mod links;
+mod open_table;
 mod probe;
 mod seeds;
+mod shards;
 mod slot;
 mod walk;
 
 pub use heads::Heads;
 pub use index::HashIndex;
+pub use open_table::OpenTable;
 pub use walk::Versions;

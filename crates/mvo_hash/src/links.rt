@@ -3,27 +3,26 @@ ghost use Rattle.mvo_hash.specs.Links.{no_number, unheld, link, first_or_none, w
 ghost use Rattle.mvo_hash.specs.Links.{IsGrown, HasNewer, HasOlder, IsJoined, IsUnlinked};
 
 use crate::link::{Link, NONE, UNHELD};
-use mvo_chain::VersionNo;
+use mvo_chain::{Pieces, VersionNo};
 use std::alloc::{AllocError, Global};
 
 /// Makes room for the number. The last two are refused.
-pub fn reach(links: &mut Vec<Link>, number: u32) -> Result<(), AllocError>
-    requires { length links.old.items ≤ unheld }
-    ensures within { OnOk result (number < length links.new.items) }
-    ensures short { OnErr result (length links.old.items ≤ number) }
-    ensures kept { IsGrown links.old.items links.new.items }
+pub fn reach(links: &mut Pieces<Link>, number: u32) -> Result<(), AllocError>
+    requires { length links.old ≤ unheld }
+    ensures within { OnOk result (number < length links.new) }
+    ensures short { OnErr result (length links.old ≤ number) }
+    ensures kept { IsGrown links.old links.new }
 {
     if number >= UNHELD {
         return Err(AllocError);
     }
-    let count = number as usize + 1;
-    if links.len() < count {
-        links.resize(count, Link::unheld())?;
+    while links.len() <= number as usize {
+        links.push(Link::unheld())?;
     }
     Ok(())
 }
 
-fn set_newer(links: &mut [Link], at: u32, newer: u32)
+fn set_newer(links: &mut Pieces<Link>, at: u32, newer: u32)
     requires numbered { length links.old ≤ unheld }
     requires at { at ≢ no_number → at < length links.old }
     ensures { HasNewer links.old links.new at newer }
@@ -33,7 +32,7 @@ fn set_newer(links: &mut [Link], at: u32, newer: u32)
     }
 }
 
-fn set_older(links: &mut [Link], at: u32, older: u32)
+fn set_older(links: &mut Pieces<Link>, at: u32, older: u32)
     requires numbered { length links.old ≤ unheld }
     requires at { at ≢ no_number → at < length links.old }
     ensures { HasOlder links.old links.new at older }
@@ -44,7 +43,7 @@ fn set_older(links: &mut [Link], at: u32, older: u32)
 }
 
 /// Puts the number in front of an older one.
-pub fn join(links: &mut [Link], number: u32, older: u32)
+pub fn join(links: &mut Pieces<Link>, number: u32, older: u32)
     requires numbered { length links.old ≤ unheld }
     requires number { number < length links.old }
     requires older { older ≢ no_number → older < length links.old }
@@ -56,7 +55,7 @@ pub fn join(links: &mut [Link], number: u32, older: u32)
 }
 
 /// Takes a number out from between its neighbours.
-pub fn unlink(links: &mut [Link], number: u32)
+pub fn unlink(links: &mut Pieces<Link>, number: u32)
     requires numbered { length links.old ≤ unheld }
     requires number { number < length links.old }
     requires newer { let at = (link links.old number).newer in
@@ -72,7 +71,11 @@ pub fn unlink(links: &mut [Link], number: u32)
 }
 
 /// The numbers of a chain, from its newest one on.
-pub fn listed(alloc: Global, links: &[Link], newest: u32) -> Result<Vec<VersionNo>, AllocError>
+pub fn listed(
+    alloc: Global,
+    links: &Pieces<Link>,
+    newest: u32,
+) -> Result<Vec<VersionNo>, AllocError>
     requires numbered { length links.now ≤ unheld }
     requires starts { newest ≡ first_or_none (walk links.now (length links.now) newest) }
     requires chain { IsChain links.now no_number (walk links.now (length links.now) newest) }

@@ -34,3 +34,16 @@ pub fn free(slots: &[Slot], home: usize) -> usize
     }
     slots.len()
 }
+
+/// How many slots a search for the key goes over before the one where it ends.
+pub fn steps(slots: &[Slot], home: usize, key: RowKey) -> usize
+    ensures { result ≤ length slots.now }
+{
+    for i in home..slots.len() {
+        let slot = &slots[i];
+        if slot.is_empty() || slot.holds(key) {
+            return i - home;
+        }
+    }
+    slots.len().saturating_sub(home)
+}

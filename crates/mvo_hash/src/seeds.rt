@@ -1,5 +1,5 @@
 ghost use Rattle.std.specs.Prelude.{◌≡◌, ◌≤◌};
-ghost use Rattle.mvo_hash.specs.Home.{folded, home_of};
+ghost use Rattle.mvo_hash.specs.Home.{folded, hash_of, home_in};
 
 use mvo_types::RowKey;
 
@@ -23,14 +23,20 @@ impl Seeds {
         }
     }
 
-    /// Where the search for a key begins among this many homes.
-    pub fn home(self, key: RowKey, homes: usize) -> usize
-        ensures at { result ≡ home_of self.first self.second homes key }
-        ensures within { result ≤ homes }
+    /// The hash of a key.
+    pub fn hash(self, key: RowKey) -> u64
+        ensures { result ≡ hash_of self.first self.second key }
     {
-        let hash = folded_multiply(key.key ^ self.first, self.second ^ key.table as u64);
-        (hash as u128 * homes as u128 >> 64) as usize
+        folded_multiply(key.key ^ self.first, self.second ^ key.table as u64)
     }
+}
+
+/// Where the search for a key with this hash begins among so many homes.
+pub fn home(hash: u64, homes: usize) -> usize
+    ensures at { result ≡ home_in homes hash }
+    ensures within { result ≤ homes }
+{
+    (hash as u128 * homes as u128 >> 64) as usize
 }
 
 fn folded_multiply(a: u64, b: u64) -> u64

@@ -1,14 +1,14 @@
 ghost use Rattle.std.specs.Prelude.{◌≡◌, map};
 
 use crate::link::{Link, NONE};
-use mvo_chain::VersionNo;
+use mvo_chain::{Pieces, VersionNo};
 use std::marker::Model;
 
 /// A walk over the versions of a key, newest first. Contracts see it as the list of the numbers
 /// that are still to come. A step takes constant time.
 #[derive(Drop)]
 pub struct Versions<'a> {
-    links: &'a [Link],
+    links: &'a Pieces<Link>,
     at: u32,
 }
 
@@ -31,7 +31,7 @@ impl<'a> Versions<'a> {
     ghost use Rattle.mvo_hash.specs.Links.{walk, IsWalk};
 
     /// A walk along the links from a number on.
-    pub(crate) fn from(links: &'a [Link], at: u32) -> Versions<'a>
+    pub(crate) fn from(links: &'a Pieces<Link>, at: u32) -> Versions<'a>
         requires { IsWalk links.now at }
         ensures { result ≡ map number (walk links.now (length links.now) at) }
     {

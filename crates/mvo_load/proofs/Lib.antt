@@ -6,4 +6,6 @@ pub mod Pairing
 pub mod Slices
 pub mod Log
 pub mod Giving
+pub mod Ordered
+pub mod Gathering
 mod Told

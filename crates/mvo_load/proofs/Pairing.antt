@@ -83,7 +83,7 @@ loads_before f p now was same r only =
     subst (λ (l : List ℕ). IsOnly (LoadsAs f p (was p.data_file) l) r) (same p.delta_file)
     (subst (λ (l : List ℕ). IsOnly (LoadsAs f p l (now p.delta_file)) r) (same p.data_file) only)
 
-live_push : (f : Format) (image : Image) (ps : List Pair) (ls : List (List Numbered)) (p : Pair) (l : List Numbered) → HaveLive f image ps ls → LoadsAs f p (image p.data_file) (image p.delta_file) (Ok l) → HaveLive f image (ps ++ p ∷ []) (ls ++ l ∷ [])
+pub live_push : (f : Format) (image : Image) (ps : List Pair) (ls : List (List Numbered)) (p : Pair) (l : List Numbered) → HaveLive f image ps ls → LoadsAs f p (image p.data_file) (image p.delta_file) (Ok l) → HaveLive f image (ps ++ p ∷ []) (ls ++ l ∷ [])
 live_push f image [] [] p l have here = (here, tt)
 live_push f image [] (x ∷ ls) p l have here = absurd have
 live_push f image (q ∷ ps) [] p l have here = absurd have
@@ -106,11 +106,11 @@ live_last f image (q ∷ ps) p (l ∷ ls) have =
     let more = live_last f image ps p ls have.1 in
     record { others = l ∷ more.others; last = more.last; whole = ap (λ (x : List (List Numbered)). l ∷ x) more.whole; have = (have.0, more.have); loads = more.loads }
 
-none_alone : (f : Format) (image : Image) (ls : List (List Numbered)) → HaveLive f image [] ls → ls ≡ []
+pub none_alone : (f : Format) (image : Image) (ls : List (List Numbered)) → HaveLive f image [] ls → ls ≡ []
 none_alone f image [] have = refl
 none_alone f image (l ∷ ls) have = absurd have
 
-one_more_alone : (f : Format) (image : Image) (ps : List Pair) (lives : List (List Numbered)) (p : Pair) (live : List Numbered) → ((ls : List (List Numbered)) → HaveLive f image ps ls → ls ≡ lives) → IsOnly (LoadsAs f p (image p.data_file) (image p.delta_file)) (Ok live)
+pub one_more_alone : (f : Format) (image : Image) (ps : List Pair) (lives : List (List Numbered)) (p : Pair) (live : List Numbered) → ((ls : List (List Numbered)) → HaveLive f image ps ls → ls ≡ lives) → IsOnly (LoadsAs f p (image p.data_file) (image p.delta_file)) (Ok live)
     → (ls : List (List Numbered)) → HaveLive f image (ps ++ p ∷ []) ls → ls ≡ lives ++ live ∷ []
 one_more_alone f image ps lives p live alone only ls have =
     let h = live_last f image ps p ls have in
@@ -141,7 +141,7 @@ module _ (f : Format) (image : Image) (m : ManifestData) where
     pub alone : (ls : List (List Numbered)) → HaveLive f image done ls → ls ≡ lives
     pub placed : ArePlaces done lives at
 
-  none_apart : AreApart []
+  pub none_apart : AreApart []
   unfolding IsDistinct
   none_apart = tt
 

@@ -3,3 +3,4 @@ pub mod Leading
 pub mod Read
 pub mod Parts
 pub mod Pieces
+pub mod Gathered

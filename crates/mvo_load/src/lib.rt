@@ -1,6 +1,9 @@
 //! Finds out what a disk holds: the installed manifest, the rows, and where the log ends.
 #![tactic(auto)]
 
+mod at_once;
+mod gather;
+mod gathered;
 mod loaded;
 mod loading;
 mod log_end;

@@ -11,7 +11,6 @@ use crate::loaded::Loaded;
 use crate::pairs::load_pairs;
 use crate::segments::load_segments;
 use crate::slots::read_manifest;
-use mvo_ckpt::Places;
 use mvo_disk::Disk;
 use mvo_format::Format;
 use mvo_types::Refusal;
@@ -55,9 +54,8 @@ pub fn load<D: Disk>(
         Ok(manifest) => manifest,
         Err(e) => return Err(e),
     };
-    let mut places = Places::new(alloc, seed);
-    let mut rows = match load_pairs(rt, alloc, disk, format, &manifest, &mut places) {
-        Ok(rows) => rows,
+    let (mut rows, places) = match load_pairs(rt, alloc, disk, format, &manifest, seed) {
+        Ok(found) => found,
         Err(e) => return Err(e),
     };
     let end = match load_segments(alloc, disk, format, &manifest, &mut rows) {

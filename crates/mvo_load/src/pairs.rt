@@ -1,6 +1,5 @@
 //! Loads the live records of all pairs.
-ghost use Rattle.std.specs.Prelude.{◌≡◌, ◌<◌, ◌+◌, ◌^◌, List, [], Some, IfOk, OnOk};
-ghost use Rattle.std.specs.FinMap.{empty};
+ghost use Rattle.std.specs.Prelude.{◌≡◌, ◌<◌, ◌+◌, ◌^◌, List, [], Some, IfOk};
 ghost use Rattle.mvo_pair.specs.Data.{Numbered};
 ghost use Rattle.mvo_image.specs.Rows.{AreApart, rows_of};
 ghost use Rattle.mvo_image.specs.Opens.{Segments, OpensWith};
@@ -9,6 +8,8 @@ ghost use Rattle.mvo_load.specs.Leading.{LeadsOn};
 ghost use Rattle.mvo_load.specs.Parts.{Joins, HaveRows, HavePlaces};
 ghost use Rattle.mvo_load.specs.Read.{HasRead};
 
+use crate::at_once::at_once;
+use crate::gather::gather;
 use crate::read::read_pair;
 use mvo_ckpt::Places;
 use mvo_disk::Disk;
@@ -20,7 +21,7 @@ use std::alloc::{AllocError, Global};
 use std::thread::Threads;
 
 /// Puts the live records of a pair on the rows of those before. Whether no two of all have one key.
-fn join(rows: &mut Rows, live: Vec<Live>) -> Result<bool, AllocError>
+pub fn join(rows: &mut Rows, live: Vec<Live>) -> Result<bool, AllocError>
     ensures { IfOk result (λ apart. (before : List (List Numbered)) → AreApart before →
         rows.old ≡ rows_of before → Joins before live.items apart rows.new) }
 {
@@ -35,27 +36,27 @@ fn join(rows: &mut Rows, live: Vec<Live>) -> Result<bool, AllocError>
     Ok(rows.len() - before == count)
 }
 
-/// The rows of the live records of a manifest's pairs, read one pair after another, and the records
-/// of each in threads. Their places are put into a table without any.
-pub fn load_pairs<D: Disk>(
+/// The rows and the places of the live records of a manifest's pairs, one pair after another.
+fn load_in_turn<D: Disk>(
     rt: &(impl Threads + Sync),
     alloc: Global,
     disk: &mut D,
     format: Format,
     manifest: &Manifest,
-    places: &mut Places,
-) -> Result<Rows, Refusal>
+    seed: u64,
+) -> Result<(Rows, Places), Refusal>
     requires room { D.fault_count disk.old + 1 < 2 ^ 64 }
-    requires none { places.old.at ≡ empty }
-    ensures live { IfOk result (HaveRows format (D.content disk.old) manifest.now.pairs) }
-    ensures places { OnOk result (HavePlaces format (D.content disk.old) manifest.now.pairs
-        places.new.at) }
+    ensures live { IfOk result (λ found. HaveRows format (D.content disk.old) manifest.now.pairs
+        found.0) }
+    ensures places { IfOk result (λ found. HavePlaces format (D.content disk.old)
+        manifest.now.pairs found.1.at) }
     ensures leads { LeadsOn
-        (λ rows. Segments (SegmentSays format) (D.content disk.old) rows manifest.now.segments
+        (λ found. Segments (SegmentSays format) (D.content disk.old) found.0 manifest.now.segments
         manifest.now.checkpoint_mark [])
         (OpensWith (SegmentSays format) format (D.content disk.old) (Some manifest.now)) result }
     ensures read { HasRead D.Disk disk.old disk.new result }
 {
+    let mut places = Places::new(alloc, seed);
     let mut rows = Rows::new(alloc);
     let mut rest = manifest.pairs();
     while let [pair, after @ ..] = rest {
@@ -69,5 +70,42 @@ pub fn load_pairs<D: Disk>(
         }
         rest = after;
     }
-    Ok(rows)
+    Ok((rows, places))
+}
+
+/// The rows and the places of the live records of a manifest's pairs, made of all of them at once.
+/// Where a pair breaks a rule, or two records have one key, the pairs are read again one after
+/// another, to find the first broken rule.
+pub fn load_pairs<D: Disk>(
+    rt: &(impl Threads + Sync),
+    alloc: Global,
+    disk: &mut D,
+    format: Format,
+    manifest: &Manifest,
+    seed: u64,
+) -> Result<(Rows, Places), Refusal>
+    requires room { D.fault_count disk.old + 1 < 2 ^ 64 }
+    ensures live { IfOk result (λ found. HaveRows format (D.content disk.old) manifest.now.pairs
+        found.0) }
+    ensures places { IfOk result (λ found. HavePlaces format (D.content disk.old)
+        manifest.now.pairs found.1.at) }
+    ensures leads { LeadsOn
+        (λ found. Segments (SegmentSays format) (D.content disk.old) found.0 manifest.now.segments
+        manifest.now.checkpoint_mark [])
+        (OpensWith (SegmentSays format) format (D.content disk.old) (Some manifest.now)) result }
+    ensures read { HasRead D.Disk disk.old disk.new result }
+{
+    let gathered = match gather(rt, alloc, disk, format, manifest) {
+        Ok(gathered) => gathered,
+        Err(e) => return Err(e),
+    };
+    if let Some(all) = gathered {
+        if let Some(made) = at_once(rt, alloc, seed, all)? {
+            return Ok(made);
+        }
+    }
+    match load_in_turn(rt, alloc, disk, format, manifest, seed) {
+        Ok(found) => Ok(found),
+        Err(e) => Err(e),
+    }
 }

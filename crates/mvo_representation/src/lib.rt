@@ -1,5 +1,5 @@
 //! What the words of versions, the transaction table, the counters of dependencies and the two
-//! indexes stand for: the abstract state of the version core.
+//! indexes stand for: the abstract state of the core.
 #![tactic(auto)]
 
 mod dependency_laws;

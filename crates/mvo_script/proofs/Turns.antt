@@ -5,21 +5,22 @@ use Rattle.std.specs.Prelude.{is_some}
 use Rattle.mvo_types.specs.declared.ids.Stamp.{Stamp}
 use Rattle.mvo_types.specs.declared.refusal.Refusal.{Refusal}
 use Rattle.mvo_types.specs.declared.refusal.Refusal.TheVariants.{Busy, NothingToDo, RingFull, SegmentFull, DiskFault, Down}
-use Rattle.mvo_version_core.specs.declared.answers.Closed.{Closed as ClosedGroup}
+use Rattle.mvo_core.specs.declared.answers.Closed.{Closed as ClosedGroup}
 use Rattle.mvo_disk.specs.declared.disk.Disk.{Ghosts}
 use Rattle.mvo_store.specs.declared.job.Job.{Job}
-use Rattle.mvo_store.specs.declared.progress.Progress.TheVariants.{More}
+use Rattle.mvo_store.specs.declared.progress.Progress.TheVariants.{More, Ready as AllWritten}
 use Rattle.mvo_store.specs.Causes.{first_cause}
 use Rattle.mvo_store.specs.Steps.{IsInstalledBy}
 use Rattle.mvo_store.specs.StoreData.{StoreData}
 use Rattle.mvo_world.specs.WorldData.{WorldData, waiting}
 use Rattle.mvo_world.specs.Replies.{IsReplyTo, IsLeft, or_nothing}
 use Rattle.mvo_world.specs.declared.event.Event.{Event}
-use Rattle.mvo_world.specs.declared.event.Event.TheVariants.{CloseGroup, TakeGroup, AppendBody, AppendOpen, RotateWrite, CheckpointData, CheckpointDelta, InstallClose, InstallBody, InstallOpen}
+use Rattle.mvo_world.specs.declared.event.Event.TheVariants.{CloseGroup, TakeGroup, AppendBody, AppendOpen, RotateWrite, CheckpointData, CheckpointDelta, MergeData, MergeDelta, InstallClose, InstallBody, InstallOpen}
 use Rattle.mvo_world.specs.declared.reply.Reply.{Reply}
 use Rattle.mvo_world.specs.declared.reply.Reply.TheVariants.{Closed, Taken, Written, Durable, Ready, Progress as Progressed, Shut, Installed, Refused}
 use Rattle.mvo_script.specs.Stopping.{AreToStop, is_refused}
-use Rattle.mvo_script.specs.Rotating.{install, rotation}
+use Rattle.mvo_script.specs.Merging.{behind_read}
+use Rattle.mvo_script.specs.Rotating.{rotation}
 use Rattle.mvo_script.specs.Checkpointing.{AreDeltas, AreMore}
 use Rattle.mvo_script.specs.Room.{IsJobEnded, IsRoomMade, EndsJob, stops_job}
 use Rattle.mvo_script.specs.Room.IsRoomMade.{AtOnce, AtJob, AtAgain, AtEnough}
@@ -111,6 +112,8 @@ abbrev IsOfJob : Event → Type 0
 IsOfJob RotateWrite = Unit {0}
 IsOfJob CheckpointData = Unit {0}
 IsOfJob CheckpointDelta = Unit {0}
+IsOfJob MergeData = Unit {0}
+IsOfJob MergeDelta = Unit {0}
 IsOfJob InstallClose = Unit {0}
 IsOfJob InstallBody = Unit {0}
 IsOfJob InstallOpen = Unit {0}
@@ -141,6 +144,12 @@ module _ {D : Type 0} (d : Ghosts D) where
   job_keeps CheckpointDelta h w v (Progressed p) it = record { place = ap (λ (x : WorldData D). x.place) it.1.after; pending = ap (λ (x : WorldData D). x.store.pending) it.1.after }
   job_keeps CheckpointDelta h w v (Refused why) it = left_keeps w v why it.1
   job_keeps CheckpointDelta h w v _ it = absurd it
+  job_keeps MergeData h w v (Progressed More) it = record { place = ap (λ (x : WorldData D). x.place) it.1; pending = ap (λ (x : WorldData D). x.store.pending) it.1 }
+  job_keeps MergeData h w v (Refused why) it = left_keeps w v why it.1
+  job_keeps MergeData h w v _ it = absurd it
+  job_keeps MergeDelta h w v (Progressed AllWritten) it = record { place = ap (λ (x : WorldData D). x.place) it.1; pending = ap (λ (x : WorldData D). x.store.pending) it.1 }
+  job_keeps MergeDelta h w v (Refused why) it = left_keeps w v why it.1
+  job_keeps MergeDelta h w v _ it = absurd it
   job_keeps InstallClose h w v Shut it = record { place = ap (λ (x : WorldData D). x.place) it.1; pending = ap (λ (x : WorldData D). x.store.pending) it.1 }
   job_keeps InstallClose h w v (Refused why) it = left_keeps w v why it.1
   job_keeps InstallClose h w v _ it = absurd it
@@ -176,9 +185,9 @@ module _ {D : Type 0} (d : Ghosts D) where
   ended_keeps w v r (inl a) = job_keeps CheckpointData tt w v r a.0
   ended_keeps w v r (inr a) = then_keeps w a.1 v (job_keeps CheckpointData tt w a.1 a.0 a.2) (rest a.1 a.4)
     where
-      rest : (x : WorldData D) → ((AreDeltas (IsReplyTo d) x r v × (stops_job r ≡ true)) ⊎ ((q : Reply) × (u : WorldData D) × AreDeltas (IsReplyTo d) x q u × (stops_job q ≡ false) × AreToStop (IsReplyTo d) (λ e r. stops_job r) install u r v)) → KeepsGroups x v
+      rest : (x : WorldData D) → ((AreDeltas (IsReplyTo d) x r v × (stops_job r ≡ true)) ⊎ ((q : Reply) × (u : WorldData D) × AreDeltas (IsReplyTo d) x q u × (stops_job q ≡ false) × AreToStop (IsReplyTo d) (λ e r. stops_job r) behind_read u r v)) → KeepsGroups x v
       rest x (inl b) = deltas_keep x v r b.0
-      rest x (inr b) = then_keeps x b.1 v (deltas_keep x b.1 b.0 b.2) (jobs_keep (λ e r. stops_job r) install (tt, (tt, (tt, tt))) b.1 v r b.4)
+      rest x (inr b) = then_keeps x b.1 v (deltas_keep x b.1 b.0 b.2) (jobs_keep (λ e r. stops_job r) behind_read (tt, (tt, (tt, (tt, (tt, tt))))) b.1 v r b.4)
 
   rotation_keeps : (w v : WorldData D) (r : Reply) → AreToStop (IsReplyTo d) (λ e r. is_refused r) rotation w r v → KeepsGroups w v
   rotation_keeps w v r it = jobs_keep (λ e r. is_refused r) rotation (tt, (tt, (tt, (tt, tt)))) w v r it

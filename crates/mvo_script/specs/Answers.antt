@@ -5,9 +5,9 @@ use Rattle.mvo_types.specs.RowData.{RowData}
 use Rattle.mvo_types.specs.declared.ids.TxId.{TxId}
 use Rattle.mvo_types.specs.declared.ids.Stamp.{Stamp}
 use Rattle.mvo_types.specs.declared.refusal.Refusal.TheVariants.{OutOfMemory}
-use Rattle.mvo_version_core.specs.declared.answers.Settlement.TheVariants.{Committed}
-use Rattle.mvo_version_core.specs.declared.answers.Validation.TheVariants as validation
-use Rattle.mvo_version_core.specs.declared.answers.Finishing.TheVariants as finishing
+use Rattle.mvo_core.specs.declared.answers.Settlement.TheVariants.{Committed}
+use Rattle.mvo_core.specs.declared.answers.Validation.TheVariants as validation
+use Rattle.mvo_core.specs.declared.answers.Finishing.TheVariants as finishing
 use Rattle.mvo_world.specs.WorldData.{WorldData}
 use Rattle.mvo_world.specs.declared.event.Event.{Event}
 use Rattle.mvo_world.specs.declared.event.Event.TheVariants as event
@@ -18,6 +18,7 @@ use Rattle.mvo_script.specs.Flushing.{IsFlush, IsFlushed}
 use Rattle.mvo_script.specs.Rotating.{rotation}
 use Rattle.mvo_script.specs.Stopping.{AreToRefusal}
 use Rattle.mvo_script.specs.Checkpointing.{IsCheckpoint}
+use Rattle.mvo_script.specs.Merging.{merge}
 use Rattle.mvo_script.specs.declared.bound.BoundTx.{BoundTx}
 use Rattle.mvo_script.specs.declared.driver.Driver.{Driver}
 use Rattle.mvo_script.specs.declared.line.Line.{Line}
@@ -169,6 +170,9 @@ module _ {D : Type 0} (IsStep : WorldData D → Event → Reply → WorldData D 
   IsAnswer d line.CheckpointRead r d' = IsStepOf d event.CheckpointRead r d'
   IsAnswer d line.CheckpointData r d' = IsStepOf d event.CheckpointData r d'
   IsAnswer d line.CheckpointDelta r d' = IsStepOf d event.CheckpointDelta r d'
+  IsAnswer d (line.MergeRead place) r d' = IsStepOf d (event.MergeRead place) r d'
+  IsAnswer d line.MergeData r d' = IsStepOf d event.MergeData r d'
+  IsAnswer d line.MergeDelta r d' = IsStepOf d event.MergeDelta r d'
   IsAnswer d line.InstallClose r d' = IsStepOf d event.InstallClose r d'
   IsAnswer d line.InstallBody r d' = IsStepOf d event.InstallBody r d'
   IsAnswer d line.InstallOpen r d' = IsStepOf d event.InstallOpen r d'
@@ -176,4 +180,6 @@ module _ {D : Type 0} (IsStep : WorldData D → Event → Reply → WorldData D 
       AreToRefusal IsStep rotation d.world r d'.world × (d'.names ≡ d.names)
   IsAnswer d line.Checkpoint r d' =
       IsCheckpoint IsStep d.world r d'.world × (d'.names ≡ d.names)
+  IsAnswer d (line.Merge place) r d' =
+      AreToRefusal IsStep (merge place) d.world r d'.world × (d'.names ≡ d.names)
   IsAnswer d line.Reclaim r d' = IsStepOf d event.Reclaim r d'

@@ -1,7 +1,7 @@
 -- What a script begins with.
 use Rattle.std.specs.Prelude.{◌≡◌, None}
 use Rattle.std.specs.FinMap as map
-use Rattle.mvo_version_core.specs.Standing.{OpensAs}
+use Rattle.mvo_core.specs.Standing.{OpensAs}
 use Rattle.mvo_world.specs.WorldData.{WorldData}
 use Rattle.mvo_script.specs.Bound.{BindsNone}
 use Rattle.mvo_script.specs.declared.driver.Driver.{Driver}

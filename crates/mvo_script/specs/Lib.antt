@@ -6,6 +6,7 @@ pub mod Forms
 pub mod Stopping
 pub mod Rotating
 pub mod Checkpointing
+pub mod Merging
 pub mod Room
 pub mod Flushing
 pub mod Answers

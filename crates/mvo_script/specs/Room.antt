@@ -6,9 +6,10 @@ use Rattle.mvo_world.specs.declared.event.Event.{Event}
 use Rattle.mvo_world.specs.declared.event.Event.TheVariants.{CheckpointData}
 use Rattle.mvo_world.specs.declared.reply.Reply.{Reply}
 use Rattle.mvo_world.specs.declared.reply.Reply.TheVariants.{Refused}
-use Rattle.mvo_script.specs.Rotating.{install, rotation}
+use Rattle.mvo_script.specs.Rotating.{rotation}
 use Rattle.mvo_script.specs.Stopping.{is_refused, AreToRefusal, AreToStop, IsThen}
 use Rattle.mvo_script.specs.Checkpointing.{AreDeltas}
+use Rattle.mvo_script.specs.Merging.{behind_read}
 
 -- there is nothing to act on
 abbrev pub has_nothing_to_do : Reply → Bool
@@ -22,11 +23,13 @@ stops_job r = is_refused r
 
 -- ---- by the steps of the world
 module _ {D : Type 0} (IsStep : WorldData D → Event → Reply → WorldData D → Type 0) where
-  -- The steps that are left of the job that runs: those of a checkpoint's files, and those of the
-  -- install. One that isn't due is passed over. The reply is that to the last one.
+  -- The steps that are left of the job that runs: those of a checkpoint's files, those of a merge's
+  -- files, and those of the install. One that isn't due is passed over. The reply is that to the
+  -- last one.
   abbrev pub IsJobEnded : WorldData D → Reply → WorldData D → Type 0
   IsJobEnded = IsThen IsStep stops_job (λ w r w'. IsStep w CheckpointData r w') (
-      IsThen IsStep stops_job (AreDeltas IsStep) (AreToStop IsStep (λ e r. stops_job r) install))
+      IsThen IsStep stops_job (AreDeltas IsStep) (
+      AreToStop IsStep (λ e r. stops_job r) behind_read))
 
   -- the log isn't rotated, since a job runs, and that is brought to its end
   pub record EndsJob (w : WorldData D) (r : Reply) (w' : WorldData D) : Type 0 where

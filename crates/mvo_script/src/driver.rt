@@ -6,13 +6,14 @@ use crate::bound::BoundTx;
 use crate::checkpoint::checkpoint;
 use crate::flush::flush;
 use crate::line::{Line, RowText, SortRange};
+use crate::merge::merge;
 use crate::names::Names;
 use crate::reply::LineReply;
 use crate::rotate::rotate;
+use mvo_core::{Finishing, Settlement, Validation};
 use mvo_disk::{Disk, MemDisk};
 use mvo_store::format;
 use mvo_types::{Refusal, Row, TxId};
-use mvo_version_core::{Finishing, Settlement, Validation};
 use mvo_world::{Event, Reply, World};
 use std::alloc::Global;
 use std::thread::Threads;
@@ -113,11 +114,15 @@ impl<D: Disk> Driver<D> {
             Line::CheckpointRead => Some(self.ask(Event::CheckpointRead)),
             Line::CheckpointData => Some(self.ask(Event::CheckpointData)),
             Line::CheckpointDelta => Some(self.ask(Event::CheckpointDelta)),
+            Line::MergeRead(place) => Some(self.ask(Event::MergeRead(place))),
+            Line::MergeData => Some(self.ask(Event::MergeData)),
+            Line::MergeDelta => Some(self.ask(Event::MergeDelta)),
             Line::InstallClose => Some(self.ask(Event::InstallClose)),
             Line::InstallBody => Some(self.ask(Event::InstallBody)),
             Line::InstallOpen => Some(self.ask(Event::InstallOpen)),
             Line::Rotate => Some(rotate(&mut self.world)),
             Line::Checkpoint => Some(checkpoint(&mut self.world)),
+            Line::Merge(place) => Some(merge(&mut self.world, place)),
             Line::Reclaim => Some(self.ask(Event::Reclaim)),
         }
     }

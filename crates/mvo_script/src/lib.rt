@@ -6,6 +6,7 @@ mod checkpoint;
 mod driver;
 mod flush;
 mod line;
+mod merge;
 mod names;
 mod reply;
 mod room;

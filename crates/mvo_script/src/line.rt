@@ -1,7 +1,7 @@
 ghost use Rattle.std.specs.Prelude.{◌≡◌, ◌<◌, IfSome, length};
 ghost use Rattle.mvo_script.specs.Forms.{HasForm, IsData};
 
-use crate::words::{digits_of, name_of, number_of, table_of};
+use crate::words::{digits_of, name_of, number_of, place_of, table_of};
 use mvo_types::RowKey;
 use std::str;
 
@@ -55,6 +55,12 @@ pub enum Line<'a> {
     CheckpointData,
     /// `checkpoint-delta`
     CheckpointDelta,
+    /// `merge-read I`
+    MergeRead(usize),
+    /// `merge-data`
+    MergeData,
+    /// `merge-delta`
+    MergeDelta,
     /// `install-close`
     InstallClose,
     /// `install-body`
@@ -65,6 +71,8 @@ pub enum Line<'a> {
     Rotate,
     /// `checkpoint`
     Checkpoint,
+    /// `merge I`
+    Merge(usize),
     /// `reclaim`
     Reclaim,
 }
@@ -125,6 +133,19 @@ fn line_of<'a>(first: &str, rest: &mut str::Split<'a, char>) -> Option<Line<'a>>
         "rotate" => Some(Line::Rotate),
         "checkpoint" => Some(Line::Checkpoint),
         "reclaim" => Some(Line::Reclaim),
+        _ => merge_line_of(first, rest),
+    }
+}
+
+/// The line of a merge or of a transaction with this first word, from the words after it.
+fn merge_line_of<'a>(first: &str, rest: &mut str::Split<'a, char>) -> Option<Line<'a>>
+    ensures { IfSome result HasForm }
+{
+    match first {
+        "merge-read" => Some(Line::MergeRead(place_of(rest.next()?)?)),
+        "merge-data" => Some(Line::MergeData),
+        "merge-delta" => Some(Line::MergeDelta),
+        "merge" => Some(Line::Merge(place_of(rest.next()?)?)),
         _ => named_line_of(first, rest),
     }
 }

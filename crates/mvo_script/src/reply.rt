@@ -1,6 +1,6 @@
+use mvo_core::{Closed, Finishing, Settlement, Validation};
 use mvo_store::{Generation, Progress, Reclaimed};
 use mvo_types::{Answer, Row};
-use mvo_version_core::{Closed, Finishing, Settlement, Validation};
 use mvo_world::Reply;
 use std::fmt;
 

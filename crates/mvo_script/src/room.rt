@@ -1,6 +1,9 @@
 ghost use Rattle.std.specs.Prelude.{◌≡◌};
 ghost use Rattle.mvo_world.specs.Replies.{IsReplyTo};
+ghost use Rattle.mvo_script.specs.Merging.{behind_read};
 ghost use Rattle.mvo_script.specs.Room.{IsJobEnded, IsRoomMade, has_nothing_to_do, stops_job};
+ghost use Rattle.mvo_script.specs.Rotating.{install};
+ghost use Rattle.mvo_script.specs.Stopping.{AreToStop};
 
 use crate::checkpoint::write_deltas;
 use crate::rotate::{is_refused, rotate};
@@ -42,6 +45,30 @@ fn finish_job<D: Disk>(world: &mut World<D>) -> Reply
     if stops_job(&deltas) {
         return deltas;
     }
+    finish_merge(world)
+}
+
+/// The steps that are left of a merge, or of a job whose files are written.
+fn finish_merge<D: Disk>(world: &mut World<D>) -> Reply
+    ensures { let step = IsReplyTo D.Disk in
+        AreToStop step (λ e r. stops_job r) behind_read world.old result world.new }
+{
+    let data = world.step(Event::MergeData);
+    if stops_job(&data) {
+        return data;
+    }
+    let delta = world.step(Event::MergeDelta);
+    if stops_job(&delta) {
+        return delta;
+    }
+    finish_install(world)
+}
+
+/// The steps that are left of an install.
+fn finish_install<D: Disk>(world: &mut World<D>) -> Reply
+    ensures { let step = IsReplyTo D.Disk in
+        AreToStop step (λ e r. stops_job r) install world.old result world.new }
+{
     let closed = world.step(Event::InstallClose);
     if stops_job(&closed) {
         return closed;

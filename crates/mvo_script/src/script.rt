@@ -53,33 +53,78 @@ fn run_driver<D: Disk + Drop, R: Read + Drop, W: Write + Drop>(
     reader: R,
     writer: W,
 ) -> Result<(), ScriptError> {
+    let mut driver = driver;
+    run_streams(alloc, &mut driver, reader, writer)
+}
+
+/// Runs a script, reading and writing by buffers.
+fn run_streams<D: Disk, R: Read + Drop, W: Write + Drop>(
+    alloc: Global,
+    driver: &mut Driver<D>,
+    reader: R,
+    writer: W,
+) -> Result<(), ScriptError> {
     let mut reader = BufReader::new(alloc, reader).map_err(|_| ScriptError::OutOfMemory)?;
     let mut writer = BufWriter::new(alloc, writer).map_err(|_| ScriptError::OutOfMemory)?;
-    let line = Vec::with_capacity(alloc, MAX_LINE_LEN + 1).map_err(|_| ScriptError::OutOfMemory)?;
-    let ran = answer_lines(driver, line, &mut reader, &mut writer);
+    run_lines(alloc, driver, &mut reader, &mut writer)
+}
+
+/// Runs a script. What was answered is written also where it can't be read on.
+fn run_lines<D: Disk, R: Read, W: Write>(
+    alloc: Global,
+    driver: &mut Driver<D>,
+    reader: &mut BufReader<R>,
+    writer: &mut W,
+) -> Result<(), ScriptError> {
+    let mut line = Vec::with_capacity(alloc, MAX_LINE_LEN + 1).map_err(
+        |_| ScriptError::OutOfMemory,
+    )?;
+    let ran = answer_lines(driver, &mut line, reader, writer);
     let flushed = writer.flush().map_err(ScriptError::Write);
     ran?;
     flushed
 }
 
-/// Answers each line of the reader. Before it waits for one it writes the replies so far.
-fn answer_lines<D: Disk + Drop, R: Read, W: Write>(
-    mut driver: Driver<D>,
-    mut line: Vec<u8>,
+/// Answers each line of the reader.
+fn answer_lines<D: Disk, R: Read, W: Write>(
+    driver: &mut Driver<D>,
+    line: &mut Vec<u8>,
     reader: &mut BufReader<R>,
     writer: &mut W,
 ) -> Result<(), ScriptError> {
     for _ in 0..u64::MAX {
-        if !reader.buffer().contains(&b'\n') {
-            writer.flush().map_err(ScriptError::Write)?;
-        }
-        if !read_line(reader, &mut line).map_err(ScriptError::Read)? {
+        if !answer_next(driver, line, reader, writer)? {
             break;
         }
-        let reply = driver.answer(&line);
-        writeln!(writer, "{reply}").map_err(ScriptError::Write)?;
     }
     Ok(())
+}
+
+/// Answers the next line, or says that there is none. Before it waits for one it writes the replies
+/// so far.
+fn answer_next<D: Disk, R: Read, W: Write>(
+    driver: &mut Driver<D>,
+    line: &mut Vec<u8>,
+    reader: &mut BufReader<R>,
+    writer: &mut W,
+) -> Result<bool, ScriptError> {
+    if !reader.buffer().contains(&b'\n') {
+        writer.flush().map_err(ScriptError::Write)?;
+    }
+    let is_there = read_line(reader, line).map_err(ScriptError::Read)?;
+    if is_there {
+        write_reply(driver, line, writer)?;
+    }
+    Ok(is_there)
+}
+
+fn write_reply<D: Disk, W: Write>(
+    driver: &mut Driver<D>,
+    line: &[u8],
+    writer: &mut W,
+) -> Result<(), ScriptError> {
+    let reply = driver.answer(line);
+    writeln!(writer, "{reply}").map_err(ScriptError::Write)
 }
 
 /// Reads on behind the next line feed. The line is what stands before it, or, where that is

@@ -38,6 +38,17 @@ pub fn number_of(word: &str) -> Option<u64>
     }
 }
 
+/// The place of a pair that a word is: a number.
+pub fn place_of(word: &str) -> Option<usize>
+    ensures { SomeIff result (IsNumber 64 word.now) (digits_value 10 word.now) }
+{
+    if has_plus_or_zero(word) {
+        None
+    } else {
+        word.parse::<usize>().ok()
+    }
+}
+
 /// The table that a word is: a number of at most 255.
 pub fn table_of(word: &str) -> Option<u8>
     ensures { SomeIff result (IsNumber 8 word.now) (digits_value 10 word.now) }

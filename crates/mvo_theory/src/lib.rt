@@ -1,2 +1,2 @@
-//! The theory of the version core: its abstract state, the steps on it, and what they keep.
+//! The theory of the core: its abstract state, the steps on it, and what they keep.
 #![tactic(auto)]

@@ -7,9 +7,9 @@ use Rattle.mvo_theory.specs.Groups.{Group, AreGroupsOf}
 use Rattle.mvo_theory.specs.Calls.{Call, Result, after_call, group_of}
 use Rattle.mvo_theory.proofs.Chain.{chained_after_call}
 use Rattle.mvo_theory.proofs.Tales.{serial_after_trace}
-use Rattle.mvo_version_core.specs.Data.{CoreData}
-use Rattle.mvo_version_core.specs.Standing.{StandsFor, Stands}
-use Rattle.mvo_version_core.specs.Steps.{LeadsOn}
+use Rattle.mvo_core.specs.Data.{CoreData}
+use Rattle.mvo_core.specs.Standing.{StandsFor, Stands}
+use Rattle.mvo_core.specs.Steps.{LeadsOn}
 use Rattle.mvo_world.specs.WorldData.{WorldData}
 use Rattle.mvo_world.specs.Replies.{IsDrawn}
 

@@ -13,10 +13,10 @@ use Rattle.mvo_theory.specs.Causes.{awaited, end_of}
 use Rattle.mvo_theory.specs.Calls.{steps_of, answer_in, steps_unless}
 use Rattle.mvo_theory.specs.Calls.Call.{Begin as BeginCall, Precommit as PrecommitCall, Settle as SettleCall, Finish as FinishCall, Do}
 use Rattle.mvo_theory.specs.Calls.Result.{Accepted}
-use Rattle.mvo_version_core.specs.declared.answers.Settlement.{Settlement}
-use Rattle.mvo_version_core.specs.declared.answers.Finishing as finishing
-use Rattle.mvo_version_core.specs.declared.answers.Finishing.TheVariants.{More, Done}
-use Rattle.mvo_version_core.specs.Steps.{settled_as}
+use Rattle.mvo_core.specs.declared.answers.Settlement.{Settlement}
+use Rattle.mvo_core.specs.declared.answers.Finishing as finishing
+use Rattle.mvo_core.specs.declared.answers.Finishing.TheVariants.{More, Done}
+use Rattle.mvo_core.specs.Steps.{settled_as}
 use Rattle.mvo_world.specs.Past.{happened}
 use Rattle.mvo_world.specs.declared.event.Event.TheVariants.{Begin, Precommit, Settle, Finish}
 use Rattle.mvo_world.specs.declared.reply.Reply.TheVariants.{Began, Prepared, Settled, Finished}

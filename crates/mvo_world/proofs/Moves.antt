@@ -21,10 +21,10 @@ use Rattle.mvo_theory.specs.Calls as theory
 use Rattle.mvo_theory.specs.Calls.{Call, after_call, steps_of}
 use Rattle.mvo_theory.proofs.Each.{each_weaker, each_append}
 use Rattle.mvo_theory.proofs.Stays.{stays_after_call}
-use Rattle.mvo_version_core.specs.declared.answers.Closed as closing
-use Rattle.mvo_version_core.specs.Standing.{StandsFor}
-use Rattle.mvo_version_core.specs.Closing.{why_not_closed}
-use Rattle.mvo_version_core.proofs.Begun.{still_closed}
+use Rattle.mvo_core.specs.declared.answers.Closed as closing
+use Rattle.mvo_core.specs.Standing.{StandsFor}
+use Rattle.mvo_core.specs.Closing.{why_not_closed}
+use Rattle.mvo_core.proofs.Begun.{still_closed}
 use Rattle.mvo_frame.specs.Frames.{mark_after}
 use Rattle.mvo_image.specs.Rows.{after_groups}
 use Rattle.mvo_recovery.proofs.Grown.{after_groups-append}
@@ -41,7 +41,7 @@ use Rattle.mvo_world.specs.Standing.{IsAfter, RecoversPrefix, LeavesPrefix}
 use Rattle.mvo_world.specs.Replies.{IsReplyTo, IsAsked, HasComeTo, HasRow, IsBodyRefusal, IsGateRefusal}
 use Rattle.mvo_world.specs.Steps.{IsStepBy, IsStep}
 use Rattle.mvo_world.specs.declared.event.Event.{Event}
-use Rattle.mvo_world.specs.declared.event.Event.TheVariants.{Begin, Read, Scan, Insert, Update, Delete, Precommit, Validate, Settle, Rollback, Finish, CloseGroup, TakeGroup, AppendBody, AppendOpen, Poll, RotateWrite, CheckpointRead, CheckpointData, CheckpointDelta, InstallClose, InstallBody, InstallOpen, Reclaim}
+use Rattle.mvo_world.specs.declared.event.Event.TheVariants.{Begin, Read, Scan, Insert, Update, Delete, Precommit, Validate, Settle, Rollback, Finish, CloseGroup, TakeGroup, AppendBody, AppendOpen, Poll, RotateWrite, CheckpointRead, CheckpointData, CheckpointDelta, MergeRead, MergeData, MergeDelta, InstallClose, InstallBody, InstallOpen, Reclaim}
 use Rattle.mvo_world.specs.declared.reply.Reply.{Reply}
 use Rattle.mvo_world.specs.declared.reply.Reply.TheVariants.{Closed, Durable, Polled, Refused}
 use Rattle.mvo_world.proofs.Chain.{groups_stay}
@@ -173,6 +173,9 @@ silent_refused RotateWrite r is = record { steps = is; acknowledged = refl; clos
 silent_refused CheckpointRead r is = record { steps = is; acknowledged = refl; closed = refl }
 silent_refused CheckpointData r is = record { steps = is; acknowledged = refl; closed = refl }
 silent_refused CheckpointDelta r is = record { steps = is; acknowledged = refl; closed = refl }
+silent_refused (MergeRead place) r is = record { steps = is; acknowledged = refl; closed = refl }
+silent_refused MergeData r is = record { steps = is; acknowledged = refl; closed = refl }
+silent_refused MergeDelta r is = record { steps = is; acknowledged = refl; closed = refl }
 silent_refused InstallClose r is = record { steps = is; acknowledged = refl; closed = refl }
 silent_refused InstallBody r is = record { steps = is; acknowledged = refl; closed = refl }
 silent_refused InstallOpen r is = record { steps = is; acknowledged = refl; closed = refl }
@@ -200,6 +203,9 @@ silent_copy RotateWrite h = absurd h
 silent_copy CheckpointRead h = absurd h
 silent_copy CheckpointData h = absurd h
 silent_copy CheckpointDelta h = absurd h
+silent_copy (MergeRead place) h = absurd h
+silent_copy MergeData h = absurd h
+silent_copy MergeDelta h = absurd h
 silent_copy InstallClose h = absurd h
 silent_copy InstallBody h = absurd h
 silent_copy InstallOpen h = absurd h

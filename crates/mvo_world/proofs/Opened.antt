@@ -11,7 +11,7 @@ use Rattle.mvo_image.proofs.Opening.{exact}
 use Rattle.mvo_store.specs.StoreData.{StoreData}
 use Rattle.mvo_store.specs.Standing.{Gives, HasSlots, KeepsRows}
 use Rattle.mvo_store.specs.Opening.{IsAnswer, HasBegun as StoreHasBegun, IsNotOpened}
-use Rattle.mvo_version_core.specs.Standing.{OpensAs}
+use Rattle.mvo_core.specs.Standing.{OpensAs}
 use Rattle.mvo_world.specs.WorldData.{WorldData, HasBegun}
 use Rattle.mvo_world.specs.Past.{Past, opened_over}
 use Rattle.mvo_world.specs.Standing.{IsAfter, IsPrefix, RecoversPrefix, IsNotOfFiles}

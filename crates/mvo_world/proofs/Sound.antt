@@ -8,12 +8,12 @@ use Rattle.mvo_theory.specs.State.{Marks, opened}
 use Rattle.mvo_theory.specs.Marks.{IsClosedAt}
 use Rattle.mvo_theory.specs.Changes.{after_close}
 use Rattle.mvo_theory.specs.Calls.{Call, group_of}
-use Rattle.mvo_version_core.specs.declared.answers.Closed as closing
-use Rattle.mvo_version_core.specs.Data.{CoreData}
-use Rattle.mvo_version_core.specs.Standing.{OpensAs}
-use Rattle.mvo_version_core.specs.Steps.{came, IsStep}
-use Rattle.mvo_version_core.specs.Closing.{IsClosing}
-use Rattle.mvo_version_core.proofs.Begun.{stands_on}
+use Rattle.mvo_core.specs.declared.answers.Closed as closing
+use Rattle.mvo_core.specs.Data.{CoreData}
+use Rattle.mvo_core.specs.Standing.{OpensAs}
+use Rattle.mvo_core.specs.Steps.{came, IsStep}
+use Rattle.mvo_core.specs.Closing.{IsClosing}
+use Rattle.mvo_core.proofs.Begun.{stands_on}
 use Rattle.mvo_world.specs.WorldData.{WorldData, waiting, Follow, IsSound}
 use Rattle.mvo_world.proofs.Asked.{same_closed}
 use Rattle.mvo_world.proofs.Closed.{group_of_next}

@@ -6,8 +6,8 @@ use Rattle.mvo_types.specs.Keys.{Map}
 use Rattle.mvo_types.specs.declared.op.Op.TheVariants as op
 use Rattle.mvo_types.specs.AnswerData.{answer_data}
 use Rattle.mvo_theory.specs.Steps.{steps_of_refusal}
-use Rattle.mvo_version_core.specs.declared.answers.Settlement.TheVariants.{Committed}
-use Rattle.mvo_version_core.specs.declared.answers.Finishing.TheVariants.{Done}
+use Rattle.mvo_core.specs.declared.answers.Settlement.TheVariants.{Committed}
+use Rattle.mvo_core.specs.declared.answers.Finishing.TheVariants.{Done}
 use Rattle.mvo_world.specs.declared.event.Event.{Event}
 use Rattle.mvo_world.specs.declared.event.Event.TheVariants.{Begin, Read, Scan, Insert, Update, Delete, Precommit, Validate, Settle, Rollback, Finish, CloseGroup, AppendOpen, Poll}
 use Rattle.mvo_world.specs.declared.reply.Reply.{Reply}

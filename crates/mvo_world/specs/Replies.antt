@@ -13,24 +13,25 @@ use Rattle.mvo_theory.specs.State.{State}
 use Rattle.mvo_theory.specs.Calls as theory
 use Rattle.mvo_theory.specs.Calls.Call.{Begin as BeginCall, Precommit as PrecommitCall, Validate as ValidateCall, Settle as SettleCall, Rollback as RollbackCall, Finish as FinishCall, Do}
 use Rattle.mvo_theory.specs.Calls.Result.{Accepted, Refused as RefusedCall}
-use Rattle.mvo_version_core.specs.declared.answers.Closed as closing
-use Rattle.mvo_version_core.specs.Standing.{StandsFor}
-use Rattle.mvo_version_core.specs.Steps.{LeadsOn, InEach, IsAnswered, IsValidation, IsSettlement, IsFinishing}
-use Rattle.mvo_version_core.specs.Closing.{IsClosing}
+use Rattle.mvo_core.specs.declared.answers.Closed as closing
+use Rattle.mvo_core.specs.Standing.{StandsFor}
+use Rattle.mvo_core.specs.Steps.{LeadsOn, InEach, IsAnswered, IsValidation, IsSettlement, IsFinishing}
+use Rattle.mvo_core.specs.Closing.{IsClosing}
 use Rattle.mvo_store.specs.declared.due.Due.{Due}
-use Rattle.mvo_store.specs.declared.due.Due.TheVariants.{Data, Delta, Close, Body, Open}
+use Rattle.mvo_store.specs.declared.due.Due.TheVariants.{Data, Delta, MergeData as DataOfMerge}
+use Rattle.mvo_store.specs.declared.due.Due.TheVariants.{MergeDelta as DeltaOfMerge, Close, Body, Open}
 use Rattle.mvo_store.specs.declared.progress.Progress.{Progress}
-use Rattle.mvo_store.specs.declared.progress.Progress.TheVariants.{More}
+use Rattle.mvo_store.specs.declared.progress.Progress.TheVariants.{More, Ready as AllWritten}
 use Rattle.mvo_store.specs.declared.reclaimed.Reclaimed as reclaiming
 use Rattle.mvo_store.specs.Causes.{why_not_take, why_not_append_body, why_not_append_open}
-use Rattle.mvo_store.specs.Causes.{why_not_rotate, why_not_checkpoint, why_not_install}
+use Rattle.mvo_store.specs.Causes.{why_not_rotate, why_not_checkpoint, why_not_merge, why_not_install}
 use Rattle.mvo_store.specs.Causes.{why_not_install_open, why_not_reclaim}
-use Rattle.mvo_store.specs.Steps.{LeftBy, LeftByRead, IsRotationOf, IsCheckpointOf, with_due}
+use Rattle.mvo_store.specs.Steps.{LeftBy, LeftByRead, IsRotationOf, IsCheckpointOf, IsMergeOf, with_due}
 use Rattle.mvo_store.specs.Steps.{progress_of, with_delta, IsInstalledBy}
 use Rattle.mvo_store.specs.Reclaiming.{HasReclaimed}
 use Rattle.mvo_world.specs.WorldData.{WorldData}
 use Rattle.mvo_world.specs.declared.event.Event.{Event}
-use Rattle.mvo_world.specs.declared.event.Event.TheVariants.{Begin, Read, Scan, Insert, Update, Delete, Precommit, Validate, Settle, Rollback, Finish, CloseGroup, TakeGroup, AppendBody, AppendOpen, Poll, RotateWrite, CheckpointRead, CheckpointData, CheckpointDelta, InstallClose, InstallBody, InstallOpen, Reclaim}
+use Rattle.mvo_world.specs.declared.event.Event.TheVariants.{Begin, Read, Scan, Insert, Update, Delete, Precommit, Validate, Settle, Rollback, Finish, CloseGroup, TakeGroup, AppendBody, AppendOpen, Poll, RotateWrite, CheckpointRead, CheckpointData, CheckpointDelta, MergeRead, MergeData, MergeDelta, InstallClose, InstallBody, InstallOpen, Reclaim}
 use Rattle.mvo_world.specs.declared.reply.Reply.{Reply}
 use Rattle.mvo_world.specs.declared.reply.Reply.TheVariants.{Began, Answered, Prepared, Validated, Settled, RolledBack, Finished, Closed, Taken, Written, Durable, Polled, Ready, Progress as Progressed, Shut, Installed, Reclaimed, Refused}
 
@@ -131,6 +132,14 @@ pub record IsRead {D : Type 0} (d : Ghosts D) (w w' : WorldData D) : Type 0 wher
       places = record w.store.places { room = w'.store.places.room };
       job = w'.store.job;
     };
+  }
+
+-- a merge of the pair at a place and the one behind it runs, and nothing of it is written yet
+pub record IsReadToMerge {D : Type 0} (d : Ghosts D) (w : WorldData D) (place : ℕ)
+    (w' : WorldData D) : Type 0 where
+  pub merge : IsMergeOf (d.content w.store.disk) w.store.manifest place w'.store.job
+  pub after : w' ≡ record w {
+    store = record w.store { disk = w'.store.disk; job = w'.store.job };
   }
 
 -- one delta file more of the checkpoint is written
@@ -237,6 +246,19 @@ IsReplyTo d w CheckpointDelta (Progressed progress) w' =
     (why_not_install Delta w.store ≡ None) × HasDelta w progress w' × HasNoFault d w w'
 IsReplyTo d w CheckpointDelta (Refused r) w' =
     IsBodyRefusal (why_not_install Delta w.store) r × IsLeft d w r w'
+IsReplyTo d w (MergeRead place) (Progressed More) w' =
+    (why_not_merge place w.store ≡ None) × IsReadToMerge d w place w' × HasNoFault d w w'
+IsReplyTo d w (MergeRead place) (Refused r) w' =
+    IsBodyRefusal (why_not_merge place w.store) r × IsLeftByRead d w r w'
+IsReplyTo d w MergeData (Progressed More) w' =
+    (why_not_install DataOfMerge w.store ≡ None)
+    × MakesDue DeltaOfMerge w w' × HasNoFault d w w'
+IsReplyTo d w MergeData (Refused r) w' =
+    IsBodyRefusal (why_not_install DataOfMerge w.store) r × IsLeft d w r w'
+IsReplyTo d w MergeDelta (Progressed AllWritten) w' =
+    (why_not_install DeltaOfMerge w.store ≡ None) × MakesDue Close w w' × HasNoFault d w w'
+IsReplyTo d w MergeDelta (Refused r) w' =
+    IsBodyRefusal (why_not_install DeltaOfMerge w.store) r × IsLeft d w r w'
 IsReplyTo d w InstallClose Shut w' =
     (why_not_install Close w.store ≡ None) × MakesDue Body w w' × HasNoFault d w w'
 IsReplyTo d w InstallClose (Refused r) w' =

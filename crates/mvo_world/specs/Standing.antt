@@ -10,7 +10,7 @@ use Rattle.mvo_disk.specs.Disk.{Image, AllOf, LeavesOnly}
 use Rattle.mvo_group.specs.Data.{GroupData}
 use Rattle.mvo_theory.specs.State.{State, timeline}
 use Rattle.mvo_theory.specs.Marks.{IsClosedAt, settled_to}
-use Rattle.mvo_version_core.specs.Standing.{StandsFor}
+use Rattle.mvo_core.specs.Standing.{StandsFor}
 use Rattle.mvo_frame.specs.Frames.{mark_after}
 use Rattle.mvo_image.specs.Rows.{after_groups}
 use Rattle.mvo_pair.specs.Writing.{IsStop}

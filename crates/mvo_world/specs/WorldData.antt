@@ -3,8 +3,8 @@ use Rattle.std.specs.Prelude.{◌≡◌, ℕ, List, [], ◌∷◌, ◌++◌, Opt
 use Rattle.std.specs.Option.{option_to_list}
 use Rattle.mvo_types.specs.Keys.{Map}
 use Rattle.mvo_group.specs.Data.{GroupData}
-use Rattle.mvo_version_core.specs.Data.{CoreData}
-use Rattle.mvo_version_core.specs.Standing.{Stands, OpensAs}
+use Rattle.mvo_core.specs.Data.{CoreData}
+use Rattle.mvo_core.specs.Standing.{Stands, OpensAs}
 use Rattle.mvo_store.specs.StoreData.{StoreData}
 
 -- what its core has, the group that was closed and not taken yet, and its store

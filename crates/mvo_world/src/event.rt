@@ -44,6 +44,13 @@ pub enum Event {
     CheckpointData,
     /// The store writes the next delta file of the checkpoint that runs.
     CheckpointDelta,
+    /// The store reads the pair at this place, counted from 0, and the one behind it, and a merge
+    /// of them begins.
+    MergeRead(usize),
+    /// The store writes the data file of the merge that runs.
+    MergeData,
+    /// The store writes the delta file of the merge that runs.
+    MergeDelta,
     /// The store closes the gate of the slot that the next manifest goes to.
     InstallClose,
     /// The store writes that manifest behind the gate.
@@ -84,6 +91,9 @@ impl Event {
             Event::CheckpointRead => Ok(Event::CheckpointRead),
             Event::CheckpointData => Ok(Event::CheckpointData),
             Event::CheckpointDelta => Ok(Event::CheckpointDelta),
+            Event::MergeRead(place) => Ok(Event::MergeRead(*place)),
+            Event::MergeData => Ok(Event::MergeData),
+            Event::MergeDelta => Ok(Event::MergeDelta),
             Event::InstallClose => Ok(Event::InstallClose),
             Event::InstallBody => Ok(Event::InstallBody),
             Event::InstallOpen => Ok(Event::InstallOpen),

@@ -1,6 +1,6 @@
+use mvo_core::{Closed, Finishing, Settlement, Validation};
 use mvo_store::{Generation, Progress, Reclaimed};
 use mvo_types::{Answer, Refusal, Stamp, TxId};
-use mvo_version_core::{Closed, Finishing, Settlement, Validation};
 
 /// What is answered to a step.
 #[derive(Debug, Drop)]
@@ -31,7 +31,7 @@ pub enum Reply {
     Polled(bool),
     /// A rotation runs: its fresh segment is written.
     Ready,
-    /// A checkpoint runs: it has more to write, or all is written.
+    /// A checkpoint or a merge runs: it has more to write, or all is written.
     Progress(Progress),
     /// The gate of the slot is closed.
     Shut,

@@ -4,11 +4,11 @@ mod transactions;
 use crate::event::Event;
 use crate::push::push_reserved;
 use crate::reply::Reply;
+use mvo_core::Core;
 use mvo_disk::Disk;
 use mvo_group::Group;
 use mvo_store::Store;
 use mvo_types::{Refusal, Stamp};
-use mvo_version_core::Core;
 use std::alloc::Global;
 use std::marker::Model;
 use std::thread::Threads;
@@ -159,6 +159,9 @@ impl<D: Disk> World<D> {
             Event::CheckpointRead => self.checkpoint_read(),
             Event::CheckpointData => self.checkpoint_data(),
             Event::CheckpointDelta => self.checkpoint_delta(),
+            Event::MergeRead(place) => self.merge_read(place),
+            Event::MergeData => self.merge_data(),
+            Event::MergeDelta => self.merge_delta(),
             Event::InstallClose => self.install_close(),
             Event::InstallBody => self.install_body(),
             Event::InstallOpen => self.install_open(),

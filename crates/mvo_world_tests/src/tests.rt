@@ -25,11 +25,13 @@ use std::test::Fail;
 use std::thread::Threads;
 use step::Step;
 use steps::{
-    CHECKPOINT, COMMIT_OF_NOTHING, FALL, ONE_PUT, OPENING_OF_THE_GATE, OUT_OF_TURN,
-    PUT_AND_REPLACE, READ_TOO_EARLY, RECLAIMS, RECLAIMS_OF_A_ROTATION, ROTATION,
-    ROTATION_BUT_ITS_GATE, ROTATION_OUT_OF_TURN, SETTLES,
+    CHECKPOINT, COMMIT_OF_NOTHING, FALL, MERGE, ONE_PUT, OPENING_OF_THE_GATE, OUT_OF_TURN,
+    PUT_AND_REPLACE, READ_TOO_EARLY, RECLAIMS, RECLAIMS_OF_A_ROTATION, RECLAIMS_OF_PAIRS, REPLACE,
+    ROTATION, ROTATION_BUT_ITS_GATE, ROTATION_OUT_OF_TURN, SECOND_PAIR, SETTLES,
 };
-use vectors::{DATA, DELTA, EMPTY, FRESH, SEGMENT, SLOT, SLOT_OF_PAIR};
+use vectors::{
+    DATA, DELTA, DELTA_OF_FIRST, EMPTY, FRESH, MERGED, SEGMENT, SLOT, SLOT_OF_MERGED, SLOT_OF_PAIR,
+};
 
 const KEY: RowKey = RowKey { table: 0, key: 5 };
 
@@ -50,6 +52,25 @@ fn fresh(rt: &(impl Threads + Sync), alloc: Global) -> Result<World<MemDisk>, Fa
     opened(rt, alloc, formatted(alloc)?)
 }
 
+// How long the data of the row is that a read found.
+fn len_of(reply: Reply) -> Result<Option<usize>, Fail> {
+    match reply {
+        Reply::Answered(Answer::Found(row)) => Ok(row.map(|row| row.data_len())),
+        _ => Err(Fail::from("a read that is answered")),
+    }
+}
+
+fn read_key(world: &mut World<MemDisk>, mark: Stamp) -> Reply {
+    let _ = step(world, Event::Begin);
+    step(world, Event::Read(TxId(mark.0.saturating_add(1)), KEY))
+}
+
+fn found_in(world: &mut World<MemDisk>) -> Result<(u64, Option<usize>), Fail> {
+    let mark = mark(world);
+    let len = len_of(read_key(world, mark))?;
+    Ok((mark.0, len))
+}
+
 // The mark that the disk opens at, and how long the data of the row is there.
 fn found(
     rt: &(impl Threads + Sync),
@@ -57,13 +78,7 @@ fn found(
     disk: MemDisk,
 ) -> Result<(u64, Option<usize>), Fail> {
     let mut world = opened(rt, alloc, disk)?;
-    let mark = mark(&world);
-    let _ = step(&mut world, Event::Begin);
-    let reply = step(&mut world, Event::Read(TxId(mark.0.saturating_add(1)), KEY));
-    match reply {
-        Reply::Answered(Answer::Found(row)) => { Ok((mark.0, row.map(|row| row.data_len()))) }
-        _ => Err(Fail::from("a read that is answered")),
-    }
+    found_in(&mut world)
 }
 
 /// Compares the bytes of a file.
@@ -118,6 +133,18 @@ fn follow(
     Ok(())
 }
 
+fn follow_all(
+    rt: &impl Abort,
+    alloc: Global,
+    world: &mut World<MemDisk>,
+    tables: &[&[(Step, &str)]],
+) -> Result<(), Fail> {
+    for steps in tables {
+        follow(rt, alloc, world, steps)?;
+    }
+    Ok(())
+}
+
 /// The world after all these steps, from a new store.
 fn following(
     rt: &(impl Abort + Threads + Sync),
@@ -125,9 +152,7 @@ fn following(
     tables: &[&[(Step, &str)]],
 ) -> Result<World<MemDisk>, Fail> {
     let mut world = fresh(rt, alloc)?;
-    for steps in tables {
-        follow(rt, alloc, &mut world, steps)?;
-    }
+    follow_all(rt, alloc, &mut world, tables)?;
     Ok(world)
 }
 
@@ -189,6 +214,51 @@ fn a_checkpoint_keeps_the_rows(rt: HostRuntime) -> Result<(), Fail> {
     let disk = disk_after(&rt, alloc, &tables)?;
     hold(&rt, &disk, &FILES_OF_A_PAIR);
     gives(&rt, alloc, disk, 2, Some(1))
+}
+
+// The steps up to two pairs.
+const TWO_PAIRS: [&[(Step, &str)]; 6] = [
+    &ONE_PUT,
+    &READ_TOO_EARLY,
+    &ROTATION,
+    &CHECKPOINT,
+    &REPLACE,
+    &SECOND_PAIR,
+];
+
+// What the files hold once the two pairs are one.
+const FILES_OF_MERGED: [(u16, &[u8]); 5] = [
+    (2, &FRESH),
+    (3, &MERGED),
+    (4, &DATA),
+    (5, &DELTA_OF_FIRST),
+    (8, &DELTA),
+];
+
+// The files of the pairs that it replaced are empty then.
+const FILES_OF_RECLAIMED: [(u16, &[u8]); 4] = [(4, &[]), (5, &[]), (6, &[]), (7, &[])];
+
+#[test]
+fn a_merge_keeps_the_rows(rt: HostRuntime) -> Result<(), Fail> {
+    let alloc = rt.alloc();
+    let mut world = following(&rt, alloc, &TWO_PAIRS)?;
+    follow(&rt, alloc, &mut world, &MERGE)?;
+    let disk = into_disk(world);
+    hold(&rt, &disk, &FILES_OF_MERGED);
+    // Two bytes of an older, longer manifest lie behind it.
+    assert!(rt; bytes_of(&disk, 1).starts_with(&SLOT_OF_MERGED));
+    gives(&rt, alloc, disk, 4, Some(1))
+}
+
+#[test]
+fn the_files_of_merged_pairs_are_reclaimed(rt: HostRuntime) -> Result<(), Fail> {
+    let alloc = rt.alloc();
+    let mut world = following(&rt, alloc, &TWO_PAIRS)?;
+    follow(&rt, alloc, &mut world, &MERGE)?;
+    follow(&rt, alloc, &mut world, &RECLAIMS_OF_PAIRS)?;
+    let disk = into_disk(world);
+    hold(&rt, &disk, &FILES_OF_RECLAIMED);
+    gives(&rt, alloc, disk, 4, Some(1))
 }
 
 // The disk that a stop leaves of a rotation that is all but installed.

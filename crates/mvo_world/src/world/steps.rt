@@ -91,6 +91,33 @@ impl<D: Disk> World<D> {
         }
     }
 
+    pub(super) fn merge_read(&mut self, place: usize) -> Reply
+        ensures { IsStep D.Disk self.old (Event.MergeRead place) result self.new }
+    {
+        match self.store.merge_read(place) {
+            Ok(()) => Reply::Progress(Progress::More),
+            Err(refusal) => Reply::Refused(refusal),
+        }
+    }
+
+    pub(super) fn merge_data(&mut self) -> Reply
+        ensures { IsStep D.Disk self.old Event.MergeData result self.new }
+    {
+        match self.store.merge_data() {
+            Ok(()) => Reply::Progress(Progress::More),
+            Err(refusal) => Reply::Refused(refusal),
+        }
+    }
+
+    pub(super) fn merge_delta(&mut self) -> Reply
+        ensures { IsStep D.Disk self.old Event.MergeDelta result self.new }
+    {
+        match self.store.merge_delta() {
+            Ok(()) => Reply::Progress(Progress::Ready),
+            Err(refusal) => Reply::Refused(refusal),
+        }
+    }
+
     pub(super) fn install_close(&mut self) -> Reply
         ensures { IsStep D.Disk self.old Event.InstallClose result self.new }
     {

@@ -4,6 +4,8 @@ use super::calls::{formatted, mark, step};
 use super::events::TABLES;
 use super::images::files_on;
 use super::runs::{Run, Start, opened};
+use super::step::row_with;
+use super::{TWO_PAIRS, disk_after};
 use mvo_disk::MemDisk;
 use mvo_model::Serial;
 use mvo_types::{Answer, Row, RowKey, Rows, Stamp, TxId};
@@ -65,6 +67,37 @@ fn all_rows(alloc: Global, rows: &Rows) -> Result<Vec<Row>, AllocError> {
     Ok(all)
 }
 
+/// Compares what is answered.
+fn compare(rt: &impl Abort, answer: &Answer, wanted: &Answer) {
+    assert!(rt; is_same(answer, wanted), "{answer:?}, and not {wanted:?}");
+}
+
+fn compare_key(
+    rt: &impl Abort,
+    world: &mut World<MemDisk>,
+    id: TxId,
+    key: RowKey,
+    serial: &Serial,
+) -> Result<(), Fail> {
+    let answer = ask(world, Event::Read(id, key))?;
+    let wanted = Answer::Found(serial.rows().get(key)?);
+    compare(rt, &answer, &wanted);
+    Ok(())
+}
+
+fn compare_table(
+    rt: &impl Abort,
+    world: &mut World<MemDisk>,
+    id: TxId,
+    table: u8,
+    serial: &Serial,
+) -> Result<(), Fail> {
+    let answer = ask(world, Event::Scan(id, table, 0, u64::MAX))?;
+    let wanted = Answer::Rows(serial.scan(table, 0, u64::MAX)?);
+    compare(rt, &answer, &wanted);
+    Ok(())
+}
+
 /// Compares all rows of a world that was opened.
 fn compare_rows(
     rt: &impl Abort,
@@ -74,14 +107,10 @@ fn compare_rows(
 ) -> Result<(), Fail> {
     let id = begin(world)?;
     for key in keys {
-        let answer = ask(world, Event::Read(id, *key))?;
-        let wanted = Answer::Found(serial.rows().get(*key)?);
-        assert!(rt; is_same(&answer, &wanted), "{answer:?}, and not {wanted:?}");
+        compare_key(rt, world, id, *key, serial)?;
     }
     for table in 0..TABLES {
-        let answer = ask(world, Event::Scan(id, table, 0, u64::MAX))?;
-        let wanted = Answer::Rows(serial.scan(table, 0, u64::MAX)?);
-        assert!(rt; is_same(&answer, &wanted), "{answer:?}, and not {wanted:?}");
+        compare_table(rt, world, id, table, serial)?;
     }
     Ok(())
 }
@@ -126,6 +155,18 @@ pub fn fresh(alloc: Global) -> Result<Start, Fail> {
         files: files_on(alloc, &formatted(alloc)?, 3)?,
         rows: Vec::new(alloc),
         mark: Stamp(0),
+    })
+}
+
+/// A store with two pairs and one row, whose first record is dead.
+pub fn with_pairs(rt: &(impl Abort + Threads + Sync), alloc: Global) -> Result<Start, Fail> {
+    let mut rows = Vec::new(alloc);
+    rows.push(row_with(alloc, 50, 0x62)?)?;
+    let disk = disk_after(rt, alloc, &TWO_PAIRS)?;
+    Ok(Start {
+        files: files_on(alloc, &disk, 8)?,
+        rows,
+        mark: Stamp(4),
     })
 }
 

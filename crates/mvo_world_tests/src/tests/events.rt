@@ -60,6 +60,8 @@ fn due_of_job(known: &Known) -> Event {
         Job::None => Event::RotateWrite,
         Job::Data => Event::CheckpointData,
         Job::Delta => Event::CheckpointDelta,
+        Job::MergeData => Event::MergeData,
+        Job::MergeDelta => Event::MergeDelta,
         Job::Close => Event::InstallClose,
         Job::Body => Event::InstallBody,
         Job::Open => Event::InstallOpen,
@@ -100,10 +102,19 @@ impl Draws {
             5 => Event::CheckpointRead,
             6 => Event::CheckpointData,
             7 => Event::CheckpointDelta,
-            8..=13 if known.job == Job::None => Event::Reclaim,
-            14..=24 if known.job == Job::None => Event::CheckpointRead,
+            8 => self.merge_read(),
+            9 => Event::MergeData,
+            10 => Event::MergeDelta,
+            11..=15 if known.job == Job::None => Event::Reclaim,
+            16..=22 if known.job == Job::None => Event::CheckpointRead,
+            23..=26 if known.job == Job::None => self.merge_read(),
             _ => due_of_job(known),
         }
+    }
+
+    /// A merge of the first pairs, which may not be there.
+    fn merge_read(&mut self) -> Event {
+        Event::MergeRead(self.below(2) as usize)
     }
 
     /// One of the timestamps of late, or one that isn't drawn yet.

@@ -2,7 +2,7 @@
 //! that runs the committed transactions one after another.
 
 use super::calls::{into_disk, step_copy, stop};
-use super::checked::{Found, assert_floors, check_disk, fresh};
+use super::checked::{Found, assert_floors, check_disk, with_pairs};
 use super::draws::Draws;
 use super::images::{disk_after, disk_of, is_look};
 use super::observed::{Counts, count};
@@ -31,6 +31,7 @@ struct Met {
     in_append: u64,
     in_rotate: u64,
     in_checkpoint: u64,
+    in_merge: u64,
     in_install: u64,
     in_reclaim: u64,
     strange: u64,
@@ -49,6 +50,7 @@ impl Met {
             in_append: 0,
             in_rotate: 0,
             in_checkpoint: 0,
+            in_merge: 0,
             in_install: 0,
             in_reclaim: 0,
             strange: 0,
@@ -66,6 +68,9 @@ impl Met {
             Event::RotateWrite => count(&mut self.in_rotate),
             Event::CheckpointRead | Event::CheckpointData | Event::CheckpointDelta => {
                 count(&mut self.in_checkpoint)
+            }
+            Event::MergeRead(_) | Event::MergeData | Event::MergeDelta => {
+                count(&mut self.in_merge)
             }
             Event::InstallClose | Event::InstallBody | Event::InstallOpen => {
                 count(&mut self.in_install)
@@ -98,10 +103,10 @@ impl Trial {
         })
     }
 
-    /// Runs from a new store, and on from what is left after faults.
+    /// Runs from a store with pairs, and on from what is left after faults.
     fn go(&mut self, rt: &(impl Abort + Threads + Sync), counts: Counts) -> Result<Counts, Fail> {
         let mut counts = counts;
-        let mut start = fresh(self.alloc)?;
+        let mut start = with_pairs(rt, self.alloc)?;
         for number in 0..RUNS {
             let run = Run::of(rt, start, &mut self.draws, counts, number)?;
             counts = run.observed.counts;
@@ -157,23 +162,44 @@ impl Trial {
         world: World<MemDisk>,
     ) -> Result<(), Fail> {
         let mut world = world;
+        let answered = self.repeat(rt, run, &mut world)?;
+        self.check_left(rt, run, answered, into_disk(world))
+    }
+
+    /// The events of the run. It answers which of them met the fault.
+    fn repeat(
+        &mut self,
+        rt: &impl Abort,
+        run: &Run,
+        world: &mut World<MemDisk>,
+    ) -> Result<usize, Fail> {
         let mut failed = None;
         for (number, event) in run.events.iter().enumerate() {
-            let reply = step_copy(&mut world, event)?;
-            if failed.is_some() && is_of_store(event) {
-                assert!(rt;
-                    matches!(&reply, Reply::Refused(Refusal::Down)),
-                    "{reply:?}"
-                );
-                count(&mut self.met.down);
-            }
-            if matches!(&reply, Reply::Refused(Refusal::DiskFault)) {
-                self.met.note(event);
+            let reply = step_copy(world, event)?;
+            if self.meets_fault(rt, event, &reply, failed.is_some()) {
                 failed = Some(number);
             }
         }
-        let answered = failed.ok_or("an event that meets the fault")?;
-        self.check_left(rt, run, answered, into_disk(world))
+        Ok(failed.ok_or("an event that meets the fault")?)
+    }
+
+    /// Whether the event met the fault. Where one did before, the store is down.
+    fn meets_fault(
+        &mut self,
+        rt: &impl Abort,
+        event: &Event,
+        reply: &Reply,
+        is_down: bool,
+    ) -> bool {
+        if is_down && is_of_store(event) {
+            assert!(rt; matches!(reply, Reply::Refused(Refusal::Down)), "{reply:?}");
+            count(&mut self.met.down);
+        }
+        let meets = matches!(reply, Reply::Refused(Refusal::DiskFault));
+        if meets {
+            self.met.note(event);
+        }
+        meets
     }
 
     /// Opens what stops leave after a fault, and the disk as it stands.
@@ -227,20 +253,22 @@ impl Trial {
 /// None of the things that faults are to meet is rare.
 fn assert_met(rt: &impl Abort, counts: &Counts, met: &Met) {
     let floors = [
-        (counts.groups, 18),
-        (counts.installed, 10),
-        (counts.checkpoints, 4),
-        (counts.emptied, 3),
-        (met.in_opening, 26),
-        (met.in_append, 75),
+        (counts.groups, 19),
+        (counts.installed, 12),
+        (counts.checkpoints, 5),
+        (counts.merges, 3),
+        (counts.emptied, 5),
+        (met.in_opening, 43),
+        (met.in_append, 77),
         (met.in_rotate, 19),
-        (met.in_checkpoint, 33),
-        (met.in_install, 59),
-        (met.in_reclaim, 95),
-        (met.down, 7_000),
-        (met.torn, 218),
-        (met.unanswered, 43),
-        (met.rows, 2_600),
+        (met.in_checkpoint, 31),
+        (met.in_merge, 20),
+        (met.in_install, 74),
+        (met.in_reclaim, 63),
+        (met.down, 7_400),
+        (met.torn, 273),
+        (met.unanswered, 42),
+        (met.rows, 3_300),
     ];
     assert_floors(rt, &floors);
     assert_eq!(rt; met.strange, 0);

@@ -1,9 +1,9 @@
 //! What happened in a run, as its events and their replies tell.
 
 use super::told::{op_of, tx_of};
+use mvo_core::{Finishing, Settlement, Validation};
 use mvo_store::{Progress, Reclaimed};
 use mvo_types::{Answer, Op, Refusal, Stamp, TxId};
-use mvo_version_core::{Finishing, Settlement, Validation};
 use mvo_world::{Event, Reply};
 use std::alloc::{AllocError, Global};
 use std::mem;
@@ -48,13 +48,15 @@ pub struct ClosedGroup {
     pub mark: Stamp,
 }
 
-/// The step of a rotation or of a checkpoint that comes next.
+/// The step of a rotation, of a checkpoint or of a merge that comes next.
 #[derive(Clone, Copy, PartialEq)]
 pub enum Job {
     /// None runs.
     None,
     Data,
     Delta,
+    MergeData,
+    MergeDelta,
     Close,
     Body,
     Open,
@@ -73,7 +75,7 @@ pub struct Known {
     pub taken: Option<Stamp>,
     pub written: bool,
     pub job: Job,
-    /// So many files of checkpoints were written.
+    /// So many files of checkpoints and of merges were written.
     pub written_files: u64,
     /// So many files were emptied.
     pub emptied: u64,
@@ -100,6 +102,7 @@ pub struct Counts {
     pub groups: u64,
     pub installed: u64,
     pub checkpoints: u64,
+    pub merges: u64,
     pub emptied: u64,
     pub polled_yes: u64,
     pub polled_no: u64,
@@ -125,6 +128,7 @@ impl Counts {
             groups: 0,
             installed: 0,
             checkpoints: 0,
+            merges: 0,
             emptied: 0,
             polled_yes: 0,
             polled_no: 0,
@@ -240,6 +244,22 @@ impl Observed {
                     count(&mut self.counts.checkpoints);
                     self.known.job = Job::Close;
                 }
+            }
+            _ => self.note_merge(event, progress),
+        }
+    }
+
+    fn note_merge(&mut self, event: &Event, progress: Progress) {
+        match (event, progress) {
+            (Event::MergeRead(_), Progress::More) => self.known.job = Job::MergeData,
+            (Event::MergeData, Progress::More) => {
+                count(&mut self.known.written_files);
+                self.known.job = Job::MergeDelta;
+            }
+            (Event::MergeDelta, Progress::Ready) => {
+                count(&mut self.known.written_files);
+                count(&mut self.counts.merges);
+                self.known.job = Job::Close;
             }
             _ => count(&mut self.counts.strange),
         }

@@ -2,7 +2,7 @@
 //! one map that runs the committed transactions one after another.
 
 use super::calls::{into_disk, stop};
-use super::checked::{Found, assert_floors, check_disk, check_world, fresh};
+use super::checked::{Found, assert_floors, check_disk, check_world, with_pairs};
 use super::draws::Draws;
 use super::images::{disk_after, disk_in_part, is_look};
 use super::observed::{Counts, Job, count};
@@ -26,6 +26,8 @@ struct Met {
     /// Of a disk on which a group is there that wasn't answered durable.
     unanswered: u64,
     rotating: u64,
+    /// Of a disk on which a file of a merge is written.
+    merging: u64,
     /// Stops before and within an opening, and those behind it.
     stops: u64,
     ends: u64,
@@ -40,6 +42,7 @@ impl Met {
             openings: 0,
             unanswered: 0,
             rotating: 0,
+            merging: 0,
             stops: 0,
             ends: 0,
             faults: 0,
@@ -71,10 +74,10 @@ impl Trial {
         })
     }
 
-    /// Runs from a new store, and on from what a stop within an opening left.
+    /// Runs from a store with pairs, and on from what a stop within an opening left.
     fn go(&mut self, rt: &(impl Abort + Threads + Sync), counts: Counts) -> Result<Counts, Fail> {
         let mut counts = counts;
-        let mut start = fresh(self.alloc)?;
+        let mut start = with_pairs(rt, self.alloc)?;
         for number in 0..RUNS {
             let run = Run::of(rt, start, &mut self.draws, counts, number)?;
             counts = run.observed.counts;
@@ -139,6 +142,9 @@ impl Trial {
         }
         if known.job != Job::None {
             count(&mut self.met.rotating);
+        }
+        if matches!(known.job, Job::MergeData | Job::MergeDelta) {
+            count(&mut self.met.merging);
         }
     }
 
@@ -236,17 +242,19 @@ impl Trial {
 /// None of the things that openings are to meet is rare.
 fn assert_met(rt: &impl Abort, counts: &Counts, met: &Met) {
     let floors = [
-        (counts.groups, 15),
-        (counts.installed, 12),
-        (counts.emptied, 5),
-        (met.openings, 215),
-        (met.unanswered, 31),
-        (met.rotating, 150),
-        (met.stops, 2_300),
-        (met.ends, 215),
-        (met.faults, 430),
-        (met.torn, 640),
-        (met.rows, 10_000),
+        (counts.groups, 19),
+        (counts.installed, 11),
+        (counts.merges, 3),
+        (counts.emptied, 6),
+        (met.openings, 225),
+        (met.unanswered, 38),
+        (met.rotating, 173),
+        (met.merging, 22),
+        (met.stops, 2_500),
+        (met.ends, 225),
+        (met.faults, 450),
+        (met.torn, 700),
+        (met.rows, 16_000),
     ];
     assert_floors(rt, &floors);
 }

@@ -2,7 +2,7 @@
 //! committed transactions one after another.
 
 use super::calls::stop;
-use super::checked::{Found, assert_floors, check_disk, fresh};
+use super::checked::{Found, assert_floors, check_disk, with_pairs};
 use super::draws::Draws;
 use super::images::{Drawn, disk_after, is_look, last_write};
 use super::observed::{Counts, Known, count};
@@ -31,6 +31,7 @@ struct Met {
     after_gate: u64,
     in_rotate: u64,
     in_checkpoint: u64,
+    in_merge: u64,
     in_install: u64,
     slot_left_open: u64,
     slot_left_closed: u64,
@@ -73,6 +74,7 @@ impl Met {
             after_gate: 0,
             in_rotate: 0,
             in_checkpoint: 0,
+            in_merge: 0,
             in_install: 0,
             slot_left_open: 0,
             slot_left_closed: 0,
@@ -95,6 +97,7 @@ impl Met {
             Event::AppendOpen => count(&mut self.gate_left_closed),
             Event::RotateWrite => count(&mut self.in_rotate),
             Event::CheckpointData | Event::CheckpointDelta => count(&mut self.in_checkpoint),
+            Event::MergeData | Event::MergeDelta => count(&mut self.in_merge),
             Event::InstallClose | Event::InstallBody => count(&mut self.in_install),
             Event::InstallOpen if is_open => count(&mut self.slot_left_open),
             Event::InstallOpen => count(&mut self.slot_left_closed),
@@ -123,10 +126,10 @@ impl Trial {
         })
     }
 
-    /// Runs from a new store, and on from what stops left.
+    /// Runs from a store with pairs, and on from what stops left.
     fn go(&mut self, rt: &(impl Abort + Threads + Sync), counts: Counts) -> Result<Counts, Fail> {
         let mut counts = counts;
-        let mut start = fresh(self.alloc)?;
+        let mut start = with_pairs(rt, self.alloc)?;
         for number in 0..RUNS {
             if start.mark > Stamp(0) && !start.rows.is_empty() {
                 count(&mut self.met.reopened);
@@ -267,29 +270,31 @@ impl Trial {
 /// No kind of stop is rare, nor what is to be found again after one.
 fn assert_met(rt: &impl Abort, counts: &Counts, met: &Met) {
     let floors = [
-        (counts.commits, 60),
-        (counts.updates, 10),
-        (counts.deletes, 6),
+        (counts.commits, 64),
+        (counts.updates, 5),
+        (counts.deletes, 3),
         (counts.waiting, 1),
-        (counts.groups, 17),
-        (counts.installed, 10),
-        (counts.checkpoints, 4),
-        (met.between, 230),
-        (met.in_body, 70),
-        (met.after_body, 18),
-        (met.gate_left_open, 47),
-        (met.gate_left_closed, 21),
-        (met.after_gate, 17),
-        (met.in_rotate, 58),
-        (met.in_checkpoint, 93),
-        (met.in_install, 100),
-        (met.slot_left_open, 43),
-        (met.slot_left_closed, 9),
-        (met.in_reclaim, 20),
-        (met.torn, 300),
-        (met.rows, 2_100),
-        (met.old_answers, 14),
-        (met.reopened, 3),
+        (counts.groups, 14),
+        (counts.installed, 8),
+        (counts.checkpoints, 2),
+        (counts.merges, 4),
+        (met.between, 225),
+        (met.in_body, 60),
+        (met.after_body, 15),
+        (met.gate_left_open, 39),
+        (met.gate_left_closed, 18),
+        (met.after_gate, 14),
+        (met.in_rotate, 27),
+        (met.in_checkpoint, 61),
+        (met.in_merge, 72),
+        (met.in_install, 87),
+        (met.slot_left_open, 36),
+        (met.slot_left_closed, 6),
+        (met.in_reclaim, 35),
+        (met.torn, 275),
+        (met.rows, 2_000),
+        (met.old_answers, 3),
+        (met.reopened, 4),
     ];
     assert_eq!(rt; counts.strange, 0);
     assert_eq!(rt; met.strange, 0);

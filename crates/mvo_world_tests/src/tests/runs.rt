@@ -5,7 +5,7 @@ use super::checked::is_same;
 use super::draws::Draws;
 use super::events::{KEYS, key_at};
 use super::images::disk_of;
-use super::observed::{Counts, Job, Known, Observed};
+use super::observed::{Commit, Counts, Job, Known, Observed};
 use mvo_disk::{FileImage, MemDisk};
 use mvo_model::Serial;
 use mvo_types::{Op, Refusal, Row, RowKey, Rows, Stamp};
@@ -85,6 +85,22 @@ fn key_of(op: &Op) -> Option<RowKey> {
     }
 }
 
+/// Compares what a transaction was told with what the slow program tells it.
+fn compare_commit(rt: &impl Abort, commit: &Commit, serial: &mut Serial) -> Result<(), Fail> {
+    let wanted = serial.run_one(&commit.ops)?;
+    assert_eq!(rt; commit.answers.len(), wanted.len());
+    for (answer, other) in commit.answers.iter().zip(wanted.iter()) {
+        assert!(rt; is_same(answer, other), "{answer:?}, and not {other:?}");
+    }
+    Ok(())
+}
+
+/// How many of the transaction's operations are on keys that had rows.
+fn count_old(commit: &Commit, old: &Serial) -> u64 {
+    let is_old = |op: &&Op| key_of(op).is_some_and(|key| old.rows().contains(key));
+    commit.ops.iter().filter(is_old).count() as u64
+}
+
 impl Run {
     /// The run of this number, counted from 0.
     pub fn of(
@@ -92,38 +108,56 @@ impl Run {
         start: Start,
         draws: &mut Draws,
         counts: Counts,
-        run: u64,
+        number: u64,
     ) -> Result<Run, Fail> {
         let alloc = draws.alloc;
-        let mut observed = Observed::new(alloc, start.mark, counts);
         let mut world = opened(rt, alloc, disk_of(alloc, &start.files)?)?;
-        let mut events = Vec::new(alloc);
-        let mut known = Vec::new(alloc);
-        for number in 0..EVENTS {
-            let now = run.saturating_mul(EVENTS_APART).saturating_add(number);
-            let event = draws.event(&observed, now / EVENTS_OF_A_KEY)?;
-            known.push(observed.known)?;
-            let reply = step_copy(&mut world, &event)?;
-            observed.note(&event, reply)?;
-            events.push(event)?;
-        }
-        known.push(observed.known)?;
-        Ok(Run {
+        let mut run = Run::new(alloc, start, counts);
+        run.go(&mut world, draws, number)?;
+        Ok(run)
+    }
+
+    fn new(alloc: Global, start: Start, counts: Counts) -> Run {
+        let mark = start.mark;
+        Run {
             alloc,
             start,
-            events,
-            known,
-            observed,
-        })
+            events: Vec::new(alloc),
+            known: Vec::new(alloc),
+            observed: Observed::new(alloc, mark, counts),
+        }
+    }
+
+    fn go(&mut self, world: &mut World<MemDisk>, draws: &mut Draws, run: u64) -> Result<(), Fail> {
+        for number in 0..EVENTS {
+            let now = run.saturating_mul(EVENTS_APART).saturating_add(number);
+            let event = draws.event(&self.observed, now / EVENTS_OF_A_KEY)?;
+            self.take(world, event)?;
+        }
+        self.known.push(self.observed.known)?;
+        Ok(())
+    }
+
+    fn take(&mut self, world: &mut World<MemDisk>, event: Event) -> Result<(), Fail> {
+        self.known.push(self.observed.known)?;
+        let reply = step_copy(world, &event)?;
+        self.observed.note(&event, reply)?;
+        self.events.push(event)?;
+        Ok(())
     }
 
     /// The disk after the first events: the run again, up to there.
     pub fn disk_after(&self, rt: &(impl Threads + Sync), number: usize) -> Result<MemDisk, Fail> {
         let mut world = opened(rt, self.alloc, disk_of(self.alloc, &self.start.files)?)?;
-        for event in self.events.iter().take(number) {
-            let _ = step_copy(&mut world, event)?;
-        }
+        self.repeat(&mut world, number)?;
         Ok(into_disk(world))
+    }
+
+    fn repeat(&self, world: &mut World<MemDisk>, number: usize) -> Result<(), Fail> {
+        for event in self.events.iter().take(number) {
+            let _ = step_copy(world, event)?;
+        }
+        Ok(())
     }
 
     /// Whether the event before or after the first ones wrote to the disk.
@@ -162,14 +196,8 @@ impl Run {
         let mut serial = self.serial()?;
         let mut number = 0u64;
         for commit in &self.observed.commits {
-            let wanted = serial.run_one(&commit.ops)?;
-            assert_eq!(rt; commit.answers.len(), wanted.len());
-            for (answer, other) in commit.answers.iter().zip(wanted.iter()) {
-                assert!(rt; is_same(answer, other), "{answer:?}, and not {other:?}");
-            }
-            let is_old = |op: &&Op| key_of(op).is_some_and(|key| old.rows().contains(key));
-            let more = commit.ops.iter().filter(is_old).count() as u64;
-            number = number.saturating_add(more);
+            compare_commit(rt, commit, &mut serial)?;
+            number = number.saturating_add(count_old(commit, &old));
         }
         Ok(number)
     }

@@ -6,7 +6,7 @@ use mvo_world::Event;
 use std::alloc::{AllocError, Global};
 
 /// A step of a world. A number is the id of a transaction, but for a poll, which asks for a
-/// timestamp. All rows have one key.
+/// timestamp, and a merge. All rows have one key.
 #[derive(Clone, Copy)]
 pub enum Step {
     Begin,
@@ -17,6 +17,8 @@ pub enum Step {
     Insert(u64),
     /// To the sort 60 and the data 62.
     Update(u64),
+    /// To the sort 50 and the data 62.
+    Replace(u64),
     Delete(u64),
     Precommit(u64),
     Validate(u64),
@@ -32,13 +34,18 @@ pub enum Step {
     CheckpointRead,
     CheckpointData,
     CheckpointDelta,
+    /// Of the pair at this place and the one behind it.
+    MergeRead(usize),
+    MergeData,
+    MergeDelta,
     InstallClose,
     InstallBody,
     InstallOpen,
     Reclaim,
 }
 
-fn row_with(alloc: Global, sort: u64, byte: u8) -> Result<Row, AllocError> {
+/// The row with this sort and this byte.
+pub fn row_with(alloc: Global, sort: u64, byte: u8) -> Result<Row, AllocError> {
     let bytes = [byte].to_vec(alloc)?;
     Ok(Row {
         key: KEY,
@@ -53,6 +60,7 @@ impl Step {
         match self {
             Step::Insert(tx) => Ok(Event::Insert(TxId(tx), row_with(alloc, 50, 0x61)?)),
             Step::Update(tx) => Ok(Event::Update(TxId(tx), row_with(alloc, 60, 0x62)?)),
+            Step::Replace(tx) => Ok(Event::Update(TxId(tx), row_with(alloc, 50, 0x62)?)),
             step => Ok(step.without_row()),
         }
     }
@@ -69,6 +77,7 @@ impl Step {
             Step::Rollback(tx) => Event::Rollback(TxId(tx)),
             Step::Finish(tx) => Event::Finish(TxId(tx)),
             Step::Poll(stamp) => Event::Poll(Stamp(stamp)),
+            Step::MergeRead(place) => Event::MergeRead(place),
             step => step.of_store(),
         }
     }
@@ -84,6 +93,8 @@ impl Step {
             Step::CheckpointRead => Event::CheckpointRead,
             Step::CheckpointData => Event::CheckpointData,
             Step::CheckpointDelta => Event::CheckpointDelta,
+            Step::MergeData => Event::MergeData,
+            Step::MergeDelta => Event::MergeDelta,
             Step::InstallClose => Event::InstallClose,
             Step::InstallBody => Event::InstallBody,
             Step::InstallOpen => Event::InstallOpen,

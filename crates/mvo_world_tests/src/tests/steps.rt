@@ -2,8 +2,9 @@
 
 use super::step::Step::{
     self, AppendBody, AppendOpen, Begin, CheckpointData, CheckpointDelta, CheckpointRead,
-    CloseGroup, Delete, Finish, Insert, InstallBody, InstallClose, InstallOpen, Poll, Precommit,
-    Read, Reclaim, Rollback, RotateWrite, Scan, Settle, TakeGroup, Update, Validate,
+    CloseGroup, Delete, Finish, Insert, InstallBody, InstallClose, InstallOpen, MergeData,
+    MergeDelta, MergeRead, Poll, Precommit, Read, Reclaim, Replace, Rollback, RotateWrite, Scan,
+    Settle, TakeGroup, Update, Validate,
 };
 
 /// A transaction that begins at 1 and puts the row at 2, up to the body of its group.
@@ -77,6 +78,68 @@ pub const RECLAIMS: [(Step, &str); 3] = [
     (Reclaim, "Reclaimed(More)"),
     (Reclaim, "Reclaimed(Done)"),
     (Poll(2), "Polled(true)"),
+];
+
+/// A transaction that begins at 3 and replaces the row at 4, with its group.
+pub const REPLACE: [(Step, &str); 11] = [
+    (Begin, "Began(TxId(3))"),
+    (Replace(3), "Answered(Updated)"),
+    (Precommit(3), "Prepared(Stamp(4))"),
+    (Validate(3), "Validated(Valid)"),
+    (Settle(3), "Settled(Committed(Stamp(4)))"),
+    (Finish(3), "Finished(More)"),
+    (Finish(3), "Finished(Done)"),
+    (
+        CloseGroup,
+        "Closed(Closed { prev: Stamp(2), mark: Stamp(4) })",
+    ),
+    (TakeGroup, "Taken"),
+    (AppendBody, "Written"),
+    (AppendOpen, "Durable(Stamp(4))"),
+];
+
+/// The segment with the row that was replaced becomes a second pair, and the row's record of the
+/// first is ended.
+pub const SECOND_PAIR: [(Step, &str); 13] = [
+    (MergeRead(0), "Refused(NothingToDo)"),
+    (RotateWrite, "Ready"),
+    (MergeRead(0), "Refused(Busy)"),
+    (InstallClose, "Shut"),
+    (InstallBody, "Written"),
+    (InstallOpen, "Installed(Generation(3))"),
+    (CheckpointRead, "Progress(More)"),
+    (CheckpointData, "Progress(More)"),
+    (CheckpointDelta, "Progress(More)"),
+    (CheckpointDelta, "Progress(Ready)"),
+    (InstallClose, "Shut"),
+    (InstallBody, "Written"),
+    (InstallOpen, "Installed(Generation(4))"),
+];
+
+/// A merge of the two pairs, with some steps out of turn.
+pub const MERGE: [(Step, &str); 14] = [
+    (MergeRead(1), "Refused(NothingToDo)"),
+    (MergeData, "Refused(NothingToDo)"),
+    (MergeRead(0), "Progress(More)"),
+    (MergeRead(0), "Refused(Busy)"),
+    (CheckpointData, "Refused(NothingToDo)"),
+    (MergeDelta, "Refused(NothingToDo)"),
+    (MergeData, "Progress(More)"),
+    (InstallClose, "Refused(NothingToDo)"),
+    (MergeDelta, "Progress(Ready)"),
+    (MergeDelta, "Refused(NothingToDo)"),
+    (InstallClose, "Shut"),
+    (InstallBody, "Written"),
+    (InstallOpen, "Installed(Generation(5))"),
+    (MergeRead(0), "Refused(NothingToDo)"),
+];
+
+pub const RECLAIMS_OF_PAIRS: [(Step, &str); 5] = [
+    (Reclaim, "Reclaimed(More)"),
+    (Reclaim, "Reclaimed(More)"),
+    (Reclaim, "Reclaimed(More)"),
+    (Reclaim, "Reclaimed(More)"),
+    (Reclaim, "Reclaimed(Done)"),
 ];
 
 pub const ROTATION_BUT_ITS_GATE: [(Step, &str); 4] = [

@@ -37,5 +37,22 @@ pub const DATA: [u8; 36] = [
 /// A delta file without entries.
 pub const DELTA: [u8; 8] = [0x4d, 0x56, 0x4f, 0x45, 1, 0, 0, 0];
 
+/// Slot 1 with the manifest of generation 5: checkpoint mark 4, the pair of the files 3 and 8 from
+/// 0 to 4 with one record and no entries, the segment 2.
+pub const SLOT_OF_MERGED: [u8; 63] = [
+    0xa5, 0x3a, 0, 0, 0, 0x4d, 0x56, 0x4f, 0x4d, 1, 0, 0, 0, 5, 0, 0, 0, 0, 0, 0, 0, 4, 0, 0, 0, 0,
+    0, 0, 0, 1, 0, 3, 0, 8, 0, 0, 0, 0, 0, 0, 0, 0, 0, 4, 0, 0, 0, 0, 0, 0, 0, 1, 0, 0, 0, 0, 0, 0,
+    0, 1, 0, 2, 0,
+];
+
+/// The data file with one record: begin 4, table 0, key 5, sort 50, data 62.
+pub const MERGED: [u8; 36] = [
+    0x4d, 0x56, 0x4f, 0x44, 1, 0, 0, 0, 4, 0, 0, 0, 0, 0, 0, 0, 0, 5, 0, 0, 0, 0, 0, 0, 0, 0x32, 0,
+    0, 0, 0, 0, 0, 0, 1, 0, 0x62,
+];
+
+/// A delta file with the entry 0.
+pub const DELTA_OF_FIRST: [u8; 12] = [0x4d, 0x56, 0x4f, 0x45, 1, 0, 0, 0, 0, 0, 0, 0];
+
 /// A segment without a group.
 pub const FRESH: [u8; 9] = [0x4d, 0x56, 0x4f, 0x4c, 1, 0, 0, 0, 0];

@@ -1,13 +1,13 @@
 use Rattle.std.proofs.Common.{◌≡◌, ◌<◌, ◌++◌, ◌∷◌, [], suc, length, map, take, drop, vec_len, sym, ap, ◌∙◌, subst, arith}
-use Rattle.std.proofs.lemmas.List.{get_or_default, map-append}
+use Rattle.std.proofs.lemmas.List.{get_or_read, map-append}
 use Rattle.mvo_chain.specs.declared.version.VersionNo.{VersionNo}
 use Rattle.mvo_hash.specs.declared.link.Link.{Link}
 use Rattle.mvo_hash.specs.Links.{no_number, no_link, link, first_or_none, walk}
 use Rattle.mvo_hash.proofs.Chains.{step_within, step_link, step_older, step_take, step_end}
 use Rattle.mvo_hash.proofs.links.listed.Goals as goal
 
-pub bounds-links-at : goal.bounds-links-at
-bounds-links-at c =
+pub index-requires : goal.index-requires
+index-requires c =
     let ls = c.args.links.now in
     let ns = walk ls (length ls) c.args.newest in
     let k = vec_len c.loop-at.versions in
@@ -24,7 +24,7 @@ loop-at-preserved c =
     let within : at < length ls = subst (λ n. n < length ls) (sym c.loop-at.invariant.1) (step_link ls no_number ns k c.requires.chain below) in
     let more : vec_len c.push.new.self ≡ suc k = omega (arith, c.in_ok-push.ensures.len) in (
       omega (arith, more, below),
-      ap (λ (l : Link). l.older) (get_or_default ls at (record { older = 0; newer = 0 }) no_link within)
+      ap (λ (l : Link). l.older) (get_or_read ls at c.index.result.now within c.index.ensures no_link)
           ∙ ap (λ n. (link ls n).older) c.loop-at.invariant.1 ∙ step_older ls no_number ns k c.requires.chain below
           ∙ ap (λ j. first_or_none (drop j ns)) (sym more),
       ap (map (λ (v : VersionNo). v.0)) c.in_ok-push.ensures.items

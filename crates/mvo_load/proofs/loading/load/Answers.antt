@@ -1,5 +1,4 @@
 use Rattle.std.proofs.Common.{◌⊎◌, inl, inr, ⊎_elim, Some, Ok, Err, subst, ◌∙◌, []}
-use Rattle.mvo_disk.specs.Disk.{AllOf}
 use Rattle.mvo_pair.specs.Answers.{IsOnly}
 use Rattle.mvo_pair.specs.Writing.{IsStop}
 use Rattle.mvo_image.specs.Opens.{Image, Outcome, Segments, OpensWith}
@@ -24,7 +23,7 @@ returns-in-Err-load_segments-clause-says g c =
     let f = c.args.format in
     let m = c.in-Ok.manifest in
     let e = c.in-Err-load_segments.e in
-    let rows = c.in-Ok-load_pairs.rows in
+    let rows = c.in-Ok-load_pairs.found.0 in
     let first = same_image g.D.Disk c.args.disk.now c.read_manifest.new.disk c.in-Ok.ensures.read.rest.content in
     let second = same_image g.D.Disk c.args.disk.now c.load_pairs.new.disk (λ n. c.in-Ok-load_pairs.ensures.read.rest.content n ∙ c.in-Ok.ensures.read.rest.content n) in
     let leads = subst (λ (image : Image). Leads (Segments (SegmentSays f) image rows m.segments m.checkpoint_mark []) (OpensWith (SegmentSays f) f image (Some m))) first c.in-Ok-load_pairs.ensures.leads in
@@ -35,7 +34,7 @@ pub returns-clause-says : goal.returns-clause-says
 returns-clause-says g c =
     let f = c.args.format in
     let m = c.in-Ok.manifest in
-    let rows = c.in-Ok-load_pairs.rows in
+    let rows = c.in-Ok-load_pairs.found.0 in
     let out : Outcome = Ok (c.load_segments.new.rows, c.in-Ok-load_segments.end.mark.0) in
     let first = same_image g.D.Disk c.args.disk.now c.read_manifest.new.disk c.in-Ok.ensures.read.rest.content in
     let second = same_image g.D.Disk c.args.disk.now c.load_pairs.new.disk (λ n. c.in-Ok-load_pairs.ensures.read.rest.content n ∙ c.in-Ok.ensures.read.rest.content n) in
@@ -52,8 +51,8 @@ returns-clause-parts g c =
     let end = c.in-Ok-load_segments.end in
     let first = same_image g.D.Disk c.args.disk.now c.read_manifest.new.disk c.in-Ok.ensures.read.rest.content in
     let second = same_image g.D.Disk c.args.disk.now c.load_pairs.new.disk (λ n. c.in-Ok-load_pairs.ensures.read.rest.content n ∙ c.in-Ok.ensures.read.rest.content n) in
-    let live = subst (λ (image : Image). HaveRows f image m.pairs c.in-Ok-load_pairs.rows) first c.in-Ok-load_pairs.ensures.live in
-    let log = subst (λ (image : Image). HasLog f image m c.in-Ok-load_pairs.rows new end.mark.0 end.gate) second c.in-Ok-load_segments.ensures.log in
+    let live = subst (λ (image : Image). HaveRows f image m.pairs c.in-Ok-load_pairs.found.0) first c.in-Ok-load_pairs.ensures.live in
+    let log = subst (λ (image : Image). HasLog f image m c.in-Ok-load_pairs.found.0 new end.mark.0 end.gate) second c.in-Ok-load_segments.ensures.log in
     record {
       installed = c.in-Ok.ensures.installed;
       lives = live.lives;
@@ -65,7 +64,7 @@ returns-clause-parts g c =
 pub returns-clause-places : goal.returns-clause-places
 returns-clause-places g c =
     let first = same_image g.D.Disk c.args.disk.now c.read_manifest.new.disk c.in-Ok.ensures.read.rest.content in
-    subst (λ (image : Image). HavePlaces c.args.format image c.in-Ok.manifest.pairs c.load_pairs.new.places.at) first c.in-Ok-load_pairs.ensures.places
+    subst (λ (image : Image). HavePlaces c.args.format image c.in-Ok.manifest.pairs c.in-Ok-load_pairs.found.1.at) first c.in-Ok-load_pairs.ensures.places
 
 pub returns-clause-any_moment : goal.returns-clause-any_moment
 returns-clause-any_moment g c =

@@ -1,87 +1,65 @@
-use Rattle.std.specs.Prelude.{All}
-use Rattle.mvo_types.specs.declared.limits.TheConstants.{MAX_PAIR_RECORDS}
-use Rattle.std.proofs.Common.{◌<◌, ap, ◌∙◌, get_or, take, drop, length, ◌-◌, ◌≡◌, List, inl, inr, ⊎_elim, subst, sym, Ok, Err, Bool}
-use Rattle.mvo_pair.specs.Data.{Numbered}
-use Rattle.mvo_pair.specs.declared.pair.Pair.{Pair}
-use Rattle.mvo_image.specs.Rows.{AreApart, rows_of}
-use Rattle.mvo_ckpt.specs.Places.{PlaceMap, with_live}
-use Rattle.mvo_load.specs.Parts.{Joins}
-use Rattle.mvo_load.proofs.Slices.{first_and_rest, no_more}
-use Rattle.mvo_load.proofs.Unchanged.{unchanged_yet, then_unchanged}
-use Rattle.mvo_load.proofs.Pairing.{PairsSoFar, loads_before, no_pair_yet, refused_here, numbers_here, second_here, pair_more, rest_leads}
+use Rattle.std.proofs.Common.{◌≡◌, ◌⊎◌, [], Some, Err, subst}
+use Rattle.std.specs.FinMap.{empty}
+use Rattle.mvo_pair.specs.Answers.{IsOnly}
+use Rattle.mvo_pair.specs.Writing.{IsStop}
+use Rattle.mvo_image.specs.Opens.{Image, Segments, OpensWith}
+use Rattle.mvo_image.specs.Files.{SegmentSays}
+use Rattle.mvo_load.specs.Gathered.{AreGathered, AreMade, with_places}
+use Rattle.mvo_load.specs.Leading.{Leads}
+use Rattle.mvo_load.specs.Parts.{HavePlaces}
+use Rattle.mvo_load.proofs.Unchanged.{same_image}
+use Rattle.mvo_load.proofs.Gathering.{rows_made, places_made, leads_made}
 use Rattle.mvo_load.proofs.pairs.load_pairs.Goals as goal
 
-abbrev no_pair : Pair
-no_pair = record { data_file = 0; delta_file = 0; lo = record { 0 = 0 }; hi = record { 0 = 0 }; records = 0; entries = 0 }
-
-pub loop-rest-init : goal.loop-rest-init
-loop-rest-init g c =
+pub returns-in-Some-2-clause-live : goal.returns-in-Some-2-clause-live
+returns-in-Some-2-clause-live g c =
     let f = c.args.format in
     let image = g.D.Disk.content c.args.disk.now in
     let m = c.args.manifest.now in
-    let at = c.args.places.now.at in
-    let none : PairsSoFar f image m m.pairs c.new-rows.result at = no_pair_yet f image m c.new-rows.result at c.new-rows.ensures c.requires.none c.pairs-rest.ensures.manifest in
-    (subst (λ (l : List Pair). PairsSoFar f image m l c.new-rows.result at) (sym c.pairs-rest.ensures.value) none, unchanged_yet g.D.Disk g.met.D.Disk.only_now c.args.disk.now)
+    let live = c.in-Some.all.live.items in
+    let placed = c.in-Some.all.placed.items in
+    let all : AreGathered f image m live placed = rw c.in-Some.is at c.in-Ok.ensures.gathered in
+    let made : AreMade live c.in-Some-2.made.0 × (c.in-Some-2.made.1.at ≡ with_places empty placed) = rw c.in-Some-2.is at c.in_ok-made.ensures in
+    rows_made f image m live placed all c.in-Some-2.made.0 made.0 c.in-Some-2.made.1.at made.1
 
-pub returns-in-Err-clause-leads : goal.returns-in-Err-clause-leads
-returns-in-Err-clause-leads g c =
+pub returns-in-Some-2-clause-places : goal.returns-in-Some-2-clause-places
+returns-in-Some-2-clause-places g c =
     let f = c.args.format in
     let image = g.D.Disk.content c.args.disk.now in
-    let rest = c.loop-rest.rest.now in
-    let p = get_or rest 0 no_pair in
-    let ps = take (length rest - 1) (drop 1 rest) in
-    let whole = first_and_rest c.loop-rest.rest.now no_pair c.in-len1-up.len_at_least in
-    let same = c.loop-rest.invariant.1.rest.content in
-    let e = c.in-Err.e in
-    ⊎_elim (λ m. inl m)
-    (λ h. inr (refused_here f image c.args.manifest.now p ps c.loop-rest.rest.now c.loop-rest.rows c.loop-rest.places.at c.loop-rest.invariant.0 whole e (loads_before f p (g.D.Disk.content c.loop-rest.disk) image same (Err e) h)))
-    c.in-Err.ensures.live
+    let m = c.args.manifest.now in
+    let live = c.in-Some.all.live.items in
+    let placed = c.in-Some.all.placed.items in
+    let all : AreGathered f image m live placed = rw c.in-Some.is at c.in-Ok.ensures.gathered in
+    let made : AreMade live c.in-Some-2.made.0 × (c.in-Some-2.made.1.at ≡ with_places empty placed) = rw c.in-Some-2.is at c.in_ok-made.ensures in
+    places_made f image m live placed all c.in-Some-2.made.0 made.0 c.in-Some-2.made.1.at made.1
 
-pub returns-then-not-branch-clause-leads : goal.returns-then-not-branch-clause-leads
-returns-then-not-branch-clause-leads g c =
+pub returns-in-Some-2-clause-leads : goal.returns-in-Some-2-clause-leads
+returns-in-Some-2-clause-leads g c =
     let f = c.args.format in
     let image = g.D.Disk.content c.args.disk.now in
-    let rest = c.loop-rest.rest.now in
-    let p = get_or rest 0 no_pair in
-    let ps = take (length rest - 1) (drop 1 rest) in
-    let whole = first_and_rest c.loop-rest.rest.now no_pair c.in-len1-up.len_at_least in
-    let same = c.loop-rest.invariant.1.rest.content in
-    let live = c.in-Ok.live.items in
-    let two = λ (before : List (List Numbered)) (apart : AreApart before) (is : c.loop-rest.rows ≡ rows_of before). subst (λ (b : Bool). Joins before live b c.join.new.rows) c.if-not-branch.true (c.in_ok-join.ensures before apart is) in
-    inr (second_here f image c.args.manifest.now p ps c.loop-rest.rest.now c.loop-rest.rows c.loop-rest.places.at c.loop-rest.invariant.0 whole live
-    (loads_before f p (g.D.Disk.content c.loop-rest.disk) image same (Ok live) c.in-Ok.ensures.live) c.join.new.rows two)
+    let m = c.args.manifest.now in
+    let live = c.in-Some.all.live.items in
+    let placed = c.in-Some.all.placed.items in
+    let all : AreGathered f image m live placed = rw c.in-Some.is at c.in-Ok.ensures.gathered in
+    let made : AreMade live c.in-Some-2.made.0 × (c.in-Some-2.made.1.at ≡ with_places empty placed) = rw c.in-Some-2.is at c.in_ok-made.ensures in
+    leads_made f image m live placed all c.in-Some-2.made.0 made.0 c.in-Some-2.made.1.at made.1
 
-pub loop-rest-preserved : goal.loop-rest-preserved
-loop-rest-preserved g c =
+pub returns-in-Ok-load_in_turn-clause-places : goal.returns-in-Ok-load_in_turn-clause-places
+returns-in-Ok-load_in_turn-clause-places g c =
+    let same = same_image g.D.Disk c.args.disk.now c.gather.new.disk c.in-Ok.ensures.read.rest.content in
+    subst (λ (image : Image). HavePlaces c.args.format image c.args.manifest.now.pairs c.in-Ok-load_in_turn.found.1.at) same c.in-Ok-load_in_turn.ensures.places
+
+pub returns-in-Ok-load_in_turn-clause-leads : goal.returns-in-Ok-load_in_turn-clause-leads
+returns-in-Ok-load_in_turn-clause-leads g c =
     let f = c.args.format in
-    let image = g.D.Disk.content c.args.disk.now in
-    let rest = c.loop-rest.rest.now in
-    let p = get_or rest 0 no_pair in
-    let ps = take (length rest - 1) (drop 1 rest) in
-    let whole = first_and_rest c.loop-rest.rest.now no_pair c.in-len1-up.len_at_least in
-    let same = c.loop-rest.invariant.1.rest.content in
-    let live = c.in-Ok.live.items in
-    let joined = λ (before : List (List Numbered)) (apart : AreApart before) (is : c.loop-rest.rows ≡ rows_of before). subst (λ (b : Bool). Joins before live b c.join.new.rows) c.if-not-branch.false (c.in_ok-join.ensures before apart is) in (
-      subst (λ (at : PlaceMap). PairsSoFar f image c.args.manifest.now ps c.join.new.rows at) (sym (c.in_ok-add_pair.ensures ∙ ap (λ (l : List Numbered). with_live p.data_file l c.loop-rest.places.at) c.deref.ensures.value))
-          (pair_more f image c.args.manifest.now p ps c.loop-rest.rest.now c.loop-rest.rows c.loop-rest.places.at c.loop-rest.invariant.0 whole live
-          (loads_before f p (g.D.Disk.content c.loop-rest.disk) image same (Ok live) c.in-Ok.ensures.live) c.join.new.rows c.pairs-rest.ensures.manifest joined),
-      then_unchanged g.D.Disk c.args.disk.now c.loop-rest.disk c.read_pair.new.disk c.loop-rest.invariant.1
-          (record { rest = c.in-Ok.ensures.rest; any_moment = c.in-Ok.ensures.any_moment; count = c.in-Ok.ensures.count }),
-    )
+    let m = c.args.manifest.now in
+    let rows = c.in-Ok-load_in_turn.found.0 in
+    let same = same_image g.D.Disk c.args.disk.now c.gather.new.disk c.in-Ok.ensures.read.rest.content in
+    subst (λ (image : Image). Leads (Segments (SegmentSays f) image rows m.segments m.checkpoint_mark []) (OpensWith (SegmentSays f) f image (Some m))) same c.in-Ok-load_in_turn.ensures.leads
 
-pub returns-clause-leads : goal.returns-clause-leads
-returns-clause-leads g c =
-    rest_leads c.args.format (g.D.Disk.content c.args.disk.now) c.args.manifest.now c.loop-rest.rest.now c.loop-rest.rows c.loop-rest.places.at c.loop-rest.invariant.0 (no_more c.loop-rest.rest.now c.in_default.len_below)
-
-pub add_pair-requires-clause-numbers : goal.add_pair-requires-clause-numbers
-add_pair-requires-clause-numbers g c =
+pub returns-in-Err-load_in_turn-clause-leads : goal.returns-in-Err-load_in_turn-clause-leads
+returns-in-Err-load_in_turn-clause-leads g c =
     let f = c.args.format in
-    let image = g.D.Disk.content c.args.disk.now in
-    let rest = c.loop-rest.rest.now in
-    let p = get_or rest 0 no_pair in
-    let ps = take (length rest - 1) (drop 1 rest) in
-    let whole = first_and_rest c.loop-rest.rest.now no_pair c.in-len1-up.len_at_least in
-    let live = c.in-Ok.live.items in
-    let only = loads_before f p (g.D.Disk.content c.loop-rest.disk) image c.loop-rest.invariant.1.rest.content (Ok live) c.in-Ok.ensures.live in
-    subst (λ (l : List Numbered). All (λ x. x.0 < MAX_PAIR_RECORDS) l) (sym c.deref.ensures.value)
-    (numbers_here f image c.args.manifest.now p ps rest c.loop-rest.rows c.loop-rest.places.at c.loop-rest.invariant.0 whole live only.0)
+    let e = c.in-Err-load_in_turn.e in
+    let same = same_image g.D.Disk c.args.disk.now c.gather.new.disk c.in-Ok.ensures.read.rest.content in
+    subst (λ (image : Image). IsStop e ⊎ IsOnly (OpensWith (SegmentSays f) f image (Some c.args.manifest.now)) (Err e)) same c.in-Err-load_in_turn.ensures.leads

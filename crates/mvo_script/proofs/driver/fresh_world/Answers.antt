@@ -1,7 +1,7 @@
 use Rattle.std.proofs.Common.{◌≡◌, ◌⊎◌, ◌∙◌, inl, inr, refl, subst, ℕ, arith}
 use Rattle.std.specs.FinMap as map
 use Rattle.mvo_types.specs.Keys.{Map}
-use Rattle.mvo_version_core.specs.Standing.{OpensAs}
+use Rattle.mvo_core.specs.Standing.{OpensAs}
 use Rattle.mvo_world.specs.Past.{opened_over}
 use Rattle.mvo_script.proofs.driver.fresh_world.Goals as goal
 

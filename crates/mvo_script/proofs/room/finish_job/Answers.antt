@@ -4,11 +4,5 @@ use Rattle.mvo_script.proofs.room.finish_job.Goals as goal
 pub returns-then-stops_job-2 : goal.returns-then-stops_job-2
 returns-then-stops_job-2 g c = inr (c.step-data.result, c.step-data.new.self, c.step-data.ensures.reply, search rules, inl (c.write_deltas-deltas.ensures, search rules))
 
-pub returns-then-stops_job-3 : goal.returns-then-stops_job-3
-returns-then-stops_job-3 g c = inr (c.step-data.result, c.step-data.new.self, c.step-data.ensures.reply, search rules, inr (c.write_deltas-deltas.result, c.write_deltas-deltas.new.world, c.write_deltas-deltas.ensures, search rules, inl (c.step-closed.ensures.reply, search rules)))
-
-pub returns-then-stops_job-4 : goal.returns-then-stops_job-4
-returns-then-stops_job-4 g c = inr (c.step-data.result, c.step-data.new.self, c.step-data.ensures.reply, search rules, inr (c.write_deltas-deltas.result, c.write_deltas-deltas.new.world, c.write_deltas-deltas.ensures, search rules, inr (c.step-closed.result, c.step-closed.new.self, c.step-closed.ensures.reply, search rules, inl (c.step-written.ensures.reply, search rules))))
-
 pub returns : goal.returns
-returns g c = inr (c.step-data.result, c.step-data.new.self, c.step-data.ensures.reply, search rules, inr (c.write_deltas-deltas.result, c.write_deltas-deltas.new.world, c.write_deltas-deltas.ensures, search rules, inr (c.step-closed.result, c.step-closed.new.self, c.step-closed.ensures.reply, search rules, inr (c.step-written.result, c.step-written.new.self, c.step-written.ensures.reply, search rules, c.step.ensures.reply))))
+returns g c = inr (c.step-data.result, c.step-data.new.self, c.step-data.ensures.reply, search rules, inr (c.write_deltas-deltas.result, c.write_deltas-deltas.new.world, c.write_deltas-deltas.ensures, search rules, c.finish_merge.ensures))

@@ -10,6 +10,6 @@ pub returns-clause-ok : goal.returns-clause-ok
 returns-clause-ok c =
     let none : vec_len c.self.inside.holes ≡ 0 = eqb-true (vec_len c.self.inside.holes) 0 (sym c.is_empty.ensures ∙ c.if-not-is_empty.false) in
     let full : hole_count c.args.self.now ≡ 0 = sym (ap (λ (s : Slots). hole_count s) c.self.view_is) ∙ omega (arith, none, c.self.invariant.counted, c.self.inside.holes.ok.0) in
-    pushed c.self.inside.slots.items c.push.new.self.items c.args.self.now c.len-count.result _ c.self.view_is full
-    (omega (arith, c.len-count.ensures, c.self.inside.slots.ok.0))
-    (c.in_ok-push.ensures.items ∙ ap (λ (v : Version). c.self.inside.slots.items ++ Some v ∷ []) c.added.ensures)
+    pushed c.self.inside.slots c.push.new.self c.args.self.now c.len-count.result _ c.self.view_is full
+    (omega (arith, c.len-count.ensures))
+    (c.in_ok-push.ensures.ok ∙ ap (λ (v : Version). c.self.inside.slots ++ Some v ∷ []) c.added.ensures)

@@ -2,4 +2,4 @@ use Rattle.mvo_chain.proofs.Holes.{changed, live_inside}
 use Rattle.mvo_chain.proofs.chains.Chains.claim_end.Goals as goal
 
 pub invariant_of-self : goal.invariant_of-self
-invariant_of-self c = changed c.self.inside.slots.items _ c.index.result _ _ (live_inside c.self.inside.slots.items _ _ c.index.result c.self.view_is c.index.ensures c.requires.live) c.self.invariant
+invariant_of-self c = changed c.self.inside.slots _ c.index.result _ _ (live_inside c.self.inside.slots _ _ c.index.result c.self.view_is c.index.ensures c.requires.live) c.self.invariant

@@ -7,8 +7,8 @@ use Rattle.mvo_chain.proofs.chains.Chains.fill.Goals as goal
 
 pub invariant_of-self : goal.invariant_of-self
 invariant_of-self c =
-    filled c.self.inside.slots.items _ c.self.inside.holes.items c.pop.new.self.items c.unwrap-number.result c.added.result (vec_capacity c.self.inside.holes) (vec_capacity c.pop.new.self)
+    filled c.self.inside.slots _ c.self.inside.holes.items c.pop.new.self.items c.unwrap-number.result c.added.result (vec_capacity c.self.inside.holes) (vec_capacity c.pop.new.self)
     c.pop.ensures.capacity
     (c.pop.ensures.items ∙ ap (λ (o : Option VersionNo). c.pop.new.self.items ++ option_to_list o) c.unwrap-number.ensures)
-    (ap (λ (i : ℕ). slice_set c.self.inside.slots.items i (Some c.added.result)) (sym c.index.ensures))
+    (ap (λ (i : ℕ). slice_set c.self.inside.slots i (Some c.added.result)) (sym c.index.ensures))
     c.self.invariant

@@ -1,10 +1,18 @@
-use Rattle.std.proofs.Common.{ap, ◌∙◌}
-use Rattle.mvo_ckpt.specs.Places.{PlaceMap, PlaceTable, table_of}
+use Rattle.std.proofs.Common.{◌≡◌, ℕ, ap, ◌∙◌}
+use Rattle.std.specs.FinMap.{empty}
+use Rattle.mvo_hash.specs.Table.{Map, Table}
+use Rattle.mvo_ckpt.specs.Places.{PlaceMap, PlaceTable, placed, table_of, no_places}
 use Rattle.mvo_ckpt.proofs.Placing.{placed-empty}
 use Rattle.mvo_ckpt.proofs.places.Places.new.Goals as goal
 
-abbrev without_room : PlaceMap → PlaceTable
-without_room at = record { at = at; room = 0 }
+abbrev with_room : PlaceMap → ℕ → PlaceTable
+with_room at room = record { at = at; room = room }
+
+no_keys : (t : Table) → t.numbers ≡ empty → t.room ≡ 0 → table_of t ≡ no_places
+no_keys t none room =
+    ap (λ (m : Map). with_room (placed m) t.room) none
+    ∙ ap (λ (m : PlaceMap). with_room m t.room) placed-empty
+    ∙ ap (λ (n : ℕ). with_room no_places.at n) room
 
 pub returns : goal.returns
-returns c = ap table_of c.new.ensures ∙ ap without_room placed-empty
+returns c = no_keys c.new.result c.new.ensures.numbers c.new.ensures.room

@@ -1,25 +1,26 @@
-use Rattle.std.proofs.Common.{◌≡◌, None, Some, sym, ap, ◌∙◌, subst}
-use Rattle.std.specs.FinMap as map
-use Rattle.mvo_hash.specs.declared.slot.Slot.{Slot}
-use Rattle.mvo_hash.specs.Slots.{IsFoundAt, IsNowhere}
-use Rattle.mvo_hash.specs.Table.{Table, map_of}
-use Rattle.mvo_hash.proofs.Finds.{get_missing, slot_read}
-use Rattle.mvo_hash.proofs.Tables.{get_at}
+use Rattle.std.proofs.Common.{◌≡◌, ◌<◌, length, sym, ap, ◌∙◌, arith}
+use Rattle.std.specs.FinMap.{get}
+use Rattle.mvo_hash.specs.Table.{Table}
+use Rattle.mvo_hash.specs.Shards.{place_of}
+use Rattle.mvo_hash.proofs.Shared.{own_place, table_read, get_past, get_own}
 use Rattle.mvo_hash.proofs.heads.Heads.get.Goals as goal
 
-pub returns-in-Some : goal.returns-in-Some
-returns-in-Some c =
-    let ss = c.self.inside.slots.items in
-    let t = c.self.invariant.0.table in
-    let key = c.args.key in
-    let found : IsFoundAt ss key c.in-Some.at = subst (λ xs. IsFoundAt xs key c.in-Some.at) c.deref.ensures.value c.in-Some.ensures.found in
-    ap (λ (s : Slot). Some s.number) (slot_read ss c.in-Some.at c.index.result.now found.within c.index.ensures)
-    ∙ sym (get_at _ _ _ ss t key c.in-Some.at found) ∙ ap (λ (m : Table). map.get m.numbers key) c.self.view_is
+pub returns-then-at-len : goal.returns-then-at-len
+returns-then-at-len c =
+    let seeds = c.self.inside.seeds in
+    let ts = c.self.inside.shards.items in
+    let own : place_of seeds c.args.key ≡ c.shard_of-at.result = own_place seeds c.args.key c.hash-hash.result c.shard_of-at.result c.hash-hash.ensures c.shard_of-at.ensures.at in
+    sym (get_past seeds ts c.self.invariant c.args.key c.shard_of-at.result own (omega (arith, c.if-at-len.true, c.len.ensures, c.self.inside.shards.ok)))
+    ∙ ap (λ (t : Table). get t.numbers c.args.key) c.self.view_is
 
-pub returns-in-None : goal.returns-in-None
-returns-in-None c =
-    let ss = c.self.inside.slots.items in
-    let t = c.self.invariant.0.table in
-    let key = c.args.key in
-    let none : map.get (map_of ss) key ≡ None = get_missing ss key (subst (λ xs. IsNowhere xs key) c.deref.ensures.value c.in-None.ensures.nowhere) in
-    sym none ∙ ap (λ (m : Table). map.get m.numbers key) c.self.view_is
+pub returns : goal.returns
+returns c =
+    let seeds = c.self.inside.seeds in
+    let ts = c.self.inside.shards.items in
+    let at = c.shard_of-at.result in
+    let within : at < length ts = omega (arith, c.if-at-len.false, c.len.ensures, c.self.inside.shards.ok) in
+    let own : place_of seeds c.args.key ≡ at = own_place seeds c.args.key c.hash-hash.result at c.hash-hash.ensures c.shard_of-at.ensures.at in
+    c.get_by_hash.ensures
+    ∙ ap (λ (t : Table). get t.numbers c.args.key) (table_read ts at c.index.result.now within c.index.ensures)
+    ∙ get_own seeds ts c.self.invariant c.args.key at own
+    ∙ ap (λ (t : Table). get t.numbers c.args.key) c.self.view_is

@@ -1,45 +1,35 @@
-use Rattle.std.proofs.Common.{◌≡◌, None, Some, set, sym, ap, ◌∙◌, subst}
-use Rattle.std.specs.FinMap as map
-use Rattle.mvo_hash.specs.declared.slot.Slot.{Slot}
-use Rattle.mvo_hash.specs.Slots.{IsFoundAt, IsNowhere}
-use Rattle.mvo_hash.specs.Table.{Table, map_of, IsHeads}
-use Rattle.mvo_hash.proofs.Finds.{get_missing, slot_read}
-use Rattle.mvo_hash.proofs.Tables.{get_at, map_set}
-use Rattle.mvo_hash.proofs.Uses.{heads_set}
+use Rattle.std.proofs.Common.{◌≡◌, set, sym, ap, ◌∙◌, subst, arith}
+use Rattle.std.specs.Option.{OnSome, IfNone}
+use Rattle.std.specs.FinMap.{get, insert}
+use Rattle.mvo_hash.specs.Table.{Table}
+use Rattle.mvo_hash.specs.Shards.{place_of, joined}
+use Rattle.mvo_hash.proofs.Changes.{changing, held_before, room_same, set_shared, set_joined, set_away}
+use Rattle.mvo_hash.proofs.Shared.{own_place, get_past}
 use Rattle.mvo_hash.proofs.heads.Heads.set.Goals as goal
 
-pub returns-in_default-clause-before : goal.returns-in_default-clause-before
-returns-in_default-clause-before c =
-    let ss = c.self.inside.slots.items in
-    let t = c.self.invariant.0.table in
-    let key = c.args.key in
-    let none : map.get (map_of ss) key ≡ None = get_missing ss key (subst (λ xs. IsNowhere xs key) c.deref.ensures.value c.in_default.ensures.nowhere) in
-    sym none ∙ ap (λ (m : Table). map.get m.numbers key) c.self.view_is
+pub returns-then-at-len-clause-before : goal.returns-then-at-len-clause-before
+returns-then-at-len-clause-before c =
+    let seeds = c.self.inside.seeds in
+    let ts = c.self.inside.shards.items in
+    let own : place_of seeds c.args.key ≡ c.shard_of-at.result = own_place seeds c.args.key c.hash-hash.result c.shard_of-at.result c.hash-hash.ensures c.shard_of-at.ensures.at in
+    sym (get_past seeds ts c.self.invariant c.args.key c.shard_of-at.result own (omega (arith, c.if-at-len.true, c.len.ensures, c.self.inside.shards.ok)))
+    ∙ ap (λ (t : Table). get t.numbers c.args.key) c.self.view_is
+
+pub invariant_of-self : goal.invariant_of-self
+invariant_of-self c = set_shared c.self.inside.seeds c.self.inside.shards.items c.args.key c.shard_of-at.result c.index_mut.result.now c.set_by_hash.new.self (changing c.self.inside.seeds c.self.inside.shards.items c.args.key c.hash-hash.result c.shard_of-at.result c.index_mut.result.now c.set_by_hash.new.self c.self.invariant c.hash-hash.ensures c.shard_of-at.ensures.at (omega (arith, c.if-at-len.false, c.len.ensures, c.self.inside.shards.ok)) c.index_mut.ensures.value c.set_by_hash.ensures.seeds) c.set_by_hash.result c.args.number c.set_by_hash.ensures.set c.set_by_hash.ensures.absent
 
 pub returns-clause-before : goal.returns-clause-before
-returns-clause-before c =
-    let ss = c.self.inside.slots.items in
-    let t = c.self.invariant.0.table in
-    let key = c.args.key in
-    let found : IsFoundAt ss key c.in-Some.at = subst (λ xs. IsFoundAt xs key c.in-Some.at) c.deref.ensures.value c.in-Some.ensures.found in
-    ap (λ (s : Slot). Some s.number) (slot_read ss c.in-Some.at c.index.result.now found.within c.index.ensures)
-    ∙ sym (get_at _ _ _ ss t key c.in-Some.at found) ∙ ap (λ (m : Table). map.get m.numbers key) c.self.view_is
+returns-clause-before c = c.set_by_hash.ensures.before ∙ held_before c.self.inside.seeds c.self.inside.shards.items c.args.key c.shard_of-at.result c.index_mut.result.now c.set_by_hash.new.self (changing c.self.inside.seeds c.self.inside.shards.items c.args.key c.hash-hash.result c.shard_of-at.result c.index_mut.result.now c.set_by_hash.new.self c.self.invariant c.hash-hash.ensures c.shard_of-at.ensures.at (omega (arith, c.if-at-len.false, c.len.ensures, c.self.inside.shards.ok)) c.index_mut.ensures.value c.set_by_hash.ensures.seeds) ∙ ap (λ (t : Table). get t.numbers c.args.key) c.self.view_is
 
 pub returns-clause-set : goal.returns-clause-set
 returns-clause-set c =
-    let ss = c.self.inside.slots.items in
-    let t = c.self.invariant.0.table in
-    let key = c.args.key in
-    let found : IsFoundAt ss key c.in-Some.at = subst (λ xs. IsFoundAt xs key c.in-Some.at) c.deref.ensures.value c.in-Some.ensures.found in
-    ap (λ s. map_of (set ss c.in-Some.at s)) c.live.ensures ∙ map_set _ _ _ ss t key c.args.number c.in-Some.at found
-    ∙ ap (λ (m : Table). map.insert m.numbers key c.args.number) c.self.view_is
+    subst (λ (t : Table). OnSome c.set_by_hash.result (joined (set c.self.inside.shards.items c.shard_of-at.result c.set_by_hash.new.self) ≡ insert t.numbers c.args.key c.args.number)) c.self.view_is
+    (set_joined c.self.inside.seeds c.self.inside.shards.items c.args.key c.shard_of-at.result c.index_mut.result.now c.set_by_hash.new.self (changing c.self.inside.seeds c.self.inside.shards.items c.args.key c.hash-hash.result c.shard_of-at.result c.index_mut.result.now c.set_by_hash.new.self c.self.invariant c.hash-hash.ensures c.shard_of-at.ensures.at (omega (arith, c.if-at-len.false, c.len.ensures, c.self.inside.shards.ok)) c.index_mut.ensures.value c.set_by_hash.ensures.seeds) c.set_by_hash.result c.args.number c.set_by_hash.ensures.set)
 
-pub invariant_of-self : goal.invariant_of-self
-invariant_of-self c =
-    let ss = c.self.inside.slots.items in
-    let key = c.args.key in
-    let found : IsFoundAt ss key c.in-Some.at = subst (λ xs. IsFoundAt xs key c.in-Some.at) c.deref.ensures.value c.in-Some.ensures.found in (
-      subst (λ s. IsHeads c.self.inside.seeds.first c.self.inside.seeds.second c.self.inside.homes c.self.inside.used c.self.inside.keys (set ss c.in-Some.at s)) (sym c.live.ensures)
-          (heads_set _ _ _ _ _ ss c.self.invariant.0 key c.in-Some.at found c.args.number),
-      c.self.invariant.1,
-    )
+pub returns-clause-absent : goal.returns-clause-absent
+returns-clause-absent c =
+    subst (λ (t : Table). IfNone c.set_by_hash.result (joined (set c.self.inside.shards.items c.shard_of-at.result c.set_by_hash.new.self) ≡ t.numbers)) c.self.view_is
+    (set_away c.self.inside.seeds c.self.inside.shards.items c.args.key c.shard_of-at.result c.index_mut.result.now c.set_by_hash.new.self (changing c.self.inside.seeds c.self.inside.shards.items c.args.key c.hash-hash.result c.shard_of-at.result c.index_mut.result.now c.set_by_hash.new.self c.self.invariant c.hash-hash.ensures c.shard_of-at.ensures.at (omega (arith, c.if-at-len.false, c.len.ensures, c.self.inside.shards.ok)) c.index_mut.ensures.value c.set_by_hash.ensures.seeds) c.set_by_hash.result c.set_by_hash.ensures.absent)
+
+pub returns-clause-room : goal.returns-clause-room
+returns-clause-room c = room_same c.self.inside.seeds c.self.inside.shards.items c.args.key c.shard_of-at.result c.index_mut.result.now c.set_by_hash.new.self (changing c.self.inside.seeds c.self.inside.shards.items c.args.key c.hash-hash.result c.shard_of-at.result c.index_mut.result.now c.set_by_hash.new.self c.self.invariant c.hash-hash.ensures c.shard_of-at.ensures.at (omega (arith, c.if-at-len.false, c.len.ensures, c.self.inside.shards.ok)) c.index_mut.ensures.value c.set_by_hash.ensures.seeds) c.set_by_hash.ensures.room ∙ ap (λ (t : Table). t.room) c.self.view_is

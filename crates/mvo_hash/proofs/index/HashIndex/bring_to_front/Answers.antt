@@ -1,22 +1,22 @@
-use Rattle.std.proofs.Common.{◌≡◌, ◌≢◌, ◌<◌, ◌++◌, take, drop, length, true, sym, ap, ◌∙◌, subst, arith}
+use Rattle.std.proofs.Common.{◌≡◌, ◌≢◌, ◌<◌, length, true, sym, ap, ◌∙◌, arith}
 use Rattle.std.specs.Prelude.{is_some}
 use Rattle.std.specs.FinMap.{get, insert}
 use Rattle.mvo_hash.specs.declared.link.Link.{Link}
 use Rattle.mvo_hash.specs.Lists.{Index}
-use Rattle.mvo_hash.specs.Links.{no_number, link, number_or_none, numbers, lists_of, IsIndex, IsUnlinked, IsJoined}
-use Rattle.mvo_hash.proofs.Views.{link_read, given_back}
+use Rattle.mvo_hash.specs.Links.{no_number, link, number_or_none, numbers, IsUnlinked, IsJoined}
+use Rattle.mvo_hash.proofs.Views.{link_read}
 use Rattle.mvo_hash.proofs.Unlinks.{gone_within, gone_newer, gone_older, some_head}
 use Rattle.mvo_hash.proofs.Fronts.{among, within, behind_other, first_lists, front_index, front_lists, is_put}
 use Rattle.mvo_hash.proofs.index.HashIndex.bring_to_front.Goals as goal
 
 pub index-requires-2 : goal.index-requires-2
 index-requires-2 c =
-    let inside = gone_within c.self.inside.heads.numbers c.self.inside.heads.numbers c.self.inside.links.items c.self.inside.links.items c.args.self.now.versions c.args.key c.args.version.0 c.self.invariant (ap (λ (i : Index). i.versions) c.self.view_is) c.requires in
-    omega (arith, inside, c.index.ensures, c.self.inside.links.ok)
+    let inside = gone_within c.self.inside.heads.numbers c.self.inside.heads.numbers c.self.inside.links c.self.inside.links c.args.self.now.versions c.args.key c.args.version.0 c.self.invariant (ap (λ (i : Index). i.versions) c.self.view_is) c.requires in
+    omega (arith, inside, c.index.ensures)
 
 pub returns-then-index-clause-front : goal.returns-then-index-clause-front
 returns-then-index-clause-front c =
-    let old = c.self.inside.links.items in
+    let old = c.self.inside.links in
     let n = c.args.version.0 in
     let inside : n < length old = gone_within c.self.inside.heads.numbers c.self.inside.heads.numbers old old c.args.self.now.versions c.args.key n c.self.invariant (ap (λ (i : Index). i.versions) c.self.view_is) c.requires in
     let read : c.index-2.result.now ≡ link old n = link_read old c.index.result n c.index-2.result.now c.index.ensures inside c.index-2.ensures in
@@ -25,103 +25,87 @@ returns-then-index-clause-front c =
 
 pub unlink-requires-clause-number : goal.unlink-requires-clause-number
 unlink-requires-clause-number c =
-    subst (λ ls. c.args.version.0 < length ls) (sym c.deref_mut.ensures.value)
-    (gone_within c.self.inside.heads.numbers c.self.inside.heads.numbers c.self.inside.links.items c.self.inside.links.items c.args.self.now.versions c.args.key c.args.version.0 c.self.invariant (ap (λ (i : Index). i.versions) c.self.view_is) c.requires)
+    gone_within c.self.inside.heads.numbers c.self.inside.heads.numbers c.self.inside.links c.self.inside.links c.args.self.now.versions c.args.key c.args.version.0 c.self.invariant (ap (λ (i : Index). i.versions) c.self.view_is) c.requires
 
 pub unlink-requires-clause-newer : goal.unlink-requires-clause-newer
 unlink-requires-clause-newer c =
-    subst (λ ls. (link ls c.args.version.0).newer ≢ no_number → (link ls c.args.version.0).newer < length ls) (sym c.deref_mut.ensures.value)
-    (gone_newer c.self.inside.heads.numbers c.self.inside.heads.numbers c.self.inside.links.items c.self.inside.links.items c.args.self.now.versions c.args.key c.args.version.0 c.self.invariant (ap (λ (i : Index). i.versions) c.self.view_is) c.requires)
+    gone_newer c.self.inside.heads.numbers c.self.inside.heads.numbers c.self.inside.links c.self.inside.links c.args.self.now.versions c.args.key c.args.version.0 c.self.invariant (ap (λ (i : Index). i.versions) c.self.view_is) c.requires
 
 pub unlink-requires-clause-older : goal.unlink-requires-clause-older
 unlink-requires-clause-older c =
-    subst (λ ls. (link ls c.args.version.0).older ≢ no_number → (link ls c.args.version.0).older < length ls) (sym c.deref_mut.ensures.value)
-    (gone_older c.self.inside.heads.numbers c.self.inside.heads.numbers c.self.inside.links.items c.self.inside.links.items c.args.self.now.versions c.args.key c.args.version.0 c.self.invariant (ap (λ (i : Index). i.versions) c.self.view_is) c.requires)
+    gone_older c.self.inside.heads.numbers c.self.inside.heads.numbers c.self.inside.links c.self.inside.links c.args.self.now.versions c.args.key c.args.version.0 c.self.invariant (ap (λ (i : Index). i.versions) c.self.view_is) c.requires
 
 pub join-requires-clause-number : goal.join-requires-clause-number
 join-requires-clause-number c =
     let heads = c.self.inside.heads.numbers in
-    let old = c.self.inside.links.items in
-    let len = c.self.inside.links.len in
+    let old = c.self.inside.links in
     let lists = c.args.self.now.versions in
     let key = c.args.key in
     let n = c.args.version.0 in
     let shown = ap (λ (i : Index). i.versions) c.self.view_is in
     let mid = c.unlink.new.links in
-    let u : IsUnlinked old mid n = subst (λ ls. IsUnlinked ls mid n) c.deref_mut.ensures.value c.unlink.ensures in
+    let u : IsUnlinked old mid n = c.unlink.ensures in
     let inside : n < length old = gone_within heads heads old old lists key n c.self.invariant shown c.requires in
     let read : c.index-2.result.now ≡ link old n = link_read old c.index.result n c.index-2.result.now c.index.ensures inside c.index-2.ensures in
     let led : (link old n).newer ≢ no_number = λ e. c.if-index.false (ap (λ (l : Link). l.newer) read ∙ e) in
     let here = among heads old lists key n c.self.invariant shown c.requires in
-    let back : take len (mid ++ drop (length mid) old) ≡ mid = given_back len old mid (omega (arith, c.self.inside.links.ok)) u.size in
-    subst (λ ls. n < length ls) (sym (c.deref_mut-2.ensures.value ∙ back))
-    (within heads old mid (numbers heads old) c.self.invariant key n here led u)
+    within heads old mid (numbers heads old) c.self.invariant key n here led u
 
 pub join-requires-clause-apart : goal.join-requires-clause-apart
 join-requires-clause-apart c =
     let heads = c.self.inside.heads.numbers in
-    let old = c.self.inside.links.items in
-    let len = c.self.inside.links.len in
+    let old = c.self.inside.links in
     let lists = c.args.self.now.versions in
     let key = c.args.key in
     let n = c.args.version.0 in
     let shown = ap (λ (i : Index). i.versions) c.self.view_is in
     let mid = c.unlink.new.links in
-    let u : IsUnlinked old mid n = subst (λ ls. IsUnlinked ls mid n) c.deref_mut.ensures.value c.unlink.ensures in
+    let u : IsUnlinked old mid n = c.unlink.ensures in
     let inside : n < length old = gone_within heads heads old old lists key n c.self.invariant shown c.requires in
     let read : c.index-2.result.now ≡ link old n = link_read old c.index.result n c.index-2.result.now c.index.ensures inside c.index-2.ensures in
     let led : (link old n).newer ≢ no_number = λ e. c.if-index.false (ap (λ (l : Link). l.newer) read ∙ e) in
     let here = among heads old lists key n c.self.invariant shown c.requires in
-    let back : take len (mid ++ drop (length mid) old) ≡ mid = given_back len old mid (omega (arith, c.self.inside.links.ok)) u.size in
     let is : c.or_none-newest.result ≡ number_or_none (get heads key) = c.or_none-newest.ensures ∙ ap number_or_none c.set.ensures.before in
     λ e. behind_other heads old mid (numbers heads old) c.self.invariant key n here led u (e ∙ is)
 
 pub invariant_of-self : goal.invariant_of-self
 invariant_of-self c =
     let heads = c.self.inside.heads.numbers in
-    let old = c.self.inside.links.items in
-    let len = c.self.inside.links.len in
+    let old = c.self.inside.links in
     let lists = c.args.self.now.versions in
     let key = c.args.key in
     let n = c.args.version.0 in
     let shown = ap (λ (i : Index). i.versions) c.self.view_is in
     let mid = c.unlink.new.links in
-    let u : IsUnlinked old mid n = subst (λ ls. IsUnlinked ls mid n) c.deref_mut.ensures.value c.unlink.ensures in
+    let u : IsUnlinked old mid n = c.unlink.ensures in
     let inside : n < length old = gone_within heads heads old old lists key n c.self.invariant shown c.requires in
     let read : c.index-2.result.now ≡ link old n = link_read old c.index.result n c.index-2.result.now c.index.ensures inside c.index-2.ensures in
     let led : (link old n).newer ≢ no_number = λ e. c.if-index.false (ap (λ (l : Link). l.newer) read ∙ e) in
     let here = among heads old lists key n c.self.invariant shown c.requires in
-    let back : take len (mid ++ drop (length mid) old) ≡ mid = given_back len old mid (omega (arith, c.self.inside.links.ok)) u.size in
     let is : c.or_none-newest.result ≡ number_or_none (get heads key) = c.or_none-newest.ensures ∙ ap number_or_none c.set.ensures.before in
     let some : is_some c.set.result ≡ true = ap is_some c.set.ensures.before ∙ some_head heads heads old old lists key n c.self.invariant shown c.requires in
     let put : c.set.new.self.numbers ≡ insert heads key n = is_put c.set.result (c.set.new.self.numbers ≡ insert heads key n) some c.set.ensures.set in
     let new = c.join.new.links in
-    let j : IsJoined mid new n c.or_none-newest.result = subst (λ ls. IsJoined ls new n c.or_none-newest.result) (c.deref_mut-2.ensures.value ∙ back) c.join.ensures in
-    let same = ap (λ ls. take len (new ++ drop (length new) ls)) back ∙ given_back len mid new (omega (arith, c.self.inside.links.ok, u.size)) j.size in
-    subst (IsIndex c.set.new.self.numbers) (sym same)
-    (front_index heads old lists key n c.self.invariant shown c.requires c.set.new.self.numbers mid new led u put c.or_none-newest.result is j)
+    let j : IsJoined mid new n c.or_none-newest.result = c.join.ensures in
+    front_index heads old lists key n c.self.invariant shown c.requires c.set.new.self.numbers mid new led u put c.or_none-newest.result is j
 
 pub returns-clause-front : goal.returns-clause-front
 returns-clause-front c =
     let heads = c.self.inside.heads.numbers in
-    let old = c.self.inside.links.items in
-    let len = c.self.inside.links.len in
+    let old = c.self.inside.links in
     let lists = c.args.self.now.versions in
     let key = c.args.key in
     let n = c.args.version.0 in
     let shown = ap (λ (i : Index). i.versions) c.self.view_is in
     let mid = c.unlink.new.links in
-    let u : IsUnlinked old mid n = subst (λ ls. IsUnlinked ls mid n) c.deref_mut.ensures.value c.unlink.ensures in
+    let u : IsUnlinked old mid n = c.unlink.ensures in
     let inside : n < length old = gone_within heads heads old old lists key n c.self.invariant shown c.requires in
     let read : c.index-2.result.now ≡ link old n = link_read old c.index.result n c.index-2.result.now c.index.ensures inside c.index-2.ensures in
     let led : (link old n).newer ≢ no_number = λ e. c.if-index.false (ap (λ (l : Link). l.newer) read ∙ e) in
     let here = among heads old lists key n c.self.invariant shown c.requires in
-    let back : take len (mid ++ drop (length mid) old) ≡ mid = given_back len old mid (omega (arith, c.self.inside.links.ok)) u.size in
     let is : c.or_none-newest.result ≡ number_or_none (get heads key) = c.or_none-newest.ensures ∙ ap number_or_none c.set.ensures.before in
     let some : is_some c.set.result ≡ true = ap is_some c.set.ensures.before ∙ some_head heads heads old old lists key n c.self.invariant shown c.requires in
     let put : c.set.new.self.numbers ≡ insert heads key n = is_put c.set.result (c.set.new.self.numbers ≡ insert heads key n) some c.set.ensures.set in
     let new = c.join.new.links in
-    let j : IsJoined mid new n c.or_none-newest.result = subst (λ ls. IsJoined ls new n c.or_none-newest.result) (c.deref_mut-2.ensures.value ∙ back) c.join.ensures in
-    let same = ap (λ ls. take len (new ++ drop (length new) ls)) back ∙ given_back len mid new (omega (arith, c.self.inside.links.ok, u.size)) j.size in
-    ap (lists_of c.set.new.self.numbers) same
-    ∙ front_lists heads old lists key n c.self.invariant shown c.requires c.set.new.self.numbers mid new led u put c.or_none-newest.result is j
+    let j : IsJoined mid new n c.or_none-newest.result = c.join.ensures in
+    front_lists heads old lists key n c.self.invariant shown c.requires c.set.new.self.numbers mid new led u put c.or_none-newest.result is j

@@ -7,15 +7,15 @@ use Rattle.mvo_hash.proofs.index.HashIndex.older.Goals as goal
 
 pub index-requires-2 : goal.index-requires-2
 index-requires-2 c =
-    let within : c.args.version.0 < length c.self.inside.links.items = shown_within c.self.inside.heads.numbers c.self.inside.links.items c.self.invariant c.requires.0 c.args.version.0
+    let within : c.args.version.0 < length c.self.inside.links = shown_within c.self.inside.heads.numbers c.self.inside.links c.self.invariant c.requires.0 c.args.version.0
     (ap (λ m. is_among c.args.version.0 (numbers_of m c.requires.0)) (ap (λ (i : Index). i.versions) c.self.view_is) ∙ c.requires.1) in
-    omega (arith, within, c.index.ensures, c.self.inside.links.ok)
+    omega (arith, within, c.index.ensures)
 
 pub returns-then-number : goal.returns-then-number
 returns-then-number c = record {
   at = λ key a.
       let o = c.index-2.result.now.older in
-      sym (read_older c.self.inside.heads.numbers c.self.inside.links.items c.args.self.now.versions c.self.invariant (ap (λ (i : Index). i.versions) c.self.view_is) key c.args.version.0 c.index.result c.index-2.result.now c.index.ensures c.index-2.ensures a
+      sym (read_older c.self.inside.heads.numbers c.self.inside.links c.args.self.now.versions c.self.invariant (ap (λ (i : Index). i.versions) c.self.view_is) key c.args.version.0 c.index.result c.index-2.result.now c.index.ensures c.index-2.ensures a
       ∙ cond-true (eqb o no_number) None (Some o) (eq-eqb o no_number c.if-number.true));
 }
 
@@ -23,6 +23,6 @@ pub returns : goal.returns
 returns c = record {
   at = λ key a.
       let o = c.index-2.result.now.older in
-      sym (read_older c.self.inside.heads.numbers c.self.inside.links.items c.args.self.now.versions c.self.invariant (ap (λ (i : Index). i.versions) c.self.view_is) key c.args.version.0 c.index.result c.index-2.result.now c.index.ensures c.index-2.ensures a
+      sym (read_older c.self.inside.heads.numbers c.self.inside.links c.args.self.now.versions c.self.invariant (ap (λ (i : Index). i.versions) c.self.view_is) key c.args.version.0 c.index.result c.index-2.result.now c.index.ensures c.index-2.ensures a
       ∙ cond-false (eqb o no_number) None (Some o) (ne_eqb o no_number c.if-number.false));
 }

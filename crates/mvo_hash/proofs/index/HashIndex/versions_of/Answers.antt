@@ -8,10 +8,9 @@ use Rattle.mvo_hash.proofs.index.HashIndex.versions_of.Goals as goal
 pub returns : goal.returns
 returns c =
     let heads = c.self.inside.heads.numbers in
-    let ls = c.self.inside.links.items in
+    let ls = c.self.inside.links in
     subst (λ (ns : List ℕ). IfOk c.listed.result (λ versions. map (λ (v : VersionNo). v.0) versions.items ≡ ns))
-    (ap (λ xs. walk xs (length xs) c.or_none-newest.result) c.deref.ensures.value
-    ∙ ap (walk ls (length ls)) (c.or_none-newest.ensures ∙ ap number_or_none c.get.ensures)
+    (ap (walk ls (length ls)) (c.or_none-newest.ensures ∙ ap number_or_none c.get.ensures)
     ∙ sym (numbers_shown heads ls (numbers heads ls) c.self.invariant c.args.key)
     ∙ ap (λ m. numbers_of m c.args.key) (ap (λ (i : Index). i.versions) c.self.view_is))
     c.listed.ensures

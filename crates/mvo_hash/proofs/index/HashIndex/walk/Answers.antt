@@ -1,5 +1,4 @@
-use Rattle.std.proofs.Common.{List, length, map, sym, ap, ◌∙◌, subst}
-use Rattle.mvo_hash.specs.declared.link.Link.{Link}
+use Rattle.std.proofs.Common.{length, map, sym, ap, ◌∙◌, subst}
 use Rattle.mvo_hash.specs.Lists.{Index, number, numbers_of}
 use Rattle.mvo_hash.specs.Links.{number_or_none, walk, numbers, IsWalk}
 use Rattle.mvo_hash.proofs.Views.{numbers_shown}
@@ -9,16 +8,14 @@ use Rattle.mvo_hash.proofs.index.HashIndex.walk.Goals as goal
 pub from-requires : goal.from-requires
 from-requires c =
     let heads = c.self.inside.heads.numbers in
-    let ls = c.self.inside.links.items in
-    subst (λ (xs : List Link). IsWalk xs c.or_none.result) (sym c.deref.ensures.value)
-    (subst (λ n. IsWalk ls n) (sym (c.or_none.ensures ∙ ap number_or_none c.get.ensures)) (index_walk heads ls c.self.invariant c.args.key))
+    let ls = c.self.inside.links in
+    subst (λ n. IsWalk ls n) (sym (c.or_none.ensures ∙ ap number_or_none c.get.ensures)) (index_walk heads ls c.self.invariant c.args.key)
 
 pub returns : goal.returns
 returns c =
     let heads = c.self.inside.heads.numbers in
-    let ls = c.self.inside.links.items in
+    let ls = c.self.inside.links in
     c.from.ensures
-    ∙ ap (λ xs. map number (walk xs (length xs) c.or_none.result)) c.deref.ensures.value
     ∙ ap (λ n. map number (walk ls (length ls) n)) (c.or_none.ensures ∙ ap number_or_none c.get.ensures)
     ∙ ap (map number) (sym (numbers_shown heads ls (numbers heads ls) c.self.invariant c.args.key))
     ∙ ap (λ m. map number (numbers_of m c.args.key)) (ap (λ (i : Index). i.versions) c.self.view_is)

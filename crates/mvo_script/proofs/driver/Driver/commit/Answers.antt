@@ -1,9 +1,9 @@
 use Rattle.std.proofs.Common.{arith, ap, subst, ℕ, List, ◌≡◌, ◌≢◌, ◌∙◌}
 use Rattle.mvo_types.specs.declared.ids.Stamp.{Stamp}
 use Rattle.mvo_types.specs.declared.ids.TxId.{TxId}
-use Rattle.mvo_version_core.specs.declared.answers.Settlement.TheVariants.{Committed}
-use Rattle.mvo_version_core.specs.declared.answers.Validation.TheVariants.{Valid}
-use Rattle.mvo_version_core.specs.declared.answers.Finishing.TheVariants.{Done}
+use Rattle.mvo_core.specs.declared.answers.Settlement.TheVariants.{Committed}
+use Rattle.mvo_core.specs.declared.answers.Validation.TheVariants.{Valid}
+use Rattle.mvo_core.specs.declared.answers.Finishing.TheVariants.{Done}
 use Rattle.mvo_world.specs.WorldData.{WorldData}
 use Rattle.mvo_world.specs.declared.event.Event.{Event}
 use Rattle.mvo_world.specs.declared.reply.Reply.{Reply}

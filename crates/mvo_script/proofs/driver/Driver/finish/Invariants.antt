@@ -1,5 +1,5 @@
 use Rattle.std.proofs.Common.{ℕ}
-use Rattle.mvo_version_core.specs.declared.answers.Finishing.TheVariants.{More}
+use Rattle.mvo_core.specs.declared.answers.Finishing.TheVariants.{More}
 use Rattle.mvo_world.specs.declared.event.Event.TheVariants.{Finish}
 use Rattle.mvo_world.specs.declared.reply.Reply.TheVariants.{Finished}
 use Rattle.mvo_world.specs.Replies.{IsReplyTo}

@@ -1,5 +1,5 @@
 use Rattle.std.proofs.Common.{ℕ}
-use Rattle.mvo_version_core.specs.declared.answers.Validation.TheVariants.{More}
+use Rattle.mvo_core.specs.declared.answers.Validation.TheVariants.{More}
 use Rattle.mvo_world.specs.declared.event.Event.TheVariants.{Validate}
 use Rattle.mvo_world.specs.declared.reply.Reply.TheVariants.{Validated}
 use Rattle.mvo_world.specs.Replies.{IsReplyTo}

@@ -1,0 +1,251 @@
+-- An operation is answered: what the core stands for then.
+use Rattle.std.proofs.Common.{◌≡◌, ◌≢◌, ℕ, false, cond, List, [], ◌∷◌, ◌++◌, Option, None, Some, refl, sym, ap, ◌∙◌, subst, ⊎_elim}
+use Rattle.std.specs.List.{AllByRecursion}
+use Rattle.std.proofs.lemmas.Bool.{cases_eq, eq-eqb, ne_eqb}
+use Rattle.mvo_types.specs.declared.ids.TxId.{TxId}
+use Rattle.mvo_types.specs.declared.op.Op.{Op}
+use Rattle.mvo_types.specs.declared.op.Op.TheVariants.{Read, Scan, Insert, Update, Delete}
+use Rattle.mvo_types.specs.AnswerData.{AnswerData}
+use Rattle.mvo_types.specs.AnswerData.AnswerData.{Inserted, Updated, Deleted}
+use Rattle.mvo_types.specs.Write.{Write}
+use Rattle.mvo_types.specs.Keys.{Map}
+use Rattle.mvo_model.specs.History.{write_of}
+use Rattle.mvo_model.specs.Trace.{Step}
+use Rattle.mvo_model.specs.Trace.Step.{Answers}
+use Rattle.mvo_theory.specs.State.{State, ActiveTx, StampedTx, Claim, active_of}
+use Rattle.mvo_theory.specs.Phases.{phase_in}
+use Rattle.mvo_theory.specs.Claims.{new_claim}
+use Rattle.mvo_theory.specs.Changes.{with_answer, after_operation, taken_over, after_answer}
+use Rattle.mvo_theory.specs.Causes.{why_not_do}
+use Rattle.mvo_theory.specs.Calls.{MayCome, answer_in}
+use Rattle.mvo_theory.specs.Calls.Call.{Do}
+use Rattle.mvo_theory.specs.Calls.Result.{Accepted}
+use Rattle.mvo_theory.proofs.Each.{each_both, each_map}
+use Rattle.mvo_theory.proofs.Runs.{kept_after_call}
+use Rattle.mvo_theory.proofs.Who.{active_holds, id_of}
+use Rattle.mvo_txn.specs.Txns.{Txns, state_of}
+use Rattle.mvo_deps.specs.declared.node.Node.{Node}
+use Rattle.mvo_deps.specs.Nodes.{after_register_all}
+use Rattle.mvo_chain.specs.declared.version.Version.{Version}
+use Rattle.mvo_tale.specs.declared.slot.Slot.{Slot}
+use Rattle.mvo_tale.specs.Timeline.{ArePlacesOf}
+use Rattle.mvo_versions.specs.Data.{VersionsData, AreIndexed}
+use Rattle.mvo_representation.specs.Words.{Phases}
+use Rattle.mvo_representation.specs.Versions.{AreVersionsOf}
+use Rattle.mvo_representation.specs.Indexes.{all_versions}
+use Rattle.mvo_representation.specs.Steps.{IsAfterAnswer}
+use Rattle.mvo_representation.specs.Order.{AllStandInOrder}
+use Rattle.mvo_representation.specs.Dependencies.{HasDependencies, AreDependencies}
+use Rattle.mvo_representation.specs.Table.{phases_of}
+use Rattle.mvo_representation.specs.WordLists.{HasWordLists}
+use Rattle.mvo_representation.proofs.OrderAborts.{same_stay_in_order}
+use Rattle.mvo_representation.proofs.WordsKept.{answer_keeps_lists}
+use Rattle.mvo_core.specs.declared.transaction.Transaction.{Transaction}
+use Rattle.mvo_core.specs.Data.{CoreData, own_of}
+use Rattle.mvo_core.specs.Standing.{StandsFor, HasWorks, IsActive, IsPreparing, words_in}
+use Rattle.mvo_core.specs.Keeping.{IsTold, IsRecorded}
+use Rattle.mvo_core.specs.Steps.{LeadsOn}
+use Rattle.mvo_core.proofs.Laws.{answer_in_table, call_keeps}
+use Rattle.mvo_core.proofs.Carried.{stands_roomy}
+use Rattle.mvo_core.proofs.OwnChanged.{IsOwnChanged, some_own, own_registered_all, state_registered_all, own_changed, own_weaker, words_stay, words_registered}
+
+-- it has done one operation more, whatever words it has put
+pub record HasAnswered (op : Op) (a : AnswerData) (old new : Transaction) : Type 0 where
+  pub history : new.work.history ≡ old.work.history ++ (op, a) ∷ []
+  pub place : new.place ≡ old.place
+  pub checked : new.checked ≡ old.checked
+  pub valid : new.valid ≡ old.valid
+
+-- ---- a claim that is taken over
+works_taken : (o : Option Claim) (z : State) (table : Txns (Node Transaction)) (tale : List Slot) → HasWorks z table tale → HasWorks (taken_over o z) table tale
+works_taken None z table tale h = h
+works_taken (Some x) z table tale h = record { active = h.active; preparing = h.preparing }
+
+-- it changes the ended ones alone
+abbrev IsBeside : State → State → Type 0
+IsBeside z s = (z.start ≡ s.start) × (z.stamped ≡ s.stamped) × (z.marks ≡ s.marks) × (z.past ≡ s.past)
+
+beside_taken : (o : Option Claim) (s : State) (active : List ActiveTx) → IsBeside (taken_over o (record s { active = active })) s
+beside_taken None s active = (refl, refl, refl, refl)
+beside_taken (Some x) s active = (refl, refl, refl, refl)
+
+-- ---- what each transaction has done
+module _ (opening : Map) (steps : List Step) (s : State) (c : CoreData) (h : StandsFor opening steps s c) (t : TxId) (r : ActiveTx) (found : active_of t.0 s.active ≡ Some r) (op : Op) (a : AnswerData)
+    (ids : List TxId) (table : Txns (Node Transaction)) (w : IsOwnChanged (after_register_all c.table t ids) table t.0 (HasAnswered op a)) where
+  was : own_of c.table t.0 ≡ Some w.before
+  was = sym (own_registered_all c.table t ids t.0) ∙ w.was
+
+  others : (u : ℕ) → u ≢ t.0 → own_of table u ≡ own_of c.table u
+  others u ne = w.beside u ne ∙ own_registered_all c.table t ids u
+
+  one : (q : ActiveTx) → IsActive c.table q → IsActive table (with_answer s t.0 op a q)
+  one q m =
+      ⊎_elim
+      (λ is.
+      let same : m.own ≡ w.before = some_own m.own w.before (sym m.kept ∙ ap (own_of c.table) is ∙ was) in record {
+        own = w.after;
+        kept = ap (own_of table) is ∙ w.is;
+        history = w.changed.history
+            ∙ ap (λ (o : Transaction). o.work.history ++ (op, a) ∷ []) (sym same)
+            ∙ ap (λ ts. ts ++ (op, a) ∷ []) m.history
+            ∙ sym (ap (λ b. cond b (q.history ++ (op, a) ∷ []) q.history) (eq-eqb q.id t.0 is));
+      })
+      (λ ne. record { own = m.own; kept = others q.id ne ∙ m.kept; history = m.history ∙ sym (ap (λ b. cond b (q.history ++ (op, a) ∷ []) q.history) (ne_eqb q.id t.0 ne)) })
+      (cases_eq q.id t.0)
+
+  apart : AllByRecursion (λ x. x.id ≢ r.id) s.stamped
+  apart = (active_holds (λ r. AllByRecursion (λ x. x.id ≢ r.id) s.stamped) t.0 s.active r found h.versions.kept.numbered.apart).0
+
+  still : (x : StampedTx) → x.id ≢ r.id → (x.settled ≡ false → IsPreparing c.table c.tale x) → x.settled ≡ false → IsPreparing table c.tale x
+  still x ne m open' = let p = m open' in record {
+    own = p.own;
+    kept = others x.id (λ e. ne (e ∙ sym (id_of t.0 s.active r found))) ∙ p.kept;
+    history = p.history;
+    checked = p.checked;
+    valid = p.valid;
+    place = p.place;
+  }
+
+  works_told : HasWorks (after_operation s t.0 op a) table c.tale
+  works_told = record {
+    active = each_map (with_answer s t.0 op a) (IsActive c.table) (IsActive table) one s.active h.works.active;
+    preparing = each_both (λ x. x.id ≢ r.id) (λ x. x.settled ≡ false → IsPreparing c.table c.tale x) (λ x. x.settled ≡ false → IsPreparing table c.tale x) still s.stamped apart h.works.preparing;
+  }
+
+  pub works_answered : HasWorks (after_answer s t.0 op a) table c.tale
+  works_answered = works_taken (new_claim s t.0 op a) (after_operation s t.0 op a) table c.tale works_told
+
+-- ---- the answer
+-- The Active transaction t is r. It is told what the state answers to the operation, which it may
+-- do; those are registered on whom it depends then; and this has become of the versions.
+pub record IsAnswered (s : State) (c : CoreData) (t : TxId) (r : ActiveTx) (op : Op) (ids : List TxId) (v : VersionsData) (table : Txns (Node Transaction)) : Type 0 where
+  pub found : active_of t.0 s.active ≡ Some r
+  pub may : why_not_do s t.0 op ≡ None
+  pub on : AreDependencies s op r ids
+  pub told : IsOwnChanged (after_register_all c.table t ids) table t.0 (HasAnswered op (answer_in s t.0 op))
+  pub versions : IsAfterAnswer s (phase_in s) t.0 op (answer_in s t.0 op) (all_versions c.versions.slots) (all_versions v.slots)
+  pub indexed : AreIndexed v
+  pub order : AllStandInOrder s.start (state_of c.table) v.slots v.lists
+  pub words : HasWordLists (after_answer s t.0 op (answer_in s t.0 op)) v.slots (words_in table)
+
+module _ (opening : Map) (steps : List Step) (s : State) (c : CoreData) (h : StandsFor opening steps s c) (t : TxId) (r : ActiveTx) (op : Op) (ids : List TxId)
+    (v : VersionsData) (table : Txns (Node Transaction)) (w : IsAnswered s c t r op ids v table) where
+  abbrev a : AnswerData
+  a = answer_in s t.0 op
+
+  abbrev after : State
+  after = after_answer s t.0 op a
+
+  may_come : MayCome s (Do t.0 op) Accepted
+  may_come = (w.may, tt)
+
+  deps : HasDependencies after table
+  deps = w.told.dependencies after (answer_in_table opening steps s c.table t op a r ids h.versions.kept h.dependencies w.found w.on)
+
+  phases : phases_of (state_of c.table) ≡ phase_in s
+  phases = λ i u. h.dependencies.stands.phases u i
+
+  phases_then : phases_of (state_of table) ≡ phase_in after
+  phases_then = λ i u. deps.stands.phases u i
+
+  states : (u : ℕ) → state_of table u ≡ state_of c.table u
+  states u = w.told.states u ∙ state_registered_all c.table t ids u
+
+  beside : IsBeside after s
+  beside = beside_taken (new_claim s t.0 op a) s (after_operation s t.0 op a).active
+
+  stands_answered : StandsFor opening (steps ++ Answers t.0 op a ∷ []) after (record c { versions = v; table = table })
+  stands_answered = record {
+    versions = record {
+      kept = kept_after_call opening steps s (Do t.0 op) Accepted may_come h.versions.kept;
+      versions = subst (λ p. AreVersionsOf after p (all_versions v.slots)) (sym phases_then)
+          (call_keeps opening steps s (Do t.0 op) Accepted (all_versions c.versions.slots) (all_versions v.slots) h.versions.kept may_come
+          (subst (λ p. AreVersionsOf s p (all_versions c.versions.slots)) phases h.versions.versions) w.versions);
+      numbers = w.indexed.numbers;
+      order = w.indexed.order;
+    };
+    dependencies = deps;
+    order = subst (λ (n : ℕ). AllStandInOrder n (state_of table) v.slots v.lists) (sym beside.0)
+        (same_stay_in_order s.start (state_of c.table) (state_of table) v.slots v.slots v.lists states (λ m. refl) w.order);
+    works = works_answered opening steps s c h t r w.found op a ids table w.told;
+    words = w.words;
+    tale = subst (ArePlacesOf c.tale) (sym beside.1) h.tale;
+    marks = beside.2 ∙ h.marks;
+    grouped = h.grouped;
+    start = beside.0 ∙ h.start;
+    past = beside.3 ∙ h.past;
+  }
+
+  pub answer_leads : LeadsOn opening steps s (Do t.0 op) Accepted (record c { versions = v; table = table })
+  answer_leads = record { may = may_come; stands = stands_answered }
+
+-- ---- an answer by which nothing is written
+some_write : (x : Write) → ◌≡◌ {A = Option Write} (Some x) None → ⊥
+some_write x q = cc
+
+-- it leaves the versions
+same_versions : (s : State) (table : Phases) (t : ℕ) (op : Op) (a : AnswerData) (vs : List Version) → write_of op a ≡ None → IsAfterAnswer s table t op a vs vs
+same_versions s table t (Read k) a vs e = refl
+same_versions s table t (Scan of lo hi) a vs e = refl
+same_versions s table t (Insert row) Inserted vs e = absurd (some_write _ e)
+same_versions s table t (Insert row) a vs e = refl
+same_versions s table t (Update row) Updated vs e = absurd (some_write _ e)
+same_versions s table t (Update row) a vs e = refl
+same_versions s table t (Delete k) Deleted vs e = absurd (some_write _ e)
+same_versions s table t (Delete k) a vs e = refl
+
+told_so : (op : Op) (a : AnswerData) (x y : Transaction) → IsTold op a x y → HasAnswered op a x y
+told_so op a x y w = record { history = w.history; place = w.place; checked = w.checked; valid = w.valid }
+
+-- The same of an answer that writes nothing: the versions and the lists of words stay.
+pub record IsAnsweredOnly (s : State) (c : CoreData) (t : TxId) (r : ActiveTx) (op : Op) (ids : List TxId) (table : Txns (Node Transaction)) : Type 0 where
+  pub found : active_of t.0 s.active ≡ Some r
+  pub may : why_not_do s t.0 op ≡ None
+  pub on : AreDependencies s op r ids
+  pub told : IsOwnChanged (after_register_all c.table t ids) table t.0 (IsTold op (answer_in s t.0 op))
+  pub unwritten : write_of op (answer_in s t.0 op) ≡ None
+
+module _ (opening : Map) (steps : List Step) (s : State) (c : CoreData) (h : StandsFor opening steps s c) (t : TxId) (r : ActiveTx) (op : Op) (ids : List TxId)
+    (table : Txns (Node Transaction)) (w : IsAnsweredOnly s c t r op ids table) where
+  abbrev b : AnswerData
+  b = answer_in s t.0 op
+
+  id : r.id ≡ t.0
+  id = id_of t.0 s.active r w.found
+
+  lists : words_in table ≡ words_in c.table
+  lists = words_stay (after_register_all c.table t ids) table t.0 (IsTold op b) w.told w.told.changed.words ∙ words_registered c.table t ids
+
+  words : HasWordLists (after_answer s t.0 op b) c.versions.slots (words_in table)
+  words = subst (HasWordLists (after_answer s t.0 op b) c.versions.slots) (sym lists)
+      (subst (λ (n : ℕ). HasWordLists (after_answer s n op b) c.versions.slots (words_in c.table)) id
+      (answer_keeps_lists opening steps s (state_of c.table) c.versions.slots c.versions.lists c.versions.places (words_in c.table) r op b h.versions
+      (ap (λ (n : ℕ). active_of n s.active) id ∙ w.found) w.unwritten h.words))
+
+  answered : IsAnswered s c t r op ids c.versions table
+  answered = record {
+    found = w.found;
+    may = w.may;
+    on = w.on;
+    told = own_weaker (after_register_all c.table t ids) table t.0 (IsTold op b) (HasAnswered op b) (told_so op b) w.told;
+    versions = same_versions s (phase_in s) t.0 op b (all_versions c.versions.slots) w.unwritten;
+    indexed = record { numbers = h.versions.numbers; order = h.versions.order };
+    order = h.order;
+    words = words;
+  }
+
+  pub answer_only_leads : LeadsOn opening steps s (Do t.0 op) Accepted (record c { table = table })
+  answer_only_leads = answer_leads opening steps s c h t r op ids c.versions table answered
+
+-- so it is where the answer is recorded
+module _ (opening : Map) (steps : List Step) (s : State) (c : CoreData) (h : StandsFor opening steps s c) (t : TxId) (r : ActiveTx) (found : active_of t.0 s.active ≡ Some r) (op : Op) (a : AnswerData) where
+  pub recorded_leads : why_not_do s t.0 op ≡ None → a ≡ answer_in s t.0 op → write_of op a ≡ None → (ids : List TxId) → AreDependencies s op r ids
+      → (table : Txns (Node Transaction)) → IsRecorded c.table table t ids op a → LeadsOn opening steps s (Do t.0 op) Accepted (record c { table = table })
+  recorded_leads may is unwritten ids on table w =
+      answer_only_leads opening steps s (record c { table = w.roomy }) (stands_roomy opening steps s c h t.0 w.roomy w.room) t r op ids table (record {
+        found = found;
+        may = may;
+        on = on;
+        told = subst (λ x. IsOwnChanged (after_register_all w.roomy t ids) table t.0 (IsTold op x)) is (own_changed (after_register_all w.roomy t ids) table t.0 (IsTold op a) w.told);
+        unwritten = subst (λ x. write_of op x ≡ None) is unwritten;
+      })

@@ -1,0 +1,269 @@
+-- What a core stands for beside the lists of words, as it finishes an ended transaction.
+use Rattle.std.proofs.Common.{◌≡◌, ◌≢◌, ℕ, ◌++◌, Bool, true, false, cond, List, [], Option, None, Some, refl, sym, ap, ◌∙◌, subst, inl, inr}
+use Rattle.std.specs.Option.{option_map}
+use Rattle.mvo_types.specs.Keys.{Map}
+use Rattle.mvo_model.specs.Trace.{Step}
+use Rattle.mvo_model.specs.Trace.Phase.{Active as ActivePhase}
+use Rattle.mvo_theory.specs.State.{State, EndedTx, ended_of}
+use Rattle.mvo_theory.specs.Phases.{phase_in}
+use Rattle.mvo_theory.specs.Words.{is_done, words_left}
+use Rattle.mvo_theory.specs.Changes as changes
+use Rattle.mvo_theory.specs.Changes.{with_words, after_termination}
+use Rattle.mvo_theory.specs.Sound.{IsSingle}
+use Rattle.mvo_theory.specs.Calls.{MayCome, steps_of}
+use Rattle.mvo_theory.specs.Calls.Call.{Finish}
+use Rattle.mvo_theory.specs.Calls.Result.{Accepted}
+use Rattle.std.proofs.lemmas.Bool.{false≢true}
+use Rattle.mvo_theory.proofs.Each.{each_both}
+use Rattle.mvo_theory.proofs.Runs.{kept_after_call}
+use Rattle.mvo_txn.specs.declared.state.TxState.{TxState}
+use Rattle.mvo_txn.specs.declared.state.TxState.TheVariants.{Active, Preparing, Committed, Aborted}
+use Rattle.mvo_txn.specs.Txns.{Txns, state_of, kept_of, after_write, after_terminate, IsEnded}
+use Rattle.mvo_txn.proofs.Stamps.{get_left}
+use Rattle.mvo_deps.specs.declared.node.Node.{Node}
+use Rattle.mvo_chain.specs.declared.version.Version.{Version}
+use Rattle.mvo_chain.specs.Slots.{version_at, with_change}
+use Rattle.mvo_word.specs.declared.held.Held.{Held}
+use Rattle.mvo_work.specs.declared.word_place.WordPlace.{WordPlace}
+use Rattle.mvo_work.specs.declared.word_place.WordPlace.TheVariants.{Begin, End}
+use Rattle.mvo_tale.specs.declared.slot.Slot.{Slot}
+use Rattle.mvo_tale.specs.Timeline.{ArePlacesOf}
+use Rattle.mvo_tale.specs.Next.{AreGroupedTo}
+use Rattle.mvo_versions.specs.Data.{VersionsData}
+use Rattle.mvo_versions.specs.Changes.{IsReworded}
+use Rattle.mvo_representation.specs.Laws as representation
+use Rattle.mvo_representation.specs.Words.{ends_of}
+use Rattle.mvo_representation.specs.Versions.{AreVersionsOf}
+use Rattle.mvo_representation.specs.Indexes.{all_versions}
+use Rattle.mvo_representation.specs.Steps.{IsUnnamed}
+use Rattle.mvo_representation.specs.Table.{phase_as, phases_of}
+use Rattle.mvo_representation.specs.Dependencies.{HasDependencies}
+use Rattle.mvo_representation.specs.Order.{AllStandInOrder, IsFinished, word_of_stamp}
+use Rattle.mvo_representation.specs.OrderLaws.{HaveNow}
+use Rattle.mvo_representation.specs.WordLists.{HasWordLists, HaveListNow, number_at, names_at, with_word, finished}
+use Rattle.mvo_representation.proofs.TableNodes.{written_state, left_state, left_others}
+use Rattle.mvo_representation.proofs.WordPlaces.{names_here}
+use Rattle.mvo_representation.proofs.WordsSaid.{ended_not_active, ended_not_preparing}
+use Rattle.mvo_core.specs.declared.transaction.Transaction.{Transaction}
+use Rattle.mvo_core.specs.Data.{CoreData, own_of}
+use Rattle.mvo_core.specs.Standing.{StandsFor, HasWorks, IsActive, IsPreparing, words_by, words_in}
+use Rattle.mvo_core.specs.Keeping.{IsWritten, with_own_at}
+use Rattle.mvo_core.proofs.Carried.{own_here, own_beside}
+use Rattle.mvo_core.proofs.Laws.{write_in_table, call_keeps}
+use Rattle.mvo_core.proofs.FinishLaws.{word_in_table, leave_in_table, finished_stands_for, finish_in_order, leaving_in_order, changed_now}
+
+-- ---- what a core stands for beside the lists
+pub record StandsBeside (opening : Map) (steps : List Step) (s : State) (c : CoreData) : Type 0 where
+  pub versions : representation.StandsFor opening steps s (state_of c.table) c.versions.slots c.versions.lists c.versions.places
+  pub dependencies : HasDependencies s c.table
+  pub order : AllStandInOrder s.start (state_of c.table) c.versions.slots c.versions.lists
+  pub works : HasWorks s c.table c.tale
+  pub tale : ArePlacesOf c.tale s.stamped
+  pub marks : s.marks ≡ record { opening = c.opening; closed = c.closed }
+  pub grouped : AreGroupedTo c.tale c.grouped c.closed
+  pub start : s.start ≡ c.opening
+  pub past : s.past ≡ []
+
+pub beside : (opening : Map) (steps : List Step) (s : State) (c : CoreData) → StandsFor opening steps s c → StandsBeside opening steps s c
+beside opening steps s c h = record {
+  versions = h.versions;
+  dependencies = h.dependencies;
+  order = h.order;
+  works = h.works;
+  tale = h.tale;
+  marks = h.marks;
+  grouped = h.grouped;
+  start = h.start;
+  past = h.past;
+}
+
+pub with_lists : (opening : Map) (steps : List Step) (s : State) (c : CoreData) → StandsBeside opening steps s c → HasWordLists s c.versions.slots (words_in c.table) → StandsFor opening steps s c
+with_lists opening steps s c h l = record {
+  versions = h.versions;
+  dependencies = h.dependencies;
+  order = h.order;
+  works = h.works;
+  words = l;
+  tale = h.tale;
+  marks = h.marks;
+  grouped = h.grouped;
+  start = h.start;
+  past = h.past;
+}
+
+-- ---- what is written of one transaction
+none_node : (own : Transaction) → ◌≡◌ {A = Option Transaction} None (Some own) → ⊥
+none_node own q = cc
+
+-- the node that is kept of it, with another one's work
+pub record IsNodeWritten (old new : Txns (Node Transaction)) (t : ℕ) (after : Transaction) : Type 0 where
+  pub node : Node Transaction
+  pub was : kept_of old t ≡ Some node
+  pub is : new ≡ after_write old t (record node { own = after })
+
+pub node_written : (old new : Txns (Node Transaction)) (t : ℕ) (change : Transaction → Transaction → Type 0) (w : IsWritten old new t change) → IsNodeWritten old new t w.after
+node_written old new t change w = go (kept_of old t) refl w.was
+  where
+    go : (o : Option (Node Transaction)) → kept_of old t ≡ o → option_map (λ n. n.own) o ≡ Some w.before → IsNodeWritten old new t w.after
+    go None k e = absurd (none_node w.before e)
+    go (Some node) k e = record { node = node; was = k; is = w.is ∙ ap (λ o. with_own_at o old t w.after) k }
+
+module _ (old new : Txns (Node Transaction)) (t : ℕ) (change : Transaction → Transaction → Type 0) (w : IsWritten old new t change) where
+  one : IsNodeWritten old new t w.after
+  one = node_written old new t change w
+
+  pub own_others : (u : ℕ) → u ≢ t → own_of new u ≡ own_of old u
+  own_others u ne = ap (λ x. own_of x u) one.is ∙ own_beside old t one.node (record one.node { own = w.after }) one.was u ne
+
+  pub own_now : own_of new t ≡ Some w.after
+  own_now = ap (λ x. own_of x t) one.is ∙ own_here old t one.node (record one.node { own = w.after }) one.was
+
+  pub same_states : state_of old ≡ state_of new
+  same_states = λ i u. sym (ap (λ x. state_of x u) one.is ∙ written_state old t one.node (record one.node { own = w.after }) one.was refl u) i
+
+  pub deps_written : (s : State) → HasDependencies s old → HasDependencies s new
+  deps_written s h = subst (HasDependencies s) (sym one.is) (write_in_table s old t one.node (record one.node { own = w.after }) h one.was refl)
+
+  pub list_written : HaveListNow (words_in old) (words_in new) t w.after.work.words
+  list_written = record { others = λ u ne. ap words_by (own_others u ne); here = ap words_by own_now }
+
+  pub list_was : words_in old t ≡ w.before.work.words
+  list_was = ap words_by w.was
+
+-- ---- one that is ended isn't Active
+still : (o : Option TxState) → IsEnded o → phase_as o ≢ ActivePhase
+still None ended q = ended
+still (Some Active) ended q = ended
+still (Some (Preparing e)) ended q = ended
+still (Some (Committed e)) ended q = cc
+still (Some Aborted) ended q = cc
+
+-- ---- what is kept of the others is what it was
+works_of_others : (s : State) (old new : Txns (Node Transaction)) (tale : List Slot) (t : ℕ) (u : EndedTx) → IsSingle s → ended_of t s.ended ≡ Some u → ((v : ℕ) → v ≢ t → own_of new v ≡ own_of old v) → HasWorks s old tale → HasWorks s new tale
+works_of_others s old new tale t u single e others h = record {
+  active = each_both (λ r. r.id ≢ t) (IsActive old) (IsActive new)
+      (λ r d w. record { own = w.own; kept = others r.id d ∙ w.kept; history = w.history }) s.active (ended_not_active s t u single e) h.active;
+  preparing = each_both (λ x. x.settled ≡ false → x.id ≢ t) (λ x. x.settled ≡ false → IsPreparing old tale x) (λ x. x.settled ≡ false → IsPreparing new tale x)
+      (λ x d w o. let p = w o in record {
+        own = p.own;
+        kept = others x.id (d o) ∙ p.kept;
+        history = p.history;
+        checked = p.checked;
+        valid = p.valid;
+        place = p.place;
+      }) s.stamped (ended_not_preparing s t u single e) h.preparing;
+}
+
+-- ---- the state after a word is finished
+finish_at : (s : State) (t : ℕ) (b : Bool) → cond b (after_termination s t) (with_words (words_left t) s) ≡ record s { ended = (cond b (after_termination s t) (with_words (words_left t) s)).ended }
+finish_at s t true = refl
+finish_at s t false = refl
+
+pub finish_is : (s : State) (t : ℕ) → changes.after_finish s t ≡ record s { ended = (changes.after_finish s t).ended }
+finish_is s t = finish_at s t (is_done s t)
+
+module _ (opening : Map) (steps : List Step) (s : State) (c : CoreData) (h : StandsBeside opening steps s c) (u : EndedTx) (e : ended_of u.id s.ended ≡ Some u) where
+  -- what is kept of the ended one changes
+  pub beside_written : (table : Txns (Node Transaction)) (change : Transaction → Transaction → Type 0) → IsWritten c.table table u.id change → StandsBeside opening steps s (record c { table = table })
+  beside_written table change w = record {
+    versions = subst (λ states. representation.StandsFor opening steps s states c.versions.slots c.versions.lists c.versions.places) (same_states c.table table u.id change w) h.versions;
+    dependencies = deps_written c.table table u.id change w s h.dependencies;
+    order = subst (λ states. AllStandInOrder s.start states c.versions.slots c.versions.lists) (same_states c.table table u.id change w) h.order;
+    works = works_of_others s c.table table c.tale u.id u h.versions.kept.single e (own_others c.table table u.id change w) h.works;
+    tale = h.tale;
+    marks = h.marks;
+    grouped = h.grouped;
+    start = h.start;
+    past = h.past;
+  }
+
+  -- a word that names it is finished
+  begin_finished : (p : WordPlace) (v : Version) → names_at c.versions.slots u.id p ≡ true → version_at c.versions.slots (number_at p) ≡ Some v
+      → IsFinished (ends_of (phases_of (state_of c.table))) u.id v.begin (finished (ends_of (phases_of (state_of c.table))) u.id p v).begin
+  begin_finished (Begin n) v name at = inr (sym (names_here c.versions.slots u.id (Begin n) v at) ∙ name, refl)
+  begin_finished (End n) v name at = inl refl
+
+  end_finished : (p : WordPlace) (v : Version) → names_at c.versions.slots u.id p ≡ true → version_at c.versions.slots (number_at p) ≡ Some v
+      → IsFinished (ends_of (phases_of (state_of c.table))) u.id v.end (finished (ends_of (phases_of (state_of c.table))) u.id p v).end
+  end_finished (Begin n) v name at = inl refl
+  end_finished (End n) v name at = inr (sym (names_here c.versions.slots u.id (End n) v at) ∙ name, refl)
+
+  pub finished_now : (new : VersionsData) (w : Held) (p : WordPlace) (v : Version) → version_at c.versions.slots (number_at p) ≡ Some v → w ≡ word_of_stamp (ends_of (phases_of (state_of c.table)) u.id)
+      → IsReworded c.versions new (number_at p) (with_word p w) → HaveNow c.versions.slots new.slots (number_at p).0 (finished (ends_of (phases_of (state_of c.table))) u.id p v)
+  finished_now new w p v at is r =
+      subst (λ slots. HaveNow c.versions.slots slots (number_at p).0 (finished (ends_of (phases_of (state_of c.table))) u.id p v))
+      (ap (λ (x : Held). with_change c.versions.slots (number_at p) (with_word p x)) (sym is) ∙ sym r.slots)
+      (changed_now c.versions.slots (number_at p) v (finished (ends_of (phases_of (state_of c.table))) u.id p) at)
+
+  pub beside_finished : IsEnded (state_of c.table u.id) → (new : VersionsData) (w : Held) (p : WordPlace) (v : Version) → version_at c.versions.slots (number_at p) ≡ Some v → names_at c.versions.slots u.id p ≡ true
+      → w ≡ word_of_stamp (ends_of (phases_of (state_of c.table)) u.id) → IsReworded c.versions new (number_at p) (with_word p w) → StandsBeside opening steps s (record c { versions = new })
+  beside_finished ended new w p v at name is r =
+      let now = finished_now new w p v at is r in
+      let same : record { slots = new.slots; lists = c.versions.lists; places = c.versions.places } ≡ new = λ i. record { slots = new.slots; lists = sym r.lists i; places = sym r.places i } in
+      subst (λ x. StandsBeside opening steps s (record c { versions = x })) same (record {
+        versions = finished_stands_for opening steps s (state_of c.table) c.versions.slots new.slots c.versions.lists c.versions.places u p v h.versions e at name now;
+        dependencies = h.dependencies;
+        order = finish_in_order s.start (state_of c.table) c.versions.slots new.slots c.versions.lists u.id (number_at p).0 v (finished (ends_of (phases_of (state_of c.table))) u.id p v)
+            (still (state_of c.table u.id) ended) at now (begin_finished p v name at) (end_finished p v name at) h.order;
+        works = h.works;
+        tale = h.tale;
+        marks = h.marks;
+        grouped = h.grouped;
+        start = h.start;
+        past = h.past;
+      })
+
+  -- ---- the state goes on
+  phases : phases_of (state_of c.table) ≡ phase_in s
+  phases = λ i v. h.dependencies.stands.phases v i
+
+  versions_after : (may : MayCome s (Finish u.id) Accepted) (table : Txns (Node Transaction)) → HasDependencies (changes.after_finish s u.id) table
+      → (is_done s u.id ≡ true → IsUnnamed u.id (all_versions c.versions.slots))
+      → representation.StandsFor opening (steps ++ steps_of s (Finish u.id) Accepted) (changes.after_finish s u.id) (state_of table) c.versions.slots c.versions.lists c.versions.places
+  versions_after may table deps unnamed = record {
+    kept = kept_after_call opening steps s (Finish u.id) Accepted may h.versions.kept;
+    versions = subst (λ p. AreVersionsOf (changes.after_finish s u.id) p (all_versions c.versions.slots)) (λ i v. sym (deps.stands.phases v) i)
+        (call_keeps opening steps s (Finish u.id) Accepted (all_versions c.versions.slots) (all_versions c.versions.slots) h.versions.kept may
+        (subst (λ p. AreVersionsOf s p (all_versions c.versions.slots)) phases h.versions.versions) (refl, unnamed));
+    numbers = h.versions.numbers;
+    order = h.versions.order;
+  }
+
+  -- in the state with other ended ones, where the table has these works
+  beside_after : (table : Txns (Node Transaction))
+      → representation.StandsFor opening (steps ++ steps_of s (Finish u.id) Accepted) (changes.after_finish s u.id) (state_of table) c.versions.slots c.versions.lists c.versions.places
+      → HasDependencies (changes.after_finish s u.id) table → AllStandInOrder s.start (state_of table) c.versions.slots c.versions.lists → HasWorks s table c.tale
+      → StandsBeside opening (steps ++ steps_of s (Finish u.id) Accepted) (changes.after_finish s u.id) (record c { table = table })
+  beside_after table versions deps order works = record {
+    versions = versions;
+    dependencies = deps;
+    order = subst (λ (x : State). AllStandInOrder x.start (state_of table) c.versions.slots c.versions.lists) (sym (finish_is s u.id)) order;
+    works = subst (λ (x : State). HasWorks x table c.tale) (sym (finish_is s u.id)) (record { active = works.active; preparing = works.preparing });
+    tale = subst (λ (x : State). ArePlacesOf c.tale x.stamped) (sym (finish_is s u.id)) h.tale;
+    marks = ap (λ (x : State). x.marks) (finish_is s u.id) ∙ h.marks;
+    grouped = h.grouped;
+    start = ap (λ (x : State). x.start) (finish_is s u.id) ∙ h.start;
+    past = ap (λ (x : State). x.past) (finish_is s u.id) ∙ h.past;
+  }
+
+  none_done : is_done s u.id ≡ false → is_done s u.id ≡ true → IsUnnamed u.id (all_versions c.versions.slots)
+  none_done more last = absurd (false≢true (sym more ∙ last))
+
+  -- words are left
+  pub beside_word : MayCome s (Finish u.id) Accepted → is_done s u.id ≡ false → StandsBeside opening (steps ++ steps_of s (Finish u.id) Accepted) (changes.after_finish s u.id) c
+  beside_word may more =
+      let deps = word_in_table s c.table u.id h.dependencies more in
+      beside_after c.table (versions_after may c.table deps (none_done more)) deps h.order h.works
+
+  -- none is left: it leaves
+  left_own : (v : ℕ) → v ≢ u.id → own_of (after_terminate c.table u.id) v ≡ own_of c.table v
+  left_own v ne = ap (λ o. option_map (λ n. n.own) (option_map (λ x. x.kept) o)) (get_left c.table.seats u.id v ne)
+
+  pub beside_left : MayCome s (Finish u.id) Accepted → IsEnded (state_of c.table u.id) → is_done s u.id ≡ true → IsUnnamed u.id (all_versions c.versions.slots)
+      → StandsBeside opening (steps ++ steps_of s (Finish u.id) Accepted) (changes.after_finish s u.id) (record c { table = after_terminate c.table u.id })
+  beside_left may ended last unnamed =
+      let table = after_terminate c.table u.id in
+      let deps = leave_in_table opening steps s c.table u.id h.versions.kept h.dependencies ended last in
+      beside_after table (versions_after may table deps (λ y. unnamed)) deps
+      (leaving_in_order s.start (state_of c.table) (state_of table) c.versions.slots c.versions.lists u.id (λ v ne. left_others c.table u.id v ne) (left_state c.table u.id) unnamed h.order)
+      (works_of_others s c.table table c.tale u.id u h.versions.kept.single e left_own h.works)

@@ -1,0 +1,149 @@
+-- A delete: what the core stands for then.
+use Rattle.std.proofs.Common.{◌≡◌, ℕ, cond, List, [], ◌∷◌, ◌++◌, Option, None, Some, refl, sym, ap, ◌∙◌, subst}
+use Rattle.std.specs.Prelude.{IsSome}
+use Rattle.std.specs.Option.{is_some, option_to_list}
+use Rattle.mvo_types.specs.declared.ids.TxId.{TxId}
+use Rattle.mvo_types.specs.declared.cause.Cause.{Cause}
+use Rattle.mvo_types.specs.declared.op.Op.TheVariants.{Delete}
+use Rattle.mvo_types.specs.declared.refusal.Refusal.{Refusal}
+use Rattle.mvo_types.specs.declared.refusal.Refusal.TheVariants.{OutOfMemory, WriteConflict}
+use Rattle.mvo_types.specs.declared.row.RowKey.{RowKey}
+use Rattle.mvo_types.specs.AnswerData.AnswerData.{Deleted, Absent}
+use Rattle.mvo_types.specs.Keys.{Map}
+use Rattle.mvo_model.specs.Trace.{Step}
+use Rattle.mvo_theory.specs.State.{State, active_of}
+use Rattle.mvo_theory.specs.Causes.{why_not_do, conflict, conflicts, or_next}
+use Rattle.mvo_theory.specs.Steps.{after_refusal, steps_of_refusal}
+use Rattle.mvo_theory.specs.Calls.{answer_in}
+use Rattle.mvo_theory.specs.Calls.Call.{Do}
+use Rattle.mvo_theory.specs.Calls.Result.{Accepted, Refused}
+use Rattle.mvo_theory.proofs.Who.{id_of}
+use Rattle.mvo_chain.specs.declared.version.VersionNo.{VersionNo}
+use Rattle.mvo_chain.specs.Slots.{version_at}
+use Rattle.mvo_txn.specs.Txns.{Txns, state_of}
+use Rattle.mvo_deps.specs.declared.node.Node.{Node}
+use Rattle.mvo_deps.specs.Nodes.{after_register_all}
+use Rattle.mvo_visible.specs.declared.outcome.Shown.{Shown}
+use Rattle.mvo_visible.specs.Words.{States}
+use Rattle.mvo_visible.specs.Versions.{versions_at}
+use Rattle.mvo_visible.specs.Shown.{IsInOrder, shown_to}
+use Rattle.mvo_work.specs.declared.word_place.WordPlace.TheVariants.{End}
+use Rattle.mvo_representation.specs.Dependencies.{AreDependencies, tx_id}
+use Rattle.mvo_representation.specs.Steps.{ended_by}
+use Rattle.mvo_versions.specs.Data.{VersionsData}
+use Rattle.mvo_versions.specs.Changes.{IsReworded}
+use Rattle.mvo_core.specs.declared.transaction.Transaction.{Transaction}
+use Rattle.mvo_core.specs.Causes.{why_not_remove}
+use Rattle.mvo_core.specs.Data.{CoreData}
+use Rattle.mvo_core.specs.Ending.{IsRemoved}
+use Rattle.mvo_core.specs.Keeping.{IsWritten, HasDoneAsMuch, HasMadeRoom, IsNoted, IsTold, IsRecorded}
+use Rattle.mvo_core.specs.Looking.{cause_at}
+use Rattle.mvo_core.specs.Standing.{StandsFor}
+use Rattle.mvo_core.specs.Steps.{LeadsOn}
+use Rattle.mvo_core.proofs.Answered.{IsAnswered, answer_leads, recorded_leads}
+use Rattle.mvo_core.proofs.Asked.{active_if_removed}
+use Rattle.mvo_core.proofs.Carried.{stands_as_much, stands_roomy}
+use Rattle.mvo_core.proofs.CausesTold.{not_deleted_is}
+use Rattle.mvo_core.proofs.InTheWay.{in_the_way_is}
+use Rattle.mvo_core.proofs.Looked.{IsActiveHere, active_here, shown_in, versions_in_order, shown_there, key_is, names_just}
+use Rattle.mvo_core.proofs.OwnChanged.{IsOwnChanged, own_changed, own_changed_twice}
+use Rattle.mvo_core.proofs.Refused.{refused_leads, spent_leads}
+use Rattle.mvo_core.proofs.Removed.{HasNotedAndTold, told_one, deleted}
+
+module _ (opening : Map) (steps : List Step) (s : State) (c : CoreData) (h : StandsFor opening steps s c) (t : TxId) (k : RowKey) where
+  pub delete_refused : (r : Refusal) → why_not_remove c.table t.0 k ≡ Some r → (new : CoreData) → StandsFor opening (steps ++ steps_of_refusal t.0 r) (after_refusal s t.0 r) new
+      → LeadsOn opening steps s (Do t.0 (Delete k)) (Refused r) new
+  delete_refused r why new stands = refused_leads opening steps s t.0 (Delete k) new r
+      (sym (not_deleted_is opening steps s c h t.0 k) ∙ ap (λ o. or_next o (conflicts (conflict s t.0 k))) why) stands
+
+  module _ (none : why_not_remove c.table t.0 k ≡ None) where
+    here : IsActiveHere s c t.0
+    here = active_here opening steps s c h t.0 (active_if_removed c.table t.0 k none)
+
+    id : here.tx.id ≡ t.0
+    id = id_of t.0 s.active here.tx here.found
+
+    mine : active_of here.tx.id s.active ≡ Some here.tx
+    mine = ap (λ (n : ℕ). active_of n s.active) id ∙ here.found
+
+    behind : why_not_do s t.0 (Delete k) ≡ conflicts (conflict s t.0 k)
+    behind = sym (not_deleted_is opening steps s c h t.0 k) ∙ ap (λ o. or_next o (conflicts (conflict s t.0 k))) none
+
+    module _ (found : Shown) (is : IsInOrder (state_of c.table) t.0 t.0 (versions_at c.versions.slots c.versions.lists k) → found ≡ shown_in c t.0 k) where
+      shown : found ≡ shown_in c t.0 k
+      shown = is (versions_in_order opening steps s c h t.0 here.state k)
+
+      way : cause_at (state_of c.table) c.versions.slots t.0 found.version ≡ conflict s t.0 k
+      way = ap (λ (x : Shown). cause_at (state_of c.table) c.versions.slots t.0 x.version) shown
+          ∙ subst (λ (n : ℕ). cause_at (state_of c.table) c.versions.slots n (shown_in c n k).version ≡ conflict s n k) id (in_the_way_is opening steps s c h here.tx mine k)
+
+      -- another has ended the version first
+      pub delete_conflicts : (cause : Cause) → cause_at (state_of c.table) c.versions.slots t.0 found.version ≡ Some cause → (new : CoreData)
+          → StandsFor opening (steps ++ steps_of_refusal t.0 (WriteConflict cause)) (after_refusal s t.0 (WriteConflict cause)) new
+          → LeadsOn opening steps s (Do t.0 (Delete k)) (Refused (WriteConflict cause)) new
+      delete_conflicts cause told new stands = refused_leads opening steps s t.0 (Delete k) new (WriteConflict cause) (behind ∙ ap conflicts (sym way ∙ told)) stands
+
+      module _ (free : cause_at (state_of c.table) c.versions.slots t.0 found.version ≡ None) where
+        may : why_not_do s t.0 (Delete k) ≡ None
+        may = behind ∙ ap conflicts (sym way ∙ free)
+
+        answer_is : answer_in s t.0 (Delete k) ≡ cond (is_some found.version) Deleted Absent
+        answer_is = ap (λ b. cond b Deleted Absent) (key_is opening steps s c h t.0 here.tx here.found k) ∙ ap (λ (x : Shown). cond (is_some x.version) Deleted Absent) (sym shown)
+
+        on : AreDependencies s (Delete k) here.tx (option_to_list found.depends_on)
+        on = subst (λ (x : Shown). AreDependencies s (Delete k) here.tx (option_to_list x.depends_on)) (sym shown) (names_just opening steps s c h t.0 here.tx here.found k (Delete k) refl)
+
+        -- for want of memory
+        pub delete_spent : (table : Txns (Node Transaction)) → IsWritten c.table table t.0 HasDoneAsMuch → LeadsOn opening steps s (Do t.0 (Delete k)) (Refused OutOfMemory) (record c { table = table })
+        delete_spent table w = spent_leads opening steps s t.0 (Delete k) (record c { table = table }) may (stands_as_much opening steps s c h t.0 table w)
+
+        pub delete_left : (versions : VersionsData) → versions ≡ c.versions → (table : Txns (Node Transaction)) → IsWritten c.table table t.0 HasDoneAsMuch
+            → LeadsOn opening steps s (Do t.0 (Delete k)) (Refused OutOfMemory) (record c { versions = versions; table = table })
+        delete_left versions same table w = subst (λ (v : VersionsData). LeadsOn opening steps s (Do t.0 (Delete k)) (Refused OutOfMemory) (record c { versions = v; table = table })) (sym same) (delete_spent table w)
+
+        -- nothing is there
+        pub absent_answers : found.version ≡ None → Absent ≡ answer_in s t.0 (Delete k)
+        absent_answers e = sym (answer_is ∙ ap (λ (o : Option VersionNo). cond (is_some o) Deleted Absent) e)
+
+        pub absent_leads : found.version ≡ None → (table : Txns (Node Transaction)) → IsRecorded c.table table t (option_to_list found.depends_on) (Delete k) Absent
+            → LeadsOn opening steps s (Do t.0 (Delete k)) Accepted (record c { table = table })
+        absent_leads e table w = recorded_leads opening steps s c h t here.tx here.found (Delete k) Absent may (absent_answers e) refl (option_to_list found.depends_on) on table w
+
+        -- the version is ended
+        module _ (n : VersionNo) (e : found.version ≡ Some n) where
+          pub deleted_answers : Deleted ≡ answer_in s t.0 (Delete k)
+          deleted_answers = sym (answer_is ∙ ap (λ (o : Option VersionNo). cond (is_some o) Deleted Absent) e)
+
+          -- it is there
+          pub deleted_live : IsSome (version_at c.versions.slots n)
+          deleted_live = ap is_some (shown_there opening steps s c h t.0 here.tx here.found k n (ap (λ (x : Shown). x.version) (sym shown) ∙ e)).at
+
+          module _ (versions : VersionsData) (table : Txns (Node Transaction)) (w : IsRemoved c.versions versions c.table table t (option_to_list found.depends_on) n k) where
+            states : state_of c.table ≡ state_of w.roomy
+            states = λ i u. sym ((own_changed c.table w.roomy t.0 HasMadeRoom w.room).states u) i
+
+            stands : StandsFor opening steps s (record c { table = w.roomy })
+            stands = stands_roomy opening steps s c h t.0 w.roomy w.room
+
+            told : IsOwnChanged (after_register_all w.roomy t (option_to_list found.depends_on)) table t.0 (HasNotedAndTold (Delete k) Deleted (λ ws. ws ++ End n ∷ []))
+            told = own_changed_twice (after_register_all w.roomy t (option_to_list found.depends_on)) w.noted table t.0
+                (IsNoted (End n)) (IsTold (Delete k) Deleted) (HasNotedAndTold (Delete k) Deleted (λ ws. ws ++ End n ∷ [])) (told_one (Delete k) Deleted (End n))
+                (own_changed (after_register_all w.roomy t (option_to_list found.depends_on)) w.noted t.0 (IsNoted (End n)) w.word)
+                (own_changed w.noted table t.0 (IsTold (Delete k) Deleted) w.told)
+
+            abbrev Claim : ℕ → Type 0
+            Claim i = (shown_to (state_of w.roomy) i i (versions_at c.versions.slots c.versions.lists k)).version ≡ Some n → cause_at (state_of w.roomy) c.versions.slots i (Some n) ≡ None
+                → IsReworded c.versions versions n (ended_by i)
+                → IsOwnChanged (after_register_all w.roomy (tx_id i) (option_to_list found.depends_on)) table i (HasNotedAndTold (Delete k) Deleted (λ ws. ws ++ End n ∷ []))
+                → why_not_do s i (Delete k) ≡ None
+                → IsAnswered s (record c { table = w.roomy }) (tx_id i) here.tx (Delete k) (option_to_list found.depends_on) versions table
+
+            claim : Claim here.tx.id
+            claim e' free' w' told' may' = deleted opening steps s (record c { table = w.roomy }) stands here.tx mine k n e' free' (option_to_list found.depends_on) versions table w' told' on may'
+
+            pub deleted_leads : LeadsOn opening steps s (Do t.0 (Delete k)) Accepted (record c { versions = versions; table = table })
+            deleted_leads = answer_leads opening steps s (record c { table = w.roomy }) stands t here.tx (Delete k) (option_to_list found.depends_on) versions table
+                (subst Claim id claim
+                (subst (λ (st : States). (shown_to st t.0 t.0 (versions_at c.versions.slots c.versions.lists k)).version ≡ Some n) states (ap (λ (x : Shown). x.version) (sym shown) ∙ e))
+                (subst (λ (st : States). cause_at st c.versions.slots t.0 (Some n) ≡ None) states (ap (cause_at (state_of c.table) c.versions.slots t.0) (sym e) ∙ free))
+                w.ended told may)

@@ -1,0 +1,66 @@
+-- Why an end of a transaction is refused: the table's causes are the theory's.
+use Rattle.std.proofs.Common.{◌≡◌, ℕ, ◌++◌, not, List, [], ◌∷◌, Option, None, Some, refl, sym, ap, ◌∙◌}
+use Rattle.mvo_types.specs.declared.limits.TheConstants.{MAX_STAMP}
+use Rattle.mvo_types.specs.declared.ids.TxId.{TxId}
+use Rattle.mvo_types.specs.declared.ids.Stamp.{Stamp}
+use Rattle.mvo_types.specs.declared.refusal.Refusal.{Refusal}
+use Rattle.mvo_types.specs.declared.refusal.Refusal.TheVariants.{NoSuchTransaction, Ended, NotPreparing, NotValidated, ClockSpent}
+use Rattle.mvo_types.specs.Keys.{Map}
+use Rattle.mvo_model.specs.Trace.{Step}
+use Rattle.mvo_theory.specs.State.{State, preparing_of}
+use Rattle.mvo_theory.specs.Causes.{when, or_next, first_cause, unless_active, unless_preparing, next_differs, was_valid, why_not_precommit, why_not_validate, why_not_settle}
+use Rattle.mvo_txn.specs.declared.state.TxState.{TxState}
+use Rattle.mvo_txn.specs.declared.state.TxState.TheVariants.{Active, Preparing, Committed, Aborted}
+use Rattle.std.specs.Prelude.{nat_le}
+use Rattle.mvo_core.specs.Data.{CoreData}
+use Rattle.mvo_core.specs.Standing.{StandsFor}
+use Rattle.mvo_core.specs.Causes.{unless_preparing_as, why_not_active, why_not_preparing}
+use Rattle.mvo_core.proofs.CausesTold.{not_active_is, not_preparing_is}
+
+-- ---- lists of causes
+or_next_deep : (a b c : Option Refusal) → or_next (or_next a b) c ≡ or_next a (or_next b c)
+or_next_deep None b c = refl
+or_next_deep (Some r) b c = refl
+
+or_none : (a : Option Refusal) → or_next a None ≡ a
+or_none None = refl
+or_none (Some r) = refl
+
+first_behind : (xs : List (Option Refusal)) (last : Option Refusal) → first_cause (xs ++ last ∷ []) ≡ or_next (first_cause xs) last
+first_behind [] last = or_none last
+first_behind (x ∷ xs) last = ap (or_next x) (first_behind xs last) ∙ sym (or_next_deep x (first_cause xs) last)
+
+-- the first stands, or there is none
+pub or_first : (a b : Option Refusal) (r : Refusal) → a ≡ Some r → or_next a b ≡ Some r
+or_first a b r e = ap (λ o. or_next o b) e
+
+pub or_last : (a b : Option Refusal) → a ≡ None → or_next a b ≡ b
+or_last a b e = ap (λ o. or_next o b) e
+
+module _ (opening : Map) (steps : List Step) (s : State) (c : CoreData) (h : StandsFor opening steps s c) (t : ℕ) where
+  pub not_precommitted_is : or_next (why_not_active c.table t) (when (nat_le MAX_STAMP c.table.clock) ClockSpent) ≡ why_not_precommit s t
+  not_precommitted_is =
+      ap (λ (a : Option Refusal). or_next a (when (nat_le MAX_STAMP c.table.clock) ClockSpent)) (not_active_is opening steps s c h t)
+      ∙ ap (λ (n : ℕ). or_next (first_cause (unless_active s t)) (when (nat_le MAX_STAMP n) ClockSpent)) h.dependencies.stands.clock
+      ∙ sym (first_behind (unless_active s t) (when (nat_le MAX_STAMP s.clock) ClockSpent))
+
+  pub not_validated_is : or_next (why_not_preparing c.table t) (next_differs s.stamped (preparing_of t s.stamped)) ≡ why_not_validate s t
+  not_validated_is =
+      ap (λ (a : Option Refusal). or_next a (next_differs s.stamped (preparing_of t s.stamped))) (not_preparing_is opening steps s c h t)
+      ∙ sym (first_behind (unless_preparing s t) (next_differs s.stamped (preparing_of t s.stamped)))
+
+  pub not_settled_is : or_next (why_not_preparing c.table t) (when (not (was_valid (preparing_of t s.stamped))) NotValidated) ≡ why_not_settle s t
+  not_settled_is =
+      ap (λ (a : Option Refusal). or_next a (when (not (was_valid (preparing_of t s.stamped))) NotValidated)) (not_preparing_is opening steps s c h t)
+      ∙ sym (first_behind (unless_preparing s t) (when (not (was_valid (preparing_of t s.stamped))) NotValidated))
+
+-- ---- none stands: it is Preparing
+some_none : (r : Refusal) → ◌≡◌ {A = Option Refusal} (Some r) None → ⊥
+some_none r q = cc
+
+pub preparing_unended : (o : Option TxState) (flag : Option TxId) → unless_preparing_as o flag ≡ None → (e : Stamp) × (o ≡ Some (Preparing e))
+preparing_unended None flag e = absurd (some_none NoSuchTransaction e)
+preparing_unended (Some Active) flag e = absurd (some_none NotPreparing e)
+preparing_unended (Some (Preparing d)) flag e = (d, refl)
+preparing_unended (Some (Committed d)) flag e = absurd (some_none Ended e)
+preparing_unended (Some Aborted) flag e = absurd (some_none Ended e)

@@ -1,0 +1,40 @@
+-- The first word of a transaction's list, once those in front were passed over.
+use Rattle.std.proofs.Common.{◌≡◌, ℕ, List, [], ◌∷◌, Option, None, Some, refl, sym, ap, ◌∙◌, subst}
+use Rattle.std.specs.Prelude.{IsSome, slice_get}
+use Rattle.mvo_txn.specs.Txns.{Txns}
+use Rattle.mvo_deps.specs.declared.node.Node.{Node}
+use Rattle.mvo_chain.specs.Slots.{Slots, version_at}
+use Rattle.mvo_work.specs.declared.word_place.WordPlace.{WordPlace}
+use Rattle.mvo_representation.specs.WordLists.{number_at}
+use Rattle.mvo_representation.proofs.WordPlaces.{names_there}
+use Rattle.mvo_core.specs.declared.transaction.Transaction.{Transaction}
+use Rattle.mvo_core.specs.Standing.{words_in}
+use Rattle.mvo_core.specs.Keeping.{IsWritten}
+use Rattle.mvo_core.specs.Finishing.{HasPassed}
+use Rattle.mvo_core.proofs.OwnChanged.{own_changed, words_here}
+use Rattle.mvo_core.proofs.Passed.{first_named}
+
+none_place : (p : WordPlace) → ◌≡◌ {A = Option WordPlace} None (Some p) → ⊥
+none_place p e = cc
+
+pub first_of : (ps : List WordPlace) → slice_get ps 0 ≡ None → ps ≡ []
+first_of [] e = refl
+first_of (p ∷ ps) e = absurd (none_place p (sym e))
+
+pub record IsFirst (ps : List WordPlace) (p : WordPlace) : Type 0 where
+  pub rest : List WordPlace
+  pub is : ps ≡ p ∷ rest
+
+pub first_is : (ps : List WordPlace) (p : WordPlace) → slice_get ps 0 ≡ Some p → IsFirst ps p
+first_is [] p e = absurd (none_place p e)
+first_is (q ∷ qs) p e = let same : q ≡ p = cc in record { rest = qs; is = ap (λ x. x ∷ qs) same }
+
+-- it is a version's
+pub first_there : (slots : Slots) (table between : Txns (Node Transaction)) (t : ℕ) (p : WordPlace) → IsWritten table between t (HasPassed slots t) → Some p ≡ slice_get (words_in between t) 0
+    → IsSome (version_at slots (number_at p))
+first_there slots table between t p w first =
+    let changed = own_changed table between t (HasPassed slots t) w in
+    let here = first_is (words_in between t) p (sym first) in
+    let there = names_there slots t p (first_named slots t changed.before.work.words p here.rest
+    (sym changed.changed.words ∙ sym (words_here table between t (HasPassed slots t) changed) ∙ here.is)) in
+    subst IsSome (sym there.at) refl

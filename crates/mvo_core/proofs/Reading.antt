@@ -1,0 +1,75 @@
+-- A row is read: what the core stands for then.
+use Rattle.std.proofs.Common.{◌≡◌, List, ◌++◌, Option, None, Some, refl, sym, ap, ◌∙◌, subst}
+use Rattle.std.specs.Option.{option_to_list}
+use Rattle.mvo_types.specs.declared.ids.TxId.{TxId}
+use Rattle.mvo_types.specs.declared.op.Op.TheVariants.{Read}
+use Rattle.mvo_types.specs.declared.refusal.Refusal.{Refusal}
+use Rattle.mvo_types.specs.declared.refusal.Refusal.TheVariants.{OutOfMemory}
+use Rattle.mvo_types.specs.declared.row.RowKey.{RowKey}
+use Rattle.mvo_types.specs.AnswerData.AnswerData.{Found}
+use Rattle.mvo_types.specs.RowData.{RowData}
+use Rattle.mvo_types.specs.Keys.{Map, row_at}
+use Rattle.mvo_model.specs.Trace.{Step}
+use Rattle.mvo_theory.specs.Entries.Entry.{Key}
+use Rattle.mvo_theory.specs.State.{State, snapshot}
+use Rattle.mvo_theory.specs.Causes.{why_not_do}
+use Rattle.mvo_theory.specs.Steps.{after_refusal, steps_of_refusal}
+use Rattle.mvo_theory.specs.Calls.{answer_in}
+use Rattle.mvo_theory.specs.Calls.Call.{Do}
+use Rattle.mvo_theory.specs.Calls.Result.{Accepted, Refused}
+use Rattle.mvo_txn.specs.Txns.{Txns, state_of}
+use Rattle.mvo_deps.specs.declared.node.Node.{Node}
+use Rattle.mvo_visible.specs.declared.outcome.Shown.{Shown}
+use Rattle.mvo_visible.specs.Versions.{versions_at}
+use Rattle.mvo_visible.specs.Shown.{IsInOrder}
+use Rattle.mvo_core.specs.declared.transaction.Transaction.{Transaction}
+use Rattle.mvo_core.specs.Causes.{why_not_look}
+use Rattle.mvo_core.specs.Data.{CoreData}
+use Rattle.mvo_core.specs.Keeping.{IsWritten, HasDoneAsMuch, IsRecorded}
+use Rattle.mvo_core.specs.Looking.{row_shown}
+use Rattle.mvo_core.specs.Standing.{StandsFor}
+use Rattle.mvo_core.specs.Steps.{LeadsOn}
+use Rattle.mvo_representation.specs.Dependencies.{AreDependencies}
+use Rattle.mvo_core.proofs.Answered.{recorded_leads}
+use Rattle.mvo_core.proofs.Asked.{active_if_looked}
+use Rattle.mvo_core.proofs.Carried.{stands_as_much}
+use Rattle.mvo_core.proofs.CausesTold.{not_read_is}
+use Rattle.mvo_core.proofs.Looked.{IsActiveHere, active_here, shown_in, versions_in_order, row_is, names_just}
+use Rattle.mvo_core.proofs.Refused.{refused_leads, spent_leads}
+
+module _ (opening : Map) (steps : List Step) (s : State) (c : CoreData) (h : StandsFor opening steps s c) (t : TxId) (k : RowKey) where
+  pub read_refused : (r : Refusal) → why_not_look c.table t.0 k.table (Key k) ≡ Some r → (new : CoreData) → StandsFor opening (steps ++ steps_of_refusal t.0 r) (after_refusal s t.0 r) new
+      → LeadsOn opening steps s (Do t.0 (Read k)) (Refused r) new
+  read_refused r why new stands = refused_leads opening steps s t.0 (Read k) new r (sym (not_read_is opening steps s c h t.0 k) ∙ why) stands
+
+  module _ (none : why_not_look c.table t.0 k.table (Key k) ≡ None) where
+    may : why_not_do s t.0 (Read k) ≡ None
+    may = sym (not_read_is opening steps s c h t.0 k) ∙ none
+
+    here : IsActiveHere s c t.0
+    here = active_here opening steps s c h t.0 (active_if_looked c.table t.0 k.table (Key k) none)
+
+    -- for want of memory
+    pub read_spent : LeadsOn opening steps s (Do t.0 (Read k)) (Refused OutOfMemory) c
+    read_spent = spent_leads opening steps s t.0 (Read k) c may h
+
+    pub read_spent_roomy : (table : Txns (Node Transaction)) → IsWritten c.table table t.0 HasDoneAsMuch → LeadsOn opening steps s (Do t.0 (Read k)) (Refused OutOfMemory) (record c { table = table })
+    read_spent_roomy table w = spent_leads opening steps s t.0 (Read k) (record c { table = table }) may (stands_as_much opening steps s c h t.0 table w)
+
+    -- answered
+    module _ (found : Shown) (is : IsInOrder (state_of c.table) t.0 t.0 (versions_at c.versions.slots c.versions.lists k) → found ≡ shown_in c t.0 k) (row : Option RowData)
+        (told : row ≡ row_shown c.versions.slots found.version) where
+      shown : found ≡ shown_in c t.0 k
+      shown = is (versions_in_order opening steps s c h t.0 here.state k)
+
+      row_there : row ≡ row_at (snapshot s t.0) k
+      row_there = told ∙ ap (λ (x : Shown). row_shown c.versions.slots x.version) shown ∙ row_is opening steps s c h t.0 here.tx here.found k
+
+      pub read_answers : Found row ≡ answer_in s t.0 (Read k)
+      read_answers = ap Found row_there
+
+      pub read_leads : (table : Txns (Node Transaction)) → IsRecorded c.table table t (option_to_list found.depends_on) (Read k) (Found row)
+          → LeadsOn opening steps s (Do t.0 (Read k)) Accepted (record c { table = table })
+      read_leads table w =
+          recorded_leads opening steps s c h t here.tx here.found (Read k) (Found row) may read_answers refl (option_to_list found.depends_on)
+          (subst (λ (x : Shown). AreDependencies s (Read k) here.tx (option_to_list x.depends_on)) (sym shown) (names_just opening steps s c h t.0 here.tx here.found k (Read k) refl)) table w

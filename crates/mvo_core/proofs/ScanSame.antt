@@ -1,0 +1,295 @@
+-- The rows that a scan is shown place by place are the scan of the snapshot.
+use Rattle.std.proofs.Common.{◌≡◌, ℕ, Bool, true, false, cond, List, [], ◌∷◌, ◌++◌, map, filter, Option, None, Some, refl, sym, ap, ◌∙◌, subst, inl, inr}
+use Rattle.std.specs.Prelude.{◌==◌, ◌&&◌, nat_le}
+use Rattle.std.specs.List.{AllByRecursion}
+use Rattle.std.specs.List.Sorted.{IsPermutation}
+use Rattle.std.specs.Option.{option_map, option_to_list}
+use Rattle.std.specs.Ordering.{eq_by_cmp, is_lt, is_eq}
+use Rattle.std.specs.Cmp.{eq_by_cmp_equiv}
+use Rattle.std.specs.declared.cmp.Ordering.{Ordering}
+use Rattle.std.specs.declared.cmp.Ordering.TheVariants.{Less, Equal, Greater}
+use Rattle.std.specs.FinMap as fin
+use Rattle.std.specs.FinMap.{is_sorted, entries_sorted}
+use Rattle.std.specs.FinMap.Entries.{below_all}
+use Rattle.std.proofs.Math.Dec.{T}
+use Rattle.std.proofs.lemmas.Bool.{eq-eqb, false≢true}
+use Rattle.std.proofs.lemmas.List.Elements.{All-from_recursion, recursion_from_All}
+use Rattle.std.proofs.lemmas.List.Sorted.{All-permutation, IsPermutation-sym}
+use Rattle.std.proofs.lemmas.Map.Views.{tells_apart}
+use Rattle.mvo_types.specs.declared.row.RowKey.{RowKey}
+use Rattle.mvo_types.specs.RowData.{RowData, ContentData, row_with}
+use Rattle.mvo_types.specs.RowLists.{is_within, rows_by_key, rows_within}
+use Rattle.mvo_types.specs.Keys.{Map, key_cmp, row_at}
+use Rattle.mvo_types.proofs.Maps.{exact_keys, keys_total}
+use Rattle.mvo_model.specs.Serial.{scan_cmp, scan}
+use Rattle.mvo_model.specs.Trace.{Step}
+use Rattle.mvo_model.proofs.Scans.{scan_is, scan_total}
+use Rattle.mvo_theory.specs.State.{State, ActiveTx, active_of, snapshot}
+use Rattle.mvo_theory.proofs.Each.{each_weaker}
+use Rattle.mvo_theory.proofs.Who.{id_of}
+use Rattle.mvo_txn.specs.Txns.{state_of}
+use Rattle.mvo_chain.specs.declared.version.Version.{Version}
+use Rattle.mvo_chain.specs.declared.version.VersionNo.{VersionNo}
+use Rattle.mvo_chain.specs.Slots.{version_at}
+use Rattle.mvo_range.specs.declared.place.Place.{Place}
+use Rattle.mvo_range.specs.Place.{is_between}
+use Rattle.mvo_validate.specs.Entries.{key_at}
+use Rattle.mvo_representation.specs.Table.{place_with}
+use Rattle.mvo_representation.proofs.Proved.{rows_are_placed}
+use Rattle.mvo_core.specs.Data.{CoreData}
+use Rattle.mvo_core.specs.Looking.{row_shown}
+use Rattle.mvo_core.specs.Scanning.{row_of, row_with_sort, row_at_place, rows_at, places_within}
+use Rattle.mvo_core.specs.Standing.{StandsFor}
+use Rattle.mvo_core.proofs.Looked.{shown_in, row_is}
+use Rattle.mvo_core.proofs.SameRising.{IsIn, same_rising}
+use Rattle.mvo_core.proofs.ScanNamed.{each_entry, some_there}
+use Rattle.mvo_core.proofs.ScanRows.{IsAt, row_at_is, rows_rise}
+
+none_row : (r : RowData) → ◌≡◌ {A = Option RowData} None (Some r) → ⊥
+none_row r q = cc
+
+some_row : (a b : RowData) → ◌≡◌ {A = Option RowData} (Some a) (Some b) → a ≡ b
+some_row a b q = cc
+
+none_content : (h : ContentData) → ◌≡◌ {A = Option ContentData} None (Some h) → ⊥
+none_content h q = cc
+
+some_content : (a b : ContentData) → ◌≡◌ {A = Option ContentData} (Some a) (Some b) → a ≡ b
+some_content a b q = cc
+
+-- ---- elements of lists
+module _ {X : Type 0} where
+  in_left : (x : X) (xs ys : List X) → IsIn x xs → IsIn x (xs ++ ys)
+  in_left x [] ys i = absurd i
+  in_left x (y ∷ xs) ys (inl e) = inl e
+  in_left x (y ∷ xs) ys (inr i) = inr (in_left x xs ys i)
+
+  in_right : (x : X) (xs ys : List X) → IsIn x ys → IsIn x (xs ++ ys)
+  in_right x [] ys i = i
+  in_right x (y ∷ xs) ys i = inr (in_right x xs ys i)
+
+  of_each : (P : X → Type 0) (xs : List X) → AllByRecursion P xs → (x : X) → IsIn x xs → P x
+  of_each P [] h x i = absurd i
+  of_each P (y ∷ ys) h x (inl e) = subst P (sym e) h.0
+  of_each P (y ∷ ys) h x (inr i) = of_each P ys h.1 x i
+
+  each_in : (xs : List X) → AllByRecursion (λ x. IsIn x xs) xs
+  each_in [] = tt
+  each_in (y ∷ ys) = (inl refl, each_weaker (λ x. IsIn x ys) (λ x. IsIn x (y ∷ ys)) (λ x i. inr i) ys (each_in ys))
+
+  -- what is in a list is in what it is exchanged from
+  in_permuted : (xs ys : List X) → IsPermutation xs ys → (x : X) → IsIn x ys → IsIn x xs
+  in_permuted xs ys p =
+      of_each (λ x. IsIn x xs) ys
+      (recursion_from_All (λ x. IsIn x xs) ys (All-permutation (λ x. IsIn x xs) xs ys p (All-from_recursion (λ x. IsIn x xs) xs (each_in xs))))
+
+  in_filter : (f : X → Bool) (x : X) (xs : List X) → f x ≡ true → IsIn x xs → IsIn x (filter f xs)
+  in_filter f x [] e i = absurd i
+  in_filter f x (y ∷ ys) e i = go (f y) refl i (λ j. in_filter f x ys e j)
+    where
+      go : (b : Bool) → f y ≡ b → IsIn x (y ∷ ys) → (IsIn x ys → IsIn x (filter f ys)) → IsIn x (cond b (y ∷ filter f ys) (filter f ys))
+      go true q (inl s) again = inl s
+      go true q (inr j) again = inr (again j)
+      go false q (inl s) again = absurd (false≢true (sym q ∙ ap f (sym s) ∙ e))
+      go false q (inr j) again = again j
+
+  -- an element that passes
+  pub record IsKept (f : X → Bool) (x : X) (xs : List X) : Type 0 where
+    pub there : IsIn x xs
+    pub passes : f x ≡ true
+
+  kept : (f : X → Bool) (x : X) (xs : List X) → IsIn x (filter f xs) → IsKept f x xs
+  kept f x [] i = absurd i
+  kept f x (y ∷ ys) i = go (f y) refl i (λ j. kept f x ys j)
+    where
+      go : (b : Bool) → f y ≡ b → IsIn x (cond b (y ∷ filter f ys) (filter f ys)) → (IsIn x (filter f ys) → IsKept f x ys) → IsKept f x (y ∷ ys)
+      go true q (inl s) again = record { there = inl s; passes = ap f s ∙ q }
+      go true q (inr j) again = let w = again j in record { there = inr w.there; passes = w.passes }
+      go false q j again = let w = again j in record { there = inr w.there; passes = w.passes }
+
+-- ---- the rows of a map
+abbrev Entries : Type 0
+Entries = List (RowKey × ContentData)
+
+abbrev whole : RowKey × ContentData → RowData
+whole e = row_with e.0 e.1
+
+-- what is found at a key is one of the rows
+row_found : (k : RowKey) (h : ContentData) (es : Entries) → fin.find key_cmp k es ≡ Some h → IsIn (row_with k h) (map whole es)
+row_found k h [] e = absurd (none_content h e)
+row_found k h (x ∷ xs) e = go (eq_by_cmp key_cmp k x.0) refl e (λ f. row_found k h xs f)
+  where
+    go : (b : Bool) → eq_by_cmp key_cmp k x.0 ≡ b → cond b (Some x.1) (fin.find key_cmp k xs) ≡ Some h → (fin.find key_cmp k xs ≡ Some h → IsIn (row_with k h) (map whole xs))
+        → IsIn (row_with k h) (whole x ∷ map whole xs)
+    go true q f again = inl (ap (λ (j : RowKey). row_with j h) (tells_apart exact_keys k x.0 q) ∙ ap (row_with x.0) (sym (some_content x.1 h f)))
+    go false q f again = inr (again f)
+
+first : (a b : Bool) → T (a && b) → T a
+first true b h = tt
+first false b h = h
+
+second : (a b : Bool) → T (a && b) → T b
+second true b h = h
+second false b h = absurd h
+
+-- an entry of a list that has the row
+pub record IsEntryOf (z : RowData) (es : Entries) : Type 0 where
+  pub content : ContentData
+  pub row : z ≡ row_with z.key content
+  pub found : fin.find key_cmp z.key es ≡ Some content
+
+above : (k : RowKey) (z : RowData) (es : Entries) → T (below_all key_cmp k es) → IsIn z (map whole es) → eq_by_cmp key_cmp z.key k ≡ false
+above k z [] s i = absurd i
+above k z (x ∷ xs) s (inl e) = (eq_by_cmp_equiv keys_total).symm z.key k ∙ ap (λ (r : RowData). eq_by_cmp key_cmp k r.key) e ∙ differ (key_cmp k x.0) (first _ _ s)
+  where
+    differ : (o : Ordering) → T (is_lt o) → is_eq o ≡ false
+    differ Less h = refl
+    differ Equal h = absurd h
+    differ Greater h = absurd h
+above k z (x ∷ xs) s (inr i) = above k z xs (second _ _ s) i
+
+-- each of the rows is found at its key, since the keys rise
+entry_of_row : (z : RowData) (es : Entries) → T (is_sorted key_cmp es) → IsIn z (map whole es) → IsEntryOf z es
+entry_of_row z [] s i = absurd i
+entry_of_row z (x ∷ xs) s (inl e) = record {
+  content = x.1;
+  row = e ∙ ap (λ (r : RowData). row_with r.key x.1) (sym e);
+  found = ap (λ b. cond b (Some x.1) (fin.find key_cmp z.key xs))
+      (ap (λ (r : RowData). eq_by_cmp key_cmp r.key x.0) e ∙ (eq_by_cmp_equiv keys_total).refl x.0);
+}
+entry_of_row z (x ∷ xs) s (inr i) =
+    let w = entry_of_row z xs (second _ _ s) i in record {
+      content = w.content;
+      row = w.row;
+      found = ap (λ b. cond b (Some x.1) (fin.find key_cmp z.key xs)) (above x.0 z xs (first _ _ s) i) ∙ w.found;
+    }
+
+module _ (m : Map) (table lo hi : ℕ) where
+  -- a row of the range is one of the scan
+  in_scan : (k : RowKey) (z : RowData) → row_at m k ≡ Some z → is_within table lo hi z ≡ true → IsIn z (scan m table lo hi)
+  in_scan k z e inside = go (fin.get m k) refl e
+    where
+      go : (o : Option ContentData) → fin.get m k ≡ o → option_map (row_with k) o ≡ Some z → IsIn z (scan m table lo hi)
+      go None q f = absurd (none_row z f)
+      go (Some h) q f =
+          let same : row_with k h ≡ z = some_row (row_with k h) z f in
+          in_permuted (scan m table lo hi) (rows_within m table lo hi)
+          (IsPermutation-sym (rows_within m table lo hi) (scan m table lo hi) (scan_is m table lo hi).same) z
+          (in_filter (is_within table lo hi) z (rows_by_key m) inside
+          (subst (λ (r : RowData). IsIn r (rows_by_key m)) same (row_found k h (fin.entries m) (sym (fin.get-entries m k) ∙ q))))
+
+  -- a row of the scan stands at its key, and is of the range
+  pub record IsScanned (z : RowData) : Type 0 where
+    pub content : ContentData
+    pub row : z ≡ row_with z.key content
+    pub held : fin.get m z.key ≡ Some content
+    pub inside : is_within table lo hi z ≡ true
+
+  of_scan : (z : RowData) → IsIn z (scan m table lo hi) → IsScanned z
+  of_scan z i =
+      let w = kept (is_within table lo hi) z (rows_by_key m) (in_permuted (rows_within m table lo hi) (scan m table lo hi) (scan_is m table lo hi).same z i) in
+      let e = entry_of_row z (fin.entries m) (entries_sorted m) w.there in
+      record { content = e.content; row = e.row; held = fin.get-entries m z.key ∙ e.found; inside = w.passes }
+
+-- ---- the places of the range
+abbrev of_range : ℕ → ℕ → ℕ → List (Place × ℕ) → List Place
+of_range table lo hi es = map (λ e. e.0) (filter (is_between table lo hi) es)
+
+all_between : (table lo hi : ℕ) (es : List (Place × ℕ)) → AllByRecursion (λ p. is_between table lo hi (p, 0) ≡ true) (of_range table lo hi es)
+all_between table lo hi [] = tt
+all_between table lo hi (e ∷ es) = go (is_between table lo hi e) refl (all_between table lo hi es)
+  where
+    go : (b : Bool) → is_between table lo hi e ≡ b → AllByRecursion (λ p. is_between table lo hi (p, 0) ≡ true) (of_range table lo hi es)
+        → AllByRecursion (λ p. is_between table lo hi (p, 0) ≡ true) (map (λ x. x.0) (cond b (e ∷ filter (is_between table lo hi) es) (filter (is_between table lo hi) es)))
+    go true i r = (i, r)
+    go false i r = r
+
+-- a row at a place of the range is of the range, and the other way round
+within_at : (table lo hi : ℕ) (p : Place) (z : RowData) → IsAt p z → is_between table lo hi (p, 0) ≡ true → is_within table lo hi z ≡ true
+within_at table lo hi p z w e =
+    ap (λ (k : RowKey). (k.table == table) && (nat_le lo z.sort && nat_le z.sort hi)) w.key
+    ∙ ap (λ (n : ℕ). (p.table == table) && (nat_le lo n && nat_le n hi)) w.sort ∙ e
+
+-- ---- the rows that a transaction is shown
+module _ (opening : Map) (steps : List Step) (s : State) (c : CoreData) (h : StandsFor opening steps s c) (t : ℕ) (r : ActiveTx) (f : active_of t s.active ≡ Some r) (table lo hi : ℕ) where
+  abbrev at : Place → Option RowData
+  at p = row_at_place (state_of c.table) c.versions t p
+
+  abbrev here : List Place → List RowData
+  here ps = rows_at (state_of c.table) c.versions t ps
+
+  -- a row that is shown at a place is the snapshot's
+  at_is : (p : Place) (z : RowData) → at p ≡ Some z → row_at (snapshot s t) (key_at p) ≡ Some z
+  at_is p z e = sym (row_is opening steps s c h t r f (key_at p)) ∙ go (shown_in c t (key_at p)).version e
+    where
+      by : (b : Bool) (v : Version) → cond b (Some v.row) None ≡ Some z → ◌≡◌ {A = Option RowData} (Some v.row) (Some z)
+      by true v i = i
+      by false v i = absurd (none_row z i)
+
+      with_version : (o : Option Version) → row_of p.sort o ≡ Some z → option_map (λ v. v.row) o ≡ Some z
+      with_version None g = absurd (none_row z g)
+      with_version (Some v) g = by (v.row.sort == p.sort) v g
+
+      go : (o : Option VersionNo) → row_with_sort c.versions.slots p.sort o ≡ Some z → row_shown c.versions.slots o ≡ Some z
+      go None g = absurd (none_row z g)
+      go (Some n) g = with_version (version_at c.versions.slots n) g
+
+  -- the snapshot's row is shown at its place
+  is_at : (p : Place) (z : RowData) → z.sort ≡ p.sort → row_at (snapshot s t) (key_at p) ≡ Some z → at p ≡ Some z
+  is_at p z sort e = go (shown_in c t (key_at p)).version (row_is opening steps s c h t r f (key_at p) ∙ e)
+    where
+      with_version : (o : Option Version) → option_map (λ v. v.row) o ≡ Some z → row_of p.sort o ≡ Some z
+      with_version None g = absurd (none_row z g)
+      with_version (Some v) g =
+          let same : v.row ≡ z = some_row v.row z g in
+          ap (λ b. cond b (Some v.row) None) (eq-eqb v.row.sort p.sort (ap (λ (x : RowData). x.sort) same ∙ sort)) ∙ g
+
+      go : (o : Option VersionNo) → row_shown c.versions.slots o ≡ Some z → row_with_sort c.versions.slots p.sort o ≡ Some z
+      go None g = absurd (none_row z g)
+      go (Some n) g = with_version (version_at c.versions.slots n) g
+
+  -- forth
+  forth_at : (ps : List Place) → AllByRecursion (λ p. is_between table lo hi (p, 0) ≡ true) ps → (z : RowData) → IsIn z (here ps) → IsIn z (scan (snapshot s t) table lo hi)
+  forth_at [] all z i = absurd i
+  forth_at (p ∷ ps) all z i = go (at p) refl i (λ j. forth_at ps all.1 z j)
+    where
+      shown : (b : RowData) → at p ≡ Some b → IsIn b (scan (snapshot s t) table lo hi)
+      shown b e = in_scan (snapshot s t) table lo hi (key_at p) b (at_is p b e) (within_at table lo hi p b (row_at_is opening steps s c h t r f p b e) all.0)
+
+      go : (o : Option RowData) → at p ≡ o → IsIn z (option_to_list o ++ here ps) → (IsIn z (here ps) → IsIn z (scan (snapshot s t) table lo hi)) → IsIn z (scan (snapshot s t) table lo hi)
+      go None e j again = again j
+      go (Some b) e (inl q) again = subst (λ (x : RowData). IsIn x (scan (snapshot s t) table lo hi)) (sym q) (shown b e)
+      go (Some b) e (inr j) again = again j
+
+  -- back
+  listed : (z : RowData) (ps : List Place) → AllByRecursion (λ p. at p ≡ Some z → IsIn z (here ps)) ps
+  listed z [] = tt
+  listed z (p ∷ ps) = (
+    (λ e. in_left z (option_to_list (at p)) (here ps) (subst (λ o. IsIn z (option_to_list o)) (sym e) (inl refl))),
+    each_weaker (λ q. at q ≡ Some z → IsIn z (here ps)) (λ q. at q ≡ Some z → IsIn z (here (p ∷ ps))) (λ q g e. in_right z (option_to_list (at p)) (here ps) (g e)) ps (listed z ps),
+  )
+
+  back : (z : RowData) → IsIn z (scan (snapshot s t) table lo hi) → IsIn z (here (places_within c.versions.places table lo hi))
+  back z i =
+      let w = of_scan (snapshot s t) table lo hi z i in
+      let p : Place = place_with z.key w.content in
+      let sort : z.sort ≡ p.sort = ap (λ (x : RowData). x.sort) w.row in
+      let id : r.id ≡ t = id_of t s.active r f in
+      let there = some_there (fin.get c.versions.places p)
+      (rows_are_placed opening steps s (state_of c.table) c.versions.slots c.versions.lists c.versions.places r z.key w.content h.versions
+      (ap (λ (n : ℕ). active_of n s.active) id ∙ f) (ap (λ (n : ℕ). fin.get (snapshot s n) z.key) id ∙ w.held)) in
+      each_entry (λ q. at q ≡ Some z → IsIn z (here (places_within c.versions.places table lo hi))) table lo hi p there.0 (fin.entries c.versions.places)
+      (sym (within_is p sort) ∙ w.inside)
+      (sym (fin.get-entries c.versions.places p) ∙ there.1)
+      (listed z (places_within c.versions.places table lo hi))
+      (is_at p z sort (ap (option_map (row_with z.key)) w.held ∙ ap (λ (x : RowData). Some x) (sym w.row)))
+    where
+      within_is : (p : Place) → z.sort ≡ p.sort → is_within table lo hi z ≡ ((z.key.table == table) && (nat_le lo p.sort && nat_le p.sort hi))
+      within_is p e = ap (λ (n : ℕ). (z.key.table == table) && (nat_le lo n && nat_le n hi)) e
+
+  -- the rows are those of the scan, in its order
+  pub rows_are_scan : here (places_within c.versions.places table lo hi) ≡ scan (snapshot s t) table lo hi
+  rows_are_scan =
+      same_rising scan_cmp scan_total (here (places_within c.versions.places table lo hi)) (scan (snapshot s t) table lo hi)
+      (rows_rise opening steps s c h t r f table lo hi) (scan_is (snapshot s t) table lo hi).rise
+      (forth_at (places_within c.versions.places table lo hi) (all_between table lo hi (fin.entries c.versions.places))) back

@@ -1,0 +1,38 @@
+-- What is written of one transaction, and what it does to the table.
+use Rattle.std.proofs.Common.{◌≡◌, ℕ, Some, sym, ap, subst}
+use Rattle.std.specs.Prelude.{Result, Ok, Err, OnOk, OnErr, IfSome}
+use Rattle.std.specs.Option.{option_map}
+use Rattle.mvo_txn.specs.Txns.{Txns, kept_of, after_write}
+use Rattle.mvo_deps.specs.declared.node.Node.{Node}
+use Rattle.mvo_core.specs.declared.transaction.Transaction.{Transaction}
+use Rattle.mvo_core.specs.Data.{own_of}
+use Rattle.mvo_core.specs.Keeping.{with_own_at, IsWritten}
+
+pub on_ok : {T E : Type 0} (A B : Type 0) (r : Result T E) → OnOk r A → (A → B) → OnOk r B
+on_ok A B (Ok x) h f = f h
+on_ok A B (Err e) h f = tt
+
+pub always_ok : {T E : Type 0} (A : Type 0) (r : Result T E) → A → OnOk r A
+always_ok A (Ok x) h = h
+always_ok A (Err e) h = tt
+
+pub always_err : {T E : Type 0} (A : Type 0) (r : Result T E) → A → OnErr r A
+always_err A (Ok x) h = tt
+always_err A (Err e) h = h
+
+-- what is kept of it becomes this
+pub written : (table : Txns (Node Transaction)) (t : ℕ) (node : Node Transaction) (after : Transaction) (change : Transaction → Transaction → Type 0)
+    → Some node ≡ kept_of table t → change node.own after
+    → IsWritten table (after_write table t (record node { own = after })) t change
+written table t node after change kept h = record {
+  before = node.own;
+  after = after;
+  was = ap (option_map (λ n. n.own)) (sym kept);
+  is = ap (λ o. with_own_at o table t after) kept;
+  changed = h;
+}
+
+-- what is required of it holds of what was kept
+pub required : (table : Txns (Node Transaction)) (t : ℕ) (node : Node Transaction) (P : Transaction → Type 0)
+    → Some node ≡ kept_of table t → IfSome (own_of table t) P → P node.own
+required table t node P kept h = subst (λ o. IfSome (option_map (λ n. n.own) o) P) (sym kept) h

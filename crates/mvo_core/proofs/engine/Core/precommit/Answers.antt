@@ -1,0 +1,78 @@
+use Rattle.std.proofs.Common.{◌≡◌, ◌<◌, ◌≤◌, ◌+◌, Some, sym, ap, ◌∙◌, subst}
+use Rattle.mvo_types.specs.declared.limits.TheConstants.{MAX_STAMP}
+use Rattle.mvo_types.specs.declared.ids.Stamp.{Stamp}
+use Rattle.mvo_types.specs.declared.refusal.Refusal.TheVariants.{ClockSpent, OutOfMemory}
+use Rattle.mvo_theory.specs.Calls.Call.{Precommit}
+use Rattle.mvo_theory.specs.Calls.Result.{Refused}
+use Rattle.mvo_core.specs.Data.{CoreData}
+use Rattle.mvo_core.specs.Causes.{why_not_active}
+use Rattle.mvo_core.specs.Standing.{StandsFor}
+use Rattle.mvo_core.specs.Steps.{came, LeadsOn}
+use Rattle.mvo_core.proofs.Begun.{stands_on}
+use Rattle.mvo_core.proofs.Refused.{came_spent}
+use Rattle.mvo_core.proofs.Drawing.{precommit_refused, clock_spent_leads, memory_spent_leads, ends_below, active_there, draw_leads}
+use Rattle.mvo_core.proofs.engine.Core.precommit.Goals as goal
+
+pub returns-in-Some-clause-step : goal.returns-in-Some-clause-step
+returns-in-Some-clause-step c = λ opening steps s h.
+    let f = c.self.inside in
+    let old : CoreData = record { versions = f.versions; table = f.table; tale = f.tale; opening = f.opening.0; closed = f.closed.0; grouped = f.grouped } in
+    let why : why_not_active old.table c.args.tx.0 ≡ Some c.in-Some.refusal = sym c.not_active.ensures ∙ c.in-Some.is in
+    subst (λ r. LeadsOn opening steps s (Precommit c.args.tx.0) (Refused r) c.give_up.new.self) (sym c.give_up.ensures.same)
+    (precommit_refused opening steps s c.args.self.now h c.args.tx.0 c.in-Some.refusal c.give_up.new.self
+    (ap (λ (v : CoreData). why_not_active v.table c.args.tx.0) (sym c.self.view_is) ∙ why) c.give_up.ensures.left)
+
+pub returns-then-clock-ge-MAX_STAMP-clause-step : goal.returns-then-clock-ge-MAX_STAMP-clause-step
+returns-then-clock-ge-MAX_STAMP-clause-step c = λ opening steps s h.
+    let f = c.self.inside in
+    let old : CoreData = record { versions = f.versions; table = f.table; tale = f.tale; opening = f.opening.0; closed = f.closed.0; grouped = f.grouped } in
+    let g : StandsFor opening steps s old = subst (StandsFor opening steps s) (sym c.self.view_is) h in
+    subst (LeadsOn opening steps s (Precommit c.args.tx.0) (Refused ClockSpent)) c.self.view_is
+    (clock_spent_leads opening steps s old g c.args.tx (sym c.not_active.ensures ∙ c.in_default.is) (subst (λ n. MAX_STAMP ≤ n) c.clock-clock.ensures.value c.if-clock-ge-MAX_STAMP.true))
+
+pub open-requires : goal.open-requires
+open-requires c =
+    let f = c.self.inside in
+    let i = c.self.invariant in
+    let old : CoreData = record { versions = f.versions; table = f.table; tale = f.tale; opening = f.opening.0; closed = f.closed.0; grouped = f.grouped } in
+    ends_below i.opening i.steps i.state old i.stands (c.clock-clock.result.0 + 1) (ap (λ n. n + 1) c.clock-clock.ensures.value)
+
+pub returns-in_err-place-clause-step : goal.returns-in_err-place-clause-step
+returns-in_err-place-clause-step c = λ opening steps s h.
+    let f = c.self.inside in
+    let old : CoreData = record { versions = f.versions; table = f.table; tale = f.tale; opening = f.opening.0; closed = f.closed.0; grouped = f.grouped } in
+    let g : StandsFor opening steps s old = subst (StandsFor opening steps s) (sym c.self.view_is) h in
+    subst (λ r. LeadsOn opening steps s (Precommit c.args.tx.0) r (record old { tale = c.open.new.self })) (came_spent c.from_residual.result c.from_residual.ensures.1)
+    (subst (λ slots. LeadsOn opening steps s (Precommit c.args.tx.0) (Refused OutOfMemory) (record old { tale = slots })) (sym c.in_err-place.ensures.err)
+    (memory_spent_leads opening steps s old g c.args.tx (sym c.not_active.ensures ∙ c.in_default.is) (subst (λ n. n < MAX_STAMP) c.clock-clock.ensures.value c.if-clock-ge-MAX_STAMP.false)))
+
+pub prepare-requires : goal.prepare-requires
+prepare-requires c =
+    let f = c.self.inside in
+    let i = c.self.invariant in
+    let old : CoreData = record { versions = f.versions; table = f.table; tale = f.tale; opening = f.opening.0; closed = f.closed.0; grouped = f.grouped } in
+    let drawn : Stamp = record { 0 = c.clock-clock.result.0 + 1 } in
+    active_there i.opening i.steps i.state old i.stands c.args.tx (sym c.not_active.ensures ∙ c.in_default.is) c.in_ok-place.place c.in_ok-place.ensures.place c.keep_place.new.table c.keep_place.ensures
+    drawn (ap (λ n. n + 1) c.clock-clock.ensures.value) c.open.new.self c.in_ok-place.ensures.ok c.bring_forward.new.versions c.bring_forward.ensures
+    (subst (λ n. n < MAX_STAMP) c.clock-clock.ensures.value c.if-clock-ge-MAX_STAMP.false)
+
+pub invariant_of-self-2 : goal.invariant_of-self-2
+invariant_of-self-2 c =
+    let f = c.self.inside in
+    let i = c.self.invariant in
+    let old : CoreData = record { versions = f.versions; table = f.table; tale = f.tale; opening = f.opening.0; closed = f.closed.0; grouped = f.grouped } in
+    let drawn : Stamp = record { 0 = c.clock-clock.result.0 + 1 } in
+    stands_on i (Precommit c.args.tx.0) (came c.prepare.result) (record old { versions = c.bring_forward.new.versions; table = c.prepare.new.self; tale = c.open.new.self })
+    (draw_leads i.opening i.steps i.state old i.stands c.args.tx (sym c.not_active.ensures ∙ c.in_default.is) c.in_ok-place.place c.in_ok-place.ensures.place c.keep_place.new.table c.keep_place.ensures
+    drawn (ap (λ n. n + 1) c.clock-clock.ensures.value) c.open.new.self c.in_ok-place.ensures.ok c.bring_forward.new.versions c.bring_forward.ensures
+    (subst (λ n. n < MAX_STAMP) c.clock-clock.ensures.value c.if-clock-ge-MAX_STAMP.false) c.prepare.result c.prepare.new.self c.prepare.ensures.ok c.prepare.ensures.refused)
+
+pub returns-clause-step : goal.returns-clause-step
+returns-clause-step c = λ opening steps s h.
+    let f = c.self.inside in
+    let old : CoreData = record { versions = f.versions; table = f.table; tale = f.tale; opening = f.opening.0; closed = f.closed.0; grouped = f.grouped } in
+    let g : StandsFor opening steps s old = subst (StandsFor opening steps s) (sym c.self.view_is) h in
+    let drawn : Stamp = record { 0 = c.clock-clock.result.0 + 1 } in
+    draw_leads opening steps s old g c.args.tx (sym c.not_active.ensures ∙ c.in_default.is) c.in_ok-place.place c.in_ok-place.ensures.place c.keep_place.new.table c.keep_place.ensures
+    drawn (ap (λ n. n + 1) c.clock-clock.ensures.value) c.open.new.self c.in_ok-place.ensures.ok c.bring_forward.new.versions c.bring_forward.ensures
+    (subst (λ n. n < MAX_STAMP) c.clock-clock.ensures.value c.if-clock-ge-MAX_STAMP.false) c.prepare.result c.prepare.new.self c.prepare.ensures.ok c.prepare.ensures.refused

@@ -1,0 +1,91 @@
+-- The causes of refusals, as the transaction table tells them.
+use Rattle.std.specs.Prelude.{ℕ, nat_lt, Bool, false, [], ◌∷◌, length, Option, None, Some}
+use Rattle.mvo_types.specs.declared.limits.TheConstants.{MAX_TABLE, MAX_DATA_LEN}
+use Rattle.mvo_types.specs.declared.ids.TxId.{TxId}
+use Rattle.mvo_types.specs.declared.row.RowKey.{RowKey}
+use Rattle.mvo_types.specs.declared.refusal.Refusal.{Refusal}
+use Rattle.mvo_types.specs.declared.refusal.Refusal.TheVariants.{NoSuchTransaction, Ended, NotActive, NotPreparing, DependencyAborted, TooManyWrites, TooManyReads, DataTooLong, BadTable}
+use Rattle.mvo_types.specs.RowData.{RowData}
+use Rattle.mvo_theory.specs.Entries.{Entry}
+use Rattle.mvo_theory.specs.Entries.Entry.{Key}
+use Rattle.mvo_theory.specs.Causes.{when, first_cause, is_entry_too_many, is_write_too_many}
+use Rattle.mvo_txn.specs.declared.state.TxState.{TxState}
+use Rattle.mvo_txn.specs.declared.state.TxState.TheVariants.{Active, Preparing, Committed, Aborted}
+use Rattle.mvo_txn.specs.Txns.{Txns, state_of}
+use Rattle.mvo_deps.specs.declared.node.Node.{Node}
+use Rattle.mvo_deps.specs.Nodes.{data_of}
+use Rattle.mvo_core.specs.declared.transaction.Transaction.{Transaction}
+use Rattle.mvo_core.specs.Data.{own_of}
+
+abbrev pub flag_refusal : Option TxId → Option Refusal
+flag_refusal None = None
+flag_refusal (Some id) = Some (DependencyAborted id)
+
+-- the flag of a transaction
+abbrev pub flag_of : Txns (Node Transaction) → ℕ → Option TxId
+flag_of table t = (data_of table (record { 0 = t })).aborted
+
+abbrev pub unless_active_as : Option TxState → Option TxId → Option Refusal
+unless_active_as None flag = Some NoSuchTransaction
+unless_active_as (Some Active) flag = flag_refusal flag
+unless_active_as (Some (Preparing e)) flag = Some NotActive
+unless_active_as (Some (Committed e)) flag = Some Ended
+unless_active_as (Some Aborted) flag = Some Ended
+
+abbrev pub unless_preparing_as : Option TxState → Option TxId → Option Refusal
+unless_preparing_as None flag = Some NoSuchTransaction
+unless_preparing_as (Some Active) flag = Some NotPreparing
+unless_preparing_as (Some (Preparing e)) flag = flag_refusal flag
+unless_preparing_as (Some (Committed e)) flag = Some Ended
+unless_preparing_as (Some Aborted) flag = Some Ended
+
+abbrev pub why_not_active : Txns (Node Transaction) → ℕ → Option Refusal
+why_not_active table t = unless_active_as (state_of table t) (flag_of table t)
+
+abbrev pub why_not_preparing : Txns (Node Transaction) → ℕ → Option Refusal
+why_not_preparing table t = unless_preparing_as (state_of table t) (flag_of table t)
+
+abbrev pub why_not_undo : Option TxState → Option Refusal
+why_not_undo None = Some NoSuchTransaction
+why_not_undo (Some Active) = None
+why_not_undo (Some (Preparing e)) = None
+why_not_undo (Some (Committed e)) = Some Ended
+why_not_undo (Some Aborted) = Some Ended
+
+abbrev pub over_entries : Option Transaction → Entry → Bool
+over_entries None e = false
+over_entries (Some own) e = is_entry_too_many own.work.history e
+
+abbrev pub over_writes : Option Transaction → RowKey → Bool
+over_writes None k = false
+over_writes (Some own) k = is_write_too_many own.work.history k
+
+abbrev pub is_entry_over : Txns (Node Transaction) → ℕ → Entry → Bool
+is_entry_over table t e = over_entries (own_of table t) e
+
+abbrev pub is_write_over : Txns (Node Transaction) → ℕ → RowKey → Bool
+is_write_over table t k = over_writes (own_of table t) k
+
+abbrev pub why_not_look : Txns (Node Transaction) → ℕ → ℕ → Entry → Option Refusal
+why_not_look table t of e = first_cause (
+    why_not_active table t
+    ∷ when (nat_lt MAX_TABLE of) BadTable
+    ∷ when (is_entry_over table t e) TooManyReads
+    ∷ [])
+
+abbrev pub why_not_put : Txns (Node Transaction) → ℕ → RowData → Option Refusal
+why_not_put table t row = first_cause (
+    why_not_active table t
+    ∷ when (nat_lt MAX_TABLE row.key.table) BadTable
+    ∷ when (nat_lt MAX_DATA_LEN (length row.bytes)) DataTooLong
+    ∷ when (is_entry_over table t (Key row.key)) TooManyReads
+    ∷ when (is_write_over table t row.key) TooManyWrites
+    ∷ [])
+
+abbrev pub why_not_remove : Txns (Node Transaction) → ℕ → RowKey → Option Refusal
+why_not_remove table t k = first_cause (
+    why_not_active table t
+    ∷ when (nat_lt MAX_TABLE k.table) BadTable
+    ∷ when (is_entry_over table t (Key k)) TooManyReads
+    ∷ when (is_write_over table t k) TooManyWrites
+    ∷ [])

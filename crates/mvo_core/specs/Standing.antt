@@ -1,0 +1,78 @@
+-- What a core stands for: a state of the theory.
+use Rattle.std.specs.Prelude.{ℕ, ◌≡◌, false, List, [], Option, None, Some}
+use Rattle.std.specs.List.{AllByRecursion}
+use Rattle.mvo_types.specs.Keys.{Map}
+use Rattle.mvo_model.specs.Trace.{Step}
+use Rattle.mvo_theory.specs.State.{State, ActiveTx, StampedTx, opened}
+use Rattle.mvo_theory.specs.Marks.{IsClosedAt}
+use Rattle.mvo_txn.specs.Txns.{Txns, state_of}
+use Rattle.mvo_deps.specs.declared.node.Node.{Node}
+use Rattle.mvo_work.specs.declared.word_place.WordPlace.{WordPlace}
+use Rattle.mvo_tale.specs.declared.slot.Slot.{Slot}
+use Rattle.mvo_tale.specs.Slots.{open_end_at}
+use Rattle.mvo_tale.specs.Timeline.{ArePlacesOf}
+use Rattle.mvo_tale.specs.Next.{AreGroupedTo}
+use Rattle.mvo_representation.specs.Laws as representation
+use Rattle.mvo_representation.specs.Dependencies.{HasDependencies}
+use Rattle.mvo_representation.specs.Order.{AllStandInOrder}
+use Rattle.mvo_representation.specs.WordLists.{HasWordLists}
+use Rattle.mvo_core.specs.declared.transaction.Transaction.{Transaction}
+use Rattle.mvo_core.specs.Data.{CoreData, own_of}
+
+-- ---- what is kept of each transaction is what the state has of it
+pub record IsActive (table : Txns (Node Transaction)) (r : ActiveTx) : Type 0 where
+  pub own : Transaction
+  pub kept : own_of table r.id ≡ Some own
+  pub history : own.work.history ≡ r.history
+
+pub record IsPreparing (table : Txns (Node Transaction)) (tale : List Slot)
+    (x : StampedTx) : Type 0 where
+  pub own : Transaction
+  pub kept : own_of table x.id ≡ Some own
+  pub history : own.work.history ≡ x.history
+  pub checked : x.valid ≡ false → own.checked ≡ x.checked
+  pub valid : own.valid ≡ x.valid
+  pub place : open_end_at tale own.place ≡ Some x.end
+
+pub record HasWorks (s : State) (table : Txns (Node Transaction)) (tale : List Slot) : Type 0 where
+  pub active : AllByRecursion (IsActive table) s.active
+  pub preparing :
+      AllByRecursion (λ x. x.settled ≡ false → IsPreparing table tale x) s.stamped
+
+-- the words that each still has to replace
+abbrev pub words_by : Option Transaction → List WordPlace
+words_by None = []
+words_by (Some own) = own.work.words
+
+abbrev pub words_in : Txns (Node Transaction) → ℕ → List WordPlace
+words_in table t = words_by (own_of table t)
+
+-- ---- the core
+-- it stands for the state, to which the steps since the opening lead
+pub record StandsFor (opening : Map) (steps : List Step) (s : State) (c : CoreData) : Type 0 where
+  pub versions :
+      representation.StandsFor opening steps s (state_of c.table)
+      c.versions.slots c.versions.lists c.versions.places
+  pub dependencies : HasDependencies s c.table
+  pub order : AllStandInOrder s.start (state_of c.table) c.versions.slots c.versions.lists
+  pub works : HasWorks s c.table c.tale
+  pub words : HasWordLists s c.versions.slots (words_in c.table)
+  pub tale : ArePlacesOf c.tale s.stamped
+  pub marks : s.marks ≡ record { opening = c.opening; closed = c.closed }
+  pub grouped : AreGroupedTo c.tale c.grouped c.closed
+  -- the tale isn't trimmed
+  pub start : s.start ≡ c.opening
+  pub past : s.past ≡ []
+
+-- for some state, whatever steps led there. Up to the mark of the group that was closed last all
+-- are settled there
+pub record Stands (c : CoreData) : Type 0 where
+  pub opening : Map
+  pub steps : List Step
+  pub state : State
+  pub stands : StandsFor opening steps state c
+  pub closed : IsClosedAt state.marks.closed state
+
+-- just opened over these rows at this mark
+abbrev pub OpensAs : Map → ℕ → CoreData → Type 0
+OpensAs rows mark c = StandsFor rows [] (opened rows mark) c

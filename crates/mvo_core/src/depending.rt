@@ -1,0 +1,108 @@
+//! What is kept of a transaction that does something.
+ghost use Rattle.std.specs.Prelude.{◌≡◌, OnOk, OnErr, IsSome, IfSome, ◌<◌};
+ghost use Rattle.std.specs.Option.{option_to_list};
+ghost use Rattle.mvo_types.specs.AnswerData.{answer_data};
+ghost use Rattle.mvo_deps.specs.Nodes.{after_register_all};
+ghost use Rattle.mvo_deps.specs.Graph.{IsUnfinished};
+ghost use Rattle.mvo_work.specs.Limits.{MayFollow};
+ghost use Rattle.mvo_core.specs.Data.{own_of};
+ghost use Rattle.mvo_core.specs.Keeping.{IsWritten, HasDoneAsMuch, HasMadeRoom, IsTold};
+ghost use Rattle.mvo_core.specs.Keeping.{IsNoted, IsRecorded};
+
+use crate::transaction::Table;
+use mvo_deps::{register, register_all};
+use mvo_types::{Answer, Op, TxId};
+use mvo_work::WordPlace;
+use std::alloc::AllocError;
+
+/// Room for one more operation of the transaction, and for the words that it may put.
+pub fn make_room(table: &mut Table, tx: TxId) -> Result<(), AllocError>
+    requires { IsSome (own_of table.old tx.0) }
+    ensures ok { OnOk result (IsWritten table.old table.new tx.0 HasMadeRoom) }
+    ensures err { OnErr result (IsWritten table.old table.new tx.0 HasDoneAsMuch) }
+{
+    match table.get_mut(tx) {
+        Some(node) => node.own.work.make_room(),
+        None => unreachable!(),
+    }
+}
+
+/// Lets the transaction depend on the other, if there is one.
+pub fn depend(table: &mut Table, tx: TxId, on: Option<TxId>) -> Result<(), AllocError>
+    requires { IsUnfinished table.old tx }
+    ensures ok { OnOk result (table.new ≡ after_register_all table.old tx (option_to_list on)) }
+    ensures err { OnErr result (table.new ≡ table.old) }
+{
+    match on {
+        Some(on) => register(table, tx, on),
+        None => Ok(()),
+    }
+}
+
+/// Tells the transaction the answer to its operation.
+pub fn tell(table: &mut Table, tx: TxId, op: Op, answer: Answer)
+    requires there { IsSome (own_of table.old tx.0) }
+    requires room { IfSome (own_of table.old tx.0) (λ own. 0 < own.work.room) }
+    requires limits { IfSome (own_of table.old tx.0) (λ own.
+        MayFollow own.work.history op (answer_data answer)) }
+    ensures { IsWritten table.old table.new tx.0 (IsTold op (answer_data answer)) }
+{
+    match table.get_mut(tx) {
+        Some(node) => node.own.work.tell(op, answer),
+        None => unreachable!(),
+    }
+}
+
+/// Puts a word on the transaction's list.
+pub fn note_word(table: &mut Table, tx: TxId, word: WordPlace)
+    requires there { IsSome (own_of table.old tx.0) }
+    requires room { IfSome (own_of table.old tx.0) (λ own. 0 < own.work.word_room) }
+    ensures { IsWritten table.old table.new tx.0 (IsNoted word) }
+{
+    match table.get_mut(tx) {
+        Some(node) => node.own.work.push_word(word),
+        None => unreachable!(),
+    }
+}
+
+/// Tells the transaction an answer, and lets it depend on the other, if there is one; or does
+/// neither.
+pub fn record_answer(
+    table: &mut Table,
+    tx: TxId,
+    on: Option<TxId>,
+    op: Op,
+    answer: Answer,
+) -> Result<(), AllocError>
+    requires there { IsSome (own_of table.old tx.0) }
+    requires limits { IfSome (own_of table.old tx.0) (λ own.
+        MayFollow own.work.history op (answer_data answer)) }
+    ensures ok { OnOk result
+        (IsRecorded table.old table.new tx (option_to_list on) op (answer_data answer)) }
+    ensures err { OnErr result (IsWritten table.old table.new tx.0 HasDoneAsMuch) }
+{
+    make_room(table, tx)?;
+    depend(table, tx, on)?;
+    tell(table, tx, op, answer);
+    Ok(())
+}
+
+/// Tells the transaction an answer, and lets it depend on the others; or does neither.
+pub fn record_answer_on(
+    table: &mut Table,
+    tx: TxId,
+    on: &[TxId],
+    op: Op,
+    answer: Answer,
+) -> Result<(), AllocError>
+    requires there { IsSome (own_of table.old tx.0) }
+    requires limits { IfSome (own_of table.old tx.0) (λ own.
+        MayFollow own.work.history op (answer_data answer)) }
+    ensures ok { OnOk result (IsRecorded table.old table.new tx on.now op (answer_data answer)) }
+    ensures err { OnErr result (IsWritten table.old table.new tx.0 HasDoneAsMuch) }
+{
+    make_room(table, tx)?;
+    register_all(table, tx, on)?;
+    tell(table, tx, op, answer);
+    Ok(())
+}

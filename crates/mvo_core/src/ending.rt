@@ -1,0 +1,372 @@
+//! How a transaction ends.
+ghost use Rattle.std.specs.Prelude.{◌≡◌, Some, IsSome, is_none, length, slice_get};
+ghost use Rattle.std.specs.Option.{option_map};
+ghost use Rattle.mvo_theory.specs.Entries.{written_keys};
+ghost use Rattle.mvo_theory.specs.Told.{history_told};
+ghost use Rattle.mvo_theory.specs.Limits.{AreLimited};
+ghost use Rattle.mvo_txn.specs.Txns.{state_of};
+ghost use Rattle.mvo_chain.specs.Slots.{version_at};
+ghost use Rattle.mvo_visible.specs.Shown.{AllHaveFallingStamps};
+ghost use Rattle.mvo_work.specs.History.{entry_as};
+ghost use Rattle.mvo_representation.specs.Words.{ends_of, stamp_in};
+ghost use Rattle.mvo_representation.specs.Table.{phases_of};
+ghost use Rattle.mvo_representation.specs.Order.{is_put_by};
+ghost use Rattle.mvo_representation.specs.WordLists.{number_at};
+ghost use Rattle.mvo_core.specs.Data.{own_of};
+ghost use Rattle.mvo_core.specs.Standing.{words_in};
+ghost use Rattle.mvo_core.specs.Own.{is_own_valid, own_place, own_history, own_entry};
+ghost use Rattle.mvo_core.specs.Own.{own_check};
+ghost use Rattle.mvo_core.specs.Keeping.{IsWritten, IsPlaced, IsCounted, HasHandedOver};
+ghost use Rattle.mvo_core.specs.Aborting.{HasOpenPlace, tale_left};
+ghost use Rattle.mvo_core.specs.Checking.{change_between, change_for};
+ghost use Rattle.mvo_core.specs.Fronts.{passes, comes_at_draw, IsInFrontIf, AreInFront};
+
+use crate::answers::{Settlement, Validation};
+use crate::engine::Core;
+use crate::refusing::{is_failure, not_active, not_preparing, not_undone};
+use crate::transaction::Table;
+use mvo_chain::VersionNo;
+use mvo_deps::{report_abort, report_commit, waiting_for};
+use mvo_tale::{Tale, TaleEntry};
+use mvo_txn::TxState;
+use mvo_types::{MAX_STAMP, Refusal, Stamp, TxId};
+use mvo_validate::{Check, Entry};
+use mvo_versions::Versions;
+use mvo_visible::{Seen, names, seen_by_others};
+use mvo_word::Word;
+use mvo_work::{Operations, WordPlace};
+
+impl Core {
+    ghost use Rattle.std.specs.Prelude.{◌≡◌, ◌+◌, IfOk};
+    ghost use Rattle.mvo_theory.specs.Calls.Call.{Precommit, Validate, Settle, Rollback};
+    ghost use Rattle.mvo_txn.specs.Txns.{state_of, IsUnended};
+    ghost use Rattle.mvo_core.specs.Steps.{IsStep, IsValidation, IsSettlement};
+    ghost use Rattle.mvo_core.specs.Aborting.{MayGiveUp, IsGivenUp, IsAborted};
+
+    /// Makes an Active transaction Preparing, with the next timestamp as its end, and takes all
+    /// memory that its end needs. Refused: NoSuchTransaction, Ended, NotActive, DependencyAborted,
+    /// ClockSpent, OutOfMemory.
+    pub fn precommit(&mut self, tx: TxId) -> Result<Stamp, Refusal>
+        ensures step { IsStep self.old (Precommit tx.0) result self.new }
+        ensures end { IfOk result (λ e. e.0 ≡ self.old.table.clock + 1) }
+    {
+        if let Some(refusal) = not_active(&self.table, tx) {
+            return Err(self.give_up(tx, refusal));
+        }
+        let clock = self.table.clock().0;
+        if clock >= MAX_STAMP {
+            return Err(Refusal::ClockSpent);
+        }
+        let place = self.tale.open(Stamp(clock + 1))?;
+        bring_forward(&mut self.versions, &self.table, tx);
+        keep_place(&mut self.table, tx, place);
+        self.table.prepare(tx)
+    }
+
+    /// Checks the next entry of a Preparing transaction, in the order of the first look. After
+    /// Valid it answers Valid again. Refused: NoSuchTransaction, Ended, NotPreparing,
+    /// DependencyAborted, ValidationFailed; after the last two the transaction is Aborted.
+    pub fn validate_one(&mut self, tx: TxId) -> Result<Validation, Refusal>
+        ensures step { IsStep self.old (Validate tx.0) result self.new }
+        ensures answer { IfOk result (IsValidation self.old tx.0) }
+    {
+        if let Some(refusal) = not_preparing(&self.table, tx) {
+            return Err(self.give_up(tx, refusal));
+        }
+        if is_valid(&self.table, tx) {
+            return Ok(Validation::Valid);
+        }
+        if let Some(stamp) = next_change(&self.versions, &self.table, tx) {
+            return Err(self.give_up(tx, Refusal::ValidationFailed(stamp)));
+        }
+        Ok(count_check(&mut self.table, tx))
+    }
+
+    /// Makes a validated transaction Committed, unless it depends on one that isn't settled.
+    /// Refused: NoSuchTransaction, Ended, NotPreparing, DependencyAborted, NotValidated.
+    pub fn settle(&mut self, tx: TxId) -> Result<Settlement, Refusal>
+        ensures step { IsStep self.old (Settle tx.0) result self.new }
+        ensures answer { IfOk result (IsSettlement self.old tx.0) }
+    {
+        if let Some(refusal) = not_preparing(&self.table, tx) {
+            return Err(self.give_up(tx, refusal));
+        }
+        if !is_valid(&self.table, tx) {
+            return Err(Refusal::NotValidated);
+        }
+        if let Some(other) = waiting_for(&self.table, tx) {
+            return Ok(Settlement::Waiting(other));
+        }
+        let end = self.table.commit(tx);
+        report_commit(&mut self.table, tx);
+        let (place, operations) = take_operations(&mut self.table, tx);
+        let Operations { told, written } = operations;
+        let entry = TaleEntry {
+            id: tx,
+            begin: Stamp(tx.0),
+            end,
+            operations: told,
+            written,
+        };
+        self.tale.settle(place, entry);
+        Ok(Settlement::Committed(end))
+    }
+
+    /// Makes an Active or Preparing transaction Aborted, also one that depends on an aborted one.
+    /// Refused: NoSuchTransaction, Ended.
+    pub fn rollback_tx(&mut self, tx: TxId) -> Result<(), Refusal>
+        ensures step { IsStep self.old (Rollback tx.0) result self.new }
+    {
+        if let Some(refusal) = not_undone(&self.table, tx) {
+            return Err(refusal);
+        }
+        self.abort(tx);
+        Ok(())
+    }
+
+    /// The refusal, by which the transaction is Aborted if it is a failure.
+    pub(crate) fn give_up(&mut self, tx: TxId, refusal: Refusal) -> Refusal
+        requires { MayGiveUp self.old tx.0 refusal }
+        ensures same { result ≡ refusal }
+        ensures left { IsGivenUp self.old tx.0 refusal self.new }
+    {
+        if is_failure(refusal) {
+            self.abort(tx);
+        }
+        refusal
+    }
+
+    /// Aborts an Active or Preparing transaction: its words fall silent, those that depend on it
+    /// are flagged, and what it put comes to the front.
+    fn abort(&mut self, tx: TxId)
+        requires { IsUnended (state_of self.old.table tx.0) }
+        ensures { IsAborted self.old tx.0 self.new }
+    {
+        leave_tale(&mut self.tale, &self.table, tx);
+        self.table.abort(tx);
+        report_abort(&mut self.table, tx);
+        bring_puts(&mut self.versions, &self.table, tx);
+    }
+}
+
+/// Empties the place of a Preparing transaction in the tale.
+fn leave_tale(tale: &mut Tale, table: &Table, tx: TxId)
+    requires { HasOpenPlace (state_of table.now tx.0) tale.old (own_place (own_of table.now tx.0)) }
+    ensures { tale.new ≡
+        tale_left (state_of table.now tx.0) tale.old (own_place (own_of table.now tx.0)) }
+{
+    if let Some(TxState::Preparing(_)) = table.state(tx) {
+        let place = place_of(table, tx);
+        tale.leave(place);
+    }
+}
+
+/// Whether the transaction is found valid.
+fn is_valid(table: &Table, tx: TxId) -> bool
+    ensures { result ≡ is_own_valid (own_of table.now tx.0) }
+{
+    match table.get(tx) {
+        Some(seat) => seat.kept.own.valid,
+        None => false,
+    }
+}
+
+/// The transaction's place in the tale.
+fn place_of(table: &Table, tx: TxId) -> usize
+    ensures { result ≡ own_place (own_of table.now tx.0) }
+{
+    match table.get(tx) {
+        Some(seat) => seat.kept.own.place,
+        None => 0,
+    }
+}
+
+/// Keeps the transaction's place in the tale. None of its entries is checked yet.
+fn keep_place(table: &mut Table, tx: TxId, place: usize)
+    requires { IsSome (own_of table.old tx.0) }
+    ensures { IsWritten table.old table.new tx.0 (IsPlaced place) }
+{
+    match table.get_mut(tx) {
+        Some(node) => node.own.keep_place(place),
+        None => unreachable!(),
+    }
+}
+
+/// The next entry to check, if one is left.
+fn next_entry(table: &Table, tx: TxId) -> Option<Entry>
+    ensures { option_map entry_as result ≡ own_entry (own_of table.now tx.0) }
+{
+    match table.get(tx) {
+        Some(seat) => seat.kept.own.work.entry_at(seat.kept.own.checked),
+        None => None,
+    }
+}
+
+/// The greatest stamp of a change to the next entry of a Preparing transaction, between its begin
+/// and its end, where the versions stand in order.
+fn next_change(versions: &Versions, table: &Table, tx: TxId) -> Option<Stamp>
+    ensures { let states = state_of table.now in
+        AllHaveFallingStamps states versions.now.slots versions.now.lists →
+        option_map (λ stamp. stamp.0) result ≡
+        change_for (states tx.0) states versions.now tx.0 (own_entry (own_of table.now tx.0)) }
+{
+    let Some(TxState::Preparing(end)) = table.state(tx) else {
+        return None;
+    };
+    change_in(versions, table, Stamp(tx.0), end, next_entry(table, tx)?)
+}
+
+/// The greatest stamp of a change to the entry between the begin and the end, where the versions
+/// stand in order.
+fn change_in(
+    versions: &Versions,
+    table: &Table,
+    begin: Stamp,
+    end: Stamp,
+    entry: Entry,
+) -> Option<Stamp>
+    ensures { let states = state_of table.now in
+        AllHaveFallingStamps states versions.now.slots versions.now.lists →
+        option_map (λ stamp. stamp.0) result ≡
+        change_between states versions.now begin.0 end.0 (Some (entry_as entry)) }
+{
+    match versions.check(table, begin, end, entry) {
+        Check::Same => None,
+        Check::Differs(stamp) => Some(stamp),
+    }
+}
+
+/// Counts a check, and says whether an entry is left.
+fn count_check(table: &mut Table, tx: TxId) -> Validation
+    requires { IsSome (own_of table.old tx.0) }
+    ensures counted { IsWritten table.old table.new tx.0 IsCounted }
+    ensures answer { result ≡ own_check (own_of table.old tx.0) }
+{
+    match table.get_mut(tx) {
+        Some(node) => node.own.count_check(),
+        None => unreachable!(),
+    }
+}
+
+/// Takes the transaction's operations out, with its place in the tale.
+fn take_operations(table: &mut Table, tx: TxId) -> (usize, Operations)
+    requires { IsSome (own_of table.old tx.0) }
+    ensures place { result.0 ≡ own_place (own_of table.old tx.0) }
+    ensures told { history_told result.1.told.items ≡ own_history (own_of table.old tx.0) }
+    ensures written { result.1.written.items ≡ written_keys (own_history (own_of table.old tx.0)) }
+    ensures limits { AreLimited (own_history (own_of table.old tx.0)) }
+    ensures left { IsWritten table.old table.new tx.0 HasHandedOver }
+{
+    match table.get_mut(tx) {
+        Some(node) => (node.own.place, node.own.work.take_operations()),
+        None => unreachable!(),
+    }
+}
+
+/// The word of the transaction at a place of its list.
+fn word_at(table: &Table, tx: TxId, place: usize) -> Option<WordPlace>
+    ensures { result ≡ slice_get (words_in table.now tx.0) place }
+{
+    match table.get(tx) {
+        Some(seat) => seat.kept.own.work.word_at(place),
+        None => None,
+    }
+}
+
+/// How many words the transaction's list has.
+fn word_count(table: &Table, tx: TxId) -> usize
+    ensures { result ≡ length (words_in table.now tx.0) }
+{
+    match table.get(tx) {
+        Some(seat) => seat.kept.own.work.word_count(),
+        None => 0,
+    }
+}
+
+/// Brings to the front of their keys what the transaction put, and what it ended whose put has no
+/// stamp, in the order of writing.
+fn bring_forward(versions: &mut Versions, table: &Table, tx: TxId)
+    ensures { AreInFront (comes_at_draw (state_of table.now) tx.0) versions.old versions.new
+        (words_in table.now tx.0) }
+{
+    for place in 0..word_count(table, tx) {
+        if let Some(word) = word_at(table, tx, place) {
+            bring_unstamped(versions, table, tx, number_of(word));
+        }
+    }
+}
+
+/// Brings to the front of their keys what the transaction put, in the order of writing.
+fn bring_puts(versions: &mut Versions, table: &Table, tx: TxId)
+    ensures { AreInFront (is_put_by tx.0) versions.old versions.new (words_in table.now tx.0) }
+{
+    for place in 0..word_count(table, tx) {
+        if let Some(word) = word_at(table, tx, place) {
+            bring_put(versions, tx, number_of(word));
+        }
+    }
+}
+
+/// The number of the version that has the word.
+fn number_of(word: WordPlace) -> VersionNo
+    ensures { result ≡ number_at word }
+{
+    match word {
+        WordPlace::Begin(number) => number,
+        WordPlace::End(number) => number,
+    }
+}
+
+/// Brings the version to the front of its key, if the transaction put it, or ended it and its put
+/// has no stamp.
+fn bring_unstamped(versions: &mut Versions, table: &Table, tx: TxId, number: VersionNo)
+    ensures { IsInFrontIf (comes_at_draw (state_of table.now) tx.0) versions.old versions.new
+        number }
+{
+    if comes_at_draw(versions, table, tx, number) {
+        versions.bring_to_front(number);
+    }
+}
+
+/// Brings the version to the front of its key, if the transaction put it.
+fn bring_put(versions: &mut Versions, tx: TxId, number: VersionNo)
+    ensures { IsInFrontIf (is_put_by tx.0) versions.old versions.new number }
+{
+    if is_put(versions, tx, number) {
+        versions.bring_to_front(number);
+    }
+}
+
+/// Whether the transaction put the version, or ended it and its put has no stamp for others.
+fn comes_at_draw(versions: &Versions, table: &Table, tx: TxId, number: VersionNo) -> bool
+    ensures { result ≡ passes (comes_at_draw (state_of table.now) tx.0)
+        (version_at versions.now.slots number) }
+{
+    match versions.get(number) {
+        Some(version) => {
+            names(version.begin, tx) || names(version.end, tx) && has_no_stamp(table, version.begin)
+        }
+        None => false,
+    }
+}
+
+/// Whether the transaction put the version.
+fn is_put(versions: &Versions, tx: TxId, number: VersionNo) -> bool
+    ensures { result ≡ passes (is_put_by tx.0) (version_at versions.now.slots number) }
+{
+    match versions.get(number) {
+        Some(version) => names(version.begin, tx),
+        None => false,
+    }
+}
+
+/// Whether the word has no stamp for others.
+fn has_no_stamp(table: &Table, word: Word) -> bool
+    ensures { result ≡ is_none (stamp_in (ends_of (phases_of (state_of table.now))) word) }
+{
+    match seen_by_others(table, word) {
+        Seen::Nothing => true,
+        Seen::Settled(_) => false,
+        Seen::Speculative(_, _) => false,
+    }
+}

@@ -1,0 +1,114 @@
+use crate::spares::Spares;
+use crate::transaction::{Table, begun};
+use mvo_tale::Tale;
+use mvo_txn::TxnTable;
+use mvo_types::{MAX_STAMP, Refusal, Rows, Stamp, TxId};
+use mvo_versions::Versions;
+use std::alloc::Global;
+use std::marker::Model;
+
+/// The event core. A call is one step: none waits for another, and none goes over all
+/// transactions, versions or commits.
+///
+/// It stands for a state of the theory (`StandsFor`), whatever steps led there: each call's clauses
+/// say which one it stands for then.
+#[derive(Drop)]
+pub struct Core {
+    pub(crate) alloc: Global,
+    pub(crate) versions: Versions,
+    pub(crate) table: Table,
+    pub(crate) tale: Tale,
+    /// The mark of the rows that it was opened over.
+    pub(crate) opening: Stamp,
+    /// The mark of the group that was closed last, or the opening mark.
+    pub(crate) closed: Stamp,
+    /// The place in the tale from which the next group goes on.
+    pub(crate) grouped: usize,
+    pub(crate) spares: Spares,
+}
+
+impl Model for Core {
+    ghost use Rattle.std.specs.Coded.{codes};
+    ghost use Rattle.mvo_hash.specs.Lists.{coded_lists};
+    ghost use Rattle.mvo_range.specs.Place.{coded_map};
+    ghost use Rattle.mvo_txn.specs.Txns.{coded_txns};
+    ghost use Rattle.mvo_core.specs.Data.{CoreData};
+    ghost use Rattle.mvo_core.specs.Standing.{Stands};
+
+    ghost Value = { CoreData };
+
+    ghost coded = { Prim.hlevel (codes, coded_lists, coded_map, coded_txns) };
+
+    ghost view = { λ c. record {
+      versions = c.versions;
+      table = c.table;
+      tale = c.tale;
+      opening = c.opening.0;
+      closed = c.closed.0;
+      grouped = c.grouped;
+    } };
+
+    ghost invariant = { λ c. Stands (record {
+      versions = c.versions;
+      table = c.table;
+      tale = c.tale;
+      opening = c.opening.0;
+      closed = c.closed.0;
+      grouped = c.grouped;
+    }) };
+}
+
+impl Core {
+    ghost use Rattle.std.specs.Prelude.{◌≡◌, ◌+◌, ◌≤◌, IfOk, IfErr};
+    ghost use Rattle.mvo_types.specs.declared.limits.TheConstants.{MAX_STAMP as LIMIT};
+    ghost use Rattle.mvo_theory.specs.Calls.Call.{Begin};
+    ghost use Rattle.mvo_core.specs.Standing.{OpensAs};
+    ghost use Rattle.mvo_core.specs.Steps.{IsStep};
+
+    /// A core over these rows, with the clock at their mark. Who chooses the keys of rows must not
+    /// know the seed, which decides where keys stand in memory. Refused with OutOfMemory alone.
+    pub fn open(alloc: Global, seed: u64, rows: Rows, mark: Stamp) -> Result<Core, Refusal>
+        requires { mark.0 ≤ LIMIT }
+        ensures ok { IfOk result (λ c. OpensAs rows mark.0 c) }
+        ensures err { IfErr result (λ r. r ≡ Refusal.OutOfMemory) }
+    {
+        let table = TxnTable::new(alloc, mark)?;
+        let versions = Versions::load(alloc, seed, rows, mark)?;
+        let spares = Spares::new(alloc)?;
+        Ok(Core {
+            alloc,
+            versions,
+            table,
+            tale: Tale::new(alloc),
+            opening: mark,
+            closed: mark,
+            grouped: 0,
+            spares,
+        })
+    }
+
+    /// The timestamp that was drawn last, or the opening mark.
+    pub fn clock(&self) -> Stamp
+        ensures { result.0 ≡ self.now.table.clock }
+    {
+        self.table.clock()
+    }
+
+    /// The stored commits, by end timestamp.
+    pub fn tale(&self) -> &Tale
+        ensures { result.now ≡ self.now.tale }
+    {
+        &self.tale
+    }
+
+    /// Begins a transaction. Its id is its begin timestamp. Refused: TableFull, ClockSpent,
+    /// OutOfMemory.
+    pub fn begin_tx(&mut self) -> Result<TxId, Refusal>
+        ensures step { IsStep self.old Begin result self.new }
+        ensures id { IfOk result (λ t. t.0 ≡ self.old.table.clock + 1) }
+    {
+        let alloc = self.alloc;
+        let work = self.spares.take();
+        self.table.begin(begun(alloc, work))
+    }
+}

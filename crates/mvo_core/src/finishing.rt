@@ -1,0 +1,142 @@
+//! How a transaction's words are replaced, one after another.
+ghost use Rattle.std.specs.Prelude.{◌≡◌, IsSome, IfOk, IfErr, Some, slice_get};
+ghost use Rattle.mvo_chain.specs.Slots.{version_at};
+ghost use Rattle.mvo_txn.specs.Txns.{state_of};
+ghost use Rattle.mvo_representation.specs.WordLists.{number_at, names_at, with_word};
+ghost use Rattle.mvo_versions.specs.Changes.{IsReworded};
+ghost use Rattle.mvo_core.specs.Data.{own_of};
+ghost use Rattle.mvo_core.specs.Standing.{words_in};
+ghost use Rattle.mvo_core.specs.Keeping.{IsWritten, HasDropped};
+ghost use Rattle.mvo_core.specs.Finishing.{why_not_finished, IsFinalWord, HasDrawnEnd};
+ghost use Rattle.mvo_core.specs.Finishing.{from_own, HasPassed, IsNextReplaced};
+
+use crate::answers::Finishing;
+use crate::engine::Core;
+use crate::transaction::Table;
+use mvo_txn::TxState;
+use mvo_types::{Refusal, TxId};
+use mvo_versions::Versions;
+use mvo_visible::names;
+use mvo_word::Word;
+use mvo_work::{WordPlace, Work};
+
+impl Core {
+    ghost use Rattle.std.specs.Prelude.{◌≡◌, IfOk};
+    ghost use Rattle.mvo_theory.specs.Calls.Call.{Finish};
+    ghost use Rattle.mvo_core.specs.Steps.{IsStep, IsFinishing};
+
+    /// Replaces one word that names a Committed or Aborted transaction, in the order of writing:
+    /// with its end after a commit, with infinity after an abort. The call that replaces the last
+    /// one answers Done, and the transaction is over; with none left the first call does. A word
+    /// that another took over is passed over. Refused: NoSuchTransaction, NotEnded.
+    pub fn finish_one(&mut self, tx: TxId) -> Result<Finishing, Refusal>
+        ensures step { IsStep self.old (Finish tx.0) result self.new }
+        ensures answer { IfOk result (IsFinishing self.old tx.0) }
+    {
+        let word = final_word(&self.table, tx)?;
+        replace_next(&mut self.versions, &mut self.table, tx, word);
+        if next_own(&self.versions, &mut self.table, tx).is_some() {
+            return Ok(Finishing::More);
+        }
+        let node = self.table.terminate(tx);
+        self.spares.keep(node.own.work);
+        Ok(Finishing::Done)
+    }
+}
+
+/// What the words of a Committed or Aborted transaction say in the end. Refused:
+/// NoSuchTransaction, NotEnded.
+fn final_word(table: &Table, tx: TxId) -> Result<Word, Refusal>
+    requires { HasDrawnEnd table.now.clock (state_of table.now tx.0) }
+    ensures ok { IfOk result (IsFinalWord (state_of table.now tx.0)) }
+    ensures err { IfErr result (λ r. why_not_finished (state_of table.now tx.0) ≡ Some r) }
+{
+    // An end is at most the clock, and so a word can hold it.
+    let _clock = table.clock();
+    match table.state(tx) {
+        None => Err(Refusal::NoSuchTransaction),
+        Some(TxState::Active) => Err(Refusal::NotEnded),
+        Some(TxState::Preparing(_)) => Err(Refusal::NotEnded),
+        Some(TxState::Committed(end)) => Ok(Word::stamp(end)),
+        Some(TxState::Aborted) => Ok(Word::INFINITY),
+    }
+}
+
+/// Replaces the first word of the transaction's list that still names it, if there is one, and
+/// takes it off the list, with those before it, which others took over.
+fn replace_next(versions: &mut Versions, table: &mut Table, tx: TxId, word: Word)
+    requires { IsSome (own_of table.old tx.0) }
+    ensures { IsNextReplaced versions.old versions.new table.old table.new tx.0 word }
+{
+    if let Some(place) = next_own(versions, table, tx) {
+        replace(versions, place, word);
+        drop_word(table, tx);
+    }
+}
+
+/// The first word of the transaction's list that still names it. Those before it, which others took
+/// over, are taken off.
+fn next_own(versions: &Versions, table: &mut Table, tx: TxId) -> Option<WordPlace>
+    requires { IsSome (own_of table.old tx.0) }
+    ensures passed { IsWritten table.old table.new tx.0 (HasPassed versions.now.slots tx.0) }
+    ensures first { result ≡ slice_get (words_in table.new tx.0) 0 }
+{
+    match table.get_mut(tx) {
+        Some(node) => pass_others(versions, &mut node.own.work, tx),
+        None => unreachable!(),
+    }
+}
+
+/// Takes off the words that others took over, up to the first that still names the transaction,
+/// which it answers.
+fn pass_others(versions: &Versions, work: &mut Work, tx: TxId) -> Option<WordPlace>
+    ensures history { work.new.history ≡ work.old.history }
+    ensures words { work.new.words ≡ from_own versions.now.slots tx.0 work.old.words }
+    ensures first { result ≡ slice_get work.new.words 0 }
+{
+    while let Some(place) = work.next_word() {
+        if is_own(versions, tx, place) {
+            return Some(place);
+        }
+        work.drop_word();
+    }
+    None
+}
+
+/// Takes the first word off the transaction's list.
+fn drop_word(table: &mut Table, tx: TxId)
+    requires { IsSome (own_of table.old tx.0) }
+    ensures { IsWritten table.old table.new tx.0 HasDropped }
+{
+    match table.get_mut(tx) {
+        Some(node) => node.own.work.drop_word(),
+        None => unreachable!(),
+    }
+}
+
+/// Whether the word still names the transaction.
+fn is_own(versions: &Versions, tx: TxId, place: WordPlace) -> bool
+    ensures { result ≡ names_at versions.now.slots tx.0 place }
+{
+    match place {
+        WordPlace::Begin(number) => match versions.get(number) {
+            Some(version) => names(version.begin, tx),
+            None => false,
+        },
+        WordPlace::End(number) => match versions.get(number) {
+            Some(version) => names(version.end, tx),
+            None => false,
+        },
+    }
+}
+
+/// Replaces the word.
+fn replace(versions: &mut Versions, place: WordPlace, word: Word)
+    requires { IsSome (version_at versions.old.slots (number_at place)) }
+    ensures { IsReworded versions.old versions.new (number_at place) (with_word place word) }
+{
+    match place {
+        WordPlace::Begin(number) => versions.set_begin(number, word),
+        WordPlace::End(number) => versions.set_end(number, word),
+    }
+}

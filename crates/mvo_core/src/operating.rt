@@ -1,0 +1,270 @@
+//! The operations on a key.
+ghost use Rattle.std.specs.Prelude.{◌≡◌, ◌<◌, ◌^◌, IfOk, OnOk, OnErr, IsSome, IfSome};
+ghost use Rattle.std.specs.Option.{option_to_list};
+ghost use Rattle.mvo_txn.specs.Txns.{state_of};
+ghost use Rattle.mvo_deps.specs.Nodes.{after_register_all};
+ghost use Rattle.mvo_deps.specs.Graph.{IsUnfinished};
+ghost use Rattle.mvo_types.specs.AnswerData.AnswerData.{Inserted, Deleted, Updated};
+ghost use Rattle.mvo_chain.specs.Slots.{version_at};
+ghost use Rattle.mvo_work.specs.Limits.{MayFollow};
+ghost use Rattle.mvo_versions.specs.Data.{AreIndexed};
+ghost use Rattle.mvo_versions.specs.Changes.{IsPut};
+ghost use Rattle.mvo_core.specs.Data.{own_of};
+ghost use Rattle.mvo_core.specs.Inserting.{IsInserted};
+ghost use Rattle.mvo_core.specs.Keeping.{IsWritten, HasDoneAsMuch};
+ghost use Rattle.mvo_core.specs.Ending.{IsRemoved, IsReplaced, IsLeft};
+ghost use Rattle.mvo_core.specs.Looking.{row_shown, cause_at, HasSameVersions};
+
+use crate::depending::{depend, make_room, note_word, record_answer, tell};
+use crate::engine::Core;
+use crate::refusing::{not_looked, not_put, not_removed};
+use crate::transaction::Table;
+use mvo_chain::VersionNo;
+use mvo_types::{Answer, Cause, MAX_STAMP, Op, Refusal, Row, RowKey, TxId};
+use mvo_validate::Entry;
+use mvo_versions::Versions;
+use mvo_visible::ended_by;
+use mvo_work::WordPlace;
+use std::alloc::AllocError;
+
+impl Core {
+    ghost use Rattle.std.specs.Prelude.{◌≡◌, IfOk};
+    ghost use Rattle.mvo_theory.specs.Calls.Call.{Do};
+    ghost use Rattle.mvo_core.specs.Steps.{IsStep, IsAnswered};
+
+    /// Reads the row at a key. Refused: NoSuchTransaction, Ended, NotActive, DependencyAborted,
+    /// BadTable, TooManyReads, OutOfMemory.
+    pub fn read(&mut self, tx: TxId, key: RowKey) -> Result<Answer, Refusal>
+        ensures step { IsStep self.old (Do tx.0 (Op.Read key)) result self.new }
+        ensures answer { IfOk result (IsAnswered self.old tx.0 (Op.Read key)) }
+    {
+        if let Some(refusal) = not_looked(&self.table, tx, key.table, Entry::Key(key)) {
+            return Err(self.give_up(tx, refusal));
+        }
+        let found = self.versions.shown(&self.table, tx, key);
+        let row = row_at(&self.versions, found.version)?;
+        let kept = copy_of(&row)?;
+        let (op, told) = (Op::Read(key), Answer::Found(kept));
+        record_answer(&mut self.table, tx, found.depends_on, op, told)?;
+        Ok(Answer::Found(row))
+    }
+
+    /// Inserts a row, unless one is shown at its key. Refused: NoSuchTransaction, Ended, NotActive,
+    /// DependencyAborted, BadTable, DataTooLong, TooManyReads, TooManyWrites, OutOfMemory.
+    pub fn insert(&mut self, tx: TxId, row: Row) -> Result<Answer, Refusal>
+        ensures step { IsStep self.old (Do tx.0 (Op.Insert row)) result self.new }
+        ensures answer { IfOk result (IsAnswered self.old tx.0 (Op.Insert row)) }
+    {
+        let key = row.row_key();
+        if let Some(refusal) = not_put(&self.table, tx, &row) {
+            return Err(self.give_up(tx, refusal));
+        }
+        let found = self.versions.shown(&self.table, tx, key);
+        if found.version.is_some() {
+            let (op, told) = (Op::Insert(row), Answer::Exists);
+            record_answer(&mut self.table, tx, found.depends_on, op, told)?;
+            return Ok(Answer::Exists);
+        }
+        let on = found.depends_on;
+        insert_row(&mut self.versions, &mut self.table, tx, row, on)?;
+        Ok(Answer::Inserted)
+    }
+
+    /// Replaces the row at a key, if one is shown there. Refused: NoSuchTransaction, Ended,
+    /// NotActive, DependencyAborted, BadTable, DataTooLong, TooManyReads, TooManyWrites,
+    /// WriteConflict, OutOfMemory. After WriteConflict the transaction is Aborted.
+    pub fn update(&mut self, tx: TxId, row: Row) -> Result<Answer, Refusal>
+        ensures step { IsStep self.old (Do tx.0 (Op.Update row)) result self.new }
+        ensures answer { IfOk result (IsAnswered self.old tx.0 (Op.Update row)) }
+    {
+        let key = row.row_key();
+        if let Some(refusal) = not_put(&self.table, tx, &row) {
+            return Err(self.give_up(tx, refusal));
+        }
+        let found = self.versions.shown(&self.table, tx, key);
+        if let Some(cause) = in_the_way(&self.versions, &self.table, tx, found.version) {
+            return Err(self.give_up(tx, Refusal::WriteConflict(cause)));
+        }
+        let on = found.depends_on;
+        let Some(old) = found.version else {
+            record_answer(&mut self.table, tx, on, Op::Update(row), Answer::Absent)?;
+            return Ok(Answer::Absent);
+        };
+        put_instead(&mut self.versions, &mut self.table, tx, old, row, on)?;
+        Ok(Answer::Updated)
+    }
+
+    /// Deletes the row at a key, if one is shown there. Refused: NoSuchTransaction, Ended,
+    /// NotActive, DependencyAborted, BadTable, TooManyReads, TooManyWrites, WriteConflict,
+    /// OutOfMemory. After WriteConflict the transaction is Aborted.
+    pub fn delete(&mut self, tx: TxId, key: RowKey) -> Result<Answer, Refusal>
+        ensures step { IsStep self.old (Do tx.0 (Op.Delete key)) result self.new }
+        ensures answer { IfOk result (IsAnswered self.old tx.0 (Op.Delete key)) }
+    {
+        if let Some(refusal) = not_removed(&self.table, tx, key) {
+            return Err(self.give_up(tx, refusal));
+        }
+        let found = self.versions.shown(&self.table, tx, key);
+        if let Some(cause) = in_the_way(&self.versions, &self.table, tx, found.version) {
+            return Err(self.give_up(tx, Refusal::WriteConflict(cause)));
+        }
+        let on = found.depends_on;
+        let Some(old) = found.version else {
+            record_answer(&mut self.table, tx, on, Op::Delete(key), Answer::Absent)?;
+            return Ok(Answer::Absent);
+        };
+        remove(&mut self.versions, &mut self.table, tx, old, key, on)?;
+        Ok(Answer::Deleted)
+    }
+}
+
+/// A copy of the row of the version, if there is one.
+pub fn row_at(versions: &Versions, number: Option<VersionNo>) -> Result<Option<Row>, AllocError>
+    ensures { IfOk result (λ row. row ≡ row_shown versions.now.slots number) }
+{
+    let Some(number) = number else {
+        return Ok(None);
+    };
+    match versions.get(number) {
+        Some(version) => Ok(Some(version.row.copy()?)),
+        None => Ok(None),
+    }
+}
+
+/// A copy of the row, if there is one.
+fn copy_of(row: &Option<Row>) -> Result<Option<Row>, AllocError>
+    ensures { IfOk result (λ copy. copy ≡ row.now) }
+{
+    match row {
+        Some(row) => Ok(Some(row.copy()?)),
+        None => Ok(None),
+    }
+}
+
+/// Who has ended the version first, if there is one and somebody has.
+fn in_the_way(
+    versions: &Versions,
+    table: &Table,
+    tx: TxId,
+    number: Option<VersionNo>,
+) -> Option<Cause>
+    ensures { result ≡ cause_at (state_of table.now) versions.now.slots tx.0 number }
+{
+    match versions.get(number?) {
+        Some(version) => ended_by(table, version.end, tx),
+        None => None,
+    }
+}
+
+/// Puts a version of the row, and lets the transaction depend on the other, if there is one; or
+/// does neither. Where the version `like` has the row's key and sort, no place is sought. Refused,
+/// the places are still just those of the versions, as always.
+fn put(
+    versions: &mut Versions,
+    table: &mut Table,
+    tx: TxId,
+    row: &Row,
+    like: Option<VersionNo>,
+    on: Option<TxId>,
+) -> Result<VersionNo, AllocError>
+    requires id { tx.0 < 2 ^ 63 }
+    requires there { IsUnfinished table.old tx }
+    ensures ok { IfOk result (λ n. IsPut versions.old versions.new row.now tx.0 n) }
+    ensures depends { OnOk result
+        (table.new ≡ after_register_all table.old tx (option_to_list on)) }
+    ensures err { OnErr result (HasSameVersions versions.old versions.new) }
+    ensures alone { OnErr result (table.new ≡ table.old) }
+    ensures indexed { AreIndexed versions.old → AreIndexed versions.new }
+{
+    let number = versions.put(row.copy()?, tx, like)?;
+    let Ok(()) = depend(table, tx, on) else {
+        let _ = versions.take_out(number);
+        return Err(AllocError);
+    };
+    Ok(number)
+}
+
+/// Puts a version of the row, which the transaction is told to have inserted, and lets it depend on
+/// the other, if there is one; or does neither.
+fn insert_row(
+    versions: &mut Versions,
+    table: &mut Table,
+    tx: TxId,
+    row: Row,
+    on: Option<TxId>,
+) -> Result<(), AllocError>
+    requires there { IsSome (own_of table.old tx.0) }
+    requires limits { IfSome (own_of table.old tx.0) (λ own.
+        MayFollow own.work.history (Op.Insert row) Inserted) }
+    ensures ok { OnOk result (IsInserted versions.old versions.new table.old table.new tx
+        (option_to_list on) row) }
+    ensures err { OnErr result (HasSameVersions versions.old versions.new) }
+    ensures alone { OnErr result (IsWritten table.old table.new tx.0 HasDoneAsMuch) }
+    ensures indexed { AreIndexed versions.old → AreIndexed versions.new }
+{
+    let clock = table.clock();
+    prove!(clock.0 <= MAX_STAMP);
+    make_room(table, tx)?;
+    let number = put(versions, table, tx, &row, None, on)?;
+    note_word(table, tx, WordPlace::Begin(number));
+    tell(table, tx, Op::Insert(row), Answer::Inserted);
+    Ok(())
+}
+
+/// Lets the transaction end the version of the key, and depend on the other, if there is one; or
+/// does neither.
+fn remove(
+    versions: &mut Versions,
+    table: &mut Table,
+    tx: TxId,
+    number: VersionNo,
+    key: RowKey,
+    on: Option<TxId>,
+) -> Result<(), AllocError>
+    requires there { IsSome (own_of table.old tx.0) }
+    requires limits { IfSome (own_of table.old tx.0) (λ own.
+        MayFollow own.work.history (Op.Delete key) Deleted) }
+    requires live { IsSome (version_at versions.old.slots number) }
+    ensures ok { OnOk result (IsRemoved versions.old versions.new table.old table.new tx
+        (option_to_list on) number key) }
+    ensures err { OnErr result (IsWritten table.old table.new tx.0 HasDoneAsMuch) }
+    ensures same { OnErr result (versions.new ≡ versions.old) }
+{
+    let clock = table.clock();
+    prove!(clock.0 <= MAX_STAMP);
+    make_room(table, tx)?;
+    depend(table, tx, on)?;
+    versions.end(number, tx);
+    note_word(table, tx, WordPlace::End(number));
+    tell(table, tx, Op::Delete(key), Answer::Deleted);
+    Ok(())
+}
+
+/// Lets the transaction put the row in place of the version, and depend on the other, if there is
+/// one; or does neither.
+fn put_instead(
+    versions: &mut Versions,
+    table: &mut Table,
+    tx: TxId,
+    number: VersionNo,
+    row: Row,
+    on: Option<TxId>,
+) -> Result<(), AllocError>
+    requires there { IsSome (own_of table.old tx.0) }
+    requires limits { IfSome (own_of table.old tx.0) (λ own.
+        MayFollow own.work.history (Op.Update row) Updated) }
+    requires live { IsSome (version_at versions.old.slots number) }
+    ensures ok { OnOk result (IsReplaced versions.old versions.new table.old table.new tx
+        (option_to_list on) number row) }
+    ensures err { OnErr result (IsLeft versions.old versions.new table.old table.new tx) }
+{
+    let clock = table.clock();
+    prove!(clock.0 <= MAX_STAMP);
+    make_room(table, tx)?;
+    let place = put(versions, table, tx, &row, Some(number), on)?;
+    versions.end(number, tx);
+    note_word(table, tx, WordPlace::End(number));
+    note_word(table, tx, WordPlace::Begin(place));
+    tell(table, tx, Op::Update(row), Answer::Updated);
+    Ok(())
+}

@@ -1,0 +1,151 @@
+//! Why a call is refused: the first of its refusals whose cause stands.
+ghost use Rattle.std.specs.Prelude.{◌≡◌};
+ghost use Rattle.mvo_theory.specs.Causes.{is_failure};
+ghost use Rattle.mvo_work.specs.History.{entry_as};
+ghost use Rattle.mvo_core.specs.Causes.{why_not_active, why_not_preparing, why_not_look};
+ghost use Rattle.mvo_core.specs.Causes.{why_not_put, why_not_remove, why_not_undo};
+ghost use Rattle.mvo_core.specs.Causes.{flag_refusal, is_entry_over, is_write_over};
+ghost use Rattle.mvo_txn.specs.Txns.{state_of};
+
+use crate::transaction::Table;
+use mvo_deps::Dependencies;
+use mvo_txn::TxState;
+use mvo_types::{MAX_DATA_LEN, MAX_TABLE, Refusal, Row, RowKey, TxId};
+use mvo_validate::Entry;
+
+/// The refusal by the flag, if it is set.
+fn flagged(dependencies: &Dependencies) -> Option<Refusal>
+    ensures { result ≡ flag_refusal dependencies.now.aborted }
+{
+    match dependencies.aborted() {
+        Some(id) => Some(Refusal::DependencyAborted(id)),
+        None => None,
+    }
+}
+
+/// Why the transaction may not be called as an Active one.
+pub fn not_active(table: &Table, tx: TxId) -> Option<Refusal>
+    ensures { result ≡ why_not_active table.now tx.0 }
+{
+    let Some(seat) = table.get(tx) else {
+        return Some(Refusal::NoSuchTransaction);
+    };
+    match seat.state {
+        TxState::Active => flagged(&seat.kept.dependencies),
+        TxState::Preparing(_) => Some(Refusal::NotActive),
+        TxState::Committed(_) => Some(Refusal::Ended),
+        TxState::Aborted => Some(Refusal::Ended),
+    }
+}
+
+/// Why the transaction may not be called as a Preparing one.
+pub fn not_preparing(table: &Table, tx: TxId) -> Option<Refusal>
+    ensures { result ≡ why_not_preparing table.now tx.0 }
+{
+    let Some(seat) = table.get(tx) else {
+        return Some(Refusal::NoSuchTransaction);
+    };
+    match seat.state {
+        TxState::Active => Some(Refusal::NotPreparing),
+        TxState::Preparing(_) => flagged(&seat.kept.dependencies),
+        TxState::Committed(_) => Some(Refusal::Ended),
+        TxState::Aborted => Some(Refusal::Ended),
+    }
+}
+
+/// Why the transaction may not be undone.
+pub fn not_undone(table: &Table, tx: TxId) -> Option<Refusal>
+    ensures { result ≡ why_not_undo (state_of table.now tx.0) }
+{
+    match table.state(tx) {
+        None => Some(Refusal::NoSuchTransaction),
+        Some(TxState::Active) => None,
+        Some(TxState::Preparing(_)) => None,
+        Some(TxState::Committed(_)) => Some(Refusal::Ended),
+        Some(TxState::Aborted) => Some(Refusal::Ended),
+    }
+}
+
+/// Whether one more entry is too many for the transaction.
+fn is_entry_too_many(table: &Table, tx: TxId, entry: Entry) -> bool
+    ensures { result ≡ is_entry_over table.now tx.0 (entry_as entry) }
+{
+    match table.get(tx) {
+        Some(seat) => seat.kept.own.work.is_entry_too_many(entry),
+        None => false,
+    }
+}
+
+/// Whether one more key is too many for the transaction to write.
+fn is_write_too_many(table: &Table, tx: TxId, key: RowKey) -> bool
+    ensures { result ≡ is_write_over table.now tx.0 key }
+{
+    match table.get(tx) {
+        Some(seat) => seat.kept.own.work.is_write_too_many(key),
+        None => false,
+    }
+}
+
+/// Why the transaction may not look at the entry, which is of this table.
+pub fn not_looked(table: &Table, tx: TxId, of: u8, entry: Entry) -> Option<Refusal>
+    ensures { result ≡ why_not_look table.now tx.0 of (entry_as entry) }
+{
+    if let Some(refusal) = not_active(table, tx) {
+        return Some(refusal);
+    }
+    if of > MAX_TABLE {
+        return Some(Refusal::BadTable);
+    }
+    if is_entry_too_many(table, tx, entry) {
+        return Some(Refusal::TooManyReads);
+    }
+    None
+}
+
+/// Why the transaction may not put the row, before it is looked who stands in the way.
+pub fn not_put(table: &Table, tx: TxId, row: &Row) -> Option<Refusal>
+    ensures { result ≡ why_not_put table.now tx.0 row.now }
+{
+    let key = row.row_key();
+    if let Some(refusal) = not_active(table, tx) {
+        return Some(refusal);
+    }
+    if key.table > MAX_TABLE {
+        return Some(Refusal::BadTable);
+    }
+    if row.data_len() > MAX_DATA_LEN {
+        return Some(Refusal::DataTooLong);
+    }
+    if is_entry_too_many(table, tx, Entry::Key(key)) {
+        return Some(Refusal::TooManyReads);
+    }
+    if is_write_too_many(table, tx, key) {
+        return Some(Refusal::TooManyWrites);
+    }
+    None
+}
+
+/// Why the transaction may not remove the key's row, before it is looked who stands in the way.
+pub fn not_removed(table: &Table, tx: TxId, key: RowKey) -> Option<Refusal>
+    ensures { result ≡ why_not_remove table.now tx.0 key }
+{
+    if let Some(refusal) = not_looked(table, tx, key.table, Entry::Key(key)) {
+        return Some(refusal);
+    }
+    if is_write_too_many(table, tx, key) {
+        return Some(Refusal::TooManyWrites);
+    }
+    None
+}
+
+/// Whether the transaction is Aborted by the refusal.
+pub fn is_failure(refusal: Refusal) -> bool
+    ensures { result ≡ is_failure refusal }
+{
+    match refusal {
+        Refusal::WriteConflict(_) => true,
+        Refusal::ValidationFailed(_) => true,
+        Refusal::DependencyAborted(_) => true,
+        _ => false,
+    }
+}

@@ -1,0 +1,200 @@
+//! The operation on a range.
+ghost use Rattle.std.specs.Prelude.{◌≡◌, ◌++◌, IfOk, OnOk};
+ghost use Rattle.std.specs.Option.{option_to_list};
+ghost use Rattle.mvo_chain.specs.Slots.{version_at};
+ghost use Rattle.mvo_txn.specs.Txns.{state_of};
+ghost use Rattle.mvo_core.specs.Scanning.{row_with_sort, is_below, is_up_to, is_met_by};
+ghost use Rattle.mvo_core.specs.Scanning.{is_met_at_place, with_named, IsScanned};
+
+use crate::depending::record_answer_on;
+use crate::engine::Core;
+use crate::refusing::not_looked;
+use crate::transaction::Table;
+use mvo_chain::VersionNo;
+use mvo_range::Place;
+use mvo_types::{Answer, Op, Refusal, Row, Stamp, TxId};
+use mvo_validate::Entry;
+use mvo_versions::Versions;
+use mvo_visible::{Seen, seen_by_others};
+use std::alloc::{AllocError, Global};
+
+/// What a scan sees.
+#[derive(Drop)]
+struct Scanned {
+    /// The rows, by sort and then by key.
+    rows: Vec<Row>,
+    /// The Preparing transactions that decide what it sees.
+    on: Vec<TxId>,
+}
+
+impl Core {
+    ghost use Rattle.std.specs.Prelude.{◌≡◌, IfOk};
+    ghost use Rattle.mvo_theory.specs.Calls.Call.{Do};
+    ghost use Rattle.mvo_core.specs.Steps.{IsStep, IsAnswered};
+
+    /// Reads the rows of a table with `lo <= sort <= hi`, by sort and then by key. Takes time by
+    /// the places in the range. Refused: NoSuchTransaction, Ended, NotActive, DependencyAborted,
+    /// BadTable, TooManyReads, OutOfMemory.
+    pub fn scan(&mut self, tx: TxId, table: u8, lo: u64, hi: u64) -> Result<Answer, Refusal>
+        ensures step { IsStep self.old (Do tx.0 (Op.Scan table lo hi)) result self.new }
+        ensures answer { IfOk result (IsAnswered self.old tx.0 (Op.Scan table lo hi)) }
+    {
+        if let Some(refusal) = not_looked(&self.table, tx, table, Entry::Range(table, lo, hi)) {
+            return Err(self.give_up(tx, refusal));
+        }
+        let alloc = self.alloc;
+        let (versions, start) = (&self.versions, self.opening);
+        let scanned = scan_places(alloc, versions, &self.table, start, tx, table, lo, hi)?;
+        let Scanned { rows, on } = scanned;
+        let kept = copies_of(alloc, &rows)?;
+        let (op, told) = (Op::Scan(table, lo, hi), Answer::Rows(kept));
+        record_answer_on(&mut self.table, tx, &on, op, told)?;
+        Ok(Answer::Rows(rows))
+    }
+}
+
+/// What the scan sees, place by place.
+fn scan_places(
+    alloc: Global,
+    versions: &Versions,
+    table: &Table,
+    start: Stamp,
+    tx: TxId,
+    of: u8,
+    lo: u64,
+    hi: u64,
+) -> Result<Scanned, AllocError>
+    ensures { IfOk result (λ s. IsScanned (state_of table.now) versions.now start.0 tx.0 of lo hi
+        s.rows.items s.on.items) }
+{
+    let mut rows = Vec::new(alloc);
+    let mut on = Vec::new(alloc);
+    for entry in versions.between(of, lo, hi) {
+        let place = entry.0;
+        let found = versions.shown(table, tx, place.row_key());
+        let row = row_at_place(versions, found.version, place)?;
+        add_row(&mut rows, row)?;
+        add_named(&mut on, versions, table, start, tx, place, found.depends_on)?;
+    }
+    Ok(Scanned { rows, on })
+}
+
+/// Adds the row, if there is one.
+fn add_row(rows: &mut Vec<Row>, row: Option<Row>) -> Result<(), AllocError>
+    ensures { OnOk result (rows.new.items ≡ rows.old.items ++ option_to_list row) }
+{
+    if let Some(row) = row {
+        rows.push(row)?;
+    }
+    Ok(())
+}
+
+/// Adds the transaction that is named at the place, if there is one, unless it is there already or
+/// the scan meets no version at the place.
+fn add_named(
+    on: &mut Vec<TxId>,
+    versions: &Versions,
+    table: &Table,
+    start: Stamp,
+    tx: TxId,
+    place: Place,
+    id: Option<TxId>,
+) -> Result<(), AllocError>
+    ensures { OnOk result (on.new.items ≡ with_named
+        (is_met_at_place (state_of table.now) versions.now start.0 tx.0 place) on.old.items id) }
+{
+    let Some(id) = id else {
+        return Ok(());
+    };
+    if on.contains(&id) || !is_met(versions, table, start, tx, place) {
+        return Ok(());
+    }
+    on.push(id)?;
+    Ok(())
+}
+
+/// A copy of the version's row, if it stands at the place.
+fn row_at_place(
+    versions: &Versions,
+    number: Option<VersionNo>,
+    place: Place,
+) -> Result<Option<Row>, AllocError>
+    ensures { IfOk result (λ row. row ≡ row_with_sort versions.now.slots place.sort number) }
+{
+    let Some(number) = number else {
+        return Ok(None);
+    };
+    match versions.get(number) {
+        Some(version) if version.row.sort == place.sort => Ok(Some(version.row.copy()?)),
+        _ => Ok(None),
+    }
+}
+
+/// Whether the scan meets a version at the place: another put it below the begin, and it isn't
+/// ended up to the start.
+fn is_met(versions: &Versions, table: &Table, start: Stamp, tx: TxId, place: Place) -> bool
+    ensures { result ≡ is_met_at_place (state_of table.now) versions.now start.0 tx.0 place }
+{
+    for number in versions.walk(place.row_key()) {
+        if meets(versions, table, start, tx, number, place.sort) {
+            return true;
+        }
+    }
+    false
+}
+
+/// Whether it meets this version.
+fn meets(
+    versions: &Versions,
+    table: &Table,
+    start: Stamp,
+    tx: TxId,
+    number: VersionNo,
+    sort: u64,
+) -> bool
+    ensures { result ≡
+        is_met_by (state_of table.now) start.0 tx.0 sort (version_at versions.now.slots number) }
+{
+    match versions.get(number) {
+        Some(version) => {
+            version.row.sort == sort
+                && is_below(seen_by_others(table, version.begin), Stamp(tx.0))
+                && !is_up_to(seen_by_others(table, version.end), start)
+        }
+        None => false,
+    }
+}
+
+/// Whether it is a change with a stamp below this one.
+fn is_below(seen: Seen, stamp: Stamp) -> bool
+    ensures { result ≡ is_below seen stamp.0 }
+{
+    match seen {
+        Seen::Nothing => false,
+        Seen::Settled(at) => at < stamp,
+        Seen::Speculative(at, _) => at < stamp,
+    }
+}
+
+/// Whether it is a change with a stamp of at most this one.
+fn is_up_to(seen: Seen, stamp: Stamp) -> bool
+    ensures { result ≡ is_up_to seen stamp.0 }
+{
+    match seen {
+        Seen::Nothing => false,
+        Seen::Settled(at) => at <= stamp,
+        Seen::Speculative(at, _) => at <= stamp,
+    }
+}
+
+/// Copies of the rows.
+fn copies_of(alloc: Global, rows: &[Row]) -> Result<Vec<Row>, AllocError>
+    ensures { IfOk result (λ copies. copies.items ≡ rows.now) }
+{
+    let mut copies = Vec::new(alloc);
+    copies.reserve(rows.len())?;
+    for row in rows {
+        copies.push(row.copy()?)?;
+    }
+    Ok(copies)
+}

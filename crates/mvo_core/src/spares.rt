@@ -1,0 +1,55 @@
+use mvo_work::Work;
+use std::alloc::{AllocError, Global};
+use std::marker::Model;
+
+// As many as unfinished transactions are common at once.
+const MOST: usize = 64;
+
+/// The memory of transactions that are over, for those that begin: without it each would ask the
+/// system for the same few lists. Nothing is done in any of them.
+#[derive(Drop)]
+pub struct Spares {
+    works: Vec<Work>,
+}
+
+impl Model for Spares {
+    ghost use Rattle.std.specs.Prelude.{⊤};
+    ghost use Rattle.mvo_core.specs.Spare.{AreIdle};
+
+    ghost Value = { ⊤ };
+
+    ghost view = { λ s. tt };
+
+    ghost invariant = { λ s. AreIdle s.works.items };
+}
+
+impl Spares {
+    ghost use Rattle.std.specs.Prelude.{◌≡◌, []};
+
+    /// None yet, with room for the most that are kept.
+    pub fn new(alloc: Global) -> Result<Spares, AllocError> {
+        Ok(Spares {
+            works: Vec::with_capacity(alloc, MOST)?,
+        })
+    }
+
+    /// One in which nothing is done. It takes no memory.
+    pub fn take(&mut self) -> Work
+        ensures history { result.history ≡ [] }
+        ensures words { result.words ≡ [] }
+    {
+        let alloc = *self.works.allocator();
+        match self.works.pop() {
+            Some(work) => work,
+            None => Work::new(alloc),
+        }
+    }
+
+    /// Keeps the memory of one that is over, unless enough are kept.
+    pub fn keep(&mut self, mut work: Work) {
+        if self.works.len() < MOST {
+            work.clear();
+            let _ = self.works.push(work);
+        }
+    }
+}

@@ -1,0 +1,69 @@
+ghost use Rattle.std.specs.Prelude.{◌≡◌};
+ghost use Rattle.mvo_deps.specs.Data.{no_dependencies};
+
+use crate::answers::Validation;
+use mvo_deps::{Dependencies, Node};
+use mvo_txn::TxnTable;
+use mvo_work::Work;
+use std::alloc::Global;
+
+/// The unfinished transactions.
+pub type Table = TxnTable<Node<Transaction>>;
+
+/// What the core keeps of an unfinished transaction, beside where it stands and on whom it depends.
+#[derive(Drop)]
+pub struct Transaction {
+    /// What it has done, and the words that name it.
+    pub work: Work,
+    /// Its place in the tale, from when it draws its end.
+    pub place: usize,
+    /// How many of its entries are checked.
+    pub checked: usize,
+    /// Whether all of them are.
+    pub valid: bool,
+}
+
+impl Transaction {
+    ghost use Rattle.std.specs.Prelude.{◌≡◌};
+    ghost use Rattle.mvo_core.specs.Own.{is_last_check, checked_as};
+    ghost use Rattle.mvo_core.specs.Keeping.{IsPlaced, IsCounted};
+
+    /// It has this place in the tale, and none of its entries is checked yet.
+    pub fn keep_place(&mut self, place: usize)
+        ensures { IsPlaced place self.old self.new }
+    {
+        self.place = place;
+        self.checked = 0;
+        self.valid = false;
+    }
+
+    /// Counts a check, and says whether an entry is left. The last one isn't counted.
+    pub fn count_check(&mut self) -> Validation
+        ensures counted { IsCounted self.old self.new }
+        ensures answer { result ≡ checked_as (is_last_check self.old) }
+    {
+        let left = self.work.entry_count().saturating_sub(self.checked);
+        self.valid = left <= 1;
+        if self.valid {
+            return Validation::Valid;
+        }
+        self.checked += 1;
+        Validation::More
+    }
+}
+
+/// One that has done this work, and nothing else.
+pub fn begun(alloc: Global, work: Work) -> Node<Transaction>
+    ensures dependencies { result.dependencies ≡ no_dependencies }
+    ensures work { result.own.work ≡ work }
+{
+    Node {
+        dependencies: Dependencies::new(alloc),
+        own: Transaction {
+            work,
+            place: 0,
+            checked: 0,
+            valid: false,
+        },
+    }
+}

@@ -1,0 +1,29 @@
+//! Tests of the event core over versions.
+#![tactic(auto)]
+
+#[cfg(test)]
+mod draws;
+#[cfg(test)]
+mod events;
+#[cfg(test)]
+mod groups;
+#[cfg(test)]
+mod limits;
+#[cfg(test)]
+mod met;
+#[cfg(test)]
+mod plain;
+#[cfg(test)]
+mod random;
+#[cfg(test)]
+mod reply;
+#[cfg(test)]
+mod same;
+#[cfg(test)]
+mod session;
+#[cfg(test)]
+mod transcripts;
+#[cfg(test)]
+mod twin_runs;
+#[cfg(test)]
+mod twins;

@@ -1,0 +1,147 @@
+//! Each limit holds one, and not one more.
+
+use crate::reply::Reply;
+use crate::session::Call::{Begin, Finish, Insert, Read, Rollback, Scan};
+use crate::session::{Call, Session};
+use mvo_types::{Row, RowKey, TxId};
+use std::alloc::{AllocError, Global};
+use std::process::Abort;
+use std::test::Fail;
+
+const TX: TxId = TxId(1);
+
+/// A session in which the transaction 1 has begun.
+fn begun(rt: &impl Abort, alloc: Global) -> Result<Session, Fail> {
+    let mut session = Session::new(alloc)?;
+    session.follow(rt, &[(Begin, "began 1")])?;
+    Ok(session)
+}
+
+/// A row of so many bytes.
+fn row(alloc: Global, key: u64, len: usize) -> Result<Row, AllocError> {
+    Ok(Row {
+        key: RowKey { table: 0, key },
+        sort: key,
+        bytes: vec![in alloc; 97; len]?,
+    })
+}
+
+fn says(rt: &impl Abort, alloc: Global, reply: &Reply, text: &str) -> Result<(), Fail> {
+    assert_eq!(rt; format!(in alloc; "{reply}")?.as_str(), text);
+    Ok(())
+}
+
+/// One that is aborted counts until it is finished.
+const NO_MORE_BEGIN: [(Call, &str); 5] = [
+    (Begin, "refused 30"),
+    (Rollback(77), "rolled back"),
+    (Begin, "refused 30"),
+    (Finish(77), "done"),
+    (Begin, "began 1025"),
+];
+
+fn begin_all(rt: &impl Abort, session: &mut Session) -> Result<(), Fail> {
+    for _ in 0..1_024 {
+        assert!(rt; matches!(session.begin(), Reply::Began(_)));
+    }
+    session.follow(rt, &NO_MORE_BEGIN)?;
+    Ok(())
+}
+
+#[test]
+fn transactions_are_1024(rt: HostRuntime) -> Result<(), Fail> {
+    let mut session = Session::new(rt.alloc())?;
+    begin_all(&rt, &mut session)
+}
+
+const ANOTHER_KEY: [(Call, &str); 1] = [(Insert(1, 256, 256, 97), "refused 31")];
+
+fn write_keys(rt: &impl Abort, alloc: Global, session: &mut Session) -> Result<(), Fail> {
+    for key in 0..256 {
+        inserts(rt, alloc, session, key, 1, "inserted")?;
+    }
+    session.follow(rt, &ANOTHER_KEY)?;
+    // A key that is written already isn't another.
+    let reply = session.update(TX, row(alloc, 255, 2)?);
+    says(rt, alloc, &reply, "updated")
+}
+
+#[test]
+fn written_keys_are_256(rt: HostRuntime) -> Result<(), Fail> {
+    let mut session = begun(&rt, rt.alloc())?;
+    write_keys(&rt, rt.alloc(), &mut session)
+}
+
+/// What it has looked at already isn't another entry.
+const NO_MORE_ENTRIES: [(Call, &str); 4] = [
+    (Scan(1, 0, 10), "rows 0"),
+    (Read(1, 4_095), "refused 32"),
+    (Scan(1, 0, 11), "refused 32"),
+    (Read(1, 0), "none"),
+];
+
+fn read_keys(rt: &impl Abort, alloc: Global, session: &mut Session) -> Result<(), Fail> {
+    for key in 0..4_095 {
+        reads(rt, alloc, session, RowKey { table: 0, key }, "none")?;
+    }
+    session.follow(rt, &NO_MORE_ENTRIES)?;
+    Ok(())
+}
+
+#[test]
+fn entries_are_4096(rt: HostRuntime) -> Result<(), Fail> {
+    let mut session = begun(&rt, rt.alloc())?;
+    read_keys(&rt, rt.alloc(), &mut session)
+}
+
+/// The insert of a row of so many bytes is answered so.
+fn inserts(
+    rt: &impl Abort,
+    alloc: Global,
+    session: &mut Session,
+    key: u64,
+    len: usize,
+    text: &str,
+) -> Result<(), Fail> {
+    let reply = session.insert(TX, row(alloc, key, len)?);
+    says(rt, alloc, &reply, text)
+}
+
+/// The read of the key is answered so.
+fn reads(
+    rt: &impl Abort,
+    alloc: Global,
+    session: &mut Session,
+    key: RowKey,
+    text: &str,
+) -> Result<(), Fail> {
+    let reply = session.read(TX, key);
+    says(rt, alloc, &reply, text)
+}
+
+fn check_reads(rt: &impl Abort, alloc: Global, session: &mut Session) -> Result<(), Fail> {
+    for (table, text) in [(15, "none"), (16, "refused 34")] {
+        reads(rt, alloc, session, RowKey { table, key: 1 }, text)?;
+    }
+    Ok(())
+}
+
+fn check_table_16(rt: &impl Abort, alloc: Global, session: &mut Session) -> Result<(), Fail> {
+    let reply = session.scan(TX, 16, 0, 1);
+    says(rt, alloc, &reply, "refused 34")?;
+    let reply = session.delete(TX, RowKey { table: 16, key: 1 });
+    says(rt, alloc, &reply, "refused 34")
+}
+
+fn check_lens(rt: &impl Abort, alloc: Global, session: &mut Session) -> Result<(), Fail> {
+    inserts(rt, alloc, session, 1, 1_024, "inserted")?;
+    inserts(rt, alloc, session, 2, 1_025, "refused 33")?;
+    check_reads(rt, alloc, session)?;
+    check_table_16(rt, alloc, session)
+}
+
+#[test]
+fn data_has_1024_bytes_and_tables_are_16(rt: HostRuntime) -> Result<(), Fail> {
+    let mut session = begun(&rt, rt.alloc())?;
+    check_lens(&rt, rt.alloc(), &mut session)
+}

@@ -1,0 +1,488 @@
+//! Random calls of several transactions, against one map on which those that committed run one
+//! after another, and against the rows that the groups leave.
+
+use crate::draws::Draws;
+use crate::reply::Reply;
+use crate::same::{are_same, is_same};
+use crate::session::Session;
+use mvo_core::{Closed, Finishing, Settlement, Validation};
+use mvo_group::{Group, Write};
+use mvo_model::Serial;
+use mvo_types::{Answer, Op, Refusal, Row, RowKey, Rows, Stamp, TxId};
+use std::alloc::{AllocError, Global};
+use std::mem;
+use std::process::Abort;
+use std::test::Fail;
+
+const STEPS: u64 = 20_000;
+
+const MOST_AT_ONCE: u64 = 6;
+
+/// So few that transactions meet.
+const TABLES: u64 = 2;
+
+const KEYS: u64 = 6;
+
+const SORTS: u64 = 10;
+
+/// The mark of the opening rows.
+const MARK: u8 = 7;
+
+#[derive(Drop)]
+enum Phase {
+    Active,
+    Preparing,
+    Valid,
+    Over,
+    Gone,
+}
+
+/// An unfinished transaction, with what it asked for and what it was told.
+#[derive(Drop)]
+struct Open {
+    id: TxId,
+    phase: Phase,
+    ops: Vec<Op>,
+    answers: Vec<Answer>,
+}
+
+#[derive(Drop)]
+struct Counts {
+    conflicts: u64,
+    failed: u64,
+    by_dependency: u64,
+    waiting: u64,
+    early: u64,
+    rolled_back: u64,
+    more_words: u64,
+    busy: u64,
+    groups: u64,
+    most_preparing: u64,
+    strange: u64,
+}
+
+/// A core, and the committed transactions by end timestamp, as the replies tell.
+#[derive(Drop)]
+struct Course {
+    alloc: Global,
+    session: Session,
+    draws: Draws,
+    open: Vec<Open>,
+    ends: Vec<Stamp>,
+    ops: Vec<Vec<Op>>,
+    answers: Vec<Vec<Answer>>,
+    counts: Counts,
+    /// The mark of the last group, and the rows that the groups leave.
+    closed: Stamp,
+    replayed: Rows,
+}
+
+fn ends_below(ends: &[Stamp], end: Stamp) -> usize {
+    let mut below = 0_usize;
+    for other in ends {
+        if other.0 < end.0 {
+            below = below.saturating_add(1);
+        }
+    }
+    below
+}
+
+fn count(number: &mut u64) {
+    *number = number.saturating_add(1);
+}
+
+fn no_counts() -> Counts {
+    Counts {
+        conflicts: 0,
+        failed: 0,
+        by_dependency: 0,
+        waiting: 0,
+        early: 0,
+        rolled_back: 0,
+        more_words: 0,
+        busy: 0,
+        groups: 0,
+        most_preparing: 0,
+        strange: 0,
+    }
+}
+
+impl Course {
+    fn new(alloc: Global, seed: u64) -> Result<Course, Fail> {
+        Ok(Course {
+            alloc,
+            session: Session::over(alloc, opening_rows(alloc)?, MARK)?,
+            draws: Draws(seed),
+            open: Vec::new(alloc),
+            ends: Vec::new(alloc),
+            ops: Vec::new(alloc),
+            answers: Vec::new(alloc),
+            counts: no_counts(),
+            closed: Stamp(u64::from(MARK)),
+            replayed: opening_rows(alloc)?,
+        })
+    }
+
+    /// One call: the closing of a group, a begin, or one of a transaction that is open.
+    fn advance(&mut self) -> Result<(), AllocError> {
+        if self.draws.below(16) == 0 {
+            return self.close();
+        }
+        let at = self.draws.below(MOST_AT_ONCE) as usize;
+        if at >= self.open.len() {
+            return self.begin();
+        }
+        self.go_on(at)
+    }
+
+    /// One call of the open transaction at the place.
+    fn go_on(&mut self, at: usize) -> Result<(), AllocError> {
+        if at >= self.open.len() {
+            return Ok(());
+        }
+        let mut tx = self.open.swap_remove(at);
+        match tx.phase {
+            Phase::Active => self.ask(&mut tx)?,
+            Phase::Preparing => self.lead_on(&mut tx)?,
+            Phase::Valid => self.settle(&mut tx)?,
+            Phase::Over | Phase::Gone => self.finish(&mut tx),
+        }
+        if !matches!(tx.phase, Phase::Gone) {
+            self.open.push(tx)?;
+        }
+        self.count_preparing();
+        Ok(())
+    }
+
+    fn count_preparing(&mut self) {
+        let mut preparing = 0;
+        for tx in &self.open {
+            if matches!(tx.phase, Phase::Preparing | Phase::Valid) {
+                count(&mut preparing);
+            }
+        }
+        self.counts.most_preparing = self.counts.most_preparing.max(preparing);
+    }
+
+    fn begin(&mut self) -> Result<(), AllocError> {
+        let Reply::Began(id) = self.session.begin() else {
+            count(&mut self.counts.strange);
+            return Ok(());
+        };
+        self.open.push(Open {
+            id,
+            phase: Phase::Active,
+            ops: Vec::new(self.alloc),
+            answers: Vec::new(self.alloc),
+        })?;
+        Ok(())
+    }
+
+    /// An operation, or the end, of an Active transaction.
+    fn ask(&mut self, tx: &mut Open) -> Result<(), AllocError> {
+        match self.draws.below(32) {
+            0..=7 => self.read(tx),
+            8..=12 => self.scan(tx),
+            13..=16 => self.insert(tx),
+            17..=21 => self.update(tx),
+            22..=23 => self.delete(tx),
+            24..=30 => {
+                self.precommit(tx);
+                Ok(())
+            }
+            _ => {
+                self.roll_back(tx);
+                Ok(())
+            }
+        }
+    }
+
+    fn key(&mut self) -> RowKey {
+        let table = if self.draws.below(TABLES) == 0 { 0 } else { 3 };
+        let key = self.draws.below(KEYS);
+        RowKey { table, key }
+    }
+
+    fn row(&mut self) -> Result<Row, AllocError> {
+        let key = self.key();
+        let sort = self.draws.below(SORTS);
+        let bytes = self.draws.draw().to_be_bytes().to_vec(self.alloc)?;
+        Ok(Row { key, sort, bytes })
+    }
+
+    fn read(&mut self, tx: &mut Open) -> Result<(), AllocError> {
+        let key = self.key();
+        let reply = self.session.read(tx.id, key);
+        self.note(tx, Op::Read(key), reply)
+    }
+
+    fn scan(&mut self, tx: &mut Open) -> Result<(), AllocError> {
+        let table = self.key().table;
+        let (lo, hi) = (self.draws.below(SORTS), self.draws.below(SORTS));
+        let reply = self.session.scan(tx.id, table, lo, hi);
+        self.note(tx, Op::Scan(table, lo, hi), reply)
+    }
+
+    fn insert(&mut self, tx: &mut Open) -> Result<(), AllocError> {
+        let row = self.row()?;
+        let copy = row.copy()?;
+        let reply = self.session.insert(tx.id, row);
+        self.note(tx, Op::Insert(copy), reply)
+    }
+
+    fn update(&mut self, tx: &mut Open) -> Result<(), AllocError> {
+        let row = self.row()?;
+        let copy = row.copy()?;
+        let reply = self.session.update(tx.id, row);
+        self.note(tx, Op::Update(copy), reply)
+    }
+
+    fn delete(&mut self, tx: &mut Open) -> Result<(), AllocError> {
+        let key = self.key();
+        let reply = self.session.delete(tx.id, key);
+        self.note(tx, Op::Delete(key), reply)
+    }
+
+    /// Keeps an answer, or that the transaction failed.
+    fn note(&mut self, tx: &mut Open, op: Op, reply: Reply) -> Result<(), AllocError> {
+        match reply {
+            Reply::Answered(answer) => {
+                tx.ops.push(op)?;
+                tx.answers.push(answer)?;
+            }
+            other => self.fail(tx, &other),
+        }
+        Ok(())
+    }
+
+    /// The transaction is Aborted by what it was refused with.
+    fn fail(&mut self, tx: &mut Open, reply: &Reply) {
+        match reply {
+            Reply::Refused(Refusal::WriteConflict(_)) => count(&mut self.counts.conflicts),
+            Reply::Refused(Refusal::ValidationFailed(_)) => count(&mut self.counts.failed),
+            Reply::Refused(Refusal::DependencyAborted(_)) => count(&mut self.counts.by_dependency),
+            _ => count(&mut self.counts.strange),
+        }
+        tx.phase = Phase::Over;
+    }
+
+    fn precommit(&mut self, tx: &mut Open) {
+        match self.session.precommit(tx.id) {
+            Reply::Preparing(_) => tx.phase = Phase::Preparing,
+            other => self.fail(tx, &other),
+        }
+    }
+
+    /// A check, the end or the withdrawal of a Preparing transaction.
+    fn lead_on(&mut self, tx: &mut Open) -> Result<(), AllocError> {
+        match self.draws.below(24) {
+            0 => self.roll_back(tx),
+            1 => return self.settle(tx),
+            _ => self.validate(tx),
+        }
+        Ok(())
+    }
+
+    fn validate(&mut self, tx: &mut Open) {
+        match self.session.validate(tx.id) {
+            Reply::Checked(Validation::More) => {}
+            Reply::Checked(Validation::Valid) => tx.phase = Phase::Valid,
+            other => self.fail(tx, &other),
+        }
+    }
+
+    fn settle(&mut self, tx: &mut Open) -> Result<(), AllocError> {
+        match self.session.settle(tx.id) {
+            Reply::Settled(Settlement::Committed(end)) => return self.keep(tx, end),
+            Reply::Settled(Settlement::Waiting(_)) => count(&mut self.counts.waiting),
+            Reply::Refused(Refusal::NotValidated) => count(&mut self.counts.early),
+            other => self.fail(tx, &other),
+        }
+        Ok(())
+    }
+
+    fn roll_back(&mut self, tx: &mut Open) {
+        match self.session.roll_back(tx.id) {
+            Reply::RolledBack => count(&mut self.counts.rolled_back),
+            _ => count(&mut self.counts.strange),
+        }
+        tx.phase = Phase::Over;
+    }
+
+    /// Keeps a committed transaction, in its place by end timestamp.
+    fn keep(&mut self, tx: &mut Open, end: Stamp) -> Result<(), AllocError> {
+        let at = ends_below(&self.ends, end);
+        let ops = mem::replace(&mut tx.ops, Vec::new(self.alloc));
+        let answers = mem::replace(&mut tx.answers, Vec::new(self.alloc));
+        tx.phase = Phase::Over;
+        if at > self.ends.len() || at > self.ops.len() || at > self.answers.len() {
+            count(&mut self.counts.strange);
+            return Ok(());
+        }
+        self.ends.insert(at, end)?;
+        self.ops.insert(at, ops)?;
+        self.answers.insert(at, answers)?;
+        Ok(())
+    }
+
+    fn finish(&mut self, tx: &mut Open) {
+        match self.session.finish(tx.id) {
+            Reply::Finished(Finishing::Done) => tx.phase = Phase::Gone,
+            Reply::Finished(Finishing::More) => count(&mut self.counts.more_words),
+            _ => count(&mut self.counts.strange),
+        }
+    }
+
+    fn close(&mut self) -> Result<(), AllocError> {
+        let mut place = None;
+        match self.session.close(&mut place) {
+            Ok(closed) => return self.replay(place, closed),
+            Err(Refusal::Busy) => count(&mut self.counts.busy),
+            Err(Refusal::NothingToDo) => {}
+            Err(_) => count(&mut self.counts.strange),
+        }
+        Ok(())
+    }
+
+    /// Puts the group's writes on the rows.
+    fn replay(&mut self, place: Option<Group>, closed: Closed) -> Result<(), AllocError> {
+        count(&mut self.counts.groups);
+        if closed.prev != self.closed {
+            count(&mut self.counts.strange);
+        }
+        self.closed = closed.mark;
+        let Some(group) = place else {
+            count(&mut self.counts.strange);
+            return Ok(());
+        };
+        for record in group.into_records() {
+            for write in record.writes {
+                match write {
+                    Write::Put(row) => self.replayed.put(row)?,
+                    Write::Delete(key) => self.replayed.remove(key),
+                }
+            }
+        }
+        Ok(())
+    }
+
+    /// Rolls back what is open, finishes it and closes the last group.
+    fn end(&mut self) -> Result<(), AllocError> {
+        let open = mem::replace(&mut self.open, Vec::new(self.alloc));
+        for mut tx in open {
+            if matches!(tx.phase, Phase::Active | Phase::Preparing | Phase::Valid) {
+                self.roll_back(&mut tx);
+            }
+            self.finish(&mut tx);
+        }
+        self.close()
+    }
+}
+
+/// A row at every third of the keys.
+pub fn opening_rows(alloc: Global) -> Result<Rows, AllocError> {
+    let mut rows = Rows::new(alloc);
+    for third in 0..KEYS / 3 {
+        let key = third.wrapping_mul(3);
+        rows.put(Row {
+            key: RowKey { table: 0, key },
+            sort: third,
+            bytes: third.to_be_bytes().to_vec(alloc)?,
+        })?;
+    }
+    Ok(rows)
+}
+
+/// Whether it tells of a row.
+fn has_row(answer: &Answer) -> bool {
+    match answer {
+        Answer::Found(row) => row.is_some(),
+        Answer::Rows(rows) => !rows.is_empty(),
+        Answer::Exists | Answer::Updated | Answer::Deleted => true,
+        Answer::Inserted | Answer::Absent => false,
+    }
+}
+
+/// Compares the answers, transaction by transaction, and counts those that tell of a row.
+fn compare(rt: &impl Abort, told: &[Vec<Answer>], wanted: &[Vec<Answer>]) -> u64 {
+    let mut rows = 0;
+    assert_eq!(rt; told.len(), wanted.len());
+    for (answers, others) in told.iter().zip(wanted) {
+        assert_eq!(rt; answers.len(), others.len());
+        for (answer, other) in answers.iter().zip(others) {
+            assert!(rt; is_same(answer, other), "{answer:?}, and not {other:?}");
+            if has_row(answer) {
+                count(&mut rows);
+            }
+        }
+    }
+    rows
+}
+
+/// Enough of each came about.
+fn check_counts(rt: &impl Abort, counts: &Counts) {
+    assert_eq!(rt; counts.strange, 0);
+    for (met, least) in [
+        (counts.conflicts, 100),
+        (counts.failed, 100),
+        (counts.by_dependency, 30),
+        (counts.waiting, 30),
+        (counts.early, 50),
+        (counts.rolled_back, 100),
+        (counts.more_words, 500),
+        (counts.busy, 300),
+        (counts.groups, 50),
+        (counts.most_preparing, 3),
+    ] {
+        assert!(rt; met > least, "{met}, and not more than {least}");
+    }
+}
+
+fn run(course: &mut Course) -> Result<(), AllocError> {
+    for _ in 0..STEPS {
+        course.advance()?;
+    }
+    course.end()
+}
+
+/// A whole course.
+fn ended(alloc: Global, seed: u64) -> Result<Course, Fail> {
+    let mut course = Course::new(alloc, seed)?;
+    run(&mut course)?;
+    Ok(course)
+}
+
+/// The committed answers are those of one map.
+fn check_answers(rt: &impl Abort, serial: &mut Serial, course: &Course) -> Result<(), Fail> {
+    let wanted = serial.run(&course.ops)?;
+    let rows = compare(rt, &course.answers, &wanted);
+    assert!(rt; rows > 500);
+    assert!(rt; course.ends.len() > 500);
+    Ok(())
+}
+
+/// The groups leave its rows.
+fn check_rows(rt: &impl Abort, alloc: Global, serial: Serial, replayed: Rows) -> Result<(), Fail> {
+    let left = serial.into_rows().into_rows(alloc)?;
+    let replayed = replayed.into_rows(alloc)?;
+    assert!(rt; !left.is_empty());
+    assert!(rt; are_same(&left, &replayed));
+    Ok(())
+}
+
+fn follow(rt: &impl Abort, alloc: Global, seed: u64) -> Result<(), Fail> {
+    let course = ended(alloc, seed)?;
+    let mut serial = Serial::new(alloc, opening_rows(alloc)?);
+    check_answers(rt, &mut serial, &course)?;
+    check_counts(rt, &course.counts);
+    let Course { replayed, .. } = course;
+    check_rows(rt, alloc, serial, replayed)
+}
+
+#[test]
+fn committed_answers_are_serial(rt: HostRuntime) -> Result<(), Fail> {
+    for seed in [1, 0x9e37_79b9_7f4a_7c15, 2_026] {
+        follow(&rt, rt.alloc(), seed)?;
+    }
+    Ok(())
+}

@@ -1,0 +1,229 @@
+//! A core that is asked as a script asks it.
+
+use crate::reply::Reply;
+use mvo_core::{Closed, Core, Finishing, Settlement, Validation};
+use mvo_group::Group;
+use mvo_types::{Answer, MAX_STAMP, Refusal, Row, RowKey, Rows, Stamp, TxId};
+use std::alloc::{AllocError, Global};
+use std::process::Abort;
+
+/// Enough for the entries of a transaction, and for the words.
+const MOST: usize = 5_000;
+
+/// What is asked for. First comes the transaction's id, and then what is asked for: the key, or the
+/// key, the sort and the one byte of data, or the least and the greatest sort. Rows are of table 0.
+#[derive(Clone, Copy)]
+pub enum Call {
+    Begin,
+    Read(u64, u64),
+    Scan(u64, u64, u64),
+    Insert(u64, u64, u64, u8),
+    Update(u64, u64, u64, u8),
+    Delete(u64, u64),
+    Precommit(u64),
+    Validate(u64),
+    Settle(u64),
+    Rollback(u64),
+    Finish(u64),
+    /// A precommit, all checks, one settle, and after a commit all words.
+    Commit(u64),
+}
+
+/// A core.
+#[derive(Drop)]
+pub struct Session {
+    alloc: Global,
+    core: Core,
+}
+
+impl Session {
+    /// A fresh core.
+    pub fn new(alloc: Global) -> Result<Session, Refusal> {
+        Session::over(alloc, Rows::new(alloc), 0)
+    }
+
+    /// A core over these rows, with the clock at their mark.
+    pub fn over(alloc: Global, rows: Rows, mark: u8) -> Result<Session, Refusal> {
+        let core = Core::open(alloc, 7, rows, Stamp(u64::from(mark)))?;
+        Ok(Session { alloc, core })
+    }
+
+    /// A core over these rows that has so many timestamps left.
+    pub fn late(alloc: Global, rows: Rows, left: u8) -> Result<Session, Refusal> {
+        let mark = Stamp(MAX_STAMP - u64::from(left));
+        let core = Core::open(alloc, 7, rows, mark)?;
+        Ok(Session { alloc, core })
+    }
+
+    pub fn clock(&self) -> Stamp {
+        self.core.clock()
+    }
+
+    /// How many ends the tale has a place for.
+    pub fn tale_len(&self) -> usize {
+        self.core.tale().len()
+    }
+
+    pub fn close(&mut self, place: &mut Option<Group>) -> Result<Closed, Refusal> {
+        self.core.close_group(place)
+    }
+
+    pub fn ask(&mut self, call: Call) -> Result<Reply, AllocError> {
+        match call {
+            Call::Read(tx, key) => Ok(self.read(TxId(tx), key_of(key))),
+            Call::Scan(tx, lo, hi) => Ok(self.scan(TxId(tx), 0, lo, hi)),
+            Call::Insert(tx, key, sort, byte) => {
+                let row = self.row(key, sort, byte)?;
+                Ok(self.insert(TxId(tx), row))
+            }
+            Call::Update(tx, key, sort, byte) => {
+                let row = self.row(key, sort, byte)?;
+                Ok(self.update(TxId(tx), row))
+            }
+            Call::Delete(tx, key) => Ok(self.delete(TxId(tx), key_of(key))),
+            other => Ok(self.lead(other)),
+        }
+    }
+
+    /// A call that asks for no row.
+    fn lead(&mut self, call: Call) -> Reply {
+        match call {
+            Call::Precommit(tx) => self.precommit(TxId(tx)),
+            Call::Validate(tx) => self.validate(TxId(tx)),
+            Call::Settle(tx) => self.settle(TxId(tx)),
+            Call::Rollback(tx) => self.roll_back(TxId(tx)),
+            Call::Finish(tx) => self.finish(TxId(tx)),
+            Call::Commit(tx) => self.commit(TxId(tx)),
+            _ => self.begin(),
+        }
+    }
+
+    fn row(&self, key: u64, sort: u64, byte: u8) -> Result<Row, AllocError> {
+        Ok(Row {
+            key: key_of(key),
+            sort,
+            bytes: vec![in self.alloc; byte]?,
+        })
+    }
+
+    pub fn begin(&mut self) -> Reply {
+        match self.core.begin_tx() {
+            Ok(id) => Reply::Began(id),
+            Err(refusal) => Reply::Refused(refusal),
+        }
+    }
+
+    pub fn read(&mut self, tx: TxId, key: RowKey) -> Reply {
+        answered(self.core.read(tx, key))
+    }
+
+    pub fn scan(&mut self, tx: TxId, table: u8, lo: u64, hi: u64) -> Reply {
+        answered(self.core.scan(tx, table, lo, hi))
+    }
+
+    pub fn insert(&mut self, tx: TxId, row: Row) -> Reply {
+        answered(self.core.insert(tx, row))
+    }
+
+    pub fn update(&mut self, tx: TxId, row: Row) -> Reply {
+        answered(self.core.update(tx, row))
+    }
+
+    pub fn delete(&mut self, tx: TxId, key: RowKey) -> Reply {
+        answered(self.core.delete(tx, key))
+    }
+
+    pub fn precommit(&mut self, tx: TxId) -> Reply {
+        match self.core.precommit(tx) {
+            Ok(end) => Reply::Preparing(end),
+            Err(refusal) => Reply::Refused(refusal),
+        }
+    }
+
+    pub fn validate(&mut self, tx: TxId) -> Reply {
+        match self.core.validate_one(tx) {
+            Ok(validation) => Reply::Checked(validation),
+            Err(refusal) => Reply::Refused(refusal),
+        }
+    }
+
+    pub fn settle(&mut self, tx: TxId) -> Reply {
+        match self.core.settle(tx) {
+            Ok(settlement) => Reply::Settled(settlement),
+            Err(refusal) => Reply::Refused(refusal),
+        }
+    }
+
+    pub fn roll_back(&mut self, tx: TxId) -> Reply {
+        match self.core.rollback_tx(tx) {
+            Ok(()) => Reply::RolledBack,
+            Err(refusal) => Reply::Refused(refusal),
+        }
+    }
+
+    pub fn finish(&mut self, tx: TxId) -> Reply {
+        match self.core.finish_one(tx) {
+            Ok(finishing) => Reply::Finished(finishing),
+            Err(refusal) => Reply::Refused(refusal),
+        }
+    }
+
+    fn commit(&mut self, tx: TxId) -> Reply {
+        let preparing = self.precommit(tx);
+        if !matches!(preparing, Reply::Preparing(_)) {
+            return preparing;
+        }
+        let checked = self.check_all(tx);
+        if !matches!(checked, Reply::Checked(Validation::Valid)) {
+            return checked;
+        }
+        let settled = self.settle(tx);
+        if matches!(settled, Reply::Settled(Settlement::Committed(_))) {
+            self.finish_all(tx);
+        }
+        settled
+    }
+
+    /// Checks entries, until the answer isn't that others are left.
+    fn check_all(&mut self, tx: TxId) -> Reply {
+        for _ in 0..MOST {
+            let checked = self.validate(tx);
+            if !matches!(checked, Reply::Checked(Validation::More)) {
+                return checked;
+            }
+        }
+        Reply::Checked(Validation::More)
+    }
+
+    /// Finishes words, until the answer isn't that others are left.
+    fn finish_all(&mut self, tx: TxId) {
+        for _ in 0..MOST {
+            if !matches!(self.finish(tx), Reply::Finished(Finishing::More)) {
+                return;
+            }
+        }
+    }
+
+    /// Asks for each line, and compares the text of the reply.
+    pub fn follow(&mut self, rt: &impl Abort, lines: &[(Call, &str)]) -> Result<(), AllocError> {
+        let mut line = 0_usize;
+        for (call, wanted) in lines {
+            line = line.saturating_add(1);
+            let reply = self.ask(*call)?;
+            let text = format!(in self.alloc; "{reply}")?;
+            assert_eq!(rt; text.as_str(), *wanted, "in line {line}");
+        }
+        Ok(())
+    }
+}
+
+pub fn key_of(key: u64) -> RowKey {
+    RowKey { table: 0, key }
+}
+
+fn answered(told: Result<Answer, Refusal>) -> Reply {
+    match told {
+        Ok(answer) => Reply::Answered(answer),
+        Err(refusal) => Reply::Refused(refusal),
+    }
+}

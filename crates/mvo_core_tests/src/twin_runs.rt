@@ -1,0 +1,175 @@
+//! Random calls of a core and of the plain model, also wrong ones.
+
+use crate::events::Event;
+use crate::met::{
+    ABSENT, BEGAN, COMMITTED, CONFLICT_WITH_ACTIVE, DELETED, DONE, EXISTS, GROUP, GROUP_OF_SEVERAL,
+    INSERTED, MORE_CHECKS, MORE_WORDS, NO_ROW, NO_ROWS, ONE_ROW, PREPARING, ROLLED_BACK, ROW, ROWS,
+    THREE_PREPARING, TWO_DEPENDENCIES, TWO_FLAGGED, UPDATED, VALID, WAITING,
+};
+use crate::twins::Twins;
+use mvo_types::{Op, Row, RowKey};
+use std::process::Abort;
+use std::test::Fail;
+
+const STEPS: u64 = 20_000;
+
+/// How often each is met at least, in each course: half of what it meets. Refusals go by number.
+const FLOORS: [(usize, u64); 39] = [
+    (10, 180),
+    (11, 120),
+    (12, 150),
+    (13, 55),
+    (14, 570),
+    (15, 40),
+    (20, 50),
+    (21, 50),
+    (22, 55),
+    (33, 18),
+    (34, 18),
+    (36, 9),
+    (52, 135),
+    (56, 55),
+    (BEGAN, 980),
+    (ROW, 410),
+    (NO_ROW, 240),
+    (NO_ROWS, 290),
+    (ONE_ROW, 75),
+    (ROWS, 120),
+    (INSERTED, 180),
+    (EXISTS, 310),
+    (UPDATED, 310),
+    (DELETED, 145),
+    (ABSENT, 360),
+    (PREPARING, 640),
+    (MORE_CHECKS, 580),
+    (VALID, 1_100),
+    (COMMITTED, 340),
+    (WAITING, 28),
+    (ROLLED_BACK, 350),
+    (MORE_WORDS, 540),
+    (DONE, 970),
+    (CONFLICT_WITH_ACTIVE, 85),
+    (GROUP, 40),
+    (GROUP_OF_SEVERAL, 19),
+    (THREE_PREPARING, 5_000),
+    (TWO_FLAGGED, 60),
+    (TWO_DEPENDENCIES, 1_000),
+];
+
+const LATE_FLOORS: [(usize, u64); 1] = [(35, 500)];
+
+/// By one that asks for much: more keys are refused, and then more entries.
+const LIMITS: [(usize, u64); 2] = [(31, 150), (32, 300)];
+
+fn follow(
+    rt: &impl Abort,
+    twins: &mut Twins,
+    steps: u64,
+    floors: &[(usize, u64)],
+) -> Result<(), Fail> {
+    for _ in 0..steps {
+        twins.advance(rt)?;
+    }
+    twins.met.check(rt, floors);
+    Ok(())
+}
+
+#[test]
+fn replies_are_those_of_the_plain_model(rt: HostRuntime) -> Result<(), Fail> {
+    for seed in [1, 0x9e37_79b9_7f4a_7c15] {
+        let mut twins = Twins::young(rt.alloc(), seed)?;
+        follow(&rt, &mut twins, STEPS, &FLOORS)?;
+    }
+    Ok(())
+}
+
+#[test]
+fn the_clock_ends(rt: HostRuntime) -> Result<(), Fail> {
+    let mut twins = Twins::old(rt.alloc(), 100, 5)?;
+    follow(&rt, &mut twins, 2_000, &LATE_FLOORS)
+}
+
+/// Random operations of one, in so many keys that hardly one comes twice.
+fn ask_much(rt: &impl Abort, twins: &mut Twins, id: u64, count: u64) -> Result<(), Fail> {
+    twins.events.keys = 20_000;
+    for _ in 0..count {
+        let op = twins.events.op()?;
+        twins.ask(rt, id, Event::Ask(op))?;
+    }
+    Ok(())
+}
+
+/// Reads of keys that it didn't ask for yet.
+fn read_much(rt: &impl Abort, twins: &mut Twins, id: u64) -> Result<(), Fail> {
+    for key in 20_000..23_600 {
+        let op = Op::Read(RowKey { table: 0, key });
+        twins.ask(rt, id, Event::Ask(op))?;
+    }
+    Ok(())
+}
+
+/// Its end, with so many checks and words.
+fn commit(
+    rt: &impl Abort,
+    twins: &mut Twins,
+    id: u64,
+    checks: u64,
+    words: u64,
+) -> Result<(), Fail> {
+    twins.ask(rt, id, Event::Precommit)?;
+    for _ in 0..checks {
+        twins.ask(rt, id, Event::Validate)?;
+    }
+    twins.ask(rt, id, Event::Settle)?;
+    for _ in 0..words {
+        twins.ask(rt, id, Event::Finish)?;
+    }
+    Ok(())
+}
+
+fn ask_past_limits(rt: &impl Abort, twins: &mut Twins) -> Result<(), Fail> {
+    twins.ask(rt, 0, Event::Begin)?;
+    let id = twins.plain.clock;
+    ask_much(rt, twins, id, 2_000)?;
+    read_much(rt, twins, id)?;
+    ask_much(rt, twins, id, 200)?;
+    commit(rt, twins, id, 4_096, 400)?;
+    twins.met.check(rt, &LIMITS);
+    Ok(())
+}
+
+#[test]
+fn limits_are_those_of_the_plain_model(rt: HostRuntime) -> Result<(), Fail> {
+    let mut twins = Twins::young(rt.alloc(), 3)?;
+    ask_past_limits(&rt, &mut twins)
+}
+
+fn insert(rt: &impl Abort, twins: &mut Twins, key: u64) -> Result<(), Fail> {
+    twins.ask(rt, 0, Event::Begin)?;
+    let id = twins.plain.clock;
+    let row = Row {
+        key: RowKey { table: 1, key },
+        sort: key,
+        bytes: Vec::new(twins.events.alloc),
+    };
+    twins.ask(rt, id, Event::Ask(Op::Insert(row)))?;
+    commit(rt, twins, id, 1, 1)
+}
+
+fn close_many(rt: &impl Abort, twins: &mut Twins) -> Result<(), Fail> {
+    for key in 0..1_030 {
+        insert(rt, twins, key)?;
+    }
+    for _ in 0..8 {
+        twins.close(rt)?;
+    }
+    assert_eq!(rt; twins.met.count(GROUP), 2);
+    assert_eq!(rt; twins.met.count(GROUP_OF_SEVERAL), 2);
+    Ok(())
+}
+
+#[test]
+fn a_group_holds_1024_commits(rt: HostRuntime) -> Result<(), Fail> {
+    let mut twins = Twins::young(rt.alloc(), 4)?;
+    close_many(&rt, &mut twins)
+}

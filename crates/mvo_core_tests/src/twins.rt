@@ -1,0 +1,196 @@
+//! A core and the plain model, which are asked the same: each reply of the one is that of the
+//! other.
+
+use crate::draws::Draws;
+use crate::events::{Event, Events};
+use crate::met::{
+    GROUP, GROUP_OF_SEVERAL, Met, THREE_PREPARING, TWO_DEPENDENCIES, TWO_FLAGGED, kind_of,
+    kind_of_refusal,
+};
+use crate::plain::{Plain, PlainGroup};
+use crate::random::opening_rows;
+use crate::reply::Reply;
+use crate::same::{are_same_records, is_same_reply};
+use crate::session::Session;
+use mvo_core::Closed;
+use mvo_group::Group;
+use mvo_types::{MAX_STAMP, Op, Refusal, TxId};
+use std::alloc::{AllocError, Global};
+use std::process::Abort;
+use std::test::Fail;
+
+/// So many transactions are unfinished at most, but for those begun by the way.
+const MOST_AT_ONCE: u64 = 8;
+
+const MARK: u8 = 7;
+
+/// A core and the model.
+#[derive(Drop)]
+pub struct Twins {
+    session: Session,
+    pub plain: Plain,
+    pub events: Events,
+    /// Where groups are closed to.
+    place: Option<Group>,
+    pub met: Met,
+}
+
+/// What a core replies.
+fn told(session: &mut Session, id: u64, event: Event) -> Reply {
+    let tx = TxId(id);
+    match event {
+        Event::Begin => session.begin(),
+        Event::Ask(op) => told_of(session, tx, op),
+        Event::Precommit => session.precommit(tx),
+        Event::Validate => session.validate(tx),
+        Event::Settle => session.settle(tx),
+        Event::RollBack => session.roll_back(tx),
+        Event::Finish => session.finish(tx),
+    }
+}
+
+fn told_of(session: &mut Session, tx: TxId, op: Op) -> Reply {
+    match op {
+        Op::Read(key) => session.read(tx, key),
+        Op::Scan(table, lo, hi) => session.scan(tx, table, lo, hi),
+        Op::Insert(row) => session.insert(tx, row),
+        Op::Update(row) => session.update(tx, row),
+        Op::Delete(key) => session.delete(tx, key),
+    }
+}
+
+/// What the model replies.
+fn due(plain: &mut Plain, id: u64, event: &Event) -> Result<Reply, AllocError> {
+    match event {
+        Event::Begin => plain.begin(),
+        Event::Ask(op) => plain.operate(id, op),
+        Event::Precommit => Ok(plain.precommit(id)),
+        Event::Validate => Ok(plain.validate(id)),
+        Event::Settle => plain.settle(id),
+        Event::RollBack => Ok(plain.roll_back(id)),
+        Event::Finish => plain.finish(id),
+    }
+}
+
+impl Twins {
+    fn new(alloc: Global, session: Session, mark: u64, seed: u64) -> Result<Twins, Fail> {
+        let rows = opening_rows(alloc)?.into_rows(alloc)?;
+        Ok(Twins {
+            session,
+            plain: Plain::over(alloc, rows, mark)?,
+            events: Events {
+                alloc,
+                draws: Draws(seed),
+                keys: 6,
+            },
+            place: None,
+            met: Met::new(alloc)?,
+        })
+    }
+
+    pub fn young(alloc: Global, seed: u64) -> Result<Twins, Fail> {
+        let session = Session::over(alloc, opening_rows(alloc)?, MARK)?;
+        Twins::new(alloc, session, u64::from(MARK), seed)
+    }
+
+    /// So many timestamps are left.
+    pub fn old(alloc: Global, left: u8, seed: u64) -> Result<Twins, Fail> {
+        let session = Session::late(alloc, opening_rows(alloc)?, left)?;
+        Twins::new(alloc, session, MAX_STAMP - u64::from(left), seed)
+    }
+
+    pub fn advance(&mut self, rt: &impl Abort) -> Result<(), Fail> {
+        let rate = self.close_rate();
+        if self.events.draws.below(rate) == 0 {
+            return self.close(rt);
+        }
+        let at = self.events.draws.below(MOST_AT_ONCE) as usize;
+        let Some(id) = self.plain.id_at(at) else {
+            return self.ask(rt, 0, Event::Begin);
+        };
+        let id = self.or_another(id);
+        let event = self.events.draw(self.plain.state_of(id))?;
+        self.ask(rt, id, event)
+    }
+
+    /// Groups are closed more often where nobody is Preparing, which is seldom.
+    fn close_rate(&self) -> u64 {
+        if self.plain.preparing() > 0 { 64 } else { 4 }
+    }
+
+    /// Now and then another id, which may be nobody's.
+    fn or_another(&mut self, id: u64) -> u64 {
+        if self.events.draws.below(32) != 0 {
+            return id;
+        }
+        let back = self.events.draws.below(20);
+        self.plain.clock.saturating_add(2).saturating_sub(back)
+    }
+
+    pub fn ask(&mut self, rt: &impl Abort, id: u64, event: Event) -> Result<(), Fail> {
+        let due = due(&mut self.plain, id, &event)?;
+        let told = told(&mut self.session, id, event);
+        assert!(rt; is_same_reply(&told, &due), "{told}, and not {due}");
+        assert_eq!(rt; self.session.clock().0, self.plain.clock);
+        self.met.note(kind_of(&told));
+        self.note_many();
+        Ok(())
+    }
+
+    /// Notes how many are Preparing, are flagged and depend on others.
+    fn note_many(&mut self) {
+        if self.plain.preparing() > 2 {
+            self.met.note(THREE_PREPARING);
+        }
+        if self.plain.flagged() > 1 {
+            self.met.note(TWO_FLAGGED);
+        }
+        if self.plain.dependent() > 0 {
+            self.met.note(TWO_DEPENDENCIES);
+        }
+    }
+
+    /// Takes the group from the place, now and then, and closes another.
+    pub fn close(&mut self, rt: &impl Abort) -> Result<(), Fail> {
+        if self.events.draws.below(2) == 0 {
+            self.place = None;
+        }
+        let due = self.plain.close(self.place.is_some());
+        let told = self.session.close(&mut self.place);
+        match (told, due) {
+            (Ok(closed), Ok(group)) => self.compare_groups(rt, closed, group),
+            (Err(refusal), Err(due)) => self.compare_refusals(rt, refusal, due),
+            (Ok(_), Err(due)) => Ok(assert!(rt; false, "a group, and not {due}")),
+            (Err(refusal), Ok(_)) => Ok(assert!(rt; false, "{refusal}, and not a group")),
+        }
+    }
+
+    fn compare_refusals(
+        &mut self,
+        rt: &impl Abort,
+        told: Refusal,
+        due: Refusal,
+    ) -> Result<(), Fail> {
+        assert_eq!(rt; told, due);
+        self.met.note(kind_of_refusal(told));
+        Ok(())
+    }
+
+    fn compare_groups(
+        &mut self,
+        rt: &impl Abort,
+        told: Closed,
+        due: PlainGroup,
+    ) -> Result<(), Fail> {
+        assert_eq!(rt; told, due.closed);
+        let group = self.place.as_ref().ok_or("a group")?;
+        assert_eq!(rt; group.prev(), due.closed.prev);
+        assert_eq!(rt; group.mark(), due.closed.mark);
+        assert!(rt; are_same_records(group.records(), &due.records));
+        self.met.note(GROUP);
+        if due.records.len() > 1 {
+            self.met.note(GROUP_OF_SEVERAL);
+        }
+        Ok(())
+    }
+}

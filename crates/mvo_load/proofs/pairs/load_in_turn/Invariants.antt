@@ -1,0 +1,10 @@
+use Rattle.std.proofs.Common.{length}
+use Rattle.mvo_load.specs.Read.{IsUnchanged}
+use Rattle.mvo_load.proofs.Pairing.{PairsSoFar}
+use Rattle.mvo_load.proofs.pairs.load_in_turn.Given as goal
+
+abbrev pub invariant-loop-rest : goal.invariant-loop-rest
+invariant-loop-rest g l = PairsSoFar l.format (g.D.Disk.content l.initial.disk) l.manifest l.rest l.rows l.places.at × IsUnchanged g.D.Disk l.initial.disk l.disk
+
+abbrev pub decreases-loop-rest : goal.decreases-loop-rest
+decreases-loop-rest g l = length l.rest
