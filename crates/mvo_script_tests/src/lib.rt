@@ -12,6 +12,8 @@ mod full_segment;
 #[cfg(test)]
 mod lines;
 #[cfg(test)]
+mod merges;
+#[cfg(test)]
 mod rotations;
 #[cfg(test)]
 mod streams;

@@ -5,7 +5,7 @@ use std::alloc::AllocError;
 use std::test::Fail;
 
 /// Lines that are none of a script, where t1 was begun.
-const BAD_LINES: [&[u8]; 78] = [
+const BAD_LINES: [&[u8]; 87] = [
     b"",
     b" ",
     b"begin",
@@ -83,6 +83,15 @@ const BAD_LINES: [&[u8]; 78] = [
     b"install-open 1",
     b"Install-close",
     b"reclaim 2",
+    b"merge",
+    b"merge ",
+    b"merge 0 1",
+    b"merge t1",
+    b"merge 01",
+    b"merge-read",
+    b"merge-read 18446744073709551616",
+    b"merge-data 0",
+    b"merge_delta",
     b"durable",
 ];
 
