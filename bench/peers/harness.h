@@ -3,7 +3,7 @@
 // of JSON for each figure to standard error.
 //
 //     PEER folder=FOLDER [mode=memory|file] [rows=N] [transactions=N] [fewer=N] [hot=N] [open=N]
-//         [W1] [W2] [W3] [W4] [W5] [hot] [open]
+//         [load] [reads] [updates] [scans] [mixed] [hot] [open]
 //
 // FOLDER must be there and empty. In the mode `memory` nothing is kept over a stop; `file` is a
 // log without syncs. Without a workload all of them run.
@@ -270,7 +270,7 @@ static void insert_some(Session &session, uint64_t from, uint64_t to, Checksum &
 
 static void run_load(Engine &engine, const Config &config, Session &session) {
     uint64_t before = resident();
-    Figure figure(engine, config, "W1_load");
+    Figure figure(engine, config, "load");
     Checksum sum;
     for (uint64_t from = 0; from < config.rows; from += 100) {
         insert_some(session, from, std::min(from + 100, config.rows), sum);
@@ -314,11 +314,11 @@ static void read_all(Engine &engine, const Config &config, Session &session, con
 static void run_reads(Engine &engine, const Config &config, Session &session) {
     uint64_t one = config.transactions, ten = config.fewer, count = std::max(one, ten * 10);
     Keys uniform = Keys::uniform(config.rows, 1, count);
-    read_all(engine, config, session, "W2_read1_uniform", uniform, one, 1);
-    read_all(engine, config, session, "W2_read10_uniform", uniform, ten, 10);
+    read_all(engine, config, session, "read1_uniform", uniform, one, 1);
+    read_all(engine, config, session, "read10_uniform", uniform, ten, 10);
     Keys zipf = Keys::zipf(config.rows, 1, count);
-    read_all(engine, config, session, "W2_read1_zipf", zipf, one, 1);
-    read_all(engine, config, session, "W2_read10_zipf", zipf, ten, 10);
+    read_all(engine, config, session, "read1_zipf", zipf, one, 1);
+    read_all(engine, config, session, "read10_zipf", zipf, ten, 10);
 }
 
 static void update_two(Session &session, uint64_t one, uint64_t other, uint64_t round,
@@ -350,7 +350,7 @@ static void run_updates(Engine &engine, const Config &config, Session &session, 
 static void run_scans(Engine &engine, const Config &config, Session &session) {
     Keys keys = Keys::uniform(config.rows, 3, config.fewer);
     uint64_t width = (1ull << 62) / config.rows * 100;
-    Figure figure(engine, config, "W4_scan100");
+    Figure figure(engine, config, "scan100");
     Checksum sum;
     for (uint64_t at = 0; at < config.fewer; at++) {
         uint64_t low = sort_of(keys.at(at));
@@ -363,7 +363,7 @@ static void run_scans(Engine &engine, const Config &config, Session &session) {
 
 static void run_mixed(Engine &engine, const Config &config, Session &session) {
     Keys keys = Keys::zipf(config.rows, 4, config.transactions);
-    Figure figure(engine, config, "W5_mixed_zipf");
+    Figure figure(engine, config, "mixed_zipf");
     Checksum sum;
     for (uint64_t at = 0; at < config.transactions; at++) {
         if (mixed(at) % 5 == 0) update_one(session, keys.at(at), sum);
@@ -409,10 +409,10 @@ static void run_all(Engine &engine, const Config &config) {
     engine.open(config.folder, config.in_memory);
     std::unique_ptr<Session> session(engine.session());
     run_load(engine, config, *session);
-    if (config.has("W2")) run_reads(engine, config, *session);
-    if (config.has("W3")) run_updates(engine, config, *session, "W3_read2_update2", 2);
-    if (config.has("W4")) run_scans(engine, config, *session);
-    if (config.has("W5")) run_mixed(engine, config, *session);
+    if (config.has("reads")) run_reads(engine, config, *session);
+    if (config.has("updates")) run_updates(engine, config, *session, "read2_update2", 2);
+    if (config.has("scans")) run_scans(engine, config, *session);
+    if (config.has("mixed")) run_mixed(engine, config, *session);
     if (config.has("hot")) run_hot(engine, config, *session);
     if (config.has("open")) run_beside_open(engine, config, *session);
     session.reset();

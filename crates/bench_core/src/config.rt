@@ -80,11 +80,11 @@ impl Config {
 
     fn add(&mut self, word: &str) -> Result<()> {
         let work = match word {
-            "W1" => Work::Load,
-            "W2" => Work::Reads,
-            "W3" => Work::Updates,
-            "W4" => Work::Scans,
-            "W5" => Work::Mixed,
+            "load" => Work::Load,
+            "reads" => Work::Reads,
+            "updates" => Work::Updates,
+            "scans" => Work::Scans,
+            "mixed" => Work::Mixed,
             "hot" => Work::Hot,
             "open" => Work::Crowd,
             _ => bail!("no workload has this name"),

@@ -12,7 +12,7 @@ const EACH: u64 = 100;
 /// Inserts the rows.
 pub fn run(rt: &HostRuntime, config: &Config, session: &mut Session) -> Result<()> {
     let before = resident(rt);
-    let figure = Figure::start(rt, config, "W1_load")?;
+    let figure = Figure::start(rt, config, "load")?;
     let mut sum = Checksum(0);
     for batch in 0..config.rows.saturating_add(EACH - 1) / EACH {
         let from = batch.saturating_mul(EACH);

@@ -12,11 +12,11 @@ pub fn run(rt: &HostRuntime, config: &Config, session: &mut Session) -> Result<(
     let alloc = session.alloc();
     let count = config.transactions.max(config.fewer.saturating_mul(10));
     let uniform = Keys::uniform(alloc, config.rows, SEED, count)?;
-    run_one(rt, config, session, "W2_read1_uniform", &uniform)?;
-    run_ten(rt, config, session, "W2_read10_uniform", &uniform)?;
+    run_one(rt, config, session, "read1_uniform", &uniform)?;
+    run_ten(rt, config, session, "read10_uniform", &uniform)?;
     let zipf = Keys::zipf(alloc, config.rows, SEED, count)?;
-    run_one(rt, config, session, "W2_read1_zipf", &zipf)?;
-    run_ten(rt, config, session, "W2_read10_zipf", &zipf)
+    run_one(rt, config, session, "read1_zipf", &zipf)?;
+    run_ten(rt, config, session, "read10_zipf", &zipf)
 }
 
 fn run_one(

@@ -16,7 +16,7 @@ pub fn run(rt: &HostRuntime, config: &Config, session: &mut Session) -> Result<(
     let keys = Keys::uniform(session.alloc(), config.rows, SEED, config.fewer)?;
     let width = (1_u64 << 62).checked_div(config.rows).unwrap_or(0);
     let width = width.saturating_mul(PLACES);
-    let figure = Figure::start(rt, config, "W4_scan100")?;
+    let figure = Figure::start(rt, config, "scan100")?;
     let mut sum = Checksum(0);
     for at in 0..config.fewer {
         scan_one(session, sort_of(keys.at(at)), width, &mut sum)?;

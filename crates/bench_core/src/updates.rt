@@ -12,7 +12,7 @@ const SEED: u64 = 2;
 pub fn run(rt: &HostRuntime, config: &Config, session: &mut Session) -> Result<()> {
     let count = config.transactions.saturating_mul(2);
     let keys = Keys::uniform(session.alloc(), config.rows, SEED, count)?;
-    let figure = Figure::start(rt, config, "W3_read2_update2")?;
+    let figure = Figure::start(rt, config, "read2_update2")?;
     let sum = update_all(session, &keys, config.transactions)?;
     figure.tell(rt, config.transactions, sum)
 }
