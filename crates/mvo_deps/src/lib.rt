@@ -16,6 +16,3 @@ pub use node::Node;
 pub use registration::{register, register_all};
 pub use report::{report_abort, report_commit};
 pub use waiting::waiting_for;
-
-#[cfg(test)]
-mod tests;

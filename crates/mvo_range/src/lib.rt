@@ -8,6 +8,3 @@ mod walk;
 pub use index::RangeIndex;
 pub use place::Place;
 pub use walk::Walk;
-
-#[cfg(test)]
-mod tests;

@@ -1,16 +1,28 @@
-//! Tests of visibility and validation, over the versions and the transaction table.
+//! Tests of the crates below the core.
 #![tactic(auto)]
 
 #[cfg(test)]
 mod counts;
 #[cfg(test)]
+mod dependencies;
+#[cfg(test)]
 mod draws;
 #[cfg(test)]
 mod engine;
 #[cfg(test)]
+mod hash;
+#[cfg(test)]
+mod numbers;
+#[cfg(test)]
 mod open;
 #[cfg(test)]
 mod plain;
+#[cfg(test)]
+mod ranges;
+#[cfg(test)]
+mod rows;
+#[cfg(test)]
+mod serial;
 #[cfg(test)]
 mod step;
 #[cfg(test)]
@@ -18,4 +30,12 @@ mod stories;
 #[cfg(test)]
 mod story;
 #[cfg(test)]
+mod table;
+#[cfg(test)]
+mod tale;
+#[cfg(test)]
 mod tests;
+#[cfg(test)]
+mod words;
+#[cfg(test)]
+mod work;

@@ -16,6 +16,3 @@ mod table;
 pub use seat::Seat;
 pub use state::TxState;
 pub use table::TxnTable;
-
-#[cfg(test)]
-mod tests;

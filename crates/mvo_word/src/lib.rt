@@ -6,6 +6,3 @@ mod word;
 
 pub use held::Held;
 pub use word::Word;
-
-#[cfg(test)]
-mod tests;

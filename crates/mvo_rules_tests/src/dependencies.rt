@@ -1,0 +1,190 @@
+use mvo_deps::{
+    Dependencies, Node, register, register_all, report_abort, report_commit, waiting_for,
+};
+use mvo_txn::{TxState, TxnTable};
+use mvo_types::{Refusal, Stamp, TxId};
+use std::alloc::{AllocError, Global};
+use std::process::Abort;
+use std::test::Fail;
+
+type Table = TxnTable<Node<u64>>;
+
+/// What the plain list has of a transaction.
+#[derive(Drop)]
+struct Plain {
+    id: TxId,
+    on: Vec<TxId>,
+    aborted: Option<TxId>,
+}
+
+/// A generator of numbers, by a seed.
+#[derive(Drop)]
+struct Draws(u64);
+
+impl Draws {
+    fn below(&mut self, bound: u64) -> u64 {
+        self.0 = self
+            .0
+            .wrapping_mul(6_364_136_223_846_793_005)
+            .wrapping_add(1_442_695_040_888_963_407);
+        if bound == 0 {
+            0
+        } else {
+            (self.0 >> 33) % bound
+        }
+    }
+}
+
+fn begin(table: &mut Table, alloc: Global) -> Result<TxId, Refusal> {
+    table.begin(Node {
+        dependencies: Dependencies::new(alloc),
+        own: 7,
+    })
+}
+
+fn prepare(table: &mut Table, id: TxId) -> Result<(), Refusal> {
+    if let Some(TxState::Active) = table.state(id) {
+        table.prepare(id)?;
+    }
+    Ok(())
+}
+
+fn settle(table: &mut Table, id: TxId, aborts: bool) {
+    match table.state(id) {
+        Some(TxState::Preparing(_)) if aborts => {
+            table.abort(id);
+            report_abort(table, id);
+        }
+        Some(TxState::Preparing(_)) => {
+            table.commit(id);
+            report_commit(table, id);
+        }
+        _ => {}
+    }
+}
+
+fn is_preparing(table: &Table, id: TxId) -> bool {
+    match table.state(id) {
+        Some(TxState::Preparing(_)) => true,
+        _ => false,
+    }
+}
+
+/// The counter, the flag and whom it waits for, as a walk over the plain list tells them. Ends are
+/// drawn in the order of ids here.
+fn compare(rt: &impl Abort, table: &Table, plain: &Plain) {
+    let mut unsettled = 0usize;
+    let mut least: Option<TxId> = None;
+    for id in &plain.on {
+        if is_preparing(table, *id) {
+            unsettled = unsettled.saturating_add(1);
+            least = Some(match least {
+                Some(other) => TxId(other.0.min(id.0)),
+                None => *id,
+            });
+        }
+    }
+    assert_eq!(rt; waiting_for(table, plain.id), least);
+    if let Some(seat) = table.get(plain.id) {
+        assert_eq!(rt; seat.kept.own, 7);
+        assert_eq!(rt; seat.kept.dependencies.unsettled(), unsettled);
+        assert_eq!(rt; seat.kept.dependencies.aborted(), plain.aborted);
+    }
+}
+
+/// Registers a dependency twice, where it is one to register.
+fn depend(table: &mut Table, plain: &mut Plain, on: TxId) -> Result<(), AllocError> {
+    if !is_preparing(table, on) || on.0 >= plain.id.0 {
+        return Ok(());
+    }
+    register(table, plain.id, on)?;
+    register(table, plain.id, on)?;
+    if !plain.on.contains(&on) {
+        plain.on.push(on)?;
+    }
+    Ok(())
+}
+
+fn note_abort(list: &mut Vec<Plain>, id: TxId) {
+    for plain in list.iter_mut() {
+        if plain.aborted.is_none() && plain.on.contains(&id) {
+            plain.aborted = Some(id);
+        }
+    }
+}
+
+fn walk(rt: &impl Abort, alloc: Global, seed: u64) -> Result<(), Fail> {
+    let mut draws = Draws(seed);
+    let mut table = TxnTable::new(alloc, Stamp(0))?;
+    let mut list: Vec<Plain> = Vec::new(alloc);
+    for _ in 0..40 {
+        let id = begin(&mut table, alloc)?;
+        list.push(Plain {
+            id,
+            on: Vec::new(alloc),
+            aborted: None,
+        })?;
+    }
+    for id in 1..=20 {
+        prepare(&mut table, TxId(id))?;
+    }
+    for _ in 0..400 {
+        let on = TxId(draws.below(20).wrapping_add(1));
+        if draws.below(8) == 0 {
+            let aborts = draws.below(2) == 0;
+            if aborts && is_preparing(&table, on) {
+                note_abort(&mut list, on);
+            }
+            settle(&mut table, on, aborts);
+        }
+        let place = draws.below(40) as usize;
+        if let Some(plain) = list.get_mut(place) {
+            depend(&mut table, plain, on)?;
+        }
+        for plain in &list {
+            compare(rt, &table, plain);
+        }
+    }
+    Ok(())
+}
+
+#[test]
+fn is_as_a_plain_list(rt: HostRuntime) -> Result<(), Fail> {
+    for seed in 1..=5 {
+        walk(&rt, rt.alloc(), seed)?;
+    }
+    Ok(())
+}
+
+fn depend_on_all(table: &mut Table, id: TxId, on: &[TxId]) -> Result<(), AllocError> {
+    match table.state(id) {
+        Some(_) => register_all(table, id, on),
+        None => Ok(()),
+    }
+}
+
+#[test]
+fn registers_several(rt: HostRuntime) -> Result<(), Fail> {
+    let mut table = TxnTable::new(rt.alloc(), Stamp(0))?;
+    for _ in 0..5 {
+        begin(&mut table, rt.alloc())?;
+    }
+    for id in 1..=4 {
+        prepare(&mut table, TxId(id))?;
+    }
+    register(&mut table, TxId(5), TxId(3))?;
+    depend_on_all(&mut table, TxId(5), &[TxId(4), TxId(2), TxId(4), TxId(3)])?;
+    let on = [TxId(2), TxId(3), TxId(4)];
+    for (settled, id) in on.iter().enumerate() {
+        assert_eq!(rt; waiting_for(&table, TxId(5)), Some(*id));
+        if let Some(seat) = table.get(TxId(5)) {
+            assert_eq!(rt;
+                seat.kept.dependencies.unsettled(),
+                3usize.saturating_sub(settled)
+            );
+        }
+        settle(&mut table, *id, false);
+    }
+    assert_eq!(rt; waiting_for(&table, TxId(5)), None);
+    Ok(())
+}

@@ -1,0 +1,170 @@
+use mvo_txn::{TxState, TxnTable};
+use mvo_types::{MAX_STAMP, MAX_UNFINISHED, Refusal, Stamp, TxId};
+use std::process::Abort;
+use std::test::Fail;
+
+/// What the plain list has of a transaction.
+#[derive(Clone, Copy, Debug, PartialEq)]
+struct Plain {
+    id: TxId,
+    state: TxState,
+    kept: u64,
+}
+
+/// A generator of numbers, by a seed.
+#[derive(Drop)]
+struct Draws(u64);
+
+impl Draws {
+    fn next(&mut self) -> u64 {
+        self.0 = self
+            .0
+            .wrapping_mul(6_364_136_223_846_793_005)
+            .wrapping_add(1_442_695_040_888_963_407);
+        self.0 >> 33
+    }
+
+    /// The place of one of so many, the first ones seldom.
+    fn place(&mut self, count: usize) -> usize {
+        if count == 0 {
+            return 0;
+        }
+        let place = (self.next() % 1_000_000) as usize % count;
+        if self.next() % 8 != 0 {
+            return place.max(count / 2);
+        }
+        place
+    }
+}
+
+fn plain_oldest(list: &Vec<Plain>, clock: u64) -> u64 {
+    let mut oldest = clock;
+    for plain in list {
+        oldest = oldest.min(plain.id.0);
+    }
+    oldest
+}
+
+fn plain_low_water(list: &Vec<Plain>, clock: u64) -> u64 {
+    let mut least = clock.saturating_add(1);
+    for plain in list {
+        if let TxState::Preparing(end) = plain.state {
+            least = least.min(end.0);
+        }
+    }
+    least.saturating_sub(1)
+}
+
+/// Both tell the same of the table, and of the transaction.
+fn compare(rt: &impl Abort, table: &TxnTable<u64>, list: &Vec<Plain>, clock: u64, plain: Plain) {
+    assert_eq!(rt; table.clock(), Stamp(clock));
+    assert_eq!(rt; table.len(), list.len());
+    assert_eq!(rt; table.oldest_begin(), Stamp(plain_oldest(list, clock)));
+    assert_eq!(rt; table.low_water(), Stamp(plain_low_water(list, clock)));
+    assert_eq!(rt; table.state(plain.id), Some(plain.state));
+    assert!(rt;
+        table
+            .get(plain.id)
+            .is_some_and(|seat| seat.kept == plain.kept)
+    );
+}
+
+/// The transaction with this state.
+fn standing(id: TxId, state: TxState, kept: u64) -> Option<Plain> {
+    Some(Plain { id, state, kept })
+}
+
+/// Takes the transaction on, and gives what it is then, or nothing if it left.
+fn step(
+    rt: &impl Abort,
+    table: &mut TxnTable<u64>,
+    plain: Plain,
+    draw: u64,
+) -> Result<Option<Plain>, Refusal> {
+    let Plain { id, state, kept } = plain;
+    if let Some(kept) = table.get_mut(id) {
+        *kept = draw;
+    }
+    let kept = if table.get(id).is_some() { draw } else { kept };
+    match table.state(id) {
+        Some(TxState::Active) if draw % 4 == 0 => {
+            table.abort(id);
+            Ok(standing(id, TxState::Aborted, kept))
+        }
+        Some(TxState::Active) => {
+            let end = table.prepare(id)?;
+            assert_eq!(rt; end, table.clock());
+            Ok(standing(id, TxState::Preparing(end), kept))
+        }
+        Some(TxState::Preparing(_)) if draw % 4 == 0 => {
+            table.abort(id);
+            Ok(standing(id, TxState::Aborted, kept))
+        }
+        Some(TxState::Preparing(_)) => {
+            let end = table.commit(id);
+            assert_eq!(rt; state, TxState::Preparing(end));
+            Ok(standing(id, TxState::Committed(end), kept))
+        }
+        Some(TxState::Committed(_)) | Some(TxState::Aborted) => {
+            assert_eq!(rt; table.terminate(id), kept);
+            assert_eq!(rt; table.state(id), None);
+            Ok(None)
+        }
+        None => Ok(None),
+    }
+}
+
+#[test]
+fn is_as_a_plain_list(rt: HostRuntime) -> Result<(), Fail> {
+    let mut table = TxnTable::new(rt.alloc(), Stamp(7))?;
+    let mut list: Vec<Plain> = Vec::new(rt.alloc());
+    let mut draws = Draws(1);
+    for round in 0..20_000u64 {
+        let draw = draws.next();
+        if draw % 7 < 2 || list.is_empty() {
+            let id = table.begin(draw)?;
+            list.push(Plain {
+                id,
+                state: TxState::Active,
+                kept: draw,
+            })?;
+            continue;
+        }
+        let place = draws.place(list.len());
+        if place >= list.len() {
+            continue;
+        }
+        let plain = list.remove(place);
+        if let Some(after) = step(&rt, &mut table, plain, draw)? {
+            list.push(after)?;
+            compare(&rt, &table, &list, table.clock().0, after);
+        }
+        assert!(rt; table.clock().0 <= 7 + 2 * (round + 1));
+    }
+    Ok(())
+}
+
+#[test]
+fn begins_until_it_is_full(rt: HostRuntime) -> Result<(), Fail> {
+    let mut table = TxnTable::new(rt.alloc(), Stamp(0))?;
+    assert!(rt; table.is_empty());
+    for begun in 1..=MAX_UNFINISHED {
+        assert_eq!(rt; table.begin(())?, TxId(begun as u64));
+    }
+    assert_eq!(rt; table.begin(()).err(), Some(Refusal::TableFull));
+    assert_eq!(rt; table.oldest_begin(), Stamp(1));
+    Ok(())
+}
+
+#[test]
+fn draws_until_the_clock_is_spent(rt: HostRuntime) -> Result<(), Fail> {
+    let mut table = TxnTable::new(rt.alloc(), Stamp(MAX_STAMP - 1))?;
+    let id = table.begin(())?;
+    assert_eq!(rt; id, TxId(MAX_STAMP));
+    assert_eq!(rt; table.begin(()).err(), Some(Refusal::ClockSpent));
+    if let Some(TxState::Active) = table.state(id) {
+        assert_eq!(rt; table.prepare(id).err(), Some(Refusal::ClockSpent));
+    }
+    assert_eq!(rt; table.low_water(), Stamp(MAX_STAMP));
+    Ok(())
+}

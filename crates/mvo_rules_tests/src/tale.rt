@@ -1,0 +1,7 @@
+//! The stored commits.
+
+mod checked;
+mod cuts;
+mod entries;
+mod plain;
+mod random;

@@ -1,0 +1,6 @@
+//! What a transaction has done.
+
+mod limits;
+mod plain;
+mod telling;
+mod work;

@@ -1,0 +1,91 @@
+use crate::numbers::Numbers;
+use crate::work::plain::{Asked, Plain, some_key, some_operation};
+use crate::work::telling::told;
+use mvo_types::RowKey;
+use mvo_validate::Entry;
+use mvo_work::{Operations, WordPlace, Work, entry_of};
+use std::alloc::{AllocError, Global};
+use std::process::Abort;
+use std::test::Fail;
+
+/// Tells both.
+fn tell_both(
+    rt: &impl Abort,
+    work: &mut Work,
+    plain: &mut Plain,
+    asked: Asked,
+) -> Result<(), AllocError> {
+    plain.tell(&asked)?;
+    let Asked {
+        op,
+        answer,
+        words,
+        ..
+    } = asked;
+    let is_told = told(work, op, answer, words.as_slice())?;
+    assert!(rt; is_told);
+    Ok(())
+}
+
+/// Both have the same entries, and the same words.
+fn assert_same(rt: &impl Abort, work: &Work, plain: &Plain, key: RowKey) {
+    assert_eq!(rt; work.entry_count(), plain.entries.len());
+    for place in 0..plain.entries.len() + 1 {
+        let entry = plain.entries.get(place).copied();
+        assert_eq!(rt; work.entry_at(place), entry, "at {place}");
+    }
+    assert_eq!(rt; work.has_writes(), !plain.written.is_empty());
+    assert_eq!(rt; work.has_written(key), plain.has_written(key));
+    assert_eq!(rt; work.word_count(), plain.words.len());
+    assert_eq!(rt; work.next_word(), plain.words.first().copied());
+    assert!(rt; !work.is_entry_too_many(Entry::Key(key)));
+    assert!(rt; !work.is_write_too_many(key));
+}
+
+fn assert_operations(rt: &impl Abort, operations: &Operations, plain: &Plain) {
+    assert_eq!(rt; operations.written.as_slice(), plain.written.as_slice());
+    assert_eq!(rt; operations.told.len(), plain.looks.len());
+    for (told, look) in operations.told.iter().zip(plain.looks.iter()) {
+        assert_eq!(rt; entry_of(&told.0), *look);
+    }
+}
+
+/// Takes the words off one after another.
+fn words_of(alloc: Global, work: &mut Work) -> Result<Vec<WordPlace>, AllocError> {
+    let mut words = Vec::new(alloc);
+    for _ in 0..work.word_count() {
+        if let Some(word) = work.next_word() {
+            words.push(word)?;
+        }
+        work.drop_word();
+    }
+    Ok(words)
+}
+
+#[test]
+fn random_operations_leave_what_plain_lists_have(rt: HostRuntime) -> Result<(), Fail> {
+    let alloc = rt.alloc();
+    let mut numbers = Numbers::new();
+    for keys in [2, 7, 30] {
+        let mut work = Work::new(alloc);
+        let mut plain = Plain::new(alloc);
+        for _ in 0..150 {
+            let asked = some_operation(alloc, &mut numbers, keys)?;
+            tell_both(&rt, &mut work, &mut plain, asked)?;
+            if numbers.below(4) == 0 {
+                work.drop_word();
+                plain.drop_word();
+            }
+            assert_same(&rt, &work, &plain, some_key(&mut numbers, keys));
+        }
+        let operations = work.take_operations();
+        assert_operations(&rt, &operations, &plain);
+        assert_eq!(rt; work.entry_count(), 0);
+        assert!(rt; !work.has_writes());
+        assert!(rt; work.take_operations().told.is_empty());
+        let words = words_of(alloc, &mut work)?;
+        assert_eq!(rt; words.as_slice(), plain.words.as_slice());
+        assert_eq!(rt; work.next_word(), None);
+    }
+    Ok(())
+}

@@ -1,7 +1,0 @@
-use Rattle.std.proofs.Common.{◌<◌, take}
-use Rattle.std.specs.List.{AllByRecursion}
-use Rattle.mvo_tale.specs.Slots.{ends}
-use Rattle.mvo_tale_tests.proofs.checked.are_ends_below.Given as goal
-
-abbrev pub invariant-loop-slot : goal.invariant-loop-slot
-invariant-loop-slot l = AllByRecursion (λ end. end < l.bound.0) (ends (take l.slot-index l.slots))

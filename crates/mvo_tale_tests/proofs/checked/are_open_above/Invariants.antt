@@ -1,7 +1,0 @@
-use Rattle.std.proofs.Common.{◌<◌, take}
-use Rattle.std.specs.List.{AllByRecursion}
-use Rattle.mvo_tale.specs.Slots.{open_ends}
-use Rattle.mvo_tale_tests.proofs.checked.are_open_above.Given as goal
-
-abbrev pub invariant-loop-slot : goal.invariant-loop-slot
-invariant-loop-slot l = AllByRecursion (λ end. l.mark.0 < end) (open_ends (take l.slot-index l.slots))
