@@ -9,6 +9,3 @@ mod number;
 pub use format::{FIRST_FORMAT, Format};
 pub use header::{HEADER_LEN, OPEN, VERSION, behind_header};
 pub use number::{u16_at, u32_at, u64_at};
-
-#[cfg(test)]
-mod tests;

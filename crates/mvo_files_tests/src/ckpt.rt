@@ -1,0 +1,6 @@
+//! Checkpoints.
+
+mod making;
+mod places;
+mod plain;
+mod vectors;

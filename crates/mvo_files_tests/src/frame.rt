@@ -1,0 +1,4 @@
+//! File headers and log segments.
+
+mod headers;
+mod tests;

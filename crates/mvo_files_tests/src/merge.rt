@@ -1,0 +1,7 @@
+//! Merges of pairs.
+
+mod calls;
+mod making;
+mod places;
+mod plain;
+mod vectors;

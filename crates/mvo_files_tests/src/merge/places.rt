@@ -1,0 +1,43 @@
+//! Places after a merge.
+use crate::merge::calls::{built, moved, place_of, put};
+use crate::merge::making::lives;
+use mvo_ckpt::Places;
+use std::alloc::Global;
+use std::process::Abort;
+use std::test::Fail;
+
+// A later pair has key 9 again, and key 2 was deleted, since the records were read.
+const BEFORE: [(u64, u16, u32); 4] = [(7, 2, 1), (9, 8, 0), (1, 4, 0), (6, 6, 1)];
+
+const AFTER: [(u64, Option<(u16, usize)>); 5] = [
+    (7, Some((10, 0))),
+    (9, Some((8, 0))),
+    (1, Some((10, 2))),
+    (2, None),
+    (6, Some((6, 1))),
+];
+
+fn before(alloc: Global) -> Result<Places, Fail> {
+    let mut places = Places::new(alloc, 3);
+    for (key, data_file, number) in BEFORE {
+        put(&mut places, key, data_file, number)?;
+    }
+    Ok(places)
+}
+
+fn have(rt: &impl Abort, places: &Places, wanted: &[(u64, Option<(u16, usize)>)]) {
+    for (key, place) in wanted {
+        assert_eq!(rt; place_of(places, *key), *place, "key {key}");
+    }
+}
+
+#[test]
+fn places_are_moved(rt: HostRuntime) -> Result<(), Fail> {
+    let alloc = rt.alloc();
+    let left = lives(alloc, &[(1, 2, 7), (4, 3, 9)])?;
+    let merged = built(alloc, left, lives(alloc, &[(0, 4, 1), (5, 6, 2)])?)?;
+    let mut places = before(alloc)?;
+    moved(&mut places, 10, &merged.records)?;
+    have(&rt, &places, &AFTER);
+    Ok(())
+}

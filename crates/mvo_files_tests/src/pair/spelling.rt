@@ -1,0 +1,100 @@
+//! Rules of several records, and of several numbers.
+use crate::pair::vectors::{count, pair};
+use mvo_pair::Pair;
+use mvo_types::{Refusal, Stamp};
+use std::alloc::{AllocError, Global};
+use std::test::Fail;
+
+/// The pair (2, 9].
+fn above_two(records: u32, entries: u32) -> Pair {
+    Pair {
+        lo: Stamp(2),
+        hi: Stamp(9),
+        ..pair(records, entries)
+    }
+}
+
+fn append(out: &mut Vec<u8>, number: u64, len: usize) -> Result<(), AllocError> {
+    for byte in number.to_le_bytes().iter().take(len) {
+        out.push(*byte)?;
+    }
+    Ok(())
+}
+
+/// A data file with records of this begin, table, key and length of data.
+fn data_of(alloc: Global, records: &[(u64, u64, u64, u64)]) -> Result<Vec<u8>, AllocError> {
+    let mut out = b"MVOD\x01\0\0\0".to_vec(alloc)?;
+    for (begin, table, key, len) in records {
+        append(&mut out, *begin, 8)?;
+        append(&mut out, *table, 1)?;
+        append(&mut out, *key, 8)?;
+        append(&mut out, 7, 8)?;
+        append(&mut out, *len, 2)?;
+        for _ in 0..*len {
+            out.push(0x61)?;
+        }
+    }
+    Ok(out)
+}
+
+fn delta_of(alloc: Global, numbers: &[u64]) -> Result<Vec<u8>, AllocError> {
+    let mut out = b"MVOE\x01\0\0\0".to_vec(alloc)?;
+    for number in numbers {
+        append(&mut out, *number, 4)?;
+    }
+    Ok(out)
+}
+
+#[test]
+fn records_rise_within_the_limits(rt: HostRuntime) -> Result<(), Fail> {
+    let alloc = rt.alloc();
+    let delta = delta_of(alloc, &[])?;
+    let cases = [
+        ([(3, 0, 5, 0), (3, 0, 6, 0)], true),
+        ([(3, 0, 5, 0), (3, 1, 0, 0)], true),
+        ([(3, 9, 9, 0), (9, 0, 0, 0)], true),
+        ([(3, 15, 0, 1_024), (4, 0, 0, 0)], true),
+        // Equal, by key, by table, by begin.
+        ([(3, 0, 5, 0), (3, 0, 5, 0)], false),
+        ([(3, 0, 5, 0), (3, 0, 4, 0)], false),
+        ([(3, 1, 5, 0), (3, 0, 9, 0)], false),
+        ([(4, 0, 5, 0), (3, 1, 9, 0)], false),
+        // At lo, past hi, no table, too long.
+        ([(2, 0, 5, 0), (3, 0, 0, 0)], false),
+        ([(3, 0, 5, 0), (10, 0, 0, 0)], false),
+        ([(3, 16, 5, 0), (4, 0, 0, 0)], false),
+        ([(3, 0, 5, 1_025), (4, 0, 0, 0)], false),
+    ];
+    for (records, is_good) in cases {
+        let data = data_of(alloc, &records)?;
+        let found = count(alloc, above_two(2, 0), &data, &delta);
+        let wanted = if is_good {
+            Ok(2)
+        } else {
+            Err(Refusal::Corrupt(4))
+        };
+        assert!(rt; found == wanted, "{records:?}");
+    }
+    Ok(())
+}
+
+#[test]
+fn numbers_are_below_the_count_and_not_repeated(rt: HostRuntime) -> Result<(), Fail> {
+    let alloc = rt.alloc();
+    let data = data_of(alloc, &[(3, 0, 5, 0), (4, 0, 5, 0), (5, 0, 5, 0)])?;
+    let broken = Err(Refusal::Corrupt(5));
+    let cases = [
+        ([0, 1], Ok(1)),
+        ([2, 0], Ok(1)),
+        ([1, 1], broken),
+        ([0, 3], broken),
+        ([3, 0], broken),
+        ([0xffff_ffff, 0], broken),
+    ];
+    for (numbers, wanted) in cases {
+        let delta = delta_of(alloc, &numbers)?;
+        let found = count(alloc, above_two(3, 2), &data, &delta);
+        assert!(rt; found == wanted, "{numbers:?}");
+    }
+    Ok(())
+}

@@ -1,0 +1,142 @@
+//! The files on a disk.
+use crate::pair::vectors::{DATA, DELTA, NAMED, count, pair};
+use mvo_disk::{Disk, MemDisk};
+use mvo_pair::{
+    Entry, FIRST_FORMAT, Pair, append_delta, are_entries, load_pair, write_data, write_delta,
+};
+use mvo_types::{Refusal, Row, RowKey, Stamp};
+use std::alloc::{AllocError, Global};
+use std::test::Fail;
+
+/// The record of the vectors with this begin and this byte of data.
+fn entry(alloc: Global, begin: u64, byte: u8) -> Result<Entry, AllocError> {
+    Ok(Entry {
+        begin: Stamp(begin),
+        row: Row {
+            key: RowKey { table: 0, key: 5 },
+            sort: 50,
+            bytes: [byte].to_vec(alloc)?,
+        },
+    })
+}
+
+/// Writes one record, and no numbers.
+fn written(alloc: Global, pair: Pair, begin: u64, byte: u8) -> Result<MemDisk, Fail> {
+    let mut disk = MemDisk::new(alloc)?;
+    let mut entries = Vec::new(alloc);
+    entries.push(entry(alloc, begin, byte)?)?;
+    if pair.data_file >= 1024 || pair.delta_file >= 1024 || disk.faults() != 0 {
+        return Err(Fail::from("files"));
+    }
+    if !are_entries(FIRST_FORMAT, pair, &entries) {
+        return Err(Fail::from("no records of the pair"));
+    }
+    write_data(alloc, &mut disk, FIRST_FORMAT, pair, &entries)?;
+    if disk.faults() != 0 {
+        return Err(Fail::from("a fault"));
+    }
+    write_delta(alloc, &mut disk, FIRST_FORMAT, pair, &[])?;
+    Ok(disk)
+}
+
+#[test]
+fn the_vectors_are_written(rt: HostRuntime) -> Result<(), Fail> {
+    let alloc = rt.alloc();
+    let disk = written(alloc, pair(1, 0), 2, 0x61)?;
+    assert_eq!(rt; disk.bytes(4), DATA.as_slice());
+    assert_eq!(rt; disk.bytes(5), DELTA.as_slice());
+    let merged = Pair {
+        data_file: 3,
+        delta_file: 8,
+        hi: Stamp(4),
+        ..pair(1, 0)
+    };
+    let disk = written(alloc, merged, 4, 0x62)?;
+    let mut data = DATA;
+    data[8] = 4;
+    data[35] = 0x62;
+    assert_eq!(rt; disk.bytes(3), data.as_slice());
+    assert_eq!(rt; disk.bytes(8), DELTA.as_slice());
+    Ok(())
+}
+
+/// Whether records with these begins may be those of the pair (0, 2].
+fn may_be(alloc: Global, begins: &[u64]) -> Result<bool, AllocError> {
+    let mut entries = Vec::new(alloc);
+    for begin in begins {
+        entries.push(entry(alloc, *begin, 0x61)?)?;
+    }
+    Ok(are_entries(FIRST_FORMAT, pair(0, 0), &entries))
+}
+
+#[test]
+fn records_are_those_of_the_pair(rt: HostRuntime) -> Result<(), Fail> {
+    let alloc = rt.alloc();
+    assert!(rt; may_be(alloc, &[])?);
+    assert!(rt; may_be(alloc, &[1, 2])?);
+    assert!(rt; !may_be(alloc, &[0])?);
+    assert!(rt; !may_be(alloc, &[3])?);
+    assert!(rt; !may_be(alloc, &[2, 2])?);
+    assert!(rt; !may_be(alloc, &[2, 1])?);
+    Ok(())
+}
+
+/// Appends numbers behind so many counted ones of a delta file with these bytes.
+fn appended(alloc: Global, bytes: &[u8], counted: u32, numbers: &[u32]) -> Result<MemDisk, Fail> {
+    let mut disk = MemDisk::new(alloc)?;
+    if disk.faults() != 0 || !disk.bytes(5).is_empty() {
+        return Err(Fail::from("a new disk"));
+    }
+    disk.write_at(5, 0, bytes)?;
+    if disk.faults() != 0 {
+        return Err(Fail::from("a fault"));
+    }
+    disk.sync(5)?;
+    if disk.faults() != 0 || disk.bytes(5).len() < 8 + 4 * counted as usize {
+        return Err(Fail::from("too short a file"));
+    }
+    let pair = Pair {
+        data_file: 4,
+        delta_file: 5,
+        lo: Stamp(0),
+        hi: Stamp(2),
+        records: 1,
+        entries: counted,
+    };
+    append_delta(alloc, &mut disk, pair, numbers)?;
+    Ok(disk)
+}
+
+#[test]
+fn numbers_go_behind_the_counted_ones(rt: HostRuntime) -> Result<(), Fail> {
+    let alloc = rt.alloc();
+    let disk = appended(alloc, &DELTA, 0, &[0])?;
+    assert_eq!(rt; disk.bytes(5), NAMED.as_slice());
+    // Over what stands there, and in order.
+    let disk = appended(alloc, b"MVOE\x01\0\0\0\x07\0\0\0\x08\0\0\0\x09", 1, &[3, 2])?;
+    let wanted = b"MVOE\x01\0\0\0\x07\0\0\0\x03\0\0\0\x02\0\0\0";
+    assert_eq!(rt; disk.bytes(5), wanted.as_slice());
+    let disk = appended(alloc, b"MVOE\x01\0\0\0\x07\0\0\0\x08\0\0\0\x09", 0, &[3])?;
+    let wanted = b"MVOE\x01\0\0\0\x03\0\0\0\x08\0\0\0\x09";
+    assert_eq!(rt; disk.bytes(5), wanted.as_slice());
+    Ok(())
+}
+
+#[test]
+fn a_pair_is_read_from_its_disk(rt: HostRuntime) -> Result<(), Fail> {
+    let alloc = rt.alloc();
+    let disk = written(alloc, pair(1, 0), 2, 0x61)?;
+    for (entries, wanted) in [(0, Ok(1)), (1, Err(Refusal::Corrupt(5)))] {
+        assert_eq!(rt; count(alloc, pair(1, entries), &DATA, &DELTA), wanted);
+        let pair = pair(1, entries);
+        if pair.data_file >= 1024 || pair.delta_file >= 1024 {
+            return Err(Fail::from("files"));
+        }
+        let (data, delta) = (disk.bytes(pair.data_file), disk.bytes(pair.delta_file));
+        match load_pair(alloc, FIRST_FORMAT, pair, data, delta) {
+            Ok(live) => assert_eq!(rt; Ok(live.len()), wanted),
+            Err(refused) => assert_eq!(rt; Err(refused), wanted),
+        }
+    }
+    Ok(())
+}

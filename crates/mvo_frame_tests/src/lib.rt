@@ -1,5 +1,0 @@
-//! Tests of the log segments.
-#![tactic(auto)]
-
-#[cfg(test)]
-mod tests;

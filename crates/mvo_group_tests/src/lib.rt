@@ -1,5 +1,0 @@
-//! Tests of groups and their bytes.
-#![tactic(auto)]
-
-#[cfg(test)]
-mod bodies;

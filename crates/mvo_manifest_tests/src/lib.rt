@@ -1,5 +1,0 @@
-//! Tests of manifests and their slots.
-#![tactic(auto)]
-
-#[cfg(test)]
-mod tests;
