@@ -1,4 +1,4 @@
-//! The tests of a store over many files.
+//! Tests of a store over many files, and of the marks that threads share.
 #![tactic(auto)]
 
 #[cfg(test)]
@@ -9,6 +9,8 @@ mod checkpoints;
 mod disks;
 #[cfg(test)]
 mod faults;
+#[cfg(test)]
+mod marks;
 #[cfg(test)]
 mod merges;
 #[cfg(test)]

@@ -1,4 +1,4 @@
-use crate::stores::durable;
+use crate::marks::stores::durable;
 use mvo_marks::Marks;
 use mvo_types::Stamp;
 use std::test::Fail;

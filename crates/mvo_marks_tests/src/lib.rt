@@ -1,7 +1,0 @@
-//! Tests of `mvo_marks`.
-#![tactic(auto)]
-
-#[cfg(test)]
-mod stores;
-#[cfg(test)]
-mod tests;

@@ -1,0 +1,4 @@
+//! The marks that threads share.
+
+mod stores;
+mod tests;
