@@ -1,7 +1,7 @@
 -- The pairs of a manifest, gathered one after another.
 use Rattle.std.proofs.Common.{◌≡◌, ℕ, ◌<◌, List, [], ◌∷◌, ◌++◌, length, true, false, Option, None, Some, Ok, refl, sym, ap, subst, ◌∙◌, append_assoc, arith, length-append}
 use Rattle.std.specs.Prelude.{map, nat_eq, All}
-use Rattle.std.specs.List.{AllByRecursion, IsDistinct}
+use Rattle.std.specs.List.{AllByRecursion, AllZip, IsDistinct, flat_map}
 use Rattle.std.specs.FinMap.{find, from_entries, empty, from_entries_push}
 use Rattle.std.proofs.lemmas.List.{append-nil, map-append}
 use Rattle.std.proofs.lemmas.List.Elements.{All-append, All-from_recursion, recursion_from_All}
@@ -30,8 +30,10 @@ use Rattle.mvo_types.proofs.Maps.{keys_total, exact_keys}
 use Rattle.mvo_load.specs.Leading.{Leads}
 use Rattle.mvo_load.specs.Parts.{HaveRows, HavePlaces}
 use Rattle.mvo_load.specs.Gathered.{AreGathered, AreMade, MayLie, with_places}
+use Rattle.mvo_load.specs.Files.{bytes_of, IsPart}
+use Rattle.mvo_load.specs.declared.gathered.Gathered.{Gathered}
 use Rattle.mvo_load.proofs.Ordered.{all_of, apart_each, rows_each}
-use Rattle.mvo_load.proofs.Pairing.{HasFiles, pair_files_fit, data_files_differ, live_push, none_alone, one_more_alone, Behind, Whole}
+use Rattle.mvo_load.proofs.Pairing.{HasFiles, front_of, pair_files_fit, data_files_differ, live_push, none_alone, one_more_alone, Behind, Whole}
 use Rattle.mvo_load.proofs.Steps.{pair_leads}
 
 abbrev Placed : Type 0
@@ -45,6 +47,13 @@ keys-push lives live =
 may_lie : (p : Pair) (live : List Numbered) → HasFiles p → AllByRecursion (λ l. l.0 < p.records) live → AllByRecursion MayLie (places_in p.data_file live)
 may_lie p [] fits few = tt
 may_lie p (l ∷ live) fits few = ((omega (arith, fits.«data»), omega (arith, few.0, fits.records)), may_lie p live fits few.1)
+
+abbrev pub AreFiles : Pair → Type 0
+AreFiles p = (p.data_file < 1024) × (p.delta_file < 1024)
+
+all_files : (ps : List Pair) → AllByRecursion HasFiles ps → AllByRecursion AreFiles ps
+all_files [] fit = tt
+all_files (p ∷ ps) fit = ((fit.0.«data», fit.0.delta), all_files ps fit.1)
 
 module _ (f : Format) (image : Image) (m : ManifestData) where
   abbrev next : List (List Numbered) → Outcome → Type 0
@@ -128,6 +137,37 @@ module _ (f : Format) (image : Image) (m : ManifestData) where
       leads = λ apart out n. here.leads (front apart) out (pair_leads f image next p ps here.lives live only apart out n);
       places = places_more;
     }
+
+  -- the files that the first of these pairs name
+  pub front_files : (ps qs : List Pair) (live : List Numbered) (placed : Placed) → GatheredSoFar (ps ++ qs) live placed → All AreFiles ps
+  front_files ps qs live placed here = All-from_recursion AreFiles ps (all_files ps (front_of HasFiles ps qs here.files).0)
+
+  abbrev live_of : Gathered → List Numbered
+  live_of part = part.live.items
+
+  abbrev placed_of : Gathered → Placed
+  placed_of part = part.placed.items
+
+  abbrev pub ArePartsOf : List Pair → List Gathered → Type 0
+  ArePartsOf ps parts = AllZip (λ of part. IsPart f of part.live.items part.placed.items) (map (bytes_of image) ps) parts
+
+  -- the parts of some more pairs, one after another
+  pub more_gathered : IsManifest m → (ps qs : List Pair) (parts : List Gathered) (before : List Numbered) (placed : Placed) → GatheredSoFar (ps ++ qs) before placed → ArePartsOf ps parts
+      → GatheredSoFar qs (before ++ flat_map live_of parts) (placed ++ flat_map placed_of parts)
+  more_gathered good [] qs [] before placed here are =
+      subst (λ (l : List Numbered). GatheredSoFar qs l (placed ++ [])) (sym (append-nil before)) (subst (λ (es : Placed). GatheredSoFar qs before es) (sym (append-nil placed)) here)
+  more_gathered good [] qs (part ∷ parts) before placed here are = absurd are
+  more_gathered good (p ∷ ps) qs [] before placed here are = absurd are
+  more_gathered good (p ∷ ps) qs (part ∷ parts) before placed here are =
+      let one = one_gathered p (ps ++ qs) before placed here (live_of part) are.0.0 good in
+      let next = subst (λ (es : Placed). GatheredSoFar (ps ++ qs) (before ++ live_of part) (placed ++ es)) (sym are.0.1) one in
+      let all = more_gathered good ps qs parts (before ++ live_of part) (placed ++ placed_of part) next are.1 in
+      let live_is : (before ++ live_of part) ++ flat_map live_of parts ≡ before ++ flat_map live_of (part ∷ parts) =
+      append_assoc before (live_of part) (flat_map live_of parts) ∙ ap (λ (l : List Numbered). before ++ l) (sym (flat_map-cons live_of part parts)) in
+      let placed_is : (placed ++ placed_of part) ++ flat_map placed_of parts ≡ placed ++ flat_map placed_of (part ∷ parts) =
+      append_assoc placed (placed_of part) (flat_map placed_of parts) ∙ ap (λ (es : Placed). placed ++ es) (sym (flat_map-cons placed_of part parts)) in
+      subst (λ (l : List Numbered). GatheredSoFar qs l (placed ++ flat_map placed_of (part ∷ parts))) live_is
+      (subst (λ (es : Placed). GatheredSoFar qs ((before ++ live_of part) ++ flat_map live_of parts) es) placed_is all)
 
   module _ (live : List Numbered) (placed : Placed) (all : GatheredSoFar [] live placed) where
     pairs_are : m.pairs ≡ all.done

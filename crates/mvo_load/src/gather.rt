@@ -1,40 +1,40 @@
 //! Gathers the live records of all pairs.
-ghost use Rattle.std.specs.Prelude.{◌≡◌, ◌++◌, ◌<◌, ◌+◌, ◌^◌, OnOk, IfOk, IfErr, IfSome, MatchBool};
+ghost use Rattle.std.specs.Prelude.{◌≡◌, ◌++◌, ◌<◌, ◌+◌, ◌^◌, OnOk, IfOk, IfErr, IfSome};
+ghost use Rattle.std.specs.List.{flat_map};
 ghost use Rattle.mvo_pair.specs.Writing.{IsStop};
-ghost use Rattle.mvo_ckpt.specs.Places.{places_in};
 ghost use Rattle.mvo_load.specs.Gathered.{AreGathered};
 ghost use Rattle.mvo_load.specs.Read.{HasRead};
 
+use crate::files::read_files;
 use crate::gathered::Gathered;
-use crate::read::read_pair;
-use mvo_ckpt::Place;
+use crate::parts::parts_of;
 use mvo_disk::Disk;
 use mvo_format::Format;
 use mvo_manifest::Manifest;
-use mvo_pair::Live;
-use mvo_types::{Refusal, RowKey};
+use mvo_types::Refusal;
 use std::alloc::{AllocError, Global};
 use std::thread::Threads;
 
-/// Whether it says nothing of what a file holds.
-fn is_stop(e: Refusal) -> bool
-    ensures { MatchBool result (IsStop e) (IsStop e → ⊥) }
-{
-    matches!(e, Refusal::OutOfMemory | Refusal::DiskFault)
-}
+/// The files of so many pairs are held at a time, so that what is held beside the records stays in
+/// proportion to these.
+const PAIRS_AT_ONCE: usize = 4;
 
-/// Appends the places of the live records of a pair.
-fn add_places(
-    placed: &mut Vec<(RowKey, Place)>,
-    data_file: u16,
-    live: &[Live],
-) -> Result<(), AllocError>
-    ensures { OnOk result (placed.new.items ≡ placed.old.items ++ places_in data_file live.now) }
+/// Appends the parts. The room for all is made first.
+fn append_all(all: &mut Gathered, parts: Vec<Gathered>) -> Result<(), AllocError>
+    ensures live { OnOk result (all.new.live.items ≡
+        all.old.live.items ++ flat_map (λ part. part.live.items) parts.items) }
+    ensures placed { OnOk result (all.new.placed.items ≡
+        all.old.placed.items ++ flat_map (λ part. part.placed.items) parts.items) }
 {
-    placed.reserve(live.len())?;
-    for one in live {
-        let number = one.number;
-        placed.push((one.entry.row.key, Place { data_file, number }))?;
+    let mut count = 0usize;
+    for part in &parts {
+        count = count.saturating_add(part.live.len());
+    }
+    all.live.reserve(count)?;
+    all.placed.reserve(count)?;
+    for mut part in parts {
+        all.live.append(&mut part.live)?;
+        all.placed.append(&mut part.placed)?;
     }
     Ok(())
 }
@@ -54,22 +54,25 @@ pub fn gather<D: Disk>(
     ensures stopped { IfErr result IsStop }
     ensures read { HasRead D.Disk disk.old disk.new result }
 {
-    let mut live = Vec::new(alloc);
-    let mut placed = Vec::new(alloc);
+    let live = Vec::new(alloc);
+    let placed = Vec::new(alloc);
+    let mut all = Gathered { live, placed };
     let mut rest = manifest.pairs();
-    while let [pair, after @ ..] = rest {
-        let mut of_pair = match read_pair(rt, alloc, disk, format, *pair) {
-            Ok(of_pair) => of_pair,
-            Err(e) => {
-                if is_stop(e) {
-                    return Err(e);
-                }
-                return Ok(None);
-            }
+    while !rest.is_empty() {
+        let (pairs, after) = rest.split_at(rest.len().min(PAIRS_AT_ONCE));
+        let files = match read_files(alloc, disk, pairs) {
+            Ok(files) => files,
+            Err(e) => return Err(e),
         };
-        add_places(&mut placed, pair.data_file, &of_pair)?;
-        live.append(&mut of_pair)?;
+        let found = match parts_of(rt, alloc, format, &files) {
+            Ok(found) => found,
+            Err(e) => return Err(e),
+        };
+        let Some(parts) = found else {
+            return Ok(None);
+        };
+        append_all(&mut all, parts)?;
         rest = after;
     }
-    Ok(Some(Gathered { live, placed }))
+    Ok(Some(all))
 }

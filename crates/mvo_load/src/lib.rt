@@ -2,12 +2,15 @@
 #![tactic(auto)]
 
 mod at_once;
+mod files;
 mod gather;
 mod gathered;
 mod loaded;
 mod loading;
 mod log_end;
+mod pair_files;
 mod pairs;
+mod parts;
 mod read;
 mod records;
 mod replay;

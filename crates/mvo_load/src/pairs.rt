@@ -10,7 +10,7 @@ ghost use Rattle.mvo_load.specs.Read.{HasRead};
 
 use crate::at_once::at_once;
 use crate::gather::gather;
-use crate::read::read_pair;
+use crate::single::pair_on;
 use mvo_ckpt::Places;
 use mvo_disk::Disk;
 use mvo_format::Format;
@@ -38,7 +38,6 @@ pub fn join(rows: &mut Rows, live: Vec<Live>) -> Result<bool, AllocError>
 
 /// The rows and the places of the live records of a manifest's pairs, one pair after another.
 fn load_in_turn<D: Disk>(
-    rt: &(impl Threads + Sync),
     alloc: Global,
     disk: &mut D,
     format: Format,
@@ -60,7 +59,7 @@ fn load_in_turn<D: Disk>(
     let mut rows = Rows::new(alloc);
     let mut rest = manifest.pairs();
     while let [pair, after @ ..] = rest {
-        let live = match read_pair(rt, alloc, disk, format, *pair) {
+        let live = match pair_on(alloc, disk, format, *pair) {
             Ok(live) => live,
             Err(e) => return Err(e),
         };
@@ -104,7 +103,7 @@ pub fn load_pairs<D: Disk>(
             return Ok(made);
         }
     }
-    match load_in_turn(rt, alloc, disk, format, manifest, seed) {
+    match load_in_turn(alloc, disk, format, manifest, seed) {
         Ok(found) => Ok(found),
         Err(e) => Err(e),
     }

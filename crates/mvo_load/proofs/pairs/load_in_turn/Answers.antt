@@ -35,7 +35,7 @@ returns-in-Err-clause-leads g c =
     let e = c.in-Err.e in
     ⊎_elim (λ m. inl m)
     (λ h. inr (refused_here f image c.args.manifest.now p ps c.loop-rest.rest.now c.loop-rest.rows c.loop-rest.places.at c.loop-rest.invariant.0 whole e (loads_before f p (g.D.Disk.content c.loop-rest.disk) image same (Err e) h)))
-    c.in-Err.ensures.live
+    c.in-Err.ensures.says
 
 pub returns-then-not-branch-clause-leads : goal.returns-then-not-branch-clause-leads
 returns-then-not-branch-clause-leads g c =
@@ -49,7 +49,7 @@ returns-then-not-branch-clause-leads g c =
     let live = c.in-Ok.live.items in
     let two = λ (before : List (List Numbered)) (apart : AreApart before) (is : c.loop-rest.rows ≡ rows_of before). subst (λ (b : Bool). Joins before live b c.join.new.rows) c.if-not-branch.true (c.in_ok-join.ensures before apart is) in
     inr (second_here f image c.args.manifest.now p ps c.loop-rest.rest.now c.loop-rest.rows c.loop-rest.places.at c.loop-rest.invariant.0 whole live
-    (loads_before f p (g.D.Disk.content c.loop-rest.disk) image same (Ok live) c.in-Ok.ensures.live) c.join.new.rows two)
+    (loads_before f p (g.D.Disk.content c.loop-rest.disk) image same (Ok live) c.in-Ok.ensures.says) c.join.new.rows two)
 
 pub loop-rest-preserved : goal.loop-rest-preserved
 loop-rest-preserved g c =
@@ -64,9 +64,9 @@ loop-rest-preserved g c =
     let joined = λ (before : List (List Numbered)) (apart : AreApart before) (is : c.loop-rest.rows ≡ rows_of before). subst (λ (b : Bool). Joins before live b c.join.new.rows) c.if-not-branch.false (c.in_ok-join.ensures before apart is) in (
       subst (λ (at : PlaceMap). PairsSoFar f image c.args.manifest.now ps c.join.new.rows at) (sym (c.in_ok-add_pair.ensures ∙ ap (λ (l : List Numbered). with_live p.data_file l c.loop-rest.places.at) c.deref.ensures.value))
           (pair_more f image c.args.manifest.now p ps c.loop-rest.rest.now c.loop-rest.rows c.loop-rest.places.at c.loop-rest.invariant.0 whole live
-          (loads_before f p (g.D.Disk.content c.loop-rest.disk) image same (Ok live) c.in-Ok.ensures.live) c.join.new.rows c.pairs-rest.ensures.manifest joined),
-      then_unchanged g.D.Disk c.args.disk.now c.loop-rest.disk c.read_pair.new.disk c.loop-rest.invariant.1
-          (record { rest = c.in-Ok.ensures.rest; any_moment = c.in-Ok.ensures.any_moment; count = c.in-Ok.ensures.count }),
+          (loads_before f p (g.D.Disk.content c.loop-rest.disk) image same (Ok live) c.in-Ok.ensures.says) c.join.new.rows c.pairs-rest.ensures.manifest joined),
+      then_unchanged g.D.Disk c.args.disk.now c.loop-rest.disk c.pair_on.new.disk c.loop-rest.invariant.1
+          (record { rest = c.in-Ok.ensures.read.rest; any_moment = c.in-Ok.ensures.read.any_moment; count = c.in-Ok.ensures.read.count }),
     )
 
 pub returns-clause-leads : goal.returns-clause-leads
@@ -82,6 +82,6 @@ add_pair-requires-clause-numbers g c =
     let ps = take (length rest - 1) (drop 1 rest) in
     let whole = first_and_rest c.loop-rest.rest.now no_pair c.in-len1-up.len_at_least in
     let live = c.in-Ok.live.items in
-    let only = loads_before f p (g.D.Disk.content c.loop-rest.disk) image c.loop-rest.invariant.1.rest.content (Ok live) c.in-Ok.ensures.live in
+    let only = loads_before f p (g.D.Disk.content c.loop-rest.disk) image c.loop-rest.invariant.1.rest.content (Ok live) c.in-Ok.ensures.says in
     subst (λ (l : List Numbered). All (λ x. x.0 < MAX_PAIR_RECORDS) l) (sym c.deref.ensures.value)
     (numbers_here f image c.args.manifest.now p ps rest c.loop-rest.rows c.loop-rest.places.at c.loop-rest.invariant.0 whole live only.0)
