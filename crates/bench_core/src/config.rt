@@ -12,6 +12,7 @@ pub enum Work {
     Mixed,
     Hot,
     Crowd,
+    Stalls,
 }
 
 /// What is run, and how much of it.
@@ -87,6 +88,7 @@ impl Config {
             "mixed" => Work::Mixed,
             "hot" => Work::Hot,
             "open" => Work::Crowd,
+            "stalls" => Work::Stalls,
             _ => bail!("no workload has this name"),
         };
         self.works.push(work)?;

@@ -24,6 +24,11 @@ impl<'a> Figure<'a> {
     pub fn tell(&self, rt: &HostRuntime, operations: u64, sum: Checksum) -> Result<()> {
         let nanos = self.nanos(rt, operations)?;
         self.tell_sum(rt, sum)?;
+        self.tell_nanos(rt, operations, nanos)
+    }
+
+    /// Prints so many nanoseconds for one of so many operations.
+    pub fn tell_nanos(&self, rt: &HostRuntime, operations: u64, nanos: u128) -> Result<()> {
         let (name, rows) = (self.name, self.rows);
         eprintln!(rt;
             "{{\"engine\":\"ravundi\",\"name\":\"{name}\",\"rows\":{rows},\"operations\":{operations},\"ns\":{nanos}}}"

@@ -18,6 +18,8 @@ mod resident;
 mod rows;
 mod scans;
 mod session;
+mod stalls;
+mod times;
 mod updates;
 mod zipf;
 
@@ -30,7 +32,11 @@ fn main(rt: HostRuntime) -> Result<()> {
     let mut session = Session::new(rt.alloc())?;
     load::run(&rt, &config, &mut session)?;
     run_plain(&rt, &config, &mut session)?;
-    run_beside_old(&rt, &config, &mut session)
+    run_beside_old(&rt, &config, &mut session)?;
+    if config.has(Work::Stalls) {
+        stalls::run(&rt, &config)?;
+    }
+    Ok(())
 }
 
 /// One transaction at a time.

@@ -5,7 +5,7 @@ use mvo_types::{Answer, Row, Rows, Stamp, TxId};
 use std::alloc::Global;
 
 /// More checks and more words than a transaction has.
-const MOST: u64 = 10_000;
+pub const MOST: u64 = 10_000;
 
 /// A core, whose transactions are all to be committed: what is refused ends the run.
 #[derive(Drop)]
@@ -60,12 +60,32 @@ impl Session {
 
     /// The whole end of a transaction.
     pub fn commit(&mut self, tx: TxId) -> Result<()> {
-        self.core.precommit(tx)?;
+        self.precommit(tx)?;
         self.validate(tx)?;
+        self.settle(tx)?;
+        self.finish(tx)
+    }
+
+    pub fn precommit(&mut self, tx: TxId) -> Result<()> {
+        self.core.precommit(tx)?;
+        Ok(())
+    }
+
+    /// One check, and whether it was the last.
+    pub fn validate_one(&mut self, tx: TxId) -> Result<bool> {
+        Ok(self.core.validate_one(tx)? == Validation::Valid)
+    }
+
+    pub fn settle(&mut self, tx: TxId) -> Result<()> {
         match self.core.settle(tx)? {
-            Settlement::Committed(_) => self.finish(tx),
+            Settlement::Committed(_) => Ok(()),
             Settlement::Waiting(_) => bail!("a transaction waits"),
         }
+    }
+
+    /// One word, and whether it was the last.
+    pub fn finish_one(&mut self, tx: TxId) -> Result<bool> {
+        Ok(self.core.finish_one(tx)? == Finishing::Done)
     }
 
     /// Takes a transaction back.
@@ -76,7 +96,7 @@ impl Session {
 
     fn validate(&mut self, tx: TxId) -> Result<()> {
         for _ in 0..MOST {
-            if self.core.validate_one(tx)? == Validation::Valid {
+            if self.validate_one(tx)? {
                 return Ok(());
             }
         }
@@ -85,7 +105,7 @@ impl Session {
 
     fn finish(&mut self, tx: TxId) -> Result<()> {
         for _ in 0..MOST {
-            if self.core.finish_one(tx)? == Finishing::Done {
+            if self.finish_one(tx)? {
                 return Ok(());
             }
         }

@@ -1,4 +1,5 @@
 use crate::log::sum_of;
+use crate::steps::{MemStore, checkpoint_data, checkpoint_delta, checkpoint_read, install};
 use crate::writer::{rotate, written};
 use anyhow::{Result, bail};
 use mvo_disk::MemDisk;
@@ -9,26 +10,28 @@ use std::rt::Clock;
 use std::thread::Threads;
 use std::time::Instant;
 
-// All steps of a checkpoint behind its reading.
-fn install(store: &mut Store<MemDisk>) -> Result<(), Refusal> {
-    store.checkpoint_data()?;
+fn write_deltas(store: &mut MemStore) -> Result<(), Refusal> {
     for _ in 0..=MAX_PAIRS {
-        if store.checkpoint_delta()? == Progress::Ready {
+        if checkpoint_delta(store)? == Progress::Ready {
             break;
         }
     }
-    store.install_close()?;
-    store.install_body()?;
-    store.install_open()?;
     Ok(())
 }
 
+// All steps of a checkpoint behind its reading.
+fn finish(store: &mut MemStore) -> Result<(), Refusal> {
+    checkpoint_data(store)?;
+    write_deltas(store)?;
+    install(store)
+}
+
 // Makes a pair of each segment that holds a group, and says how many there are.
-fn checkpointed(store: &mut Store<MemDisk>) -> Result<usize, Refusal> {
+fn checkpointed(store: &mut MemStore) -> Result<usize, Refusal> {
     rotate(store)?;
     for _ in 0..MAX_PAIRS {
-        match store.checkpoint_read() {
-            Ok(()) => install(store)?,
+        match checkpoint_read(store) {
+            Ok(()) => finish(store)?,
             Err(Refusal::NothingToDo) => break,
             Err(refusal) => return Err(refusal),
         }

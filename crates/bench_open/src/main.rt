@@ -7,6 +7,7 @@
 mod checkpoints;
 mod log;
 mod pairs;
+mod steps;
 mod writer;
 
 use anyhow::Result;

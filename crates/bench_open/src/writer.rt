@@ -1,3 +1,4 @@
+use crate::steps::{MemStore, append_body, append_open, install, rotate_write, take};
 use anyhow::{Result, bail};
 use mvo_disk::{Disk, MemDisk};
 use mvo_group::{Group, Record, Write};
@@ -62,31 +63,26 @@ fn group(alloc: Global, prev: u64, first: u64, last: u64) -> Result<Group> {
     }
 }
 
-pub fn rotate(store: &mut Store<MemDisk>) -> Result<(), Refusal> {
-    store.rotate_write()?;
-    store.install_close()?;
-    store.install_body()?;
-    store.install_open()?;
-    Ok(())
+pub fn rotate(store: &mut MemStore) -> Result<(), Refusal> {
+    rotate_write(store)?;
+    install(store)
 }
 
-// Appends a group; a segment that is full is rotated first.
-fn append(alloc: Global, store: &mut Store<MemDisk>, group: Group) -> Result<()> {
-    if group.prev().0 != store.mark().0 {
-        bail!("the group follows the mark");
-    }
-    if store.take_group(group).is_err() {
-        bail!("the group is taken");
-    }
-    match store.append_body() {
-        Ok(()) => {}
+// Appends the body of the group that was taken; a segment that is full is rotated first.
+fn append_behind(store: &mut MemStore) -> Result<(), Refusal> {
+    match append_body(store) {
         Err(Refusal::SegmentFull) => {
             rotate(store)?;
-            store.append_body()?;
+            append_body(store)
         }
-        Err(refusal) => return Err(refusal.into()),
+        appended => appended,
     }
-    store.append_open()?;
+}
+
+fn append(store: &mut MemStore, group: Group) -> Result<()> {
+    take(store, group)?;
+    append_behind(store)?;
+    append_open(store)?;
     Ok(())
 }
 
@@ -105,7 +101,7 @@ pub fn written(rt: &(impl Threads + Sync), alloc: Global, count: u64) -> Result<
         }
         let next = count.min(key.wrapping_add(WRITES * RECORDS));
         let group = group(alloc, store.mark().0, key, next)?;
-        append(alloc, &mut store, group)?;
+        append(&mut store, group)?;
     }
     Ok(store.into_disk())
 }

@@ -1,13 +1,13 @@
 -- A group is closed: what the core stands for then.
-use Rattle.std.proofs.Common.{◌≡◌, ◌<◌, ◌≤◌, ℕ, Bool, true, false, List, ◌++◌, Option, None, Some, refl, sym, ap, ◌∙◌, subst, arith}
-use Rattle.std.specs.Prelude.{◌==◌, not, is_some, Result, Ok, Err}
+use Rattle.std.proofs.Common.{◌≡◌, ◌<◌, ◌≤◌, ℕ, Bool, true, false, List, [], ◌∷◌, ◌++◌, Option, None, Some, refl, sym, ap, ◌∙◌, subst, arith}
+use Rattle.std.specs.Prelude.{◌==◌, ◌↔◌, IsTrue, Result, Ok, Err}
 use Rattle.std.specs.Option.{SomeIff}
 use Rattle.std.specs.Result.{IsErrAnd}
 use Rattle.std.specs.List.{AllByRecursion}
-use Rattle.std.proofs.lemmas.Bool.{eqb-true, eq-eqb}
+use Rattle.std.proofs.lemmas.Bool.{eq-eqb, eqb-false, ne_eqb, true≢false}
 use Rattle.mvo_types.specs.declared.ids.Stamp.{Stamp}
 use Rattle.mvo_types.specs.declared.refusal.Refusal.{Refusal}
-use Rattle.mvo_types.specs.declared.refusal.Refusal.TheVariants.{Busy, NothingToDo, RingFull, OutOfMemory}
+use Rattle.mvo_types.specs.declared.refusal.Refusal.TheVariants.{NothingToDo, RingFull, OutOfMemory}
 use Rattle.mvo_types.specs.Keys.{Map}
 use Rattle.mvo_model.specs.Trace.{Step}
 use Rattle.mvo_group.specs.Data.{GroupData, group_of}
@@ -16,7 +16,7 @@ use Rattle.mvo_theory.specs.State.{State, StampedTx, Marks, timeline}
 use Rattle.mvo_theory.specs.Marks.{IsClosedAt, low_water}
 use Rattle.mvo_theory.specs.Groups.{IsNextGroup}
 use Rattle.mvo_theory.specs.Changes.{after_close}
-use Rattle.mvo_theory.specs.Causes.{when, or_next}
+use Rattle.mvo_theory.specs.Causes.{when, first_cause, why_not_close}
 use Rattle.mvo_theory.specs.Calls.{IsRefusal}
 use Rattle.mvo_theory.proofs.Finishing.{kept_closed}
 use Rattle.mvo_theory.proofs.Groups.{closed_at_low, closed_below_low, next_group_closes}
@@ -41,7 +41,8 @@ use Rattle.mvo_core.specs.declared.transaction.Transaction.{Transaction}
 use Rattle.mvo_core.specs.declared.answers.Closed.{Closed}
 use Rattle.mvo_core.specs.Data.{CoreData}
 use Rattle.mvo_core.specs.Standing.{StandsFor, Stands, words_in}
-use Rattle.mvo_core.specs.Closing.{why_not_closed, why_not_at, HasClosed}
+use Rattle.mvo_core.specs.Closing.{IsClosedNow, IsNotClosed, HasClosed}
+use Rattle.rtrb.specs.declared.producer.Producer.{Producer}
 
 close_in_table : CloseInTable Transaction
 close_in_table = table_closed
@@ -53,51 +54,47 @@ close_in_lists : CloseKeepsLists
 close_in_lists = close_keeps_lists
 
 -- ---- causes
-or_last : (a : Option Refusal) → or_next a None ≡ a
-or_last None = refl
-or_last (Some r) = refl
+-- why no group is closed, by the low-water and the mark of the group that was closed last
+why_at : ℕ → ℕ → Bool → Option Refusal
+why_at low closed full = first_cause (when (low == closed) NothingToDo ∷ when full RingFull ∷ [])
 
-none_refusal : (r : Refusal) → ◌≡◌ {A = Option Refusal} (Some r) None → ⊥
-none_refusal r q = cc
+nothing_at : (low closed : ℕ) (full : Bool) → (low == closed) ≡ true → why_at low closed full ≡ Some NothingToDo
+unfolding why_at
+nothing_at low closed full q = ap (λ (b : Bool). first_cause (when b NothingToDo ∷ when full RingFull ∷ [])) q
 
--- where no cause stands, the low-water is the clock, and not the closed mark
-pub record IsFree (low clock closed : ℕ) : Type 0 where
-  pub all : low ≡ clock
-  pub moved : low ≡ closed → ⊥
+moved_at : (low closed : ℕ) (full : Bool) → (low == closed) ≡ false → why_at low closed full ≡ first_cause (when full RingFull ∷ [])
+unfolding why_at
+moved_at low closed full q = ap (λ (b : Bool). first_cause (when b NothingToDo ∷ when full RingFull ∷ [])) q
 
-pub free : (low clock closed : ℕ) (full : Bool) → why_not_at low clock closed full ≡ None → IsFree low clock closed
-free low clock closed full e = record { all = all (low == clock) refl e; moved = λ q. moved (low == clock) (eq-eqb low closed q) e }
-  where
-    all : (b : Bool) → (low == clock) ≡ b → or_next (when (not b) Busy) (or_next (when (low == closed) NothingToDo) (or_next (when full RingFull) None)) ≡ None → low ≡ clock
-    all true f q = eqb-true low clock f
-    all false f q = absurd (none_refusal Busy q)
-
-    moved : (b : Bool) → (low == closed) ≡ true → or_next (when (not b) Busy) (or_next (when (low == closed) NothingToDo) (or_next (when full RingFull) None)) ≡ None → ⊥
-    moved true f q = none_refusal NothingToDo (ap (λ (v : Bool). or_next (when v NothingToDo) (or_next (when full RingFull) None)) (sym f) ∙ q)
-    moved false f q = none_refusal Busy q
+-- whether no slot is free
+pub full_is : (b : Bool) (n : ℕ) → (IsTrue b ↔ (n ≡ 0)) → (n == 0) ≡ b
+full_is true n v = eq-eqb n 0 (v.0 refl)
+full_is false n v = ne_eqb n 0 (λ z. true≢false (sym (v.1 z)))
 
 module _ (opening : Map) (steps : List Step) (s : State) (c : CoreData) (h : StandsFor opening steps s c) (low : ℕ) (told : IsLowWater c.table low) where
   low_is : low ≡ low_water s
   low_is = low_water_told opening steps s c.table low h.versions.kept h.dependencies.stands told
 
-  pub why_closed : (place : Option GroupData) → why_not_at low c.table.clock c.closed (is_some place) ≡ why_not_closed s place
-  why_closed place =
-      ap (λ (n : ℕ). why_not_at n c.table.clock c.closed (is_some place)) low_is
-      ∙ ap (λ (n : ℕ). why_not_at (low_water s) n c.closed (is_some place)) h.dependencies.stands.clock
-      ∙ ap (λ (m : Marks). why_not_at (low_water s) s.clock m.closed (is_some place)) (sym h.marks)
-      ∙ ap (or_next (when (not (low_water s == s.clock)) Busy)) (sym (or_last (or_next (when (low_water s == s.marks.closed) NothingToDo) (or_next (when (is_some place) RingFull) None))))
+  why_is : (full : Bool) → why_not_close s full ≡ why_at low c.closed full
+  unfolding why_at
+  why_is full =
+      ap (λ (m : Marks). why_at (low_water s) m.closed full) h.marks
+      ∙ ap (λ (n : ℕ). why_at n c.closed full) (sym low_is)
 
   -- ---- what the records of the next group need
   pub ends_above : AllByRecursion (λ e. low < e) (open_ends c.tale)
   ends_above = subst (λ (n : ℕ). AllByRecursion (λ e. n < e) (open_ends c.tale)) (sym low_is) (open_ends_above (low_water s) c.tale s.stamped h.tale (closed_at_low opening steps s h.versions.kept).above)
 
-  pub above_closed : IsClosedAt s.marks.closed s → (low ≡ c.closed → ⊥) → c.closed < low
+  pub above_closed : IsClosedAt s.marks.closed s → (low == c.closed) ≡ false → c.closed < low
   above_closed closed moved =
       let le : c.closed ≤ low = subst (λ (n : ℕ). c.closed ≤ n) (sym low_is) (subst (λ (m : Marks). m.closed ≤ low_water s) h.marks (closed_below_low s.marks.closed s closed)) in
-      less c.closed low le moved
+      less c.closed low le (eqb-false low c.closed moved)
     where
       less : (a b : ℕ) → a ≤ b → (b ≡ a → ⊥) → a < b
       less a b le ne = omega (arith, le, ne)
+
+  pub low_drawn : low ≤ s.clock
+  low_drawn = subst (λ (n : ℕ). n ≤ s.clock) (sym low_is) (closed_at_low opening steps s h.versions.kept).drawn
 
   -- ---- the group
   places : ArePlacesOf c.tale (timeline s)
@@ -129,24 +126,17 @@ module _ (opening : Map) (steps : List Step) (s : State) (c : CoreData) (h : Sta
       past = h.past;
     }
 
-    pub has_closed : (place : Option GroupData) → why_not_at low c.table.clock c.closed (is_some place) ≡ None → (prev : Stamp) → prev.0 ≡ c.closed → KeepsRules (group_of c.closed n.mark.0 n.records.items)
-        → HasClosed opening steps s c place (Ok (record { prev = prev; mark = n.mark })) (record c { closed = n.mark.0; grouped = n.next }) (Some (group_of c.closed n.mark.0 n.records.items))
-    has_closed place none prev was rules = (
-      sym (why_closed place) ∙ none,
-      (
-        group_of c.closed n.mark.0 n.records.items,
-        refl,
-        record {
-          commits = in_state.taken;
-          next = subst (λ (m : Marks). IsNextGroup fits s (record { prev = m.closed; mark = n.mark.0; commits = in_state.taken })) h.marks next_is;
-          records = in_state.records;
-          rules = rules;
-          prev = sym was;
-          mark = refl;
-          stands = stands_closed;
-        },
-      ),
-    )
+    pub closed_now : (prev : Stamp) → prev.0 ≡ c.closed → KeepsRules (group_of c.closed n.mark.0 n.records.items)
+        → IsClosedNow opening steps s (record { prev = prev; mark = n.mark }) (record c { closed = n.mark.0; grouped = n.next }) (group_of c.closed n.mark.0 n.records.items)
+    closed_now prev was rules = record {
+      commits = in_state.taken;
+      next = subst (λ (m : Marks). IsNextGroup fits s (record { prev = m.closed; mark = n.mark.0; commits = in_state.taken })) h.marks next_is;
+      records = in_state.records;
+      rules = rules;
+      prev = sym was;
+      mark = refl;
+      stands = stands_closed;
+    }
 
     -- and all are settled up to its mark
     pub all_settled : IsClosedAt s.marks.closed s → IsClosedAt n.mark.0 (after_close s n.mark.0)
@@ -154,12 +144,21 @@ module _ (opening : Map) (steps : List Step) (s : State) (c : CoreData) (h : Sta
         let q = next_group_closes opening steps s fits (record { prev = s.marks.closed; mark = n.mark.0; commits = in_state.taken }) h.versions.kept closed next_is in
         record { drawn = q.closed.drawn; above = q.closed.above }
 
-  -- ---- it is refused
-  pub close_refused : (place : Option GroupData) (r : Refusal) → why_not_at low c.table.clock c.closed (is_some place) ≡ Some r → HasClosed opening steps s c place (Err r) c place
-  close_refused place r e = (subst (λ o. IsRefusal true o r) (sym e ∙ why_closed place) refl, refl, h)
+  -- ---- whether it is refused
+  pub closes : (low == c.closed) ≡ false → why_not_close s false ≡ None
+  closes ne = why_is false ∙ moved_at low c.closed false ne
 
-  pub close_spent : (place : Option GroupData) → why_not_at low c.table.clock c.closed (is_some place) ≡ None → HasClosed opening steps s c place (Err OutOfMemory) c place
-  close_spent place e = (subst (λ o. IsRefusal true o OutOfMemory) (sym e ∙ why_closed place) refl, refl, h)
+  pub not_moved : (full : Bool) → (low == c.closed) ≡ true → IsNotClosed opening steps s full NothingToDo c
+  not_moved full q = record { refused = subst (λ o. IsRefusal true o NothingToDo) (sym (why_is full ∙ nothing_at low c.closed full q)) refl; stands = h }
+
+  moved_is : (full b : Bool) → (low == c.closed) ≡ false → full ≡ b → first_cause (when b RingFull ∷ []) ≡ why_not_close s full
+  moved_is full b ne f = sym (why_is full ∙ moved_at low c.closed full ne ∙ ap (λ (x : Bool). first_cause (when x RingFull ∷ [])) f)
+
+  pub no_slot : (full : Bool) → (low == c.closed) ≡ false → full ≡ true → IsNotClosed opening steps s full RingFull c
+  no_slot full ne f = record { refused = subst (λ o. IsRefusal true o RingFull) (moved_is full true ne f) refl; stands = h }
+
+  pub no_memory : (full : Bool) → (low == c.closed) ≡ false → full ≡ false → IsNotClosed opening steps s full OutOfMemory c
+  no_memory full ne f = record { refused = subst (λ o. IsRefusal true o OutOfMemory) (moved_is full false ne f) refl; stands = h }
 
 -- ---- a core stands for the state with the group
 pub stands_with_group : {c : CoreData} (i : Stands c) (low : ℕ) → IsLowWater c.table low → (n : NextRecords) → AreNextRecords c.tale c.closed low n → Stands (record c { closed = n.mark.0; grouped = n.next })
@@ -172,14 +171,10 @@ stands_with_group {c} i low told n are = record {
 }
 
 -- ---- what the code learns
-pub told_cause : (low clock clock' closed : ℕ) (full full' : Bool) (o : Option Refusal) → clock' ≡ clock → full' ≡ full → o ≡ why_not_at low clock' closed full' → why_not_at low clock closed full ≡ o
-told_cause low clock clock' closed full full' o same_clock same_full e =
-    ap (λ (n : ℕ). why_not_at low n closed full) (sym same_clock) ∙ ap (λ (b : Bool). why_not_at low clock' closed b) (sym same_full) ∙ sym e
-
 pub made : (o : Option GroupData) (x g : GroupData) → SomeIff o (KeepsRules g) g → o ≡ Some x → KeepsRules g × (g ≡ x)
 made o x g h e = let k : SomeIff (Some x) (KeepsRules g) g = subst (λ (v : Option GroupData). SomeIff v (KeepsRules g) g) e h in (k.0, sym k.1)
 
-pub spent_for : (opening : Map) (steps : List Step) (s : State) (c : CoreData) (place : Option GroupData) → HasClosed opening steps s c place (Err OutOfMemory) c place
-    → (r : Result Closed Refusal) → IsErrAnd r (λ e. e ≡ OutOfMemory) → HasClosed opening steps s c place r c place
-spent_for opening steps s c place h (Ok a) e = absurd e
-spent_for opening steps s c place h (Err r) e = subst (λ (v : Refusal). HasClosed opening steps s c place (Err v) c place) (sym e) h
+pub spent_for : {A P : Type 0} (opening : Map) (steps : List Step) (s : State) (ring ring2 : Producer GroupData A P) (c : CoreData) → HasClosed opening steps s ring (Err OutOfMemory) c ring2
+    → (r : Result Closed Refusal) → IsErrAnd r (λ e. e ≡ OutOfMemory) → HasClosed opening steps s ring r c ring2
+spent_for opening steps s ring ring2 c h (Ok a) e = absurd e
+spent_for opening steps s ring ring2 c h (Err r) e = subst (λ (v : Refusal). HasClosed opening steps s ring (Err v) c ring2) (sym e) h

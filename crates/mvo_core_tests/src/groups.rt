@@ -1,11 +1,11 @@
 //! Closed groups.
 
+use crate::reply::Reply;
 use crate::session::Call::{
     Begin, Commit, Delete, Finish, Insert, Precommit, Read, Settle, Update, Validate,
 };
 use crate::session::{Call, Session};
 use mvo_core::Closed;
-use mvo_group::Group;
 use mvo_types::{Refusal, Stamp};
 use std::process::Abort;
 use std::test::Fail;
@@ -29,10 +29,27 @@ const BODY: [u8; 38] = [
     0, 0, 0, 0, 0, 0,
 ];
 
+/// The marks 0 and 1, and no record.
+const EMPTY_BODY: [u8; 18] = [0, 0, 0, 0, 0, 0, 0, 0, 1, 0, 0, 0, 0, 0, 0, 0, 0, 0];
+
+/// The marks 1 and 4, and of 2 records each the end and 1 write: the puts in table 0 of the keys 1
+/// and 2.
+const BODY_OF_TWO: [u8; 80] = [
+    1, 0, 0, 0, 0, 0, 0, 0, 4, 0, 0, 0, 0, 0, 0, 0, 2, 0, 2, 0, 0, 0, 0, 0, 0, 0, 1, 0, 1, 0, 1, 0,
+    0, 0, 0, 0, 0, 0, 10, 0, 0, 0, 0, 0, 0, 0, 1, 0, 0x61, 4, 0, 0, 0, 0, 0, 0, 0, 1, 0, 1, 0, 2,
+    0, 0, 0, 0, 0, 0, 0, 20, 0, 0, 0, 0, 0, 0, 0, 1, 0, 0x62,
+];
+
 const IS_PREPARING: [(Call, &str); 3] = [
     (Begin, "began 1"),
-    (Insert(1, 5, 50, 0x61), "inserted"),
+    (Insert(1, 1, 10, 0x61), "inserted"),
     (Precommit(1), "preparing 2"),
+];
+
+const ANOTHER_COMMITS: [(Call, &str); 3] = [
+    (Begin, "began 3"),
+    (Insert(3, 2, 20, 0x62), "inserted"),
+    (Commit(3), "committed 4"),
 ];
 
 const IS_COMMITTED: [(Call, &str); 3] = [
@@ -41,51 +58,58 @@ const IS_COMMITTED: [(Call, &str); 3] = [
     (Finish(1), "done"),
 ];
 
-const CLOSED: Closed = Closed {
-    prev: Stamp(0),
-    mark: Stamp(2),
-};
+/// Calls, and what the closing of a group is answered behind them: the marks.
+type Turn = (&'static [(Call, &'static str)], Result<(u64, u64), Refusal>);
 
-/// Calls, and what the closing of a group is answered behind them.
-type Turn = (&'static [(Call, &'static str)], Result<Closed, Refusal>);
+const BEHIND_A_COMMIT: [Turn; 1] = [(&INSERTS_AND_DELETES, Ok((0, 2)))];
 
-const UP_TO_A_PREPARING_ONE: [Turn; 2] = [
+/// Up to below its end, and no further.
+const BELOW_A_PREPARING_ONE: [Turn; 3] = [
     (&[], Err(Refusal::NothingToDo)),
-    (&IS_PREPARING, Err(Refusal::Busy)),
+    (&IS_PREPARING, Ok((0, 1))),
+    (&[], Err(Refusal::NothingToDo)),
 ];
 
 const BEHIND_A_COMMITTED_ONE: [Turn; 3] = [
-    (&[], Ok(CLOSED)),
+    (&IS_COMMITTED, Ok((1, 2))),
     (&[], Err(Refusal::NothingToDo)),
-    (&[(Begin, "began 3")], Err(Refusal::RingFull)),
+    (&[(Begin, "began 3")], Ok((2, 3))),
 ];
 
-/// The group goes to the place.
-fn take_turns(
-    rt: &impl Abort,
-    session: &mut Session,
-    place: &mut Option<Group>,
-    turns: &[Turn],
-) -> Result<(), Fail> {
+/// What commits beside a Preparing one, with a greater end, isn't in a group until that is settled.
+const BESIDE_A_PREPARING_ONE: [Turn; 4] = [
+    (&IS_PREPARING, Ok((0, 1))),
+    (&ANOTHER_COMMITS, Err(Refusal::NothingToDo)),
+    (&IS_COMMITTED, Ok((1, 4))),
+    (&[], Err(Refusal::NothingToDo)),
+];
+
+/// As above, with the first group closed behind both.
+const BEHIND_BOTH: [Turn; 2] = [(&ANOTHER_COMMITS, Ok((0, 1))), (&IS_COMMITTED, Ok((1, 4)))];
+
+fn close(session: &mut Session) -> Result<(u64, u64), Refusal> {
+    let Closed { prev, mark } = session.close()?;
+    Ok((prev.0, mark.0))
+}
+
+fn take_turns(rt: &impl Abort, session: &mut Session, turns: &[Turn]) -> Result<(), Fail> {
     for (lines, answer) in turns {
         session.follow(rt, *lines)?;
-        assert_eq!(rt; session.close(place), *answer);
+        assert_eq!(rt; close(session), *answer);
     }
     Ok(())
 }
 
-fn has_body(rt: &impl Abort, group: &Group) -> Result<(), Fail> {
-    assert_eq!(rt; group.encode()?.as_slice(), BODY.as_slice());
+/// The oldest group in the ring has the body.
+fn takes(rt: &impl Abort, session: &mut Session, body: &[u8]) -> Result<(), Fail> {
+    let group = session.take().ok_or("a group")?;
+    assert_eq!(rt; group.encode()?.as_slice(), body);
     Ok(())
 }
 
-fn check_net_writes(
-    rt: &impl Abort,
-    session: &mut Session,
-    place: &mut Option<Group>,
-) -> Result<(), Fail> {
-    take_turns(rt, session, place, &[(&INSERTS_AND_DELETES, Ok(CLOSED))])?;
-    has_body(rt, place.as_ref().ok_or("a group")?)?;
+fn check_net_writes(rt: &impl Abort, session: &mut Session) -> Result<(), Fail> {
+    take_turns(rt, session, &BEHIND_A_COMMIT)?;
+    takes(rt, session, &BODY)?;
     session.follow(rt, &LATER_READ)?;
     Ok(())
 }
@@ -93,23 +117,93 @@ fn check_net_writes(
 #[test]
 fn a_group_has_the_net_writes(rt: HostRuntime) -> Result<(), Fail> {
     let mut session = Session::new(rt.alloc())?;
-    check_net_writes(&rt, &mut session, &mut None)
+    check_net_writes(&rt, &mut session)
 }
 
-fn check_busy(
-    rt: &impl Abort,
-    session: &mut Session,
-    place: &mut Option<Group>,
-) -> Result<(), Fail> {
-    take_turns(rt, session, place, &UP_TO_A_PREPARING_ONE)?;
-    session.follow(rt, &IS_COMMITTED)?;
+fn check_low_water(rt: &impl Abort, session: &mut Session) -> Result<(), Fail> {
+    take_turns(rt, session, &BELOW_A_PREPARING_ONE)?;
     assert_eq!(rt; session.tale_len(), 1);
     assert_eq!(rt; session.clock(), Stamp(2));
-    take_turns(rt, session, place, &BEHIND_A_COMMITTED_ONE)
+    take_turns(rt, session, &BEHIND_A_COMMITTED_ONE)
 }
 
 #[test]
-fn no_group_closes_while_one_is_preparing(rt: HostRuntime) -> Result<(), Fail> {
+fn a_group_ends_below_one_that_is_preparing(rt: HostRuntime) -> Result<(), Fail> {
     let mut session = Session::new(rt.alloc())?;
-    check_busy(&rt, &mut session, &mut None)
+    check_low_water(&rt, &mut session)
+}
+
+/// The groups that the turns close are these, whenever the first is closed.
+fn check_two(rt: &impl Abort, session: &mut Session, turns: &[Turn]) -> Result<(), Fail> {
+    take_turns(rt, session, turns)?;
+    takes(rt, session, &EMPTY_BODY)?;
+    takes(rt, session, &BODY_OF_TWO)?;
+    assert!(rt; session.take().is_none());
+    Ok(())
+}
+
+#[test]
+fn a_commit_waits_for_those_that_end_before_it(rt: HostRuntime) -> Result<(), Fail> {
+    let mut session = Session::new(rt.alloc())?;
+    check_two(&rt, &mut session, &BESIDE_A_PREPARING_ONE)?;
+    let mut session = Session::new(rt.alloc())?;
+    session.follow(&rt, &IS_PREPARING)?;
+    check_two(&rt, &mut session, &BEHIND_BOTH)
+}
+
+/// After a begin, the low-water is one above the mark of the group before.
+fn close_one(
+    rt: &impl Abort,
+    session: &mut Session,
+    answer: Result<(u64, u64), Refusal>,
+) -> Result<(), Fail> {
+    assert!(rt; matches!(session.begin(), Reply::Began(_)));
+    assert_eq!(rt; close(session), answer);
+    Ok(())
+}
+
+fn close_all(rt: &impl Abort, session: &mut Session) -> Result<(), Fail> {
+    for prev in 0..64 {
+        close_one(rt, session, Ok((prev, prev.saturating_add(1))))?;
+    }
+    Ok(())
+}
+
+/// The oldest group in the ring has this prev, and the mark one above.
+fn takes_from(rt: &impl Abort, session: &mut Session, prev: u64) -> Result<(), Fail> {
+    let group = session.take().ok_or("a group")?;
+    assert_eq!(rt; group.prev(), Stamp(prev));
+    assert_eq!(rt; group.mark(), Stamp(prev.saturating_add(1)));
+    assert!(rt; group.records().is_empty());
+    Ok(())
+}
+
+fn take_all(rt: &impl Abort, session: &mut Session) -> Result<(), Fail> {
+    for prev in 1..65 {
+        takes_from(rt, session, prev)?;
+    }
+    assert!(rt; session.take().is_none());
+    Ok(())
+}
+
+/// A full ring changes nothing, and that there is nothing to do comes before it.
+fn check_full(rt: &impl Abort, session: &mut Session) -> Result<(), Fail> {
+    assert_eq!(rt; close(session), Err(Refusal::NothingToDo));
+    close_one(rt, session, Err(Refusal::RingFull))?;
+    assert_eq!(rt; close(session), Err(Refusal::RingFull));
+    takes_from(rt, session, 0)?;
+    assert_eq!(rt; close(session), Ok((64, 65)));
+    Ok(())
+}
+
+fn check_ring(rt: &impl Abort, session: &mut Session) -> Result<(), Fail> {
+    close_all(rt, session)?;
+    check_full(rt, session)?;
+    take_all(rt, session)
+}
+
+#[test]
+fn as_many_groups_wait_as_the_ring_has_room_for(rt: HostRuntime) -> Result<(), Fail> {
+    let mut session = Session::new(rt.alloc())?;
+    check_ring(&rt, &mut session)
 }

@@ -57,6 +57,12 @@ pub const TWO_FLAGGED: usize = 123;
 
 pub const TWO_DEPENDENCIES: usize = 124;
 
+pub const GROUP_BESIDE_PREPARING: usize = 125;
+
+pub const GROUP_BELOW_COMMITS: usize = 126;
+
+pub const COMPARED_GROUP: usize = 127;
+
 const KINDS: usize = 130;
 
 /// By kind.

@@ -6,7 +6,7 @@ use crate::reply::Reply;
 use crate::same::{are_same, is_same};
 use crate::session::Session;
 use mvo_core::{Closed, Finishing, Settlement, Validation};
-use mvo_group::{Group, Write};
+use mvo_group::Write;
 use mvo_model::Serial;
 use mvo_types::{Answer, Op, Refusal, Row, RowKey, Rows, Stamp, TxId};
 use std::alloc::{AllocError, Global};
@@ -55,7 +55,7 @@ struct Counts {
     early: u64,
     rolled_back: u64,
     more_words: u64,
-    busy: u64,
+    beside_preparing: u64,
     groups: u64,
     most_preparing: u64,
     strange: u64,
@@ -100,7 +100,7 @@ fn no_counts() -> Counts {
         early: 0,
         rolled_back: 0,
         more_words: 0,
-        busy: 0,
+        beside_preparing: 0,
         groups: 0,
         most_preparing: 0,
         strange: 0,
@@ -150,18 +150,19 @@ impl Course {
         if !matches!(tx.phase, Phase::Gone) {
             self.open.push(tx)?;
         }
-        self.count_preparing();
+        self.counts.most_preparing = self.counts.most_preparing.max(self.preparing());
         Ok(())
     }
 
-    fn count_preparing(&mut self) {
+    /// How many are Preparing.
+    fn preparing(&self) -> u64 {
         let mut preparing = 0;
         for tx in &self.open {
             if matches!(tx.phase, Phase::Preparing | Phase::Valid) {
                 count(&mut preparing);
             }
         }
-        self.counts.most_preparing = self.counts.most_preparing.max(preparing);
+        preparing
     }
 
     fn begin(&mut self) -> Result<(), AllocError> {
@@ -334,27 +335,24 @@ impl Course {
     }
 
     fn close(&mut self) -> Result<(), AllocError> {
-        let mut place = None;
-        match self.session.close(&mut place) {
-            Ok(closed) => return self.replay(place, closed),
-            Err(Refusal::Busy) => count(&mut self.counts.busy),
+        match self.session.close() {
+            Ok(closed) => return self.replay(closed),
             Err(Refusal::NothingToDo) => {}
             Err(_) => count(&mut self.counts.strange),
         }
         Ok(())
     }
 
-    /// Puts the group's writes on the rows.
-    fn replay(&mut self, place: Option<Group>, closed: Closed) -> Result<(), AllocError> {
-        count(&mut self.counts.groups);
-        if closed.prev != self.closed {
-            count(&mut self.counts.strange);
-        }
-        self.closed = closed.mark;
-        let Some(group) = place else {
+    /// Takes the group, and puts its writes on the rows.
+    fn replay(&mut self, closed: Closed) -> Result<(), AllocError> {
+        self.note_group(closed);
+        let Some(group) = self.session.take() else {
             count(&mut self.counts.strange);
             return Ok(());
         };
+        if group.prev() != closed.prev || group.mark() != closed.mark {
+            count(&mut self.counts.strange);
+        }
         for record in group.into_records() {
             for write in record.writes {
                 match write {
@@ -364,6 +362,17 @@ impl Course {
             }
         }
         Ok(())
+    }
+
+    fn note_group(&mut self, closed: Closed) {
+        count(&mut self.counts.groups);
+        if self.preparing() > 0 {
+            count(&mut self.counts.beside_preparing);
+        }
+        if closed.prev != self.closed {
+            count(&mut self.counts.strange);
+        }
+        self.closed = closed.mark;
     }
 
     /// Rolls back what is open, finishes it and closes the last group.
@@ -430,8 +439,8 @@ fn check_counts(rt: &impl Abort, counts: &Counts) {
         (counts.early, 50),
         (counts.rolled_back, 100),
         (counts.more_words, 500),
-        (counts.busy, 300),
-        (counts.groups, 50),
+        (counts.beside_preparing, 240),
+        (counts.groups, 300),
         (counts.most_preparing, 3),
     ] {
         assert!(rt; met > least, "{met}, and not more than {least}");

@@ -4,6 +4,7 @@ use crate::reply::Reply;
 use mvo_core::{Closed, Core, Finishing, Settlement, Validation};
 use mvo_group::Group;
 use mvo_types::{Answer, MAX_STAMP, Refusal, Row, RowKey, Rows, Stamp, TxId};
+use rtrb::{Consumer, Producer, RingBuffer};
 use std::alloc::{AllocError, Global};
 use std::process::Abort;
 
@@ -29,30 +30,49 @@ pub enum Call {
     Commit(u64),
 }
 
-/// A core.
+/// So many groups may wait in a fresh session.
+const RING_GROUPS: usize = 64;
+
+/// So many may wait in a session over rows, which is soon full.
+pub const FEW_GROUPS: usize = 2;
+
+/// A core, and both ends of the ring that groups are closed into.
 #[derive(Drop)]
 pub struct Session {
     alloc: Global,
     core: Core,
+    producer: Producer<Group>,
+    consumer: Consumer<Group>,
 }
 
 impl Session {
+    fn of(alloc: Global, core: Core, slots: usize) -> Result<Session, Refusal> {
+        let (producer, consumer) = RingBuffer::new(alloc, slots)?;
+        Ok(Session {
+            alloc,
+            core,
+            producer,
+            consumer,
+        })
+    }
+
     /// A fresh core.
     pub fn new(alloc: Global) -> Result<Session, Refusal> {
-        Session::over(alloc, Rows::new(alloc), 0)
+        let core = Core::open(alloc, 7, Rows::new(alloc), Stamp(0))?;
+        Session::of(alloc, core, RING_GROUPS)
     }
 
     /// A core over these rows, with the clock at their mark.
     pub fn over(alloc: Global, rows: Rows, mark: u8) -> Result<Session, Refusal> {
         let core = Core::open(alloc, 7, rows, Stamp(u64::from(mark)))?;
-        Ok(Session { alloc, core })
+        Session::of(alloc, core, FEW_GROUPS)
     }
 
     /// A core over these rows that has so many timestamps left.
     pub fn late(alloc: Global, rows: Rows, left: u8) -> Result<Session, Refusal> {
         let mark = Stamp(MAX_STAMP - u64::from(left));
         let core = Core::open(alloc, 7, rows, mark)?;
-        Ok(Session { alloc, core })
+        Session::of(alloc, core, FEW_GROUPS)
     }
 
     pub fn clock(&self) -> Stamp {
@@ -64,8 +84,14 @@ impl Session {
         self.core.tale().len()
     }
 
-    pub fn close(&mut self, place: &mut Option<Group>) -> Result<Closed, Refusal> {
-        self.core.close_group(place)
+    /// Closes the next group into the ring.
+    pub fn close(&mut self) -> Result<Closed, Refusal> {
+        self.core.close_group(&mut self.producer)
+    }
+
+    /// The oldest group in the ring.
+    pub fn take(&mut self) -> Option<Group> {
+        self.consumer.pop().ok()
     }
 
     pub fn ask(&mut self, call: Call) -> Result<Reply, AllocError> {

@@ -2,9 +2,10 @@
 
 use crate::events::Event;
 use crate::met::{
-    ABSENT, BEGAN, COMMITTED, CONFLICT_WITH_ACTIVE, DELETED, DONE, EXISTS, GROUP, GROUP_OF_SEVERAL,
-    INSERTED, MORE_CHECKS, MORE_WORDS, NO_ROW, NO_ROWS, ONE_ROW, PREPARING, ROLLED_BACK, ROW, ROWS,
-    THREE_PREPARING, TWO_DEPENDENCIES, TWO_FLAGGED, UPDATED, VALID, WAITING,
+    ABSENT, BEGAN, COMMITTED, COMPARED_GROUP, CONFLICT_WITH_ACTIVE, DELETED, DONE, EXISTS, GROUP,
+    GROUP_BELOW_COMMITS, GROUP_BESIDE_PREPARING, GROUP_OF_SEVERAL, INSERTED, MORE_CHECKS,
+    MORE_WORDS, NO_ROW, NO_ROWS, ONE_ROW, PREPARING, ROLLED_BACK, ROW, ROWS, THREE_PREPARING,
+    TWO_DEPENDENCIES, TWO_FLAGGED, UPDATED, VALID, WAITING,
 };
 use crate::twins::Twins;
 use mvo_types::{Op, Row, RowKey};
@@ -14,46 +15,48 @@ use std::test::Fail;
 const STEPS: u64 = 20_000;
 
 /// How often each is met at least, in each course: half of what it meets. Refusals go by number.
-const FLOORS: [(usize, u64); 39] = [
+const FLOORS: [(usize, u64); 41] = [
     (10, 180),
-    (11, 120),
+    (11, 115),
     (12, 150),
-    (13, 55),
-    (14, 570),
-    (15, 40),
-    (20, 50),
+    (13, 45),
+    (14, 565),
+    (15, 55),
+    (20, 45),
     (21, 50),
-    (22, 55),
+    (22, 60),
     (33, 18),
-    (34, 18),
-    (36, 9),
-    (52, 135),
-    (56, 55),
-    (BEGAN, 980),
-    (ROW, 410),
-    (NO_ROW, 240),
+    (34, 20),
+    (36, 22),
+    (56, 400),
+    (BEGAN, 930),
+    (ROW, 400),
+    (NO_ROW, 225),
     (NO_ROWS, 290),
-    (ONE_ROW, 75),
-    (ROWS, 120),
+    (ONE_ROW, 70),
+    (ROWS, 105),
     (INSERTED, 180),
-    (EXISTS, 310),
-    (UPDATED, 310),
-    (DELETED, 145),
-    (ABSENT, 360),
-    (PREPARING, 640),
-    (MORE_CHECKS, 580),
+    (EXISTS, 275),
+    (UPDATED, 300),
+    (DELETED, 155),
+    (ABSENT, 335),
+    (PREPARING, 620),
+    (MORE_CHECKS, 565),
     (VALID, 1_100),
-    (COMMITTED, 340),
-    (WAITING, 28),
-    (ROLLED_BACK, 350),
-    (MORE_WORDS, 540),
-    (DONE, 970),
+    (COMMITTED, 335),
+    (WAITING, 23),
+    (ROLLED_BACK, 325),
+    (MORE_WORDS, 530),
+    (DONE, 920),
     (CONFLICT_WITH_ACTIVE, 85),
-    (GROUP, 40),
+    (GROUP, 185),
     (GROUP_OF_SEVERAL, 19),
     (THREE_PREPARING, 5_000),
-    (TWO_FLAGGED, 60),
-    (TWO_DEPENDENCIES, 1_000),
+    (TWO_FLAGGED, 95),
+    (TWO_DEPENDENCIES, 810),
+    (GROUP_BESIDE_PREPARING, 165),
+    (GROUP_BELOW_COMMITS, 11),
+    (COMPARED_GROUP, 185),
 ];
 
 const LATE_FLOORS: [(usize, u64); 1] = [(35, 500)];
@@ -162,9 +165,11 @@ fn close_many(rt: &impl Abort, twins: &mut Twins) -> Result<(), Fail> {
     }
     for _ in 0..8 {
         twins.close(rt)?;
+        twins.take(rt)?;
     }
     assert_eq!(rt; twins.met.count(GROUP), 2);
     assert_eq!(rt; twins.met.count(GROUP_OF_SEVERAL), 2);
+    assert_eq!(rt; twins.met.count(COMPARED_GROUP), 2);
     Ok(())
 }
 

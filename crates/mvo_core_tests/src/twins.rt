@@ -4,18 +4,19 @@
 use crate::draws::Draws;
 use crate::events::{Event, Events};
 use crate::met::{
-    GROUP, GROUP_OF_SEVERAL, Met, THREE_PREPARING, TWO_DEPENDENCIES, TWO_FLAGGED, kind_of,
-    kind_of_refusal,
+    COMPARED_GROUP, GROUP, GROUP_BELOW_COMMITS, GROUP_BESIDE_PREPARING, GROUP_OF_SEVERAL, Met,
+    THREE_PREPARING, TWO_DEPENDENCIES, TWO_FLAGGED, kind_of, kind_of_refusal,
 };
 use crate::plain::{Plain, PlainGroup};
 use crate::random::opening_rows;
 use crate::reply::Reply;
 use crate::same::{are_same_records, is_same_reply};
-use crate::session::Session;
+use crate::session::{FEW_GROUPS, Session};
 use mvo_core::Closed;
 use mvo_group::Group;
 use mvo_types::{MAX_STAMP, Op, Refusal, TxId};
 use std::alloc::{AllocError, Global};
+use std::collections::VecDeque;
 use std::process::Abort;
 use std::test::Fail;
 
@@ -30,8 +31,8 @@ pub struct Twins {
     session: Session,
     pub plain: Plain,
     pub events: Events,
-    /// Where groups are closed to.
-    place: Option<Group>,
+    /// Those that wait in the core's ring, the oldest first.
+    waiting: VecDeque<PlainGroup>,
     pub met: Met,
 }
 
@@ -83,7 +84,7 @@ impl Twins {
                 draws: Draws(seed),
                 keys: 6,
             },
-            place: None,
+            waiting: VecDeque::new(alloc),
             met: Met::new(alloc)?,
         })
     }
@@ -100,8 +101,7 @@ impl Twins {
     }
 
     pub fn advance(&mut self, rt: &impl Abort) -> Result<(), Fail> {
-        let rate = self.close_rate();
-        if self.events.draws.below(rate) == 0 {
+        if self.events.draws.below(16) == 0 {
             return self.close(rt);
         }
         let at = self.events.draws.below(MOST_AT_ONCE) as usize;
@@ -111,11 +111,6 @@ impl Twins {
         let id = self.or_another(id);
         let event = self.events.draw(self.plain.state_of(id))?;
         self.ask(rt, id, event)
-    }
-
-    /// Groups are closed more often where nobody is Preparing, which is seldom.
-    fn close_rate(&self) -> u64 {
-        if self.plain.preparing() > 0 { 64 } else { 4 }
     }
 
     /// Now and then another id, which may be nobody's.
@@ -150,15 +145,15 @@ impl Twins {
         }
     }
 
-    /// Takes the group from the place, now and then, and closes another.
+    /// Takes the oldest group, now and then, and closes another.
     pub fn close(&mut self, rt: &impl Abort) -> Result<(), Fail> {
         if self.events.draws.below(2) == 0 {
-            self.place = None;
+            self.take(rt)?;
         }
-        let due = self.plain.close(self.place.is_some());
-        let told = self.session.close(&mut self.place);
+        let due = self.plain.close(self.waiting.len() >= FEW_GROUPS);
+        let told = self.session.close();
         match (told, due) {
-            (Ok(closed), Ok(group)) => self.compare_groups(rt, closed, group),
+            (Ok(closed), Ok(group)) => self.compare_closed(rt, closed, group),
             (Err(refusal), Err(due)) => self.compare_refusals(rt, refusal, due),
             (Ok(_), Err(due)) => Ok(assert!(rt; false, "a group, and not {due}")),
             (Err(refusal), Ok(_)) => Ok(assert!(rt; false, "{refusal}, and not a group")),
@@ -176,21 +171,52 @@ impl Twins {
         Ok(())
     }
 
-    fn compare_groups(
+    /// Compares the marks. The records are compared when the group is taken.
+    fn compare_closed(
         &mut self,
         rt: &impl Abort,
         told: Closed,
         due: PlainGroup,
     ) -> Result<(), Fail> {
         assert_eq!(rt; told, due.closed);
-        let group = self.place.as_ref().ok_or("a group")?;
+        self.note_group(&due);
+        self.waiting.push_back(due)?;
+        Ok(())
+    }
+
+    fn note_group(&mut self, group: &PlainGroup) {
+        self.met.note(GROUP);
+        if group.records.len() > 1 {
+            self.met.note(GROUP_OF_SEVERAL);
+        }
+        if self.plain.preparing() > 0 {
+            self.met.note(GROUP_BESIDE_PREPARING);
+        }
+        if !self.plain.commits.is_empty() {
+            self.met.note(GROUP_BELOW_COMMITS);
+        }
+    }
+
+    /// Takes the oldest group, if there is one, and compares it.
+    pub fn take(&mut self, rt: &impl Abort) -> Result<(), Fail> {
+        match (self.session.take(), self.waiting.pop_front()) {
+            (Some(group), Some(due)) => self.compare_groups(rt, &group, &due),
+            (None, None) => Ok(()),
+            (Some(_), None) => Ok(assert!(rt; false, "a group, and none is due")),
+            (None, Some(_)) => Ok(assert!(rt; false, "no group, and one is due")),
+        }
+    }
+
+    fn compare_groups(
+        &mut self,
+        rt: &impl Abort,
+        group: &Group,
+        due: &PlainGroup,
+    ) -> Result<(), Fail> {
         assert_eq!(rt; group.prev(), due.closed.prev);
         assert_eq!(rt; group.mark(), due.closed.mark);
         assert!(rt; are_same_records(group.records(), &due.records));
-        self.met.note(GROUP);
-        if due.records.len() > 1 {
-            self.met.note(GROUP_OF_SEVERAL);
-        }
+        self.met.note(COMPARED_GROUP);
         Ok(())
     }
 }

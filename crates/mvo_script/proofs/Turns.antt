@@ -13,6 +13,7 @@ use Rattle.mvo_store.specs.Causes.{first_cause}
 use Rattle.mvo_store.specs.Steps.{IsInstalledBy}
 use Rattle.mvo_store.specs.StoreData.{StoreData}
 use Rattle.mvo_world.specs.WorldData.{WorldData, waiting}
+use Rattle.mvo_world.specs.Ring.{oldest}
 use Rattle.mvo_world.specs.Replies.{IsReplyTo, IsLeft, or_nothing}
 use Rattle.mvo_world.specs.declared.event.Event.{Event}
 use Rattle.mvo_world.specs.declared.event.Event.TheVariants.{CloseGroup, TakeGroup, AppendBody, AppendOpen, RotateWrite, CheckpointData, CheckpointDelta, MergeData, MergeDelta, InstallClose, InstallBody, InstallOpen}
@@ -82,26 +83,26 @@ module _ {D : Type 0} (d : Ghosts D) (w v : WorldData D) where
 
 -- the groups that are closed or taken stay
 record KeepsGroups {D : Type 0} (w v : WorldData D) : Type 0 where
-  place : v.place ≡ w.place
+  ring : v.ring ≡ w.ring
   pending : v.store.pending ≡ w.store.pending
 
 -- how many they are
 abbrev count : {D : Type 0} → WorldData D → ℕ
 count w = length (waiting w)
 
-same_length : {A : Type 0} (a b x y : Option A) → a ≡ x → b ≡ y → length (option_to_list a ++ option_to_list b) ≡ length (option_to_list x ++ option_to_list y)
-same_length {A} a b x y p q = ap₂ (λ (s t : Option A). length (option_to_list s ++ option_to_list t)) p q
+same_length : {A : Type 0} (a x : Option A) (b y : List A) → a ≡ x → b ≡ y → length (option_to_list a ++ b) ≡ length (option_to_list x ++ y)
+same_length {A} a x b y p q = ap₂ (λ (s : Option A) (t : List A). length (option_to_list s ++ t)) p q
 
 kept_count : {D : Type 0} (w v : WorldData D) → KeepsGroups w v → count v ≡ count w
-kept_count w v k = same_length v.store.pending v.place w.store.pending w.place k.pending k.place
+kept_count w v k = same_length v.store.pending w.store.pending v.ring w.ring k.pending k.ring
 
 then_keeps : {D : Type 0} (w v u : WorldData D) → KeepsGroups w v → KeepsGroups v u → KeepsGroups w u
-then_keeps w v u one two = record { place = two.place ∙ one.place; pending = two.pending ∙ one.pending }
+then_keeps w v u one two = record { ring = two.ring ∙ one.ring; pending = two.pending ∙ one.pending }
 
-none_pending : {A : Type 0} (down : Bool) (pending place : Option A) → or_nothing (first_cause ((down, Down) ∷ (is_some pending, Busy) ∷ [])) place ≡ None → pending ≡ None
-none_pending true pending place h = cc
-none_pending false (Some g) place h = cc
-none_pending false None place h = refl
+none_pending : {A : Type 0} (down : Bool) (pending next : Option A) → or_nothing (first_cause ((down, Down) ∷ (is_some pending, Busy) ∷ [])) next ≡ None → pending ≡ None
+none_pending true pending next h = cc
+none_pending false (Some g) next h = cc
+none_pending false None next h = refl
 
 installed_pending : {D : Type 0} (o : Option Job) (old new : StoreData D) → IsInstalledBy o old new → new.pending ≡ old.pending
 installed_pending {D = D} None old new h = absurd h
@@ -126,37 +127,37 @@ AreOfJob (e ∷ es) = IsOfJob e × AreOfJob es
 module _ {D : Type 0} (d : Ghosts D) where
   left_keeps : (w v : WorldData D) (r : Refusal) → IsLeft d w r v → KeepsGroups w v
   left_keeps w v DiskFault it = record {
-    place = ap (λ (x : WorldData D). x.place) it.rest;
+    ring = ap (λ (x : WorldData D). x.ring) it.rest;
     pending = let fault = it.store.fault refl in ap (λ (s : StoreData D). s.pending) fault.after;
   }
   left_keeps w v r it = record {
-    place = ap (λ (x : WorldData D). x.place) it.rest;
+    ring = ap (λ (x : WorldData D). x.ring) it.rest;
     pending = ap (λ (s : StoreData D). s.pending) (it.store.other (λ e. cc));
   }
 
   job_keeps : (e : Event) → IsOfJob e → (w v : WorldData D) (r : Reply) → IsReplyTo d w e r v → KeepsGroups w v
-  job_keeps RotateWrite h w v Ready it = record { place = ap (λ (x : WorldData D). x.place) it.1.after; pending = ap (λ (x : WorldData D). x.store.pending) it.1.after }
+  job_keeps RotateWrite h w v Ready it = record { ring = ap (λ (x : WorldData D). x.ring) it.1.after; pending = ap (λ (x : WorldData D). x.store.pending) it.1.after }
   job_keeps RotateWrite h w v (Refused why) it = left_keeps w v why it.1
   job_keeps RotateWrite h w v _ it = absurd it
-  job_keeps CheckpointData h w v (Progressed More) it = record { place = ap (λ (x : WorldData D). x.place) it.1; pending = ap (λ (x : WorldData D). x.store.pending) it.1 }
+  job_keeps CheckpointData h w v (Progressed More) it = record { ring = ap (λ (x : WorldData D). x.ring) it.1; pending = ap (λ (x : WorldData D). x.store.pending) it.1 }
   job_keeps CheckpointData h w v (Refused why) it = left_keeps w v why it.1
   job_keeps CheckpointData h w v _ it = absurd it
-  job_keeps CheckpointDelta h w v (Progressed p) it = record { place = ap (λ (x : WorldData D). x.place) it.1.after; pending = ap (λ (x : WorldData D). x.store.pending) it.1.after }
+  job_keeps CheckpointDelta h w v (Progressed p) it = record { ring = ap (λ (x : WorldData D). x.ring) it.1.after; pending = ap (λ (x : WorldData D). x.store.pending) it.1.after }
   job_keeps CheckpointDelta h w v (Refused why) it = left_keeps w v why it.1
   job_keeps CheckpointDelta h w v _ it = absurd it
-  job_keeps MergeData h w v (Progressed More) it = record { place = ap (λ (x : WorldData D). x.place) it.1; pending = ap (λ (x : WorldData D). x.store.pending) it.1 }
+  job_keeps MergeData h w v (Progressed More) it = record { ring = ap (λ (x : WorldData D). x.ring) it.1; pending = ap (λ (x : WorldData D). x.store.pending) it.1 }
   job_keeps MergeData h w v (Refused why) it = left_keeps w v why it.1
   job_keeps MergeData h w v _ it = absurd it
-  job_keeps MergeDelta h w v (Progressed AllWritten) it = record { place = ap (λ (x : WorldData D). x.place) it.1; pending = ap (λ (x : WorldData D). x.store.pending) it.1 }
+  job_keeps MergeDelta h w v (Progressed AllWritten) it = record { ring = ap (λ (x : WorldData D). x.ring) it.1; pending = ap (λ (x : WorldData D). x.store.pending) it.1 }
   job_keeps MergeDelta h w v (Refused why) it = left_keeps w v why it.1
   job_keeps MergeDelta h w v _ it = absurd it
-  job_keeps InstallClose h w v Shut it = record { place = ap (λ (x : WorldData D). x.place) it.1; pending = ap (λ (x : WorldData D). x.store.pending) it.1 }
+  job_keeps InstallClose h w v Shut it = record { ring = ap (λ (x : WorldData D). x.ring) it.1; pending = ap (λ (x : WorldData D). x.store.pending) it.1 }
   job_keeps InstallClose h w v (Refused why) it = left_keeps w v why it.1
   job_keeps InstallClose h w v _ it = absurd it
-  job_keeps InstallBody h w v Written it = record { place = ap (λ (x : WorldData D). x.place) it.1; pending = ap (λ (x : WorldData D). x.store.pending) it.1 }
+  job_keeps InstallBody h w v Written it = record { ring = ap (λ (x : WorldData D). x.ring) it.1; pending = ap (λ (x : WorldData D). x.store.pending) it.1 }
   job_keeps InstallBody h w v (Refused why) it = left_keeps w v why it.1
   job_keeps InstallBody h w v _ it = absurd it
-  job_keeps InstallOpen h w v (Installed n) it = record { place = ap (λ (x : WorldData D). x.place) it.1.rest; pending = installed_pending w.store.job w.store v.store it.1.installed }
+  job_keeps InstallOpen h w v (Installed n) it = record { ring = ap (λ (x : WorldData D). x.ring) it.1.rest; pending = installed_pending w.store.job w.store v.store it.1.installed }
   job_keeps InstallOpen h w v (Refused why) it = left_keeps w v why it.1
   job_keeps InstallOpen h w v _ it = absurd it
   job_keeps _ h w v r it = absurd h
@@ -168,7 +169,7 @@ module _ {D : Type 0} (d : Ghosts D) where
   jobs_keep stops (e ∷ next ∷ es) h w v r (inr a) = then_keeps w a.1 v (job_keeps e h.0 w a.1 a.0 a.2) (jobs_keep stops (next ∷ es) h.1 a.1 v r a.4)
 
   stays : (w v : WorldData D) → v ≡ w → KeepsGroups w v
-  stays w v same = record { place = ap (λ (x : WorldData D). x.place) same; pending = ap (λ (x : WorldData D). x.store.pending) same }
+  stays w v same = record { ring = ap (λ (x : WorldData D). x.ring) same; pending = ap (λ (x : WorldData D). x.store.pending) same }
 
   more_keeps : (n : ℕ) (w v : WorldData D) → AreMore (IsReplyTo d) n w v → KeepsGroups w v
   more_keeps zero w v it = stays w v it
@@ -202,16 +203,16 @@ module _ {D : Type 0} (d : Ghosts D) where
   room_keeps w v r (AtEnough u goes it again) = then_keeps w u v (behind_keeps w u r it) (rotation_keeps u v (Refused NothingToDo) again)
 
   body_keeps : (w v : WorldData D) (r : Reply) → IsReplyTo d w AppendBody r v → stops_flush AppendBody r ≡ false → KeepsGroups w v
-  body_keeps w v Written it h = record { place = ap (λ (x : WorldData D). x.place) it.1; pending = ap (λ (x : WorldData D). x.store.pending) it.1 }
+  body_keeps w v Written it h = record { ring = ap (λ (x : WorldData D). x.ring) it.1; pending = ap (λ (x : WorldData D). x.store.pending) it.1 }
   body_keeps w v (Refused Busy) it h = left_keeps w v Busy it.1
   body_keeps w v (Refused _) it h = cc
   body_keeps w v _ it h = absurd it
 
   taken_count : (w v : WorldData D) (r : Reply) → IsReplyTo d w TakeGroup r v → stops_flush TakeGroup r ≡ false → count v ≡ count w
   taken_count w v Taken it h =
-      let none = none_pending w.store.down w.store.pending w.place it.0 in
-      let before : count w ≡ 1 = same_length w.store.pending w.place None (Some it.1.group) none it.1.there in
-      let after : count v ≡ 1 = ap (λ (x : WorldData D). length (waiting x)) it.1.after in
+      let none = none_pending w.store.down w.store.pending (oldest w.ring) it.0 in
+      let before : count w ≡ length (it.1.group ∷ v.ring) = same_length w.store.pending None w.ring (it.1.group ∷ v.ring) none it.1.there in
+      let after : count v ≡ length (it.1.group ∷ v.ring) = ap (λ (x : WorldData D). length (waiting x)) it.1.after in
       after ∙ sym before
   taken_count w v (Refused Busy) it h = ap (λ (x : WorldData D). length (waiting x)) it.1
   taken_count w v (Refused _) it h = cc
@@ -220,9 +221,9 @@ module _ {D : Type 0} (d : Ghosts D) where
   opened_count : (w v : WorldData D) (m : Stamp) → IsReplyTo d w AppendOpen (Durable m) v → count v < count w
   opened_count w v m it =
       let pending : v.store.pending ≡ None = ap (λ (x : WorldData D). x.store.pending) it.1.after in
-      let place : v.place ≡ w.place = ap (λ (x : WorldData D). x.place) it.1.after in
-      let after : count v ≡ length (option_to_list w.place) = same_length v.store.pending v.place None w.place pending place in
-      let before : count w ≡ length (it.1.group ∷ option_to_list w.place) = same_length w.store.pending w.place (Some it.1.group) w.place it.1.there refl in
+      let ring : v.ring ≡ w.ring = ap (λ (x : WorldData D). x.ring) it.1.after in
+      let after : count v ≡ length w.ring = same_length v.store.pending None v.ring w.ring pending ring in
+      let before : count w ≡ length (it.1.group ∷ w.ring) = same_length w.store.pending (Some it.1.group) w.ring w.ring it.1.there refl in
       omega arith
 
   append_count : (w v : WorldData D) (m : Stamp) → AreToStop (IsReplyTo d) stops_flush append w (Durable m) v → count v < count w

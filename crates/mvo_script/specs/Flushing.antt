@@ -13,7 +13,7 @@ use Rattle.mvo_script.specs.Room.{IsRoomMade}
 
 -- after a flush no group is closed or taken, and the mark is the store's; else it is refused
 abbrev pub IsFlushed : {D : Type 0} → WorldData D → Reply → Type 0
-IsFlushed w (Durable mark) = (w.store.mark ≡ mark.0) × (w.place ≡ None) × (w.store.pending ≡ None)
+IsFlushed w (Durable mark) = (w.store.mark ≡ mark.0) × (w.ring ≡ []) × (w.store.pending ≡ None)
 IsFlushed w (Refused r) = Unit {0}
 IsFlushed w _ = ⊥
 
@@ -23,8 +23,8 @@ IsAppended (Durable mark) = Unit {0}
 IsAppended (Refused r) = Unit {0}
 IsAppended _ = ⊥
 
--- Each refusal stops a flush, but these: there is nothing to close, or a closed group waits
--- already; a group is pending already; its body is written already. A segment that is full, and a
+-- Each refusal stops a flush, but these: there is nothing to close, or the ring of closed groups
+-- is full; a group is pending already; its body is written already. A segment that is full, and a
 -- job that runs, are no end of it either: `IsAppend` and `IsRoomMade` say what comes then.
 abbrev pub stops_flush : Event → Reply → Bool
 stops_flush CloseGroup (Refused NothingToDo) = false
@@ -70,7 +70,7 @@ module _ {D : Type 0} (IsStep : WorldData D → Event → Reply → WorldData D 
   AreTurns (suc n) w w' =
       (v : WorldData D) × (mark : Stamp) × AreTurns n w v × IsTurn v (Durable mark) w'
 
-  -- the next group is closed, where there is one and a place for it, and turns are made
+  -- the next group is closed, where there is one and room for it, and turns are made
   pub record HasTurned (w w' : WorldData D) : Type 0 where
     pub reply : Reply
     pub then_on : WorldData D

@@ -1,5 +1,5 @@
 -- What a script begins with.
-use Rattle.std.specs.Prelude.{◌≡◌, None}
+use Rattle.std.specs.Prelude.{◌≡◌, [], None}
 use Rattle.std.specs.FinMap as map
 use Rattle.mvo_core.specs.Standing.{OpensAs}
 use Rattle.mvo_world.specs.WorldData.{WorldData}
@@ -11,7 +11,7 @@ use Rattle.mvo_script.specs.declared.driver.Driver.{Driver}
 pub record IsFreshWorld {D : Type 0} (w : WorldData D) : Type 0 where
   pub core : OpensAs map.empty 0 w.core
   pub mark : w.store.mark ≡ 0
-  pub place : w.place ≡ None
+  pub ring : w.ring ≡ []
   pub pending : w.store.pending ≡ None
 
 -- over such a world no name is bound

@@ -9,7 +9,7 @@ use mvo_disk::Disk;
 use mvo_types::Refusal;
 use mvo_world::{Event, Reply, World};
 
-/// Closes the next group, where there is one to close and a place for it, and makes each closed
+/// Closes the next group, where there is one to close and room for it, and makes each closed
 /// group durable, with a rotation where the segment is full. It answers Durable with the store's
 /// mark, also where there was nothing to do, or the refusal at which it stopped.
 pub fn flush<D: Disk>(world: &mut World<D>) -> Reply

@@ -1,6 +1,7 @@
 pub mod Rows
 pub mod Chain
 pub mod Closed
+mod Ends
 pub mod Standing
 pub mod Moves
 pub mod Runs

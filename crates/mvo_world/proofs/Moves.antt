@@ -15,7 +15,6 @@ use Rattle.mvo_disk.specs.Moments.{weaker}
 use Rattle.mvo_group.specs.Data.{GroupData}
 use Rattle.mvo_theory.specs.State.{State, Marks, opened}
 use Rattle.mvo_theory.specs.Marks.{IsClosedAt}
-use Rattle.mvo_theory.specs.Causes.{when, first_cause}
 use Rattle.mvo_theory.specs.Changes.{after_close}
 use Rattle.mvo_theory.specs.Calls as theory
 use Rattle.mvo_theory.specs.Calls.{Call, after_call, steps_of}
@@ -23,7 +22,6 @@ use Rattle.mvo_theory.proofs.Each.{each_weaker, each_append}
 use Rattle.mvo_theory.proofs.Stays.{stays_after_call}
 use Rattle.mvo_core.specs.declared.answers.Closed as closing
 use Rattle.mvo_core.specs.Standing.{StandsFor}
-use Rattle.mvo_core.specs.Closing.{why_not_closed}
 use Rattle.mvo_core.proofs.Begun.{still_closed}
 use Rattle.mvo_frame.specs.Frames.{mark_after}
 use Rattle.mvo_image.specs.Rows.{after_groups}
@@ -32,7 +30,7 @@ use Rattle.mvo_store.specs.declared.job.Job.{Job}
 use Rattle.mvo_store.specs.StoreData.{StoreData, opening}
 use Rattle.mvo_store.specs.Standing.{MayBeLeft, KeepsRows, LeavesRows, after_taken, IsKeeping, Keeps}
 use Rattle.mvo_store.specs.Causes.{why_not_take}
-use Rattle.mvo_store.specs.Steps.{RefusedFor, LeftBy, LeftByRead, IsMarkOf, IsInstalledBy}
+use Rattle.mvo_store.specs.Steps.{GivenBackFor, RefusedFor, LeftBy, LeftByRead, IsMarkOf, IsInstalledBy}
 use Rattle.mvo_store.proofs.Keeping.{OnlyNow, refused_keeps, same_keeps}
 use Rattle.mvo_world.specs.WorldData.{WorldData, waiting, Follow, IsLinked, HasBegun}
 use Rattle.mvo_world.specs.Past.{Past, happened, acknowledged_by, closed_by, with_event, opened_over}
@@ -85,26 +83,14 @@ follow_push : (m last : ℕ) (gs : List GroupData) (g : GroupData) → Follow m 
 follow_push m last [] g h e = (e ∙ sym h, refl)
 follow_push m last (x ∷ gs) g h e = (h.0, follow_push x.mark last gs g h.1 e)
 
-with_place : {D : Type 0} (w : WorldData D) (g : GroupData) → w.place ≡ None → option_to_list w.store.pending ++ g ∷ [] ≡ waiting w ++ g ∷ []
-with_place w g e = ap (λ gs. gs ++ g ∷ []) (sym (append-nil (option_to_list w.store.pending)) ∙ ap (λ (p : Option GroupData). option_to_list w.store.pending ++ option_to_list p) (sym e))
-
-pub linked_closed : {D : Type 0} (w : WorldData D) (g : GroupData) → w.place ≡ None → g.prev ≡ w.core.closed → IsLinked w → Follow w.store.mark (option_to_list w.store.pending ++ g ∷ []) g.mark
-linked_closed w g none e h = subst (λ gs. Follow w.store.mark gs g.mark) (sym (with_place w g none)) (follow_push w.store.mark w.core.closed (waiting w) g h e)
+pub linked_closed : {D : Type 0} (w : WorldData D) (g : GroupData) → g.prev ≡ w.core.closed → IsLinked w → Follow w.store.mark (option_to_list w.store.pending ++ (w.ring ++ g ∷ [])) g.mark
+linked_closed w g e h = subst (λ gs. Follow w.store.mark gs g.mark) (append_assoc (option_to_list w.store.pending) w.ring (g ∷ [])) (follow_push w.store.mark w.core.closed (waiting w) g h e)
 
 groups_closed : (s : State) (n m : ℕ) (gs : List GroupData) → AreGroupsOf s m gs → AreGroupsOf (after_close s n) m gs
 groups_closed s n m [] h = tt
 groups_closed s n m (g ∷ gs) h = (h.0, record { closed = record { drawn = h.1.closed.drawn; above = h.1.closed.above }; records = h.1.records; rules = h.1.rules }, groups_closed s n g.mark gs h.2)
 
 -- ---- what a call answered
-pub none_closed : (s : State) (o : Option GroupData) → why_not_closed s o ≡ None → o ≡ None
-none_closed s None e = refl
-none_closed s (Some g) e = absurd (go _ _ e)
-  where
-    go : (a b : Bool) → first_cause (when a Busy ∷ first_cause (when b NothingToDo ∷ when true RingFull ∷ []) ∷ []) ≡ None → ⊥
-    go true b f = cc
-    go false true f = cc
-    go false false f = cc
-
 pub group_there : (o : Option GroupData) (P : GroupData → Type 0) → is_some o ≡ true → IfSome o P → (g : GroupData) × (o ≡ Some g) × P g
 group_there None P e h = absurd (false≢true e)
 group_there (Some g) P e h = (g, refl, h)
@@ -133,6 +119,10 @@ nothing_taken {D} s e = go s.down s.pending e
     go true o f = absurd cc
     go false None f = refl
     go false (Some g) f = absurd cc
+
+-- what is taken where no cause stands isn't given back
+pub not_given_back : {T : Type 0} (o : Option Refusal) (g : GroupData) (e : Refusal × GroupData) (r : Result T (Refusal × GroupData)) → o ≡ None → r ≡ Err e → GivenBackFor o g r → ⊥
+not_given_back {T} o g e r none is h = subst (λ (q : Result T (Refusal × GroupData)). GivenBackFor None g q) is (subst (λ (p : Option Refusal). GivenBackFor p g r) none h)
 
 -- a store whose manifest was installed keeps its mark and the group that it took
 pub installed_taken : {D : Type 0} (o : Option Job) (old new : StoreData D) → IsInstalledBy o old new → KeepsTaken old new
@@ -246,12 +236,12 @@ module _ {D : Type 0} (d : Ghosts D) where
   -- so it is where the store keeps its mark and the group that it took, and the rest stays
   pub store_moved : (w : WorldData D) (store : StoreData D) (e : Event) (r : Reply) → IsSilent e r → IsReplyTo d w e r (record w { store = store }) → KeepsTaken w.store store → Keeps d w.store store → IsStep d w e r (record w { store = store })
   store_moved w store e r silent reply taken keeps =
-      moved (IsReplyTo d) w (record w { store = store }) e r silent reply refl (ap (λ (q : Option GroupData). option_to_list q ++ option_to_list w.place) taken.pending) taken.mark keeps
+      moved (IsReplyTo d) w (record w { store = store }) e r silent reply refl (ap (λ (q : Option GroupData). option_to_list q ++ w.ring) taken.pending) taken.mark keeps
 
   -- ---- a group becomes durable
-  pub durable : (w w' : WorldData D) (mark : Stamp) (g : GroupData) → IsReplyTo d w AppendOpen (Durable mark) w' → w'.core ≡ w.core → w'.place ≡ w.place → w.store.pending ≡ Some g → w'.store.pending ≡ None → w'.store.mark ≡ g.mark → mark.0 ≡ g.mark
+  pub durable : (w w' : WorldData D) (mark : Stamp) (g : GroupData) → IsReplyTo d w AppendOpen (Durable mark) w' → w'.core ≡ w.core → w'.ring ≡ w.ring → w.store.pending ≡ Some g → w'.store.pending ≡ None → w'.store.mark ≡ g.mark → mark.0 ≡ g.mark
       → IsKeeping d (λ rows. after_taken rows w.store.pending) w.store w'.store → IsStep d w AppendOpen (Durable mark) w'
-  durable w w' mark g reply core place pending none at is keeps = record {
+  durable w w' mark g reply core ring pending none at is keeps = record {
     reply = reply;
     after = after;
     any_moment = λ p h. meanwhile p w w' h (keeps.any_moment (after_groups p.rows h.sent) h.store);
@@ -260,9 +250,9 @@ module _ {D : Type 0} (d : Ghosts D) where
       after : (p : Past) → IsAfter d p w → IsAfter d (with_event p AppendOpen (Durable mark)) w'
       after p h =
           let first = p.mark in
-          let before : waiting w ≡ g ∷ option_to_list w.place = ap (λ (q : Option GroupData). option_to_list q ++ option_to_list w.place) pending in
-          let later : waiting w' ≡ option_to_list w.place = ap (λ (q : Option GroupData). option_to_list q ++ option_to_list w'.place) none ∙ ap option_to_list place in
-          let list : h.sent ++ waiting w ≡ (h.sent ++ g ∷ []) ++ waiting w' = ap (λ gs. h.sent ++ gs) before ∙ sym (append_assoc h.sent (g ∷ []) (option_to_list w.place)) ∙ ap (λ gs. (h.sent ++ g ∷ []) ++ gs) (sym later) in
+          let before : waiting w ≡ g ∷ w.ring = ap (λ (q : Option GroupData). option_to_list q ++ w.ring) pending in
+          let later : waiting w' ≡ w.ring = ap (λ (q : Option GroupData). option_to_list q ++ w'.ring) none ∙ ring in
+          let list : h.sent ++ waiting w ≡ (h.sent ++ g ∷ []) ++ waiting w' = ap (λ gs. h.sent ++ gs) before ∙ sym (append_assoc h.sent (g ∷ []) w.ring) ∙ ap (λ gs. (h.sent ++ g ∷ []) ++ gs) (sym later) in
           let groups = subst (AreGroupsOf h.state first) list h.groups in
           let up : mark_after first h.sent ≤ g.mark = marks_rise h.state (mark_after first h.sent) (g ∷ []) (groups_back h.state first h.sent (g ∷ []) (groups_front h.state first (h.sent ++ g ∷ []) (waiting w') groups)) in
           subst (λ (q : Past). IsAfter d q w') (past_is p AppendOpen (Durable mark) p.steps (p.acknowledged ++ mark.0 ∷ []) p.closed (append-nil p.steps) refl (append-nil p.closed)) (record {
@@ -328,12 +318,11 @@ module _ {D : Type 0} (d : Ghosts D) where
             let store = reply.store in
             let came = reply.closing p.rows p.steps s h.core in
             let g = came.1.0 in
-            let place = came.1.1 in
+            let ring = came.1.1 in
             let now = came.1.2 in
-            let none = none_closed s w.place came.0 in
             let is = group_of_next p.rows p.steps s g now.commits h.core.versions.kept h.closed now.next now.records now.rules in
             let up : IsClosedAt c.mark.0 s = subst (λ (m : ℕ). IsClosedAt m s) now.mark is.closed in
-            let wait : waiting w' ≡ waiting w ++ g ∷ [] = ap (λ (t : StoreData D). option_to_list t.pending ++ option_to_list w'.place) store ∙ ap (λ (o : Option GroupData). option_to_list w.store.pending ++ option_to_list o) place ∙ with_place w g none in
+            let wait : waiting w' ≡ waiting w ++ g ∷ [] = ap (λ (t : StoreData D). option_to_list t.pending ++ w'.ring) store ∙ ap (λ (gs : List GroupData). option_to_list w.store.pending ++ gs) ring ∙ sym (append_assoc (option_to_list w.store.pending) w.ring (g ∷ [])) in
             let list : (h.sent ++ waiting w) ++ g ∷ [] ≡ h.sent ++ waiting w' = append_assoc h.sent (waiting w) (g ∷ []) ∙ ap (λ gs. h.sent ++ gs) (sym wait) in
             let prev_is : g.prev ≡ mark_after first (h.sent ++ waiting w) =
             now.next.prev ∙ ap (λ (m : Marks). m.closed) h.core.marks
@@ -366,11 +355,11 @@ module _ {D : Type 0} (d : Ghosts D) where
         after p h =
             let store = reply.store in
             let came = reply.closing p.rows p.steps h.state h.core in
-            let wait : waiting w' ≡ waiting w = ap (λ (t : StoreData D). option_to_list t.pending ++ option_to_list w'.place) store ∙ ap (λ (o : Option GroupData). option_to_list w.store.pending ++ option_to_list o) came.1 in
+            let wait : waiting w' ≡ waiting w = ap (λ (t : StoreData D). option_to_list t.pending ++ w'.ring) store ∙ ap (λ (gs : List GroupData). option_to_list w.store.pending ++ gs) came.1 in
             subst (λ (q : Past). IsAfter d q w') (silent_past p CloseGroup (Refused r) (silent_refused CloseGroup r refl)) (record {
               sent = h.sent;
               state = h.state;
-              core = came.2;
+              core = came.0.stands;
               closed = h.closed;
               before = h.before;
               none = h.none;
@@ -405,7 +394,7 @@ module _ {D : Type 0} (d : Ghosts D) where
   -- ---- a world that was just opened
   pub begun : (rows : Map) (w : WorldData D) → HasBegun rows w → KeepsRows d w.store rows → IsAfter d (opened_over rows w.store.mark) w
   begun rows w is keeps =
-      let wait : waiting w ≡ [] = ap (λ (q : Option GroupData). option_to_list q ++ option_to_list w.place) is.pending ∙ ap option_to_list is.place in
+      let wait : waiting w ≡ [] = ap (λ (q : Option GroupData). option_to_list q ++ w.ring) is.pending ∙ is.ring in
       record {
         sent = [];
         state = opened rows w.store.mark;

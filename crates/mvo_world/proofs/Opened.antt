@@ -1,5 +1,5 @@
 -- What opening a disk answers, and a past whose prefix the disk recovers.
-use Rattle.std.proofs.Common.{◌≡◌, ◌⊎◌, inl, inr, ℕ, None, Ok, Err, refl, sym, ap, subst}
+use Rattle.std.proofs.Common.{◌≡◌, ◌⊎◌, inl, inr, ℕ, [], Ok, Err, refl, sym, ap, subst}
 use Rattle.mvo_types.specs.declared.refusal.Refusal.{Refusal}
 use Rattle.mvo_types.specs.declared.refusal.Refusal.TheVariants.{OutOfMemory, DiskFault}
 use Rattle.mvo_types.specs.Keys.{Map}
@@ -49,14 +49,14 @@ module _ {D : Type 0} (d : Ghosts D) where
   memory_refused old s mark begun = inr (record { few = begun.few; why = inl (inl refl); count = begun.count })
 
   -- the rows that the store answered are those that the world is opened over
-  module _ (old : D) (w : WorldData D) (rows : Map) (mark : ℕ) (answer : IsAnswer (d.content old) (Ok (rows, mark))) (begins : StoreHasBegun d old w.store mark) (core : OpensAs rows mark w.core) (none : w.place ≡ None) where
+  module _ (old : D) (w : WorldData D) (rows : Map) (mark : ℕ) (answer : IsAnswer (d.content old) (Ok (rows, mark))) (begins : StoreHasBegun d old w.store mark) (core : OpensAs rows mark w.core) (none : w.ring ≡ []) where
     pub answer_here : IsAnswer (d.content old) (Ok (rows, w.store.mark))
     answer_here = subst (λ (m : ℕ). IsAnswer (d.content old) (Ok (rows, m))) (sym begins.mark_is) answer
 
     begins_here : HasBegun rows w
     begins_here = record {
       core = subst (λ (m : ℕ). OpensAs rows m w.core) (sym begins.mark_is) core;
-      place = none;
+      ring = none;
       down = begins.down;
       pending = begins.pending;
       written = begins.written;

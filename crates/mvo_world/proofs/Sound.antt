@@ -12,12 +12,12 @@ use Rattle.mvo_core.specs.declared.answers.Closed as closing
 use Rattle.mvo_core.specs.Data.{CoreData}
 use Rattle.mvo_core.specs.Standing.{OpensAs}
 use Rattle.mvo_core.specs.Steps.{came, IsStep}
-use Rattle.mvo_core.specs.Closing.{IsClosing}
 use Rattle.mvo_core.proofs.Begun.{stands_on}
+use Rattle.mvo_world.specs.Ring.{IsClosingInto}
 use Rattle.mvo_world.specs.WorldData.{WorldData, waiting, Follow, IsSound}
 use Rattle.mvo_world.proofs.Asked.{same_closed}
 use Rattle.mvo_world.proofs.Closed.{group_of_next}
-use Rattle.mvo_world.proofs.Moves.{none_closed, linked_closed}
+use Rattle.mvo_world.proofs.Moves.{linked_closed}
 
 -- the mark of the last closed group, by the state that both stand for
 same_mark : {old new : ℕ} (opening opening' : ℕ) (m : Marks) → m ≡ record { opening = opening; closed = old } → m ≡ record { opening = opening'; closed = new } → new ≡ old
@@ -34,14 +34,13 @@ module _ {D : Type 0} (w : WorldData D) (i : IsSound w) where
       }
 
   -- over one that is to close a group
-  pub sound_closed : (result : Result closing.Closed Refusal) (core : CoreData) (place : Option GroupData) → IsClosing w.core w.place result core place → IsSound (record w { core = core; place = place })
-  sound_closed (Ok c) core place step =
+  pub sound_closed : (result : Result closing.Closed Refusal) (core : CoreData) (ring : List GroupData) → IsClosingInto w.core w.ring result core ring → IsSound (record w { core = core; ring = ring })
+  sound_closed (Ok c) core ring step =
       let s = i.core.state in
       let told = step i.core.opening i.core.steps s i.core.stands in
       let g = told.1.0 in
       let there = told.1.1 in
       let now = told.1.2 in
-      let none = none_closed s w.place told.0 in
       let is = group_of_next i.core.opening i.core.steps s g now.commits i.core.stands.versions.kept i.core.closed now.next now.records now.rules in
       let up : IsClosedAt c.mark.0 s = subst (λ (m : ℕ). IsClosedAt m s) now.mark is.closed in
       let at : g.mark ≡ core.closed = now.mark ∙ ap (λ (m : Marks). m.closed) now.stands.marks in
@@ -54,21 +53,21 @@ module _ {D : Type 0} (w : WorldData D) (i : IsSound w) where
           stands = now.stands;
           closed = record { drawn = up.drawn; above = up.above };
         };
-        linked = subst (λ (o : Option GroupData). Follow w.store.mark (option_to_list w.store.pending ++ option_to_list o) core.closed) (sym there)
-            (subst (λ (n : ℕ). Follow w.store.mark (option_to_list w.store.pending ++ g ∷ []) n) at (linked_closed w g none prev i.linked));
+        linked = subst (λ (gs : List GroupData). Follow w.store.mark (option_to_list w.store.pending ++ gs) core.closed) (sym there)
+            (subst (λ (n : ℕ). Follow w.store.mark (option_to_list w.store.pending ++ (w.ring ++ g ∷ [])) n) at (linked_closed w g prev i.linked));
       }
-  sound_closed (Err r) core place step =
+  sound_closed (Err r) core ring step =
       let s = i.core.state in
       let told = step i.core.opening i.core.steps s i.core.stands in
       record {
-        core = record { opening = i.core.opening; steps = i.core.steps; state = s; stands = told.2; closed = i.core.closed };
-        linked = subst (λ (o : Option GroupData). Follow w.store.mark (option_to_list w.store.pending ++ option_to_list o) core.closed) (sym told.1)
-            (subst (λ (n : ℕ). Follow w.store.mark (waiting w) n) (sym (same_mark w.core.opening core.opening s.marks i.core.stands.marks told.2.marks)) i.linked);
+        core = record { opening = i.core.opening; steps = i.core.steps; state = s; stands = told.0.stands; closed = i.core.closed };
+        linked = subst (λ (gs : List GroupData). Follow w.store.mark (option_to_list w.store.pending ++ gs) core.closed) (sym told.1)
+            (subst (λ (n : ℕ). Follow w.store.mark (waiting w) n) (sym (same_mark w.core.opening core.opening s.marks i.core.stands.marks told.0.stands.marks)) i.linked);
       }
 
 -- just opened
-pub sound_opened : {D : Type 0} (rows : Map) (mark : ℕ) (w : WorldData D) → OpensAs rows mark w.core → w.store.mark ≡ mark → w.store.pending ≡ None → w.place ≡ None → IsSound w
-sound_opened rows mark w core at pending place = record {
+pub sound_opened : {D : Type 0} (rows : Map) (mark : ℕ) (w : WorldData D) → OpensAs rows mark w.core → w.store.mark ≡ mark → w.store.pending ≡ None → w.ring ≡ [] → IsSound w
+sound_opened rows mark w core at pending ring = record {
   core = record { opening = rows; steps = []; state = opened rows mark; stands = core; closed = record { drawn = omega arith; above = tt } };
-  linked = subst (λ (gs : List GroupData). Follow w.store.mark gs w.core.closed) (sym (ap (λ (o : Option GroupData). option_to_list o ++ option_to_list w.place) pending ∙ ap option_to_list place)) (at ∙ ap (λ (m : Marks). m.closed) core.marks);
+  linked = subst (λ (gs : List GroupData). Follow w.store.mark gs w.core.closed) (sym (ap (λ (o : Option GroupData). option_to_list o ++ w.ring) pending ∙ ring)) (at ∙ ap (λ (m : Marks). m.closed) core.marks);
 }

@@ -75,12 +75,12 @@ module _ {D : Type 0} (d : Ghosts D) (p : Past) (w : WorldData D) (h : IsAfter d
 
   with_opening : (image : Image) → HasSlots image → (g : GroupData) → w.store.pending ≡ Some g → Gives (after_groups (after_groups p.rows h.sent) (g ∷ [])) g.mark image → RecoversPrefix p image
   with_opening image slots g e gives =
-      let wait : waiting w ≡ g ∷ option_to_list w.place = ap (λ (q : Option GroupData). option_to_list q ++ option_to_list w.place) e in
-      let list : h.sent ++ waiting w ≡ (h.sent ++ g ∷ []) ++ option_to_list w.place = ap (λ (gs : List GroupData). h.sent ++ gs) wait ∙ sym (append_assoc h.sent (g ∷ []) (option_to_list w.place)) in
+      let wait : waiting w ≡ g ∷ w.ring = ap (λ (q : Option GroupData). option_to_list q ++ w.ring) e in
+      let list : h.sent ++ waiting w ≡ (h.sent ++ g ∷ []) ++ w.ring = ap (λ (gs : List GroupData). h.sent ++ gs) wait ∙ sym (append_assoc h.sent (g ∷ []) (w.ring)) in
       let groups = subst (AreGroupsOf h.state p.mark) list h.groups in
       let last : mark_after p.mark (h.sent ++ g ∷ []) ≡ g.mark = mark_after-append p.mark h.sent (g ∷ []) in
-      let up : mark_after p.mark h.sent ≤ g.mark = marks_rise h.state (mark_after p.mark h.sent) (g ∷ []) (groups_back h.state p.mark h.sent (g ∷ []) (groups_front h.state p.mark (h.sent ++ g ∷ []) (option_to_list w.place) groups)) in
-      prefix_of image slots (h.sent ++ g ∷ []) (option_to_list w.place) groups (ap (map (λ x. x.mark)) (sym list) ∙ h.marks)
+      let up : mark_after p.mark h.sent ≤ g.mark = marks_rise h.state (mark_after p.mark h.sent) (g ∷ []) (groups_back h.state p.mark h.sent (g ∷ []) (groups_front h.state p.mark (h.sent ++ g ∷ []) (w.ring) groups)) in
+      prefix_of image slots (h.sent ++ g ∷ []) (w.ring) groups (ap (map (λ x. x.mark)) (sym list) ∙ h.marks)
       (each_weaker (λ n. n ≤ w.store.mark) (λ n. n ≤ mark_after p.mark (h.sent ++ g ∷ [])) (λ n le. omega (arith, le, h.mark, up, last)) p.acknowledged h.covers)
       (subst (λ (m : ℕ). Gives (after_groups p.rows (h.sent ++ g ∷ [])) m image) (sym last)
       (subst (λ (rows : Map). Gives rows g.mark image) (sym (after_groups-append p.rows h.sent (g ∷ []))) gives))

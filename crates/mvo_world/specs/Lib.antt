@@ -1,3 +1,5 @@
+pub mod Ends
+pub mod Ring
 pub mod WorldData
 pub mod Past
 pub mod Groups

@@ -1,5 +1,5 @@
 -- What each event of a world is answered, and what it leaves.
-use Rattle.std.specs.Prelude.{◌≡◌, ◌⊎◌, ◌+◌, ℕ, nat_le, true, false, List, Option, None, Some, Result, Ok, Err, ⊤}
+use Rattle.std.specs.Prelude.{◌≡◌, ◌⊎◌, ◌+◌, ℕ, nat_le, true, false, List, ◌∷◌, Option, None, Some, Result, Ok, Err, ⊤}
 use Rattle.mvo_types.specs.declared.refusal.Refusal.{Refusal}
 use Rattle.mvo_types.specs.declared.refusal.Refusal.TheVariants.{NothingToDo, DiskFault, OutOfMemory}
 use Rattle.mvo_disk.specs.declared.disk.Disk.{Ghosts}
@@ -16,7 +16,6 @@ use Rattle.mvo_theory.specs.Calls.Result.{Accepted, Refused as RefusedCall}
 use Rattle.mvo_core.specs.declared.answers.Closed as closing
 use Rattle.mvo_core.specs.Standing.{StandsFor}
 use Rattle.mvo_core.specs.Steps.{LeadsOn, InEach, IsAnswered, IsValidation, IsSettlement, IsFinishing}
-use Rattle.mvo_core.specs.Closing.{IsClosing}
 use Rattle.mvo_store.specs.declared.due.Due.{Due}
 use Rattle.mvo_store.specs.declared.due.Due.TheVariants.{Data, Delta, MergeData as DataOfMerge}
 use Rattle.mvo_store.specs.declared.due.Due.TheVariants.{MergeDelta as DeltaOfMerge, Close, Body, Open}
@@ -29,6 +28,7 @@ use Rattle.mvo_store.specs.Causes.{why_not_install_open, why_not_reclaim}
 use Rattle.mvo_store.specs.Steps.{LeftBy, LeftByRead, IsRotationOf, IsCheckpointOf, IsMergeOf, with_due}
 use Rattle.mvo_store.specs.Steps.{progress_of, with_delta, IsInstalledBy}
 use Rattle.mvo_store.specs.Reclaiming.{HasReclaimed}
+use Rattle.mvo_world.specs.Ring.{oldest, IsClosingInto}
 use Rattle.mvo_world.specs.WorldData.{WorldData}
 use Rattle.mvo_world.specs.declared.event.Event.{Event}
 use Rattle.mvo_world.specs.declared.event.Event.TheVariants.{Begin, Read, Scan, Insert, Update, Delete, Precommit, Validate, Settle, Rollback, Finish, CloseGroup, TakeGroup, AppendBody, AppendOpen, Poll, RotateWrite, CheckpointRead, CheckpointData, CheckpointDelta, MergeRead, MergeData, MergeDelta, InstallClose, InstallBody, InstallOpen, Reclaim}
@@ -38,13 +38,13 @@ use Rattle.mvo_world.specs.declared.reply.Reply.TheVariants.{Began, Answered, Pr
 -- ---- the first refusal whose cause stands
 
 abbrev pub or_nothing : {T : Type 0} → Option Refusal → Option T → Option Refusal
-or_nothing (Some why) place = Some why
+or_nothing (Some why) group = Some why
 or_nothing None None = Some NothingToDo
 or_nothing None (Some g) = None
 
 -- that of the store, and then that no group is closed
 abbrev pub why_not_taken : {D : Type 0} → WorldData D → Option Refusal
-why_not_taken w = or_nothing (why_not_take w.store) w.place
+why_not_taken w = or_nothing (why_not_take w.store) (oldest w.ring)
 
 -- writing a body takes memory and may meet a fault
 abbrev pub IsBodyRefusal : Option Refusal → Refusal → Type 0
@@ -59,7 +59,7 @@ IsGateRefusal None r = r ≡ DiskFault
 -- ---- what an accepted event makes of a world
 
 -- The core was asked: from each state that it stands for the call may come to this, and it stands
--- for what that leaves. The place and the store stay.
+-- for what that leaves. The ring and the store stay.
 pub record IsAsked {D : Type 0} (w : WorldData D) (c : theory.Call) (r : theory.Result)
     (w' : WorldData D) : Type 0 where
   pub leads : (opening : Map) (steps : List Step) (s : State) → StandsFor opening steps s w.core
@@ -74,18 +74,21 @@ IsDone w t op a w' = IsAsked w (Do t op) Accepted w' × IsAnswered w.core t op a
 abbrev pub IsDrawn : {D : Type 0} → WorldData D → ℕ → Type 0
 IsDrawn w n = InEach w.core (λ s. n ≡ s.clock + 1)
 
--- Closing a group came to this: the next group stands in the place, or what is refused leaves all.
+-- Closing a group came to this: the next group is in the ring, or what is refused leaves all.
 -- The store stays.
 pub record HasComeTo {D : Type 0} (w : WorldData D) (result : Result closing.Closed Refusal)
     (w' : WorldData D) : Type 0 where
-  pub closing : IsClosing w.core w.place result w'.core w'.place
+  pub closing : IsClosingInto w.core w.ring result w'.core w'.ring
   pub store : w'.store ≡ w.store
 
--- the store has the group that stood in the place
+-- the store has the oldest group of the ring
 pub record IsTaken {D : Type 0} (w w' : WorldData D) : Type 0 where
   pub group : GroupData
-  pub there : w.place ≡ Some group
-  pub after : w' ≡ record w { place = None; store = record w.store { pending = Some group } }
+  pub there : w.ring ≡ group ∷ w'.ring
+  pub after : w' ≡ record w {
+    ring = w'.ring;
+    store = record w.store { pending = Some group };
+  }
 
 -- no call of the device failed
 abbrev pub HasNoFault : {D : Type 0} → Ghosts D → WorldData D → WorldData D → Type 0

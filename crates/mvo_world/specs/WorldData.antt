@@ -1,5 +1,5 @@
 -- What a world holds.
-use Rattle.std.specs.Prelude.{◌≡◌, ℕ, List, [], ◌∷◌, ◌++◌, Option, None, false}
+use Rattle.std.specs.Prelude.{◌≡◌, ℕ, List, [], ◌∷◌, ◌++◌, None, false}
 use Rattle.std.specs.Option.{option_to_list}
 use Rattle.mvo_types.specs.Keys.{Map}
 use Rattle.mvo_group.specs.Data.{GroupData}
@@ -7,15 +7,15 @@ use Rattle.mvo_core.specs.Data.{CoreData}
 use Rattle.mvo_core.specs.Standing.{Stands, OpensAs}
 use Rattle.mvo_store.specs.StoreData.{StoreData}
 
--- what its core has, the group that was closed and not taken yet, and its store
+-- what its core has, the groups that are closed and not taken, the oldest first, and its store
 pub record WorldData (D : Type 0) : Type 0 where
   pub core : CoreData
-  pub place : Option GroupData
+  pub ring : List GroupData
   pub store : StoreData D
 
--- the groups that are closed and not durable yet: the one that the store took, and the next one
+-- the groups that are closed and not durable yet: the one that the store took, and those behind it
 abbrev pub waiting : {D : Type 0} → WorldData D → List GroupData
-waiting w = option_to_list w.store.pending ++ option_to_list w.place
+waiting w = option_to_list w.store.pending ++ w.ring
 
 -- the groups follow one another, from one mark up to another
 abbrev pub Follow : ℕ → List GroupData → ℕ → Type 0
@@ -34,7 +34,7 @@ pub record IsSound {D : Type 0} (w : WorldData D) : Type 0 where
 -- nothing happened since the opening over these rows
 pub record HasBegun {D : Type 0} (rows : Map) (w : WorldData D) : Type 0 where
   pub core : OpensAs rows w.store.mark w.core
-  pub place : w.place ≡ None
+  pub ring : w.ring ≡ []
   pub down : w.store.down ≡ false
   pub pending : w.store.pending ≡ None
   pub written : w.store.written ≡ false

@@ -26,9 +26,9 @@ pub enum Event {
     Rollback(TxId),
     /// A word of a transaction that is Committed or Aborted is replaced.
     Finish(TxId),
-    /// The next group of commits is closed into the place of closed groups.
+    /// The next group of commits is closed into the ring.
     CloseGroup,
-    /// The store takes the closed group.
+    /// The store takes the oldest closed group.
     TakeGroup,
     /// The store writes the body of the group that it took.
     AppendBody,

@@ -4,8 +4,10 @@
 mod event;
 mod push;
 mod reply;
+mod ring;
 mod world;
 
 pub use event::Event;
 pub use reply::Reply;
+pub use ring::{RING_GROUPS, Ring};
 pub use world::World;

@@ -4,16 +4,16 @@ mod transactions;
 use crate::event::Event;
 use crate::push::push_reserved;
 use crate::reply::Reply;
+use crate::ring::Ring;
 use mvo_core::Core;
 use mvo_disk::Disk;
-use mvo_group::Group;
 use mvo_store::Store;
 use mvo_types::{Refusal, Stamp};
 use std::alloc::Global;
 use std::marker::Model;
 use std::thread::Threads;
 
-/// The event core, the place of closed groups, and the store of groups, in one value.
+/// The event core, the ring of closed groups, and the store of groups, in one value.
 ///
 /// A world that `open` gave stands after its past (`IsAfter`): the committed transactions' replies
 /// are serial, and each image that a stop may leave recovers a prefix of the commits with all that
@@ -22,8 +22,7 @@ use std::thread::Threads;
 pub struct World<D: Disk> {
     alloc: Global,
     core: Core,
-    /// The group that was closed and that the store hasn't taken.
-    place: Option<Group>,
+    ring: Ring,
     store: Store<D>,
 }
 
@@ -47,11 +46,11 @@ impl<D: Disk> Model for World<D> {
       coded_places,
     ) };
 
-    ghost view = { λ w. record { core = w.core; place = w.place; store = w.store } };
+    ghost view = { λ w. record { core = w.core; ring = w.ring; store = w.store } };
 
     ghost invariant = { λ w. IsSound {D = D} (record {
       core = w.core;
-      place = w.place;
+      ring = w.ring;
       store = w.store;
     }) };
 }
@@ -102,13 +101,16 @@ impl<D: Disk> World<D> {
             Ok(opened) => opened,
             Err(refused) => return Err(refused),
         };
+        let Ok(ring) = Ring::new(alloc) else {
+            return Err((Refusal::OutOfMemory, store.into_disk()));
+        };
         let Ok(core) = Core::open(alloc, seed, rows, mark) else {
             return Err((Refusal::OutOfMemory, store.into_disk()));
         };
         Ok(World {
             alloc,
             core,
-            place: None,
+            ring,
             store,
         })
     }
@@ -130,6 +132,21 @@ impl<D: Disk> World<D> {
     {
         let World { store, .. } = self;
         store.into_disk()
+    }
+
+    /// The core, the ring of closed groups, and the store.
+    pub fn into_parts(self) -> (Core, Ring, Store<D>)
+        ensures core { result.0 ≡ self.core }
+        ensures ring { result.1 ≡ self.ring }
+        ensures store { result.2 ≡ self.store }
+    {
+        let World {
+            core,
+            ring,
+            store,
+            ..
+        } = self;
+        (core, ring, store)
     }
 
     /// One step. Its reply is the first refusal whose cause stands, and else the event's own

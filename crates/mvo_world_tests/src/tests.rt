@@ -18,16 +18,17 @@ use calls::{formatted, into_disk, mark, run, step, stop, try_open};
 use images::bytes_of;
 use mvo_disk::{Disk, FileImage, MemDisk};
 use mvo_types::{Answer, RowKey, Stamp, TxId};
-use mvo_world::{Event, Reply, World};
+use mvo_world::{Event, RING_GROUPS, Reply, World};
 use std::alloc::Global;
 use std::process::Abort;
 use std::test::Fail;
 use std::thread::Threads;
 use step::Step;
 use steps::{
-    CHECKPOINT, COMMIT_OF_NOTHING, FALL, MERGE, ONE_PUT, OPENING_OF_THE_GATE, OUT_OF_TURN,
-    PUT_AND_REPLACE, READ_TOO_EARLY, RECLAIMS, RECLAIMS_OF_A_ROTATION, RECLAIMS_OF_PAIRS, REPLACE,
-    ROTATION, ROTATION_BUT_ITS_GATE, ROTATION_OUT_OF_TURN, SECOND_PAIR, SETTLES,
+    A_FULL_RING, CHECKPOINT, COMMIT_OF_NOTHING, FALL, GROUPS_IN_TURN, MERGE, ONE_PUT,
+    OPENING_OF_THE_GATE, OUT_OF_TURN, PUT_AND_REPLACE, READ_TOO_EARLY, RECLAIMS,
+    RECLAIMS_OF_A_ROTATION, RECLAIMS_OF_PAIRS, REPLACE, ROTATION, ROTATION_BUT_ITS_GATE,
+    ROTATION_OUT_OF_TURN, SECOND_PAIR, SETTLES,
 };
 use vectors::{
     DATA, DELTA, DELTA_OF_FIRST, EMPTY, FRESH, MERGED, SEGMENT, SLOT, SLOT_OF_MERGED, SLOT_OF_PAIR,
@@ -310,8 +311,44 @@ fn a_transaction_is_settled_after_the_one_it_waits_for(rt: HostRuntime) -> Resul
 
 #[test]
 fn refuses_steps_out_of_turn(rt: HostRuntime) -> Result<(), Fail> {
-    let _ = following(&rt, rt.alloc(), &[&OUT_OF_TURN])?;
+    let _ = following(&rt, rt.alloc(), &[&OUT_OF_TURN, &GROUPS_IN_TURN])?;
     Ok(())
+}
+
+// Each begin raises the low-water by one.
+fn close_one(
+    rt: &impl Abort,
+    alloc: Global,
+    world: &mut World<MemDisk>,
+    prev: u64,
+) -> Result<(), Fail> {
+    let mark = prev.saturating_add(1);
+    let _ = step(world, Event::Begin);
+    let reply = step(world, Event::CloseGroup);
+    let closed = format!(in alloc;
+        "Closed(Closed {{ prev: Stamp({prev}), mark: Stamp({mark}) }})"
+    )?;
+    assert_reply(rt, alloc, &reply, closed.as_str())
+}
+
+fn close_all(
+    rt: &impl Abort,
+    alloc: Global,
+    world: &mut World<MemDisk>,
+    count: u64,
+) -> Result<(), Fail> {
+    for prev in 0..count {
+        close_one(rt, alloc, world, prev)?;
+    }
+    Ok(())
+}
+
+#[test]
+fn as_many_groups_wait_as_the_ring_has_room_for(rt: HostRuntime) -> Result<(), Fail> {
+    let alloc = rt.alloc();
+    let mut world = fresh(&rt, alloc)?;
+    close_all(&rt, alloc, &mut world, RING_GROUPS as u64)?;
+    follow(&rt, alloc, &mut world, &A_FULL_RING)
 }
 
 #[test]

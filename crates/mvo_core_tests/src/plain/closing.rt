@@ -1,6 +1,7 @@
 //! Commits, and the groups in which they are closed.
 
 use crate::plain::model::Plain;
+use crate::plain::transaction::State;
 use mvo_core::Closed;
 use mvo_group::{Record, Write};
 use mvo_types::{MAX_BODY_LEN, MAX_RECORDS, Refusal, RowKey, Stamp};
@@ -49,33 +50,49 @@ impl Plain {
     }
 
     pub fn close(&mut self, is_full: bool) -> Result<PlainGroup, Refusal> {
-        if self.preparing() > 0 {
-            return Err(Refusal::Busy);
-        }
-        if self.clock == self.closed {
+        let low_water = self.low_water();
+        if low_water == self.closed {
             return Err(Refusal::NothingToDo);
         }
         if is_full {
             return Err(Refusal::RingFull);
         }
-        Ok(self.next_group()?)
+        Ok(self.next_group(low_water)?)
     }
 
-    fn next_group(&mut self) -> Result<PlainGroup, AllocError> {
+    /// Below the least end of those that are Preparing, or the clock if none is.
+    fn low_water(&self) -> u64 {
+        let mut found = self.clock;
+        for tx in &self.table {
+            if let State::Preparing(end) = tx.state {
+                found = found.min(end.saturating_sub(1));
+            }
+        }
+        found
+    }
+
+    fn next_group(&mut self, low_water: u64) -> Result<PlainGroup, AllocError> {
         let prev = Stamp(self.closed);
-        let count = fitting(&self.commits).min(self.commits.len());
+        let count = fitting(&self.commits, low_water).min(self.commits.len());
         let rest = self.commits.split_off(count)?;
         let records = mem::replace(&mut self.commits, rest);
-        if self.commits.is_empty() {
-            self.closed = self.clock;
-        } else if let Some(last) = records.last() {
-            self.closed = last.end.0;
-        }
+        self.closed = match records.last() {
+            Some(last) if self.is_left(low_water) => last.end.0,
+            _ => low_water,
+        };
         let mark = Stamp(self.closed);
         Ok(PlainGroup {
             closed: Closed { prev, mark },
             records,
         })
+    }
+
+    /// Whether one is kept that ends at most there.
+    fn is_left(&self, low_water: u64) -> bool {
+        match self.commits.first() {
+            Some(record) => record.end.0 <= low_water,
+            None => false,
+        }
     }
 }
 
@@ -89,13 +106,13 @@ fn ends_below(records: &[Record], end: u64) -> usize {
     count
 }
 
-/// How many of the first ones a group holds.
-fn fitting(records: &[Record]) -> usize {
+/// How many of the first ones a group holds, of those that end at most at the low-water.
+fn fitting(records: &[Record], low_water: u64) -> usize {
     let mut len = 18;
     let mut count = 0;
     for record in records {
         len = record_len(record).saturating_add(len);
-        if count < MAX_RECORDS && len <= MAX_BODY_LEN {
+        if record.end.0 <= low_water && count < MAX_RECORDS && len <= MAX_BODY_LEN {
             count = count.saturating_add(1);
         }
     }

@@ -13,7 +13,7 @@ impl<D: Disk> World<D> {
     pub(super) fn close_group(&mut self) -> Reply
         ensures { IsStep D.Disk self.old Event.CloseGroup result self.new }
     {
-        match self.core.close_group(&mut self.place) {
+        match self.ring.close(&mut self.core) {
             Ok(closed) => Reply::Closed(closed),
             Err(refusal) => Reply::Refused(refusal),
         }
@@ -25,15 +25,12 @@ impl<D: Disk> World<D> {
         if let Some(refusal) = self.store.can_take() {
             return Reply::Refused(refusal);
         }
-        let Some(group) = self.place.take() else {
+        let Some(group) = self.ring.take() else {
             return Reply::Refused(Refusal::NothingToDo);
         };
         match self.store.take_group(group) {
             Ok(()) => Reply::Taken,
-            Err((refusal, group)) => {
-                self.place = Some(group);
-                Reply::Refused(refusal)
-            }
+            Err((refusal, _)) => Reply::Refused(refusal),
         }
     }
 

@@ -41,16 +41,17 @@ fn wanted(open: &[Open], from: usize, preparing: bool) -> Option<&Open> {
     open.iter().skip(from).chain(open.iter()).find(is_wanted)
 }
 
-/// The step that a group, or the place for one, waits for.
-fn due_of_groups(known: &Known) -> Event {
+/// The step that the oldest group waits for, or another group.
+fn due_of_groups(observed: &Observed) -> Event {
+    let known = &observed.known;
     if known.written {
         Event::AppendOpen
     } else if known.taken.is_some() {
         Event::AppendBody
-    } else if known.closed.is_some() {
-        Event::TakeGroup
-    } else {
+    } else if observed.waiting.is_empty() {
         Event::CloseGroup
+    } else {
+        Event::TakeGroup
     }
 }
 
@@ -73,8 +74,8 @@ impl Draws {
     pub fn event(&mut self, observed: &Observed, first_key: u64) -> Result<Event, AllocError> {
         let key = key_at(first_key.saturating_add(self.below(KEYS)));
         match self.below(32) {
-            0..=1 => Ok(self.event_of_groups(&observed.known)),
-            2..=7 if is_settling(observed) => Ok(self.event_of_groups(&observed.known)),
+            0..=1 => Ok(self.event_of_groups(observed)),
+            2..=7 if is_settling(observed) => Ok(self.event_of_groups(observed)),
             27 => self.any_step(observed, key),
             28 => Ok(Event::Poll(self.stamp(observed))),
             29..=31 => Ok(self.event_of_jobs(&observed.known)),
@@ -82,13 +83,13 @@ impl Draws {
         }
     }
 
-    fn event_of_groups(&mut self, known: &Known) -> Event {
+    fn event_of_groups(&mut self, observed: &Observed) -> Event {
         match self.below(16) {
-            0 => Event::CloseGroup,
-            1 => Event::TakeGroup,
-            2 => Event::AppendBody,
-            3 => Event::AppendOpen,
-            _ => due_of_groups(known),
+            0..=2 => Event::CloseGroup,
+            3 => Event::TakeGroup,
+            4 => Event::AppendBody,
+            5 => Event::AppendOpen,
+            _ => due_of_groups(observed),
         }
     }
 

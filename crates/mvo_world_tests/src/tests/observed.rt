@@ -6,6 +6,7 @@ use mvo_store::{Progress, Reclaimed};
 use mvo_types::{Answer, Op, Refusal, Stamp, TxId};
 use mvo_world::{Event, Reply};
 use std::alloc::{AllocError, Global};
+use std::collections::VecDeque;
 use std::mem;
 
 #[derive(Clone, Copy)]
@@ -69,8 +70,6 @@ pub struct Known {
     pub acknowledged: Stamp,
     /// The mark that was answered durable last, or the opening mark.
     pub durable: Stamp,
-    /// The mark of the group in the place of closed groups.
-    pub closed: Option<Stamp>,
     /// The mark of the group that the store took, and whether its body is written.
     pub taken: Option<Stamp>,
     pub written: bool,
@@ -100,6 +99,10 @@ pub struct Counts {
     pub rolled_back: u64,
     pub out_of_turn: u64,
     pub groups: u64,
+    /// Groups that were closed while one was Preparing.
+    pub beside_preparing: u64,
+    /// Runs in which several closed groups waited at once.
+    pub queued: u64,
     pub installed: u64,
     pub checkpoints: u64,
     pub merges: u64,
@@ -126,6 +129,8 @@ impl Counts {
             rolled_back: 0,
             out_of_turn: 0,
             groups: 0,
+            beside_preparing: 0,
+            queued: 0,
             installed: 0,
             checkpoints: 0,
             merges: 0,
@@ -149,6 +154,10 @@ pub struct Observed {
     /// By end timestamp.
     pub commits: Vec<Commit>,
     pub groups: Vec<ClosedGroup>,
+    /// The marks of the groups that wait for the store, the oldest first.
+    pub waiting: VecDeque<Stamp>,
+    /// Whether several waited at once.
+    pub has_queued: bool,
     pub known: Known,
     pub counts: Counts,
 }
@@ -166,10 +175,11 @@ impl Observed {
             open: Vec::new(alloc),
             commits: Vec::new(alloc),
             groups: Vec::new(alloc),
+            waiting: VecDeque::new(alloc),
+            has_queued: false,
             known: Known {
                 acknowledged: mark,
                 durable: mark,
-                closed: None,
                 taken: None,
                 written: false,
                 job: Job::None,
@@ -194,14 +204,8 @@ impl Observed {
     fn note_reply(&mut self, event: &Event, reply: Reply) -> Result<(), AllocError> {
         match reply {
             Reply::Began(id) => self.note_begin(id)?,
-            Reply::Closed(closed) => {
-                self.known.closed = Some(closed.mark);
-                self.groups.push(ClosedGroup {
-                    event: self.events,
-                    mark: closed.mark,
-                })?;
-            }
-            Reply::Taken => self.known.taken = self.known.closed.take(),
+            Reply::Closed(closed) => self.note_closed(closed.mark)?,
+            Reply::Taken => self.known.taken = self.waiting.pop_front(),
             Reply::Written => self.note_written(event),
             Reply::Durable(mark) => self.note_durable(mark),
             Reply::Polled(yes) => self.note_poll(event, yes),
@@ -219,6 +223,22 @@ impl Observed {
             Reply::Reclaimed(Reclaimed::Done) => {}
             Reply::Refused(refusal) => self.note_refusal(refusal),
             _ => count(&mut self.counts.strange),
+        }
+        Ok(())
+    }
+
+    fn note_closed(&mut self, mark: Stamp) -> Result<(), AllocError> {
+        self.groups.push(ClosedGroup {
+            event: self.events,
+            mark,
+        })?;
+        self.waiting.push_back(mark)?;
+        if self.open.iter().any(|tx| tx.phase.is_preparing()) {
+            count(&mut self.counts.beside_preparing);
+        }
+        if self.waiting.len() > 1 && !self.has_queued {
+            self.has_queued = true;
+            count(&mut self.counts.queued);
         }
         Ok(())
     }

@@ -208,9 +208,9 @@ pub const SETTLES: [(Step, &str); 6] = [
     (Scan(5), "Answered(Rows([]))"),
 ];
 
-/// With nothing written, a group is empty and its mark goes on. None is closed while one is
-/// Preparing.
-pub const OUT_OF_TURN: [(Step, &str); 13] = [
+/// With nothing written, a group is empty and its mark goes on. Groups wait for the store in a
+/// ring. While one is Preparing they are closed up to below its end.
+pub const OUT_OF_TURN: [(Step, &str); 15] = [
     (CloseGroup, "Refused(NothingToDo)"),
     (TakeGroup, "Refused(NothingToDo)"),
     (AppendBody, "Refused(NothingToDo)"),
@@ -222,9 +222,47 @@ pub const OUT_OF_TURN: [(Step, &str); 13] = [
     ),
     (CloseGroup, "Refused(NothingToDo)"),
     (Begin, "Began(TxId(2))"),
-    (CloseGroup, "Refused(RingFull)"),
+    (
+        CloseGroup,
+        "Closed(Closed { prev: Stamp(1), mark: Stamp(2) })",
+    ),
     (TakeGroup, "Taken"),
     (TakeGroup, "Refused(Busy)"),
     (Precommit(2), "Prepared(Stamp(3))"),
-    (CloseGroup, "Refused(Busy)"),
+    (CloseGroup, "Refused(NothingToDo)"),
+    (Begin, "Began(TxId(4))"),
+    (CloseGroup, "Refused(NothingToDo)"),
+];
+
+/// Behind that, the store takes both groups, in their order. Another one is Preparing with 5, and
+/// the one with 3 is rolled back.
+pub const GROUPS_IN_TURN: [(Step, &str); 13] = [
+    (AppendBody, "Written"),
+    (AppendOpen, "Durable(Stamp(1))"),
+    (TakeGroup, "Taken"),
+    (AppendBody, "Written"),
+    (AppendOpen, "Durable(Stamp(2))"),
+    (TakeGroup, "Refused(NothingToDo)"),
+    (Precommit(1), "Prepared(Stamp(5))"),
+    (CloseGroup, "Refused(NothingToDo)"),
+    (Rollback(2), "RolledBack"),
+    (
+        CloseGroup,
+        "Closed(Closed { prev: Stamp(2), mark: Stamp(4) })",
+    ),
+    (CloseGroup, "Refused(NothingToDo)"),
+    (Poll(2), "Polled(true)"),
+    (Poll(3), "Polled(false)"),
+];
+
+pub const A_FULL_RING: [(Step, &str); 6] = [
+    (CloseGroup, "Refused(NothingToDo)"),
+    (Begin, "Began(TxId(65))"),
+    (CloseGroup, "Refused(RingFull)"),
+    (CloseGroup, "Refused(RingFull)"),
+    (TakeGroup, "Taken"),
+    (
+        CloseGroup,
+        "Closed(Closed { prev: Stamp(64), mark: Stamp(65) })",
+    ),
 ];

@@ -21,7 +21,7 @@ returns-in-Ok-open-clause-fresh g c =
     record {
       core = subst (λ (rows : Map). OpensAs rows 0 w.core) found.rows_are (subst (λ (mark : ℕ). OpensAs given.0 mark w.core) mark_is begins.core);
       mark = mark_is;
-      place = begins.place;
+      ring = begins.ring;
       pending = begins.pending;
     }
   where

@@ -13,8 +13,8 @@ returns g c =
     let d = g.D.Disk in
     let old = c.self.inside.store in
     let new = c.append_open.new.self in
-    let before : WorldData _ = record { core = c.self.inside.core; place = c.self.inside.place; store = c.self.inside.store } in
-    let after : WorldData _ = record { core = c.self.inside.core; place = c.self.inside.place; store = new } in
+    let before : WorldData _ = record { core = c.self.inside.core; ring = c.self.inside.ring; store = c.self.inside.store } in
+    let after : WorldData _ = record { core = c.self.inside.core; ring = c.self.inside.ring; store = new } in
     elim c.match-append_open.branch [
       | in-Ok w ↦ rw (w.result-is, ← c.self.view_is) (
           let f = w.in-Ok.ensures in

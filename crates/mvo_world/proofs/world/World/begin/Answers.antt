@@ -14,14 +14,14 @@ use Rattle.mvo_world.proofs.world.World.begin.Goals as goal
 
 pub invariant_of-self : goal.invariant_of-self
 invariant_of-self g c =
-    let before : WorldData _ = record { core = c.self.inside.core; place = c.self.inside.place; store = c.self.inside.store } in
+    let before : WorldData _ = record { core = c.self.inside.core; ring = c.self.inside.ring; store = c.self.inside.store } in
     sound_asked before c.self.invariant BeginCall c.begin_tx.result c.begin_tx.new.self refl c.begin_tx.ensures.step
 
 pub returns : goal.returns
 returns g c =
     let d = g.D.Disk in
-    let before : WorldData _ = record { core = c.self.inside.core; place = c.self.inside.place; store = c.self.inside.store } in
-    let after : WorldData _ = record { core = c.begin_tx.new.self; place = c.self.inside.place; store = c.self.inside.store } in
+    let before : WorldData _ = record { core = c.self.inside.core; ring = c.self.inside.ring; store = c.self.inside.store } in
+    let after : WorldData _ = record { core = c.begin_tx.new.self; ring = c.self.inside.ring; store = c.self.inside.store } in
     elim c.match-begin_tx.branch [
       | in-Ok w ↦ rw (w.result-is, ← c.self.view_is) (
           let drawn : IsDrawn before w.in-Ok.tx.0 = next_stamp before w.in-Ok.tx.0 w.in-Ok.ensures.id in

@@ -12,14 +12,14 @@ use Rattle.mvo_world.proofs.world.World.finish.Goals as goal
 
 pub invariant_of-self : goal.invariant_of-self
 invariant_of-self g c =
-    let before : WorldData _ = record { core = c.self.inside.core; place = c.self.inside.place; store = c.self.inside.store } in
+    let before : WorldData _ = record { core = c.self.inside.core; ring = c.self.inside.ring; store = c.self.inside.store } in
     sound_asked before c.self.invariant (FinishCall c.args.tx.0) c.finish_one.result c.finish_one.new.self refl c.finish_one.ensures.step
 
 pub returns : goal.returns
 returns g c =
     let d = g.D.Disk in
-    let before : WorldData _ = record { core = c.self.inside.core; place = c.self.inside.place; store = c.self.inside.store } in
-    let after : WorldData _ = record { core = c.finish_one.new.self; place = c.self.inside.place; store = c.self.inside.store } in
+    let before : WorldData _ = record { core = c.self.inside.core; ring = c.self.inside.ring; store = c.self.inside.store } in
+    let after : WorldData _ = record { core = c.finish_one.new.self; ring = c.self.inside.ring; store = c.self.inside.store } in
     let event = Finish c.args.tx in
     let asked = FinishCall c.args.tx.0 in
     elim c.match-finish_one.branch [

@@ -1,4 +1,4 @@
-use Rattle.std.proofs.Common.{None, refl, sym, subst}
+use Rattle.std.proofs.Common.{sym, subst}
 use Rattle.std.specs.Prelude.{ℕ}
 use Rattle.mvo_store.specs.Standing.{Gives}
 use Rattle.mvo_world.specs.WorldData.{WorldData}
@@ -11,26 +11,26 @@ open-requires-2 g c = gives_stamp (g.D.Disk.content c.args.disk) c.in-Ok.opened.
 
 pub returns-clause-answer : goal.returns-clause-answer
 returns-clause-answer g c =
-    let w : WorldData _ = record { core = c.in-Ok-open.core; place = None; store = c.in-Ok.opened.0 } in
-    (c.in-Ok.opened.1, answer_here g.D.Disk c.args.disk w c.in-Ok.opened.1 c.in-Ok.opened.2.0 c.in-Ok.ensures.answer c.in-Ok.ensures.begins c.in-Ok-open.ensures.ok refl)
+    let w : WorldData _ = record { core = c.in-Ok-open.core; ring = c.in-Ok-new.ring; store = c.in-Ok.opened.0 } in
+    (c.in-Ok.opened.1, answer_here g.D.Disk c.args.disk w c.in-Ok.opened.1 c.in-Ok.opened.2.0 c.in-Ok.ensures.answer c.in-Ok.ensures.begins c.in-Ok-open.ensures.ok c.in-Ok-new.ensures)
 
 pub returns-clause-gives : goal.returns-clause-gives
 returns-clause-gives g c = (c.in-Ok.opened.1, subst (λ (m : ℕ). Gives c.in-Ok.opened.1 m (g.D.Disk.content c.args.disk)) (sym c.in-Ok.ensures.begins.mark_is) c.in-Ok.ensures.gives)
 
 pub returns-clause-begins : goal.returns-clause-begins
 returns-clause-begins g c =
-    let w : WorldData _ = record { core = c.in-Ok-open.core; place = None; store = c.in-Ok.opened.0 } in
-    world_begins g.D.Disk c.args.disk w c.in-Ok.opened.1 c.in-Ok.opened.2.0 c.in-Ok.ensures.answer c.in-Ok.ensures.begins c.in-Ok-open.ensures.ok refl
+    let w : WorldData _ = record { core = c.in-Ok-open.core; ring = c.in-Ok-new.ring; store = c.in-Ok.opened.0 } in
+    world_begins g.D.Disk c.args.disk w c.in-Ok.opened.1 c.in-Ok.opened.2.0 c.in-Ok.ensures.answer c.in-Ok.ensures.begins c.in-Ok-open.ensures.ok c.in-Ok-new.ensures
 
 pub returns-clause-after : goal.returns-clause-after
 returns-clause-after g c =
-    let w : WorldData _ = record { core = c.in-Ok-open.core; place = None; store = c.in-Ok.opened.0 } in
-    world_after g.D.Disk c.args.disk w c.in-Ok.opened.1 c.in-Ok.opened.2.0 c.in-Ok.ensures.answer c.in-Ok.ensures.begins c.in-Ok-open.ensures.ok refl c.in-Ok.ensures.keeps
+    let w : WorldData _ = record { core = c.in-Ok-open.core; ring = c.in-Ok-new.ring; store = c.in-Ok.opened.0 } in
+    world_after g.D.Disk c.args.disk w c.in-Ok.opened.1 c.in-Ok.opened.2.0 c.in-Ok.ensures.answer c.in-Ok.ensures.begins c.in-Ok-open.ensures.ok c.in-Ok-new.ensures c.in-Ok.ensures.keeps
 
 pub returns-clause-prefix : goal.returns-clause-prefix
 returns-clause-prefix g c =
-    let w : WorldData _ = record { core = c.in-Ok-open.core; place = None; store = c.in-Ok.opened.0 } in
-    world_prefix g.D.Disk c.args.disk w c.in-Ok.opened.1 c.in-Ok.opened.2.0 c.in-Ok.ensures.answer c.in-Ok.ensures.begins c.in-Ok-open.ensures.ok refl
+    let w : WorldData _ = record { core = c.in-Ok-open.core; ring = c.in-Ok-new.ring; store = c.in-Ok.opened.0 } in
+    world_prefix g.D.Disk c.args.disk w c.in-Ok.opened.1 c.in-Ok.opened.2.0 c.in-Ok.ensures.answer c.in-Ok.ensures.begins c.in-Ok-open.ensures.ok c.in-Ok-new.ensures
 
 pub returns-in-Err-clause-well_formed : goal.returns-in-Err-clause-well_formed
 returns-in-Err-clause-well_formed g c = not_of_files g.D.Disk c.args.disk c.in-Err.refused.1 c.in-Err.refused.0 c.in-Err.ensures.refused

@@ -5,5 +5,5 @@ use Rattle.mvo_world.proofs.world.World.poll.Goals as goal
 
 pub returns : goal.returns
 returns g c =
-    let before : WorldData _ = record { core = c.self.inside.core; place = c.self.inside.place; store = c.self.inside.store } in
+    let before : WorldData _ = record { core = c.self.inside.core; ring = c.self.inside.ring; store = c.self.inside.store } in
     rw (← c.self.view_is) (polled_step g.D.Disk g.met.D.Disk.only_now before c.args.stamp c.ge.result (search rules))

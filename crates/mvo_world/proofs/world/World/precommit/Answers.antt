@@ -14,14 +14,14 @@ use Rattle.mvo_world.proofs.world.World.precommit.Goals as goal
 
 pub invariant_of-self : goal.invariant_of-self
 invariant_of-self g c =
-    let before : WorldData _ = record { core = c.self.inside.core; place = c.self.inside.place; store = c.self.inside.store } in
+    let before : WorldData _ = record { core = c.self.inside.core; ring = c.self.inside.ring; store = c.self.inside.store } in
     sound_asked before c.self.invariant (PrecommitCall c.args.tx.0) c.precommit.result c.precommit.new.self refl c.precommit.ensures.step
 
 pub returns : goal.returns
 returns g c =
     let d = g.D.Disk in
-    let before : WorldData _ = record { core = c.self.inside.core; place = c.self.inside.place; store = c.self.inside.store } in
-    let after : WorldData _ = record { core = c.precommit.new.self; place = c.self.inside.place; store = c.self.inside.store } in
+    let before : WorldData _ = record { core = c.self.inside.core; ring = c.self.inside.ring; store = c.self.inside.store } in
+    let after : WorldData _ = record { core = c.precommit.new.self; ring = c.self.inside.ring; store = c.self.inside.store } in
     let event = Precommit c.args.tx in
     let asked = PrecommitCall c.args.tx.0 in
     elim c.match-precommit.branch [

@@ -13,14 +13,14 @@ use Rattle.mvo_world.proofs.world.World.read.Goals as goal
 
 pub invariant_of-self : goal.invariant_of-self
 invariant_of-self g c =
-    let before : WorldData _ = record { core = c.self.inside.core; place = c.self.inside.place; store = c.self.inside.store } in
+    let before : WorldData _ = record { core = c.self.inside.core; ring = c.self.inside.ring; store = c.self.inside.store } in
     sound_asked before c.self.invariant (Do c.args.tx.0 (op.Read c.args.key)) c.read.result c.read.new.self refl c.read.ensures.step
 
 pub returns : goal.returns
 returns g c =
     let d = g.D.Disk in
-    let before : WorldData _ = record { core = c.self.inside.core; place = c.self.inside.place; store = c.self.inside.store } in
-    let after : WorldData _ = record { core = c.read.new.self; place = c.self.inside.place; store = c.self.inside.store } in
+    let before : WorldData _ = record { core = c.self.inside.core; ring = c.self.inside.ring; store = c.self.inside.store } in
+    let after : WorldData _ = record { core = c.read.new.self; ring = c.self.inside.ring; store = c.self.inside.store } in
     let event = Read c.args.tx c.args.key in
     let asked = Do c.args.tx.0 (op.Read c.args.key) in
     elim c.match-read.branch [

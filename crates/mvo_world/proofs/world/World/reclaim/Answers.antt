@@ -13,7 +13,7 @@ returns g c =
     let d = g.D.Disk in
     let old = c.self.inside.store in
     let new = c.reclaim.new.self in
-    let before : WorldData _ = record { core = c.self.inside.core; place = c.self.inside.place; store = c.self.inside.store } in
+    let before : WorldData _ = record { core = c.self.inside.core; ring = c.self.inside.ring; store = c.self.inside.store } in
     let e = c.reclaim.ensures in
     elim c.match-reclaim.branch [
       | in-Ok w ↦ rw (w.result-is, ← c.self.view_is) (

@@ -11,14 +11,14 @@ use Rattle.mvo_world.proofs.world.World.roll_back.Goals as goal
 
 pub invariant_of-self : goal.invariant_of-self
 invariant_of-self g c =
-    let before : WorldData _ = record { core = c.self.inside.core; place = c.self.inside.place; store = c.self.inside.store } in
+    let before : WorldData _ = record { core = c.self.inside.core; ring = c.self.inside.ring; store = c.self.inside.store } in
     sound_asked before c.self.invariant (RollbackCall c.args.tx.0) c.rollback_tx.result c.rollback_tx.new.self refl c.rollback_tx.ensures.step
 
 pub returns : goal.returns
 returns g c =
     let d = g.D.Disk in
-    let before : WorldData _ = record { core = c.self.inside.core; place = c.self.inside.place; store = c.self.inside.store } in
-    let after : WorldData _ = record { core = c.rollback_tx.new.self; place = c.self.inside.place; store = c.self.inside.store } in
+    let before : WorldData _ = record { core = c.self.inside.core; ring = c.self.inside.ring; store = c.self.inside.store } in
+    let after : WorldData _ = record { core = c.rollback_tx.new.self; ring = c.self.inside.ring; store = c.self.inside.store } in
     let event = Rollback c.args.tx in
     let asked = RollbackCall c.args.tx.0 in
     elim c.match-rollback_tx.branch [

@@ -1,0 +1,111 @@
+use crate::config::Config;
+use crate::figure::Figure;
+use crate::rows::loaded;
+use crate::session::{MOST, Session};
+use crate::times::Times;
+use anyhow::{Result, bail};
+use mvo_types::TxId;
+use std::time::Instant;
+
+/// Each call is made in so many rounds, and the least of its times counts: other programs stop a
+/// call too, but seldom the same one.
+const ROUNDS: usize = 5;
+
+/// So many rows a transaction.
+const EACH: u64 = 100;
+
+/// The longest single call of the core while the rows are inserted into one that has none.
+pub fn run(rt: &HostRuntime, config: &Config) -> Result<()> {
+    let mut times = Times::new(rt.alloc());
+    for _ in 0..ROUNDS {
+        times.restart();
+        let mut session = Session::new(rt.alloc())?;
+        insert_all(rt, config.rows, &mut session, &mut times)?;
+    }
+    Figure::start(rt, config, "longest_call")?.tell_nanos(rt, times.calls(), times.longest())
+}
+
+fn insert_all(rt: &HostRuntime, rows: u64, session: &mut Session, times: &mut Times) -> Result<()> {
+    for batch in 0..rows / EACH {
+        let from = batch.saturating_mul(EACH);
+        let tx = begin(rt, session, times)?;
+        for key in from..from.saturating_add(EACH) {
+            insert(rt, session, times, tx, key)?;
+        }
+        commit(rt, session, times, tx)?;
+    }
+    Ok(())
+}
+
+fn begin(rt: &HostRuntime, session: &mut Session, times: &mut Times) -> Result<TxId> {
+    let start = Instant::now(rt)?;
+    let tx = session.begin()?;
+    times.note(start.elapsed(rt)?)?;
+    Ok(tx)
+}
+
+fn insert(
+    rt: &HostRuntime,
+    session: &mut Session,
+    times: &mut Times,
+    tx: TxId,
+    key: u64,
+) -> Result<()> {
+    let row = loaded(session.alloc(), key)?;
+    let start = Instant::now(rt)?;
+    session.insert(tx, row)?;
+    times.note(start.elapsed(rt)?)
+}
+
+fn commit(rt: &HostRuntime, session: &mut Session, times: &mut Times, tx: TxId) -> Result<()> {
+    let start = Instant::now(rt)?;
+    session.precommit(tx)?;
+    times.note(start.elapsed(rt)?)?;
+    validate(rt, session, times, tx)?;
+    let start = Instant::now(rt)?;
+    session.settle(tx)?;
+    times.note(start.elapsed(rt)?)?;
+    finish(rt, session, times, tx)
+}
+
+fn validate(rt: &HostRuntime, session: &mut Session, times: &mut Times, tx: TxId) -> Result<()> {
+    for _ in 0..MOST {
+        if validate_one(rt, session, times, tx)? {
+            return Ok(());
+        }
+    }
+    bail!("a transaction has too many entries")
+}
+
+fn validate_one(
+    rt: &HostRuntime,
+    session: &mut Session,
+    times: &mut Times,
+    tx: TxId,
+) -> Result<bool> {
+    let start = Instant::now(rt)?;
+    let is_valid = session.validate_one(tx)?;
+    times.note(start.elapsed(rt)?)?;
+    Ok(is_valid)
+}
+
+fn finish(rt: &HostRuntime, session: &mut Session, times: &mut Times, tx: TxId) -> Result<()> {
+    for _ in 0..MOST {
+        if finish_one(rt, session, times, tx)? {
+            return Ok(());
+        }
+    }
+    bail!("a transaction has too many words")
+}
+
+fn finish_one(
+    rt: &HostRuntime,
+    session: &mut Session,
+    times: &mut Times,
+    tx: TxId,
+) -> Result<bool> {
+    let start = Instant::now(rt)?;
+    let is_done = session.finish_one(tx)?;
+    times.note(start.elapsed(rt)?)?;
+    Ok(is_done)
+}

@@ -1,0 +1,41 @@
+-- The ring of the groups that are closed and that the store hasn't taken, the oldest first.
+use Rattle.std.specs.Prelude.{◌≡◌, ◌==◌, Bool, List, [], ◌∷◌, ◌++◌, length, Option, None, Some, Result, Ok, Err}
+use Rattle.mvo_types.specs.declared.refusal.Refusal.{Refusal}
+use Rattle.mvo_types.specs.Keys.{Map}
+use Rattle.mvo_model.specs.Trace.{Step}
+use Rattle.mvo_group.specs.Data.{GroupData}
+use Rattle.mvo_theory.specs.State.{State}
+use Rattle.mvo_theory.specs.Causes.{why_not_close}
+use Rattle.mvo_core.specs.declared.answers.Closed.{Closed}
+use Rattle.mvo_core.specs.Data.{CoreData}
+use Rattle.mvo_core.specs.Standing.{StandsFor}
+use Rattle.mvo_core.specs.Closing.{IsClosedNow, IsNotClosed}
+use Rattle.mvo_world.specs.declared.ring.TheConstants.{RING_GROUPS}
+
+-- it has room for no other
+abbrev pub is_full : List GroupData → Bool
+is_full ring = length ring == RING_GROUPS
+
+-- the group that is taken next
+abbrev pub oldest : List GroupData → Option GroupData
+oldest [] = None
+oldest (g ∷ gs) = Some g
+
+-- the next group goes into the ring, or the ring stays as it is
+abbrev pub HasClosedInto : Map → List Step → State → List GroupData → Result Closed Refusal
+    → CoreData → List GroupData → Type 0
+HasClosedInto opening steps s ring (Ok c) new ring' =
+    (why_not_close s (is_full ring) ≡ None)
+    × ((g : GroupData) × (ring' ≡ ring ++ g ∷ []) × IsClosedNow opening steps s c new g)
+HasClosedInto opening steps s ring (Err r) new ring' =
+    IsNotClosed opening steps s (is_full ring) r new × (ring' ≡ ring)
+
+abbrev pub IsClosingInto : CoreData → List GroupData → Result Closed Refusal → CoreData
+    → List GroupData → Type 0
+IsClosingInto old ring result new ring' = (opening : Map) (steps : List Step) (s : State)
+    → StandsFor opening steps s old → HasClosedInto opening steps s ring result new ring'
+
+-- the oldest group left the ring, or there was none
+abbrev pub HasTaken : List GroupData → Option GroupData → List GroupData → Type 0
+HasTaken ring None ring' = (ring ≡ []) × (ring' ≡ [])
+HasTaken ring (Some g) ring' = ring ≡ g ∷ ring'
