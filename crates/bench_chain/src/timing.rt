@@ -48,14 +48,14 @@ fn since(clock: &impl Clock, start: &Instant, before: u64) -> Result<u64> {
 
 /// A row of 100 bytes.
 fn row(alloc: Global, key: u32) -> Result<Row, AllocError> {
-    Ok(Row {
-        key: RowKey {
+    Row::new(
+        RowKey {
             table: 0,
             key: u64::from(key),
         },
-        sort: u64::from(key).wrapping_mul(3),
-        bytes: vec![in alloc; 7; 100]?,
-    })
+        u64::from(key).wrapping_mul(3),
+        vec![in alloc; 7; 100]?,
+    )
 }
 
 fn rows(alloc: Global, size: u32) -> Result<Vec<Row>, AllocError> {

@@ -2,7 +2,7 @@ use crate::checksum::Checksum;
 use crate::config::Config;
 use crate::figure::Figure;
 use crate::keys::{Keys, mixed};
-use crate::rows::change;
+use crate::rows::changed;
 use crate::session::Session;
 use anyhow::Result;
 
@@ -36,9 +36,9 @@ pub fn read_one(session: &mut Session, key: u64, sum: &mut Checksum) -> Result<(
 /// Reads a row and updates it in a transaction.
 pub fn update_one(session: &mut Session, key: u64, sum: &mut Checksum) -> Result<()> {
     let tx = session.begin()?;
-    let mut row = session.read(tx, key)?;
+    let row = session.read(tx, key)?;
     sum.add(&row);
-    change(&mut row, 1);
+    let row = changed(session.alloc(), &row, 1)?;
     session.update(tx, row)?;
     session.commit(tx)
 }

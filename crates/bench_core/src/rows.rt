@@ -30,15 +30,11 @@ pub fn loaded(alloc: Global, key: u64) -> Result<Row> {
     bytes.extend_from_slice(&key_bytes)?;
     bytes.extend_from_slice(&[0; 8])?;
     bytes.resize(DATA_LEN, key_bytes[0])?;
-    Ok(Row {
-        key: key_of(key),
-        sort: sort_of(key),
-        bytes,
-    })
+    Ok(Row::new(key_of(key), sort_of(key), bytes)?)
 }
 
 fn byte_at(row: &Row, at: usize) -> u64 {
-    u64::from(row.bytes.get(at).copied().unwrap_or(0))
+    u64::from(row.bytes().get(at).copied().unwrap_or(0))
 }
 
 /// What a row adds to a checksum: its sort and the bytes that updates change.
@@ -48,20 +44,25 @@ pub fn weight(row: &Row) -> u64 {
         .wrapping_add(byte_at(row, CHANGED))
 }
 
-/// Adds to the byte that updates change.
-pub fn change(row: &mut Row, by: u8) {
-    if let Some(byte) = row.bytes.get_mut(CHANGED) {
-        *byte = byte.wrapping_add(by);
-    }
+/// The row with so much added to the byte that updates change.
+pub fn changed(alloc: Global, row: &Row, by: u8) -> Result<Row> {
+    let mut bytes = row.bytes().to_vec(alloc)?;
+    change(&mut bytes, by);
+    Ok(Row::new(row.key, row.sort, bytes)?)
 }
 
-/// Writes the round.
-pub fn set_round(row: &mut Row, round: u64) {
-    let mut at = ROUND;
-    for byte in round.to_le_bytes() {
-        if let Some(place) = row.bytes.get_mut(at) {
-            *place = byte;
-        }
-        at = at.wrapping_add(1);
+/// The same, and the round is written.
+pub fn changed_in(alloc: Global, row: &Row, by: u8, round: u64) -> Result<Row> {
+    let mut bytes = row.bytes().to_vec(alloc)?;
+    change(&mut bytes, by);
+    for (place, byte) in bytes.iter_mut().skip(ROUND).zip(round.to_le_bytes()) {
+        *place = byte;
+    }
+    Ok(Row::new(row.key, row.sort, bytes)?)
+}
+
+fn change(bytes: &mut [u8], by: u8) {
+    if let Some(byte) = bytes.get_mut(CHANGED) {
+        *byte = byte.wrapping_add(by);
     }
 }

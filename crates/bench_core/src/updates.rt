@@ -2,7 +2,7 @@ use crate::checksum::Checksum;
 use crate::config::Config;
 use crate::figure::Figure;
 use crate::keys::Keys;
-use crate::rows::{change, set_round};
+use crate::rows::{changed, changed_in};
 use crate::session::Session;
 use anyhow::Result;
 
@@ -36,15 +36,13 @@ fn update_two(
     round: u64,
     sum: &mut Checksum,
 ) -> Result<()> {
+    let alloc = session.alloc();
     let tx = session.begin()?;
-    let mut first = session.read(tx, one)?;
-    let mut second = session.read(tx, other)?;
+    let first = session.read(tx, one)?;
+    let second = session.read(tx, other)?;
     sum.add(&first);
     sum.add(&second);
-    change(&mut first, 1);
-    change(&mut second, u8::MAX);
-    set_round(&mut first, round);
-    session.update(tx, first)?;
-    session.update(tx, second)?;
+    session.update(tx, changed_in(alloc, &first, 1, round)?)?;
+    session.update(tx, changed(alloc, &second, u8::MAX)?)?;
     session.commit(tx)
 }

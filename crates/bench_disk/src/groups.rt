@@ -79,11 +79,7 @@ fn time_of(rt: &HostRuntime, store: &mut HostStore, commits: u64) -> Result<u64>
 fn record(alloc: Global, end: u64) -> Result<Record, AllocError> {
     let bytes = vec![in alloc; end.to_le_bytes()[0]; 100]?;
     let mut writes = Vec::with_capacity(alloc, 1)?;
-    writes.push(Write::Put(Row {
-        key: RowKey { table: 0, key: end },
-        sort: end,
-        bytes,
-    }))?;
+    writes.push(Write::Put(Row::new(RowKey { table: 0, key: end }, end, bytes)?))?;
     Ok(Record {
         end: Stamp(end),
         writes,

@@ -18,11 +18,7 @@ fn record(alloc: Global, number: u16) -> Result<Record, AllocError> {
     let key = u64::from(number);
     let bytes = vec![in alloc; number.to_le_bytes()[0]; 100]?;
     let mut writes = Vec::new(alloc);
-    writes.push(Write::Put(Row {
-        key: RowKey { table: 0, key },
-        sort: key,
-        bytes,
-    }))?;
+    writes.push(Write::Put(Row::new(RowKey { table: 0, key }, key, bytes)?))?;
     Ok(Record {
         end: Stamp(key),
         writes,

@@ -83,11 +83,7 @@ fn time_slots<R: AllocGlobal + Clock>(rt: &R, times: &mut [u128]) -> Result<()> 
     let mut chains = Chains::new(rt.alloc());
     let mut at = 0u64;
     for time in times {
-        let row = Row {
-            key: key_of(at),
-            sort: at,
-            bytes: Vec::new(rt.alloc()),
-        };
+        let row = Row::new(key_of(at), at, Vec::new(rt.alloc()))?;
         let begin = Word::stamp(Stamp(1));
         let start = Instant::now(rt)?;
         chains.add(row, begin)?;

@@ -25,11 +25,7 @@ fn entry(alloc: Global, number: u64) -> Result<Entry, AllocError> {
     let bytes = vec![in alloc; number.to_le_bytes()[0]; 100]?;
     Ok(Entry {
         begin: Stamp(number),
-        row: Row {
-            key: key_of(number),
-            sort: sort_of(number),
-            bytes,
-        },
+        row: Row::new(key_of(number), sort_of(number), bytes)?,
     })
 }
 

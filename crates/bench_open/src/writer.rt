@@ -20,11 +20,7 @@ pub fn sort_of(key: u64) -> u64 {
 
 fn put(alloc: Global, key: u64) -> Result<Write, AllocError> {
     let bytes = vec![in alloc; key.to_le_bytes()[0]; 100]?;
-    Ok(Write::Put(Row {
-        key: RowKey { table: 0, key },
-        sort: sort_of(key),
-        bytes,
-    }))
+    Ok(Write::Put(Row::new(RowKey { table: 0, key }, sort_of(key), bytes)?))
 }
 
 // The transaction with an end, which puts the rows from a key on.

@@ -59,7 +59,7 @@ impl Rows {
         let (key, sort) = (key_of(index), sort_of(index));
         let mut bytes = Vec::new(self.alloc);
         bytes.resize(BYTES, 7)?;
-        let number = self.chains.add(Row { key, sort, bytes }, begin)?;
+        let number = self.chains.add(Row::new(key, sort, bytes)?, begin)?;
         self.ranges.add(Place::new(key, sort), number.0)?;
         if !self.index.is_held(number) {
             self.index.add(key, number)?;

@@ -107,11 +107,7 @@ fn into_disk(world: World<MemDisk>) -> MemDisk {
 }
 
 fn row(alloc: Global) -> Result<Row, AllocError> {
-    Ok(Row {
-        key: KEY,
-        sort: 50,
-        bytes: [0x61].to_vec(alloc)?,
-    })
+    Row::new(KEY, 50, [0x61].to_vec(alloc)?)
 }
 
 /// The transaction puts the row and commits, and its group becomes durable.

@@ -36,11 +36,7 @@ impl Draws {
 }
 
 fn row(alloc: Global, key: u64) -> Result<Row, AllocError> {
-    Ok(Row {
-        key: RowKey { table: 3, key },
-        sort: key / 2,
-        bytes: [7, 8].to_vec(alloc)?,
-    })
+    Row::new(RowKey { table: 3, key }, key / 2, [7, 8].to_vec(alloc)?)
 }
 
 fn plain_of(version: &Version) -> Plain {
@@ -136,7 +132,7 @@ fn take_out(
         return;
     };
     assert_eq!(rt; slot.map(|plain| plain.key), Some(row.key.key));
-    assert_eq!(rt; row.bytes.as_slice(), [7, 8].as_slice());
+    assert_eq!(rt; row.bytes(), [7, 8].as_slice());
     *slot = None;
 }
 

@@ -29,8 +29,8 @@ pub fn write_rows<W: Write + Drop>(
 /// Writes one row. Its data is in lower-case hexadecimal digits, and `-` where it has none.
 fn write_row(alloc: Global, row: &Row, writer: &mut impl Write) -> Result<(), Fault> {
     let (key, sort) = (row.key.key, row.sort);
-    let digits = hex::encode(alloc, row.bytes.as_slice())?;
-    let text = if row.bytes.is_empty() {
+    let digits = hex::encode(alloc, row.bytes())?;
+    let text = if row.bytes().is_empty() {
         "-"
     } else {
         digits.as_str()

@@ -102,6 +102,6 @@ impl Events {
         if self.draws.below(64) == 0 {
             bytes = vec![in self.alloc; 97; 1_025]?;
         }
-        Ok(Row { key, sort, bytes })
+        Row::new(key, sort, bytes)
     }
 }

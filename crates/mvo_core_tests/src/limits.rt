@@ -19,11 +19,7 @@ fn begun(rt: &impl Abort, alloc: Global) -> Result<Session, Fail> {
 
 /// A row of so many bytes.
 fn row(alloc: Global, key: u64, len: usize) -> Result<Row, AllocError> {
-    Ok(Row {
-        key: RowKey { table: 0, key },
-        sort: key,
-        bytes: vec![in alloc; 97; len]?,
-    })
+    Row::new(RowKey { table: 0, key }, key, vec![in alloc; 97; len]?)
 }
 
 fn says(rt: &impl Abort, alloc: Global, reply: &Reply, text: &str) -> Result<(), Fail> {

@@ -208,7 +208,7 @@ impl Course {
         let key = self.key();
         let sort = self.draws.below(SORTS);
         let bytes = self.draws.draw().to_be_bytes().to_vec(self.alloc)?;
-        Ok(Row { key, sort, bytes })
+        Row::new(key, sort, bytes)
     }
 
     fn read(&mut self, tx: &mut Open) -> Result<(), AllocError> {
@@ -393,11 +393,11 @@ pub fn opening_rows(alloc: Global) -> Result<Rows, AllocError> {
     let mut rows = Rows::new(alloc);
     for third in 0..KEYS / 3 {
         let key = third.wrapping_mul(3);
-        rows.put(Row {
-            key: RowKey { table: 0, key },
-            sort: third,
-            bytes: third.to_be_bytes().to_vec(alloc)?,
-        })?;
+        rows.put(Row::new(
+            RowKey { table: 0, key },
+            third,
+            third.to_be_bytes().to_vec(alloc)?,
+        )?)?;
     }
     Ok(rows)
 }

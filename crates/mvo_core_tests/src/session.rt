@@ -125,11 +125,7 @@ impl Session {
     }
 
     fn row(&self, key: u64, sort: u64, byte: u8) -> Result<Row, AllocError> {
-        Ok(Row {
-            key: key_of(key),
-            sort,
-            bytes: vec![in self.alloc; byte]?,
-        })
+        Row::new(key_of(key), sort, vec![in self.alloc; byte]?)
     }
 
     pub fn begin(&mut self) -> Reply {

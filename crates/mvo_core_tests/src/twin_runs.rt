@@ -150,11 +150,7 @@ fn limits_are_those_of_the_plain_model(rt: HostRuntime) -> Result<(), Fail> {
 fn insert(rt: &impl Abort, twins: &mut Twins, key: u64) -> Result<(), Fail> {
     twins.ask(rt, 0, Event::Begin)?;
     let id = twins.plain.clock;
-    let row = Row {
-        key: RowKey { table: 1, key },
-        sort: key,
-        bytes: Vec::new(twins.events.alloc),
-    };
+    let row = Row::new(RowKey { table: 1, key }, key, Vec::new(twins.events.alloc))?;
     twins.ask(rt, id, Event::Ask(Op::Insert(row)))?;
     commit(rt, twins, id, 1, 1)
 }

@@ -38,11 +38,7 @@ fn the_vectors_are_written(rt: HostRuntime) -> Result<(), Fail> {
     assert_eq!(rt; empty.encode()?.as_slice(), EMPTY.as_slice());
     let put = of_one(
         alloc,
-        Write::Put(Row {
-            key: RowKey { table: 0, key: 5 },
-            sort: 50,
-            bytes: [0x61].to_vec(alloc)?,
-        }),
+        Write::Put(Row::new(RowKey { table: 0, key: 5 }, 50, [0x61].to_vec(alloc)?)?),
     )?;
     assert_eq!(rt; put.encode()?.as_slice(), ONE_PUT.as_slice());
     assert_eq!(rt; put.encoded_len(), 49);

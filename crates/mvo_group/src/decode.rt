@@ -91,7 +91,7 @@ fn write_of(alloc: Global, bytes: &[u8]) -> Result<Option<(Write, &[u8])>, Alloc
     let Some(((sort, bytes), rest)) = put_of(alloc, rest)? else {
         return Ok(None);
     };
-    Ok(Some((Write::Put(Row { key, sort, bytes }), rest)))
+    Ok(Some((Write::Put(Row::new(key, sort, bytes)?), rest)))
 }
 
 fn writes_of(

@@ -21,7 +21,7 @@ fn put_header(row: &Row) -> [u8; PUT_HEADER_LEN]
     header[1] = row.key.table;
     LittleEndian::write_u64(&mut header[2..], row.key.key);
     LittleEndian::write_u64(&mut header[10..], row.sort);
-    LittleEndian::write_u16(&mut header[18..], row.bytes.len() as u16);
+    LittleEndian::write_u16(&mut header[18..], row.data_len() as u16);
     header
 }
 
@@ -76,7 +76,7 @@ fn append_write(out: &mut Vec<u8>, write: &Write)
     match write {
         Write::Put(row) => {
             append(out, &put_header(row));
-            append(out, &row.bytes);
+            append(out, row.bytes());
         }
         Write::Delete(key) => append(out, &delete_header(*key)),
     }

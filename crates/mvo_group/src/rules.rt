@@ -19,7 +19,7 @@ fn keeps_limits(write: &Write) -> bool
         Write::Put(row) => {
             let _sort = row.sort;
             let _key = row.key.key;
-            row.key.table <= MAX_TABLE && row.bytes.len() <= MAX_DATA_LEN
+            row.key.table <= MAX_TABLE && row.data_len() <= MAX_DATA_LEN
         }
         Write::Delete(key) => {
             let _key = key.key;

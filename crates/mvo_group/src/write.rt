@@ -40,7 +40,7 @@ impl Write {
         ensures { result ≡ write_len (write_data self.now) }
     {
         match self {
-            Write::Put(row) => PUT_HEADER_LEN + row.bytes.len(),
+            Write::Put(row) => PUT_HEADER_LEN + row.data_len(),
             Write::Delete(_) => DELETE_LEN,
         }
     }

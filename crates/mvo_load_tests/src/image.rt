@@ -60,7 +60,7 @@ fn row(alloc: Global, loaded: &Loaded) -> Result<String, Fail> {
     let Some(row) = loaded.rows.get(RowKey { table: 0, key: 5 })? else {
         return Ok(format!(in alloc; "none")?);
     };
-    let data = hex::encode(alloc, row.bytes.as_slice())?;
+    let data = hex::encode(alloc, row.bytes())?;
     let sort = row.sort;
     Ok(format!(in alloc; "{sort} {data}")?)
 }

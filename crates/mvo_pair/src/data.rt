@@ -62,17 +62,15 @@ fn entry_of(alloc: Global, len: usize, bytes: &[u8]) -> Result<Entry, AllocError
     requires whole { len ≤ length bytes.now }
     ensures { IfOk result (λ e. e ≡ entry_of bytes.now) }
 {
+    let key = RowKey {
+        table: u8_at(bytes, 8),
+        key: u64_at(bytes, 9),
+    };
     let data = bytes[RECORD..len].to_vec(alloc)?;
+    let row = Row::new(key, u64_at(bytes, 17), data)?;
     Ok(Entry {
         begin: Stamp(u64_at(bytes, 0)),
-        row: Row {
-            key: RowKey {
-                table: u8_at(bytes, 8),
-                key: u64_at(bytes, 9),
-            },
-            sort: u64_at(bytes, 17),
-            bytes: data,
-        },
+        row,
     })
 }
 
@@ -84,7 +82,7 @@ fn keeps(format: Format, pair: Pair, entry: &Entry) -> bool
     pair.lo.0 < entry.begin.0
         && entry.begin.0 <= pair.hi.0
         && entry.row.key.table <= format.max_table
-        && entry.row.bytes.len() <= format.max_data_len as usize
+        && entry.row.data_len() <= format.max_data_len as usize
 }
 
 /// The record at the front, if it is whole and keeps the rules that speak of it alone.

@@ -142,11 +142,7 @@ impl Engine {
     }
 
     fn put(&mut self, tx: &mut Open, key: RowKey, sort: u64) -> Result<(), AllocError> {
-        let row = Row {
-            key,
-            sort,
-            bytes: Vec::new(self.alloc),
-        };
+        let row = Row::new(key, sort, Vec::new(self.alloc))?;
         let begin = Word::id(TxId(tx.id.0.min(MAX_STAMP)));
         let number = self.chains.add(row, begin)?;
         self.ranges.add(Place::new(key, sort), number.0)?;

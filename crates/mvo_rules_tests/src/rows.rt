@@ -25,15 +25,11 @@ fn a_row_is_put_found_and_removed(rt: HostRuntime) -> Result<(), Fail> {
     let mut rows = Rows::new(alloc);
     let key = RowKey { table: 0, key: 5 };
     let bytes = [97].to_vec(alloc)?;
-    rows.put(Row {
-        key,
-        sort: 50,
-        bytes,
-    })?;
+    rows.put(Row::new(key, 50, bytes)?)?;
     assert!(rt; rows.contains(key));
     let found = rows.get(key)?.ok_or("a row")?;
     assert_eq!(rt; found.sort, 50);
-    assert_eq!(rt; found.bytes.as_slice(), [97].as_slice());
+    assert_eq!(rt; found.bytes(), [97].as_slice());
     rows.remove(key);
     assert!(rt; rows.get(key)?.is_none());
     Ok(())
@@ -45,11 +41,7 @@ fn rows_of_a_range_come_by_their_keys(rt: HostRuntime) -> Result<(), Fail> {
     let mut rows = Rows::new(alloc);
     assert!(rt; rows.is_empty());
     for (table, key, sort) in [(0, 9, 10), (0, 2, 20), (0, 5, 21), (1, 7, 15)] {
-        rows.put(Row {
-            key: RowKey { table, key },
-            sort,
-            bytes: [98].to_vec(alloc)?,
-        })?;
+        rows.put(Row::new(RowKey { table, key }, sort, [98].to_vec(alloc)?)?)?;
     }
     assert_eq!(rt; rows.len(), 4);
     let found = rows.within(alloc, 0, 10, 20)?;

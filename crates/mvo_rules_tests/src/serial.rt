@@ -5,11 +5,7 @@ use std::process::Abort;
 use std::test::Fail;
 
 fn row(alloc: Global, table: u8, key: u64, sort: u64, byte: u8) -> Result<Row, AllocError> {
-    Ok(Row {
-        key: RowKey { table, key },
-        sort,
-        bytes: [byte].to_vec(alloc)?,
-    })
+    Row::new(RowKey { table, key }, sort, [byte].to_vec(alloc)?)
 }
 
 fn two_rows(alloc: Global) -> Result<Serial, AllocError> {

@@ -282,7 +282,7 @@ fn decoded(alloc: Global, text: RowText<'_>) -> Option<Row>
 {
     let RowText { key, sort, digits } = text;
     match hex::decode(alloc, digits) {
-        Ok(bytes) => Some(Row { key, sort, bytes }),
+        Ok(bytes) => Row::new(key, sort, bytes).ok(),
         Err(_) => None,
     }
 }

@@ -58,7 +58,7 @@ fn write_answer<W: fmt::Write>(f: &mut fmt::Formatter<W>, answer: &Answer) -> fm
         Answer::Found(Some(row)) => {
             let sort = row.sort;
             write!(f, "row {sort} ")?;
-            write_data(f, &row.bytes)
+            write_data(f, row.bytes())
         }
         Answer::Found(None) => write!(f, "none"),
         Answer::Rows(rows) => write_rows(f, rows),
@@ -77,7 +77,7 @@ fn write_rows<W: fmt::Write>(f: &mut fmt::Formatter<W>, rows: &[Row]) -> fmt::Re
     for row in rows {
         let (key, sort) = (row.key.key, row.sort);
         write!(f, " {key}:{sort}:")?;
-        write_data(f, &row.bytes)?;
+        write_data(f, row.bytes())?;
     }
     Ok(())
 }

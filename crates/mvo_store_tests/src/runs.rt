@@ -54,7 +54,7 @@ fn has_data(rows: &Rows, key: usize, data: Option<u8>) -> Result<bool, Fail> {
     let row = rows.get(RowKey { table: 0, key })?;
     Ok(match (row, data) {
         (None, None) => true,
-        (Some(row), Some(byte)) => row.bytes.as_slice() == [byte].as_slice(),
+        (Some(row), Some(byte)) => row.bytes() == [byte].as_slice(),
         _ => false,
     })
 }

@@ -110,7 +110,7 @@ pub(crate) fn have(
 pub(crate) fn has_row(rt: &impl Abort, rows: &Rows, bytes: &[u8]) -> Result<(), Fail> {
     let row = rows.get(RowKey { table: 0, key: 5 })?.ok_or("the row")?;
     assert_eq!(rt; row.sort, 50);
-    assert_eq!(rt; row.bytes.as_slice(), bytes);
+    assert_eq!(rt; row.bytes(), bytes);
     Ok(())
 }
 

@@ -130,7 +130,7 @@ fn record_len(record: &Record) -> usize {
 
 fn write_len(write: &Write) -> usize {
     match write {
-        Write::Put(row) => row.bytes.len().saturating_add(20),
+        Write::Put(row) => row.data_len().saturating_add(20),
         Write::Delete(_) => 10,
     }
 }

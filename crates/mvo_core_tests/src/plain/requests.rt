@@ -47,7 +47,7 @@ pub fn looks_at(op: &Op) -> Entry {
 /// How many bytes of data it puts.
 pub fn data_len(op: &Op) -> usize {
     match op {
-        Op::Insert(row) | Op::Update(row) => row.bytes.len(),
+        Op::Insert(row) | Op::Update(row) => row.data_len(),
         _ => 0,
     }
 }

@@ -8,11 +8,7 @@ use std::test::Fail;
 
 /// A row of table 0 with one byte of data.
 pub fn row(alloc: Global, key: u64, sort: u64, byte: u8) -> Result<Row, AllocError> {
-    Ok(Row {
-        key: RowKey { table: 0, key },
-        sort,
-        bytes: vec![in alloc; byte]?,
-    })
+    Row::new(RowKey { table: 0, key }, sort, vec![in alloc; byte]?)
 }
 
 /// The write of a transaction that writes nothing else.

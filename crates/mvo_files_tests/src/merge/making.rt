@@ -18,11 +18,7 @@ pub fn key_of(key: u64) -> RowKey {
 
 /// A live record with one byte of data.
 pub fn live(alloc: Global, number: u32, begin: u64, key: u64) -> Result<Live, AllocError> {
-    let row = Row {
-        key: key_of(key),
-        sort: begin,
-        bytes: vec![in alloc; 0x61]?,
-    };
+    let row = Row::new(key_of(key), begin, vec![in alloc; 0x61]?)?;
     let begin = Stamp(begin);
     Ok(Live {
         number,

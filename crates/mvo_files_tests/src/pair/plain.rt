@@ -48,7 +48,7 @@ fn is_record(live: &Live, plain: (u64, u64, u64, u64, &[u8])) -> bool {
         && u64::from(row.key.table) == plain.1
         && row.key.key == plain.2
         && row.sort == plain.3
-        && row.bytes.as_slice() == plain.4
+        && row.bytes() == plain.4
 }
 
 /// Whether loading one record and one number answers what reading them plainly does.

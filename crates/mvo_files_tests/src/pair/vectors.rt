@@ -43,7 +43,7 @@ fn a_record_is_live_until_it_is_named(rt: HostRuntime) -> Result<(), Fail> {
     assert_eq!(rt; (*number, entry.begin), (0, Stamp(2)));
     assert_eq!(rt; entry.row.key, RowKey { table: 0, key: 5 });
     assert_eq!(rt; entry.row.sort, 50);
-    assert_eq!(rt; entry.row.bytes.as_slice(), b"a".as_slice());
+    assert_eq!(rt; entry.row.bytes(), b"a".as_slice());
     assert_eq!(rt; count(alloc, pair(1, 1), &DATA, &NAMED), Ok(0));
     // A number that isn't counted isn't read, nor is a record.
     assert_eq!(rt; count(alloc, pair(1, 0), &DATA, &NAMED), Ok(1));

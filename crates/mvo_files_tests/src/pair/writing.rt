@@ -12,11 +12,7 @@ use std::test::Fail;
 fn entry(alloc: Global, begin: u64, byte: u8) -> Result<Entry, AllocError> {
     Ok(Entry {
         begin: Stamp(begin),
-        row: Row {
-            key: RowKey { table: 0, key: 5 },
-            sort: 50,
-            bytes: [byte].to_vec(alloc)?,
-        },
+        row: Row::new(RowKey { table: 0, key: 5 }, 50, [byte].to_vec(alloc)?)?,
     })
 }
 

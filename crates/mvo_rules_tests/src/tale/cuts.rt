@@ -13,11 +13,7 @@ fn inserts(alloc: Global, rows: u64, last: usize) -> Result<Vec<(Op, Answer)>, A
     let mut operations = Vec::new(alloc);
     for key in 0..rows {
         let len = if key + 1 < rows { 1024 } else { last };
-        let row = Row {
-            key: RowKey { table: 0, key },
-            sort: 50,
-            bytes: vec![in alloc; 97; len]?,
-        };
+        let row = Row::new(RowKey { table: 0, key }, 50, vec![in alloc; 97; len]?)?;
         operations.push((Op::Insert(row), Answer::Inserted))?;
     }
     Ok(operations)

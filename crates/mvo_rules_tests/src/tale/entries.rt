@@ -63,7 +63,7 @@ fn keys_of(alloc: Global, operations: &[(Op, Answer)]) -> Result<Vec<RowKey>, Al
 fn is_row(row: &Row) -> bool
     ensures { IsTrue result → IsInLimits (Op.Insert row.now) }
 {
-    row.key.table <= MAX_TABLE && row.bytes.len() <= MAX_DATA_LEN
+    row.key.table <= MAX_TABLE && row.data_len() <= MAX_DATA_LEN
 }
 
 fn is_in_limits(op: &Op) -> bool

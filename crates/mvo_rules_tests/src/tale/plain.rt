@@ -36,11 +36,7 @@ fn keep(wrote: &mut Vec<Wrote>, write: Wrote) -> Result<(), AllocError> {
 }
 
 fn row_at(alloc: Global, key: RowKey, sort: u64) -> Result<Row, AllocError> {
-    Ok(Row {
-        key,
-        sort,
-        bytes: vec![in alloc; 97; (sort % 7) as usize]?,
-    })
+    Row::new(key, sort, vec![in alloc; 97; (sort % 7) as usize]?)
 }
 
 /// Some operations with answers, and what they write.
@@ -101,7 +97,7 @@ fn some_operation(
 fn is_write(write: &Write, wrote: Wrote) -> bool {
     match (write, wrote.sort) {
         (Write::Put(row), Some(sort)) => {
-            row.key == wrote.key && row.sort == sort && row.bytes.len() == (sort % 7) as usize
+            row.key == wrote.key && row.sort == sort && row.data_len() == (sort % 7) as usize
         }
         (Write::Delete(key), None) => *key == wrote.key,
         _ => false,

@@ -64,11 +64,7 @@ impl Plain {
 }
 
 fn row(alloc: Global, key: RowKey) -> Result<Row, AllocError> {
-    Ok(Row {
-        key,
-        sort: key.key / 2,
-        bytes: [7, 8].to_vec(alloc)?,
-    })
+    Row::new(key, key.key / 2, [7, 8].to_vec(alloc)?)
 }
 
 fn some_number(numbers: &mut Numbers) -> VersionNo {

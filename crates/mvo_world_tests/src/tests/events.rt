@@ -213,6 +213,6 @@ impl Draws {
         let sort = self.below(SORTS);
         let mut bytes = self.draw().to_be_bytes().to_vec(self.alloc)?;
         bytes.truncate(self.below(9) as usize);
-        Ok(Row { key, sort, bytes })
+        Row::new(key, sort, bytes)
     }
 }

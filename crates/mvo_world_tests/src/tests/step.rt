@@ -47,11 +47,7 @@ pub enum Step {
 /// The row with this sort and this byte.
 pub fn row_with(alloc: Global, sort: u64, byte: u8) -> Result<Row, AllocError> {
     let bytes = [byte].to_vec(alloc)?;
-    Ok(Row {
-        key: KEY,
-        sort,
-        bytes,
-    })
+    Row::new(KEY, sort, bytes)
 }
 
 impl Step {
