@@ -1,5 +1,6 @@
 -- A record in front of its data, and its data, are the record.
 use Rattle.std.proofs.Common.{◌≡◌, ◌<◌, ◌++◌, ◌∷◌, ◌%◌, [], List, ℕ, length, sym, ap, ◌∙◌, append_assoc, refl, arith}
+use Rattle.std.specs.Arc.{arc_slice_items}
 use Rattle.mvo_group.specs.Body.{field}
 use Rattle.mvo_types.specs.declared.row.RowKey.{RowKey}
 use Rattle.mvo_types.specs.RowData.{RowData}
@@ -33,13 +34,14 @@ spelled e begin sort len key text lt is same =
 
 pub returns-clause-bytes : goal.returns-clause-bytes
 returns-clause-bytes c =
-    let text = c.row.inside.bytes.items in
+    let text = arc_slice_items c.row.inside.bytes in
     let same : record_of c.entry.inside.begin.0 c.row.inside.key c.row.inside.sort text ≡ c.args.entry.now = ap (λ (r : RowData). record_with c.entry.inside.begin.0 r) c.row.view_is ∙ c.entry.view_is in
-    let len : c.len.result ≡ length text = c.len.ensures ∙ sym c.deref.ensures.len ∙ ap (λ (l : List ℕ). length l) c.deref.ensures.value in
+    let len : c.data_len.result ≡ length text = c.data_len.ensures ∙ sym (ap (λ (r : RowData). length r.bytes) c.row.view_is) in
+    let shown : c.bytes.result.now ≡ text = c.bytes.ensures ∙ sym (ap (λ (r : RowData). r.bytes) c.row.view_is) in
     let front = c.front_of-front.result in
     c.in_ok-extend_from_slice-2.ensures.items
-    ∙ ap (λ (l : List ℕ). l ++ c.deref.result.now) c.in_ok-extend_from_slice.ensures.items
-    ∙ append_assoc c.args.out.now.items front c.deref.result.now
-    ∙ ap (λ (l : List ℕ). c.args.out.now.items ++ (front ++ l)) c.deref.ensures.value
+    ∙ ap (λ (l : List ℕ). l ++ c.bytes.result.now) c.in_ok-extend_from_slice.ensures.items
+    ∙ append_assoc c.args.out.now.items front c.bytes.result.now
+    ∙ ap (λ (l : List ℕ). c.args.out.now.items ++ (front ++ l)) shown
     ∙ ap (λ (l : List ℕ). c.args.out.now.items ++ (l ++ text)) c.front_of-front.ensures.bytes
-    ∙ ap (λ (l : List ℕ). c.args.out.now.items ++ l) (spelled c.args.entry.now c.entry.inside.begin.0 c.row.inside.sort c.len.result c.row.inside.key text c.front_of-front.ensures.table len same)
+    ∙ ap (λ (l : List ℕ). c.args.out.now.items ++ l) (spelled c.args.entry.now c.entry.inside.begin.0 c.row.inside.sort c.data_len.result c.row.inside.key text c.front_of-front.ensures.table len same)
