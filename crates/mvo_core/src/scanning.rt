@@ -12,7 +12,7 @@ use crate::refusing::not_looked;
 use crate::transaction::Table;
 use mvo_chain::VersionNo;
 use mvo_range::Place;
-use mvo_types::{Answer, Op, Refusal, Row, Stamp, TxId};
+use mvo_types::{Answer, MAX_DATA_LEN, Op, Refusal, Row, Stamp, TxId};
 use mvo_validate::Entry;
 use mvo_versions::Versions;
 use mvo_visible::{Seen, seen_by_others};
@@ -69,6 +69,7 @@ fn scan_places(
 {
     let mut rows = Vec::new(alloc);
     let mut on = Vec::new(alloc);
+    rows.reserve(look_ahead(versions, of, lo, hi))?;
     for entry in versions.between(of, lo, hi) {
         let place = entry.0;
         let found = versions.shown(table, tx, place.row_key());
@@ -77,6 +78,31 @@ fn scan_places(
         add_named(&mut on, versions, table, start, tx, place, found.depends_on)?;
     }
     Ok(Scanned { rows, on })
+}
+
+/// How many places of the range have a version: at most so many rows are found there.
+///
+/// It looks at all that the scan will look at, key by key. No such look waits for the one before,
+/// so the memory of several keys is fetched at a time, and is near when the scan comes to it.
+fn look_ahead(versions: &Versions, of: u8, lo: u64, hi: u64) -> usize {
+    let mut count: usize = 0;
+    for (place, _) in versions.between(of, lo, hi) {
+        if has_version(versions, place) {
+            count = count.saturating_add(1);
+        }
+    }
+    count
+}
+
+/// Whether the place's key has a version, whose data isn't too long, as none is.
+fn has_version(versions: &Versions, place: Place) -> bool {
+    let Some(number) = versions.walk(place.row_key()).next() else {
+        return false;
+    };
+    match versions.get(number) {
+        Some(version) => version.row.data_len() <= MAX_DATA_LEN,
+        None => false,
+    }
 }
 
 /// Adds the row, if there is one.

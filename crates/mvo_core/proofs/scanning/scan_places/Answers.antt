@@ -11,7 +11,7 @@ pub loop-entry-init : goal.loop-entry-init
 loop-entry-init c = (
   (λ order.
       let a = c.args in
-      subst (λ xs. IsSoFar (state_of a.table.now) a.versions.now a.start.0 a.tx.0 a.of a.lo a.hi [] xs c.new-on.result.items) (sym c.new-rows.ensures.items)
+      subst (λ xs. IsSoFar (state_of a.table.now) a.versions.now a.start.0 a.tx.0 a.of a.lo a.hi [] xs c.new-on.result.items) (sym (c.in_ok-reserve.ensures.items ∙ c.new-rows.ensures.items))
       (subst (λ ys. IsSoFar (state_of a.table.now) a.versions.now a.start.0 a.tx.0 a.of a.lo a.hi [] [] ys) (sym c.new-on.ensures.items)
       (none_yet (state_of a.table.now) a.versions.now a.start.0 a.tx.0 a.of a.lo a.hi))),
   sym (c.into_iter-entry-iterator.ensures.into_iter_gives ∙ c.between-entry-items.ensures),
