@@ -2,10 +2,12 @@
 use Rattle.std.proofs.Common.{◌≡◌, ℕ, ◌<◌, List, [], ◌∷◌, ◌++◌, length, true, false, Option, None, Some, Ok, refl, sym, ap, subst, ◌∙◌, append_assoc, arith, length-append}
 use Rattle.std.specs.Prelude.{map, nat_eq, All}
 use Rattle.std.specs.List.{AllByRecursion, AllZip, IsDistinct, flat_map}
+use Rattle.std.specs.List.Sorted.{IsPermutation}
 use Rattle.std.specs.FinMap.{find, from_entries, empty, from_entries_push}
 use Rattle.std.proofs.lemmas.List.{append-nil, map-append}
 use Rattle.std.proofs.lemmas.List.Elements.{All-append, All-from_recursion, recursion_from_All}
 use Rattle.std.proofs.lemmas.List.Concat.{flat_map-cons, flat_map-append}
+use Rattle.std.proofs.lemmas.List.Sorted.{IsPermutation-refl, IsPermutation-append}
 use Rattle.mvo_types.specs.declared.row.RowKey.{RowKey}
 use Rattle.mvo_types.specs.Keys.{Map, key_cmp}
 use Rattle.mvo_format.specs.declared.format.Format.{Format}
@@ -31,8 +33,8 @@ use Rattle.mvo_load.specs.Leading.{Leads}
 use Rattle.mvo_load.specs.Parts.{HaveRows, HavePlaces}
 use Rattle.mvo_load.specs.Gathered.{AreGathered, AreMade, MayLie, with_places}
 use Rattle.mvo_load.specs.Files.{bytes_of, IsPart}
-use Rattle.mvo_load.specs.declared.gathered.Gathered.{Gathered}
-use Rattle.mvo_load.proofs.Ordered.{all_of, apart_each, rows_each}
+use Rattle.mvo_load.specs.declared.part.Part.{Part}
+use Rattle.mvo_load.proofs.Ordered.{all_of, apart_each, rows_each, made_in_order}
 use Rattle.mvo_load.proofs.Pairing.{HasFiles, front_of, pair_files_fit, data_files_differ, live_push, none_alone, one_more_alone, Behind, Whole}
 use Rattle.mvo_load.proofs.Steps.{pair_leads}
 
@@ -67,7 +69,7 @@ module _ (f : Format) (image : Image) (m : ManifestData) where
     pub have : HaveLive f image done lives
     pub files : AllByRecursion HasFiles rest
     pub alone : (ls : List (List Numbered)) → HaveLive f image done ls → ls ≡ lives
-    pub all : live ≡ all_of lives
+    pub all : IsPermutation (all_of lives) live
     pub each : placed ≡ places_of done lives
     pub long : length done ≡ length lives
     pub small : All MayLie placed
@@ -82,7 +84,7 @@ module _ (f : Format) (image : Image) (m : ManifestData) where
     have = tt;
     files = pair_files_fit m good;
     alone = none_alone f image;
-    all = refl;
+    all = IsPermutation-refl [];
     each = refl;
     long = refl;
     small = All-from_recursion MayLie [] tt;
@@ -90,15 +92,16 @@ module _ (f : Format) (image : Image) (m : ManifestData) where
     places = λ apart. no_places;
   }
 
-  module _ (p : Pair) (ps : List Pair) (before : List Numbered) (placed : Placed) (here : GatheredSoFar (p ∷ ps) before placed) (live : List Numbered) (only : IsOnly (LoadsAs f p (image p.data_file) (image p.delta_file)) (Ok live)) (good : IsManifest m) where
+  module _ (p : Pair) (ps : List Pair) (before : List Numbered) (placed : Placed) (here : GatheredSoFar (p ∷ ps) before placed) (live sorted : List Numbered) (moved : IsPermutation live sorted) (only : IsOnly (LoadsAs f p (image p.data_file) (image p.delta_file)) (Ok live)) (good : IsManifest m) where
     front : AreApart (here.lives ++ live ∷ []) → AreApart here.lives
     front apart = distinct_front eq (keys_of here.lives) (map key_of live) (subst (λ (ks : List RowKey). IsDistinct eq ks) (keys-push here.lives live) apart)
 
-    all_more : before ++ live ≡ all_of (here.lives ++ live ∷ [])
+    all_more : IsPermutation (all_of (here.lives ++ live ∷ [])) (before ++ sorted)
     all_more =
-        ap (λ (l : List Numbered). l ++ live) here.all
-        ∙ ap (λ (l : List Numbered). all_of here.lives ++ l) (sym (flat_map-cons (λ of_pair. of_pair) live [] ∙ append-nil live))
-        ∙ sym (flat_map-append (λ of_pair. of_pair) here.lives (live ∷ []))
+        let whole : all_of here.lives ++ live ≡ all_of (here.lives ++ live ∷ []) =
+        ap (λ (l : List Numbered). all_of here.lives ++ l) (sym (flat_map-cons (λ of_pair. of_pair) live [] ∙ append-nil live))
+        ∙ sym (flat_map-append (λ of_pair. of_pair) here.lives (live ∷ [])) in
+        subst (λ (l : List Numbered). IsPermutation l (before ++ sorted)) whole (IsPermutation-append (all_of here.lives) before live sorted here.all moved)
 
     each_more : placed ++ places_in p.data_file live ≡ places_of (here.done ++ p ∷ []) (here.lives ++ live ∷ [])
     each_more = ap (λ (es : Placed). es ++ places_in p.data_file live) here.each ∙ sym (places-push here.done here.lives p live here.long)
@@ -122,7 +125,7 @@ module _ (f : Format) (image : Image) (m : ManifestData) where
         All-from_recursion MayLie (places_in p.data_file live)
         (may_lie p live here.files.0 (recursion_from_All (λ l. l.0 < p.records) live (live_numbers_rise f p (image p.data_file) (image p.delta_file) live only.0).1))
 
-    pub one_gathered : GatheredSoFar ps (before ++ live) (placed ++ places_in p.data_file live)
+    pub one_gathered : GatheredSoFar ps (before ++ sorted) (placed ++ places_in p.data_file live)
     one_gathered = record {
       done = here.done ++ p ∷ [];
       whole = whole_more;
@@ -142,25 +145,25 @@ module _ (f : Format) (image : Image) (m : ManifestData) where
   pub front_files : (ps qs : List Pair) (live : List Numbered) (placed : Placed) → GatheredSoFar (ps ++ qs) live placed → All AreFiles ps
   front_files ps qs live placed here = All-from_recursion AreFiles ps (all_files ps (front_of HasFiles ps qs here.files).0)
 
-  abbrev live_of : Gathered → List Numbered
+  abbrev live_of : Part → List Numbered
   live_of part = part.live.items
 
-  abbrev placed_of : Gathered → Placed
+  abbrev placed_of : Part → Placed
   placed_of part = part.placed.items
 
-  abbrev pub ArePartsOf : List Pair → List Gathered → Type 0
+  abbrev pub ArePartsOf : List Pair → List Part → Type 0
   ArePartsOf ps parts = AllZip (λ of part. IsPart f of part.live.items part.placed.items) (map (bytes_of image) ps) parts
 
   -- the parts of some more pairs, one after another
-  pub more_gathered : IsManifest m → (ps qs : List Pair) (parts : List Gathered) (before : List Numbered) (placed : Placed) → GatheredSoFar (ps ++ qs) before placed → ArePartsOf ps parts
+  pub more_gathered : IsManifest m → (ps qs : List Pair) (parts : List Part) (before : List Numbered) (placed : Placed) → GatheredSoFar (ps ++ qs) before placed → ArePartsOf ps parts
       → GatheredSoFar qs (before ++ flat_map live_of parts) (placed ++ flat_map placed_of parts)
   more_gathered good [] qs [] before placed here are =
       subst (λ (l : List Numbered). GatheredSoFar qs l (placed ++ [])) (sym (append-nil before)) (subst (λ (es : Placed). GatheredSoFar qs before es) (sym (append-nil placed)) here)
   more_gathered good [] qs (part ∷ parts) before placed here are = absurd are
   more_gathered good (p ∷ ps) qs [] before placed here are = absurd are
   more_gathered good (p ∷ ps) qs (part ∷ parts) before placed here are =
-      let one = one_gathered p (ps ++ qs) before placed here (live_of part) are.0.0 good in
-      let next = subst (λ (es : Placed). GatheredSoFar (ps ++ qs) (before ++ live_of part) (placed ++ es)) (sym are.0.1) one in
+      let one = one_gathered p (ps ++ qs) before placed here are.0.live (live_of part) are.0.moved are.0.only good in
+      let next = subst (λ (es : Placed). GatheredSoFar (ps ++ qs) (before ++ live_of part) (placed ++ es)) (sym are.0.each) one in
       let all = more_gathered good ps qs parts (before ++ live_of part) (placed ++ placed_of part) next are.1 in
       let live_is : (before ++ live_of part) ++ flat_map live_of parts ≡ before ++ flat_map live_of (part ∷ parts) =
       append_assoc before (live_of part) (flat_map live_of parts) ∙ ap (λ (l : List Numbered). before ++ l) (sym (flat_map-cons live_of part parts)) in
@@ -221,8 +224,11 @@ long_as f image (p ∷ ps) [] have = absurd have
 long_as f image (p ∷ ps) (l ∷ ls) have = omega (arith, long_as f image ps ls have.1)
 
 module _ (f : Format) (image : Image) (m : ManifestData) (live : List Numbered) (placed : Placed) (all : AreGathered f image m live placed) (rows : Map) (made : AreMade live rows) (at : PlaceMap) (put : at ≡ with_places empty placed) where
+  each_made : AreMade (all_of all.lives) rows
+  each_made = made_in_order (all_of all.lives) live rows all.whole made.apart made.are
+
   apart : AreApart all.lives
-  apart = apart_each all.lives live all.whole made.apart
+  apart = apart_each all.lives (all_of all.lives) refl each_made.apart
 
   keys_apart : IsDistinct eq (map first_of placed)
   keys_apart = subst (λ (ks : List RowKey). IsDistinct eq ks) (sym (ap (λ (es : Placed). map first_of es) all.each ∙ keys-places_of m.pairs all.lives (long_as f image m.pairs all.lives all.have))) apart
@@ -231,7 +237,7 @@ module _ (f : Format) (image : Image) (m : ManifestData) (live : List Numbered) 
   at_is = sym (put_in_order placed [] keys_apart) ∙ sym put
 
   rows_are : rows ≡ rows_of all.lives
-  rows_are = made.are ∙ rows_each all.lives live all.whole
+  rows_are = each_made.are ∙ rows_each all.lives (all_of all.lives) refl
 
   pub rows_made : HaveRows f image m.pairs rows
   rows_made = record { lives = all.lives; live = all.have; distinct = apart; are = rows_are }

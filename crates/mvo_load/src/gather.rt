@@ -7,6 +7,7 @@ ghost use Rattle.mvo_load.specs.Read.{HasRead};
 
 use crate::files::read_files;
 use crate::gathered::Gathered;
+use crate::part::Part;
 use crate::parts::parts_of;
 use mvo_disk::Disk;
 use mvo_format::Format;
@@ -19,22 +20,19 @@ use std::thread::Threads;
 /// proportion to these.
 const PAIRS_AT_ONCE: usize = 4;
 
-/// Appends the parts. The room for all is made first.
-fn append_all(all: &mut Gathered, parts: Vec<Gathered>) -> Result<(), AllocError>
-    ensures live { OnOk result (all.new.live.items ≡
-        all.old.live.items ++ flat_map (λ part. part.live.items) parts.items) }
-    ensures placed { OnOk result (all.new.placed.items ≡
-        all.old.placed.items ++ flat_map (λ part. part.placed.items) parts.items) }
+/// Adds the lists of these parts. No record is moved.
+fn add_parts(all: &mut Gathered, parts: Vec<Part>) -> Result<(), AllocError>
+    ensures live { OnOk result (flat_map (λ live. live.items) all.new.lives.items ≡
+        flat_map (λ live. live.items) all.old.lives.items
+        ++ flat_map (λ part. part.live.items) parts.items) }
+    ensures placed { OnOk result (flat_map (λ of_pair. of_pair.items) all.new.placed.items ≡
+        flat_map (λ of_pair. of_pair.items) all.old.placed.items
+        ++ flat_map (λ part. part.placed.items) parts.items) }
 {
-    let mut count = 0usize;
-    for part in &parts {
-        count = count.saturating_add(part.live.len());
-    }
-    all.live.reserve(count)?;
-    all.placed.reserve(count)?;
-    for mut part in parts {
-        all.live.append(&mut part.live)?;
-        all.placed.append(&mut part.placed)?;
+    for part in parts {
+        let Part { live, placed } = part;
+        all.lives.push(live)?;
+        all.placed.push(placed)?;
     }
     Ok(())
 }
@@ -50,13 +48,14 @@ pub fn gather<D: Disk>(
 ) -> Result<Option<Gathered>, Refusal>
     requires room { D.fault_count disk.old + 1 < 2 ^ 64 }
     ensures gathered { IfOk result (λ found. IfSome found (λ all. AreGathered format
-        (D.content disk.old) manifest.now all.live.items all.placed.items)) }
+        (D.content disk.old) manifest.now (flat_map (λ live. live.items) all.lives.items)
+        (flat_map (λ of_pair. of_pair.items) all.placed.items))) }
     ensures stopped { IfErr result IsStop }
     ensures read { HasRead D.Disk disk.old disk.new result }
 {
-    let live = Vec::new(alloc);
+    let lives = Vec::new(alloc);
     let placed = Vec::new(alloc);
-    let mut all = Gathered { live, placed };
+    let mut all = Gathered { lives, placed };
     let mut rest = manifest.pairs();
     while !rest.is_empty() {
         let (pairs, after) = rest.split_at(rest.len().min(PAIRS_AT_ONCE));
@@ -71,7 +70,7 @@ pub fn gather<D: Disk>(
         let Some(parts) = found else {
             return Ok(None);
         };
-        append_all(&mut all, parts)?;
+        add_parts(&mut all, parts)?;
         rest = after;
     }
     Ok(Some(all))

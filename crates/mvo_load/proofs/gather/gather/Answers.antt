@@ -1,4 +1,4 @@
-use Rattle.std.proofs.Common.{◌≡◌, ◌++◌, List, [], ap, subst, sym, ◌∙◌, take, length}
+use Rattle.std.proofs.Common.{◌≡◌, ◌++◌, List, [], Vec, Global, ap, subst, sym, ◌∙◌, take, length}
 use Rattle.std.specs.Prelude.{map}
 use Rattle.std.specs.List.{AllZip, flat_map}
 use Rattle.std.proofs.lemmas.List.{take-append-drop}
@@ -16,6 +16,18 @@ use Rattle.mvo_load.proofs.gather.gather.Goals as goal
 abbrev Placed : Type 0
 Placed = List (RowKey × Place)
 
+abbrev lives_in : List (Vec Numbered Global) → List Numbered
+lives_in lives = flat_map (λ live. live.items) lives
+
+abbrev placed_in : List (Vec (RowKey × Place) Global) → Placed
+placed_in placed = flat_map (λ of_pair. of_pair.items) placed
+
+none_in : (lives : List (Vec Numbered Global)) → lives ≡ [] → [] ≡ lives_in lives
+none_in lives is = sym (ap lives_in is)
+
+none_placed : (placed : List (Vec (RowKey × Place) Global)) → placed ≡ [] → [] ≡ placed_in placed
+none_placed placed is = sym (ap placed_in is)
+
 pub loop-rest-init : goal.loop-rest-init
 loop-rest-init g c =
     let f = c.args.format in
@@ -23,8 +35,8 @@ loop-rest-init g c =
     let m = c.args.manifest.now in
     let none = none_gathered f image m c.pairs-rest.ensures.manifest in
     let pairs = subst (λ (ps : List Pair). GatheredSoFar f image m ps [] []) (sym c.pairs-rest.ensures.value) none in
-    let live = subst (λ (l : List Numbered). GatheredSoFar f image m c.pairs-rest.result.now l []) (sym c.new-live.ensures.items) pairs in (
-      subst (λ (es : Placed). GatheredSoFar f image m c.pairs-rest.result.now c.new-live.result.items es) (sym c.new-placed.ensures.items) live,
+    let live = subst (λ (l : List Numbered). GatheredSoFar f image m c.pairs-rest.result.now l []) (none_in c.new-lives.result.items c.new-lives.ensures.items) pairs in (
+      subst (λ (es : Placed). GatheredSoFar f image m c.pairs-rest.result.now (lives_in c.new-lives.result.items) es) (none_placed c.new-placed.result.items c.new-placed.ensures.items) live,
       unchanged_yet g.D.Disk g.met.D.Disk.only_now c.args.disk.now,
     )
 
@@ -36,8 +48,8 @@ loop-rest-preserved g c =
     let rest = c.loop-rest.rest.now in
     let ps = c.split_at.result.0.now in
     let qs = c.split_at.result.1.now in
-    let before = c.loop-rest.all.live.items in
-    let placed = c.loop-rest.all.placed.items in
+    let before = lives_in c.loop-rest.all.lives.items in
+    let placed = placed_in c.loop-rest.all.placed.items in
     let whole : ps ++ qs ≡ rest = ap (λ (l : List Pair). l ++ qs) c.split_at.ensures.front ∙ ap (λ (l : List Pair). take c.min.result rest ++ l) c.split_at.ensures.back ∙ take-append-drop c.min.result rest in
     let here = subst (λ (l : List Pair). GatheredSoFar f image m l before placed) (sym whole) c.loop-rest.invariant.0 in
     let same = same_image g.D.Disk c.args.disk.now c.loop-rest.disk c.loop-rest.invariant.1.rest.content in
@@ -46,8 +58,8 @@ loop-rest-preserved g c =
     let parts = c.in-Some.parts.items in
     let are = subst (λ (bs : List PairBytes). AllZip (λ of part. IsPart f of part.live.items part.placed.items) bs parts) read found in
     let more = more_gathered f image m c.pairs-rest.ensures.manifest ps qs parts before placed here are in
-    let live = subst (λ (l : List Numbered). GatheredSoFar f image m qs l (placed ++ flat_map (λ part. part.placed.items) parts)) (sym c.in_ok-append_all.ensures.live) more in (
-      subst (λ (es : Placed). GatheredSoFar f image m qs c.append_all.new.all.live.items es) (sym c.in_ok-append_all.ensures.placed) live,
+    let live = subst (λ (l : List Numbered). GatheredSoFar f image m qs l (placed ++ flat_map (λ part. part.placed.items) parts)) (sym c.in_ok-add_parts.ensures.live) more in (
+      subst (λ (es : Placed). GatheredSoFar f image m qs (lives_in c.add_parts.new.all.lives.items) es) (sym c.in_ok-add_parts.ensures.placed) live,
       then_unchanged g.D.Disk c.args.disk.now c.loop-rest.disk c.read_files.new.disk c.loop-rest.invariant.1
           (record { rest = c.in-Ok.ensures.read.rest; any_moment = c.in-Ok.ensures.read.any_moment; count = c.in-Ok.ensures.read.count }),
     )
@@ -60,8 +72,8 @@ read_files-requires-clause-pairs g c =
     let rest = c.loop-rest.rest.now in
     let ps = c.split_at.result.0.now in
     let qs = c.split_at.result.1.now in
-    let before = c.loop-rest.all.live.items in
-    let placed = c.loop-rest.all.placed.items in
+    let before = lives_in c.loop-rest.all.lives.items in
+    let placed = placed_in c.loop-rest.all.placed.items in
     let whole : ps ++ qs ≡ rest = ap (λ (l : List Pair). l ++ qs) c.split_at.ensures.front ∙ ap (λ (l : List Pair). take c.min.result rest ++ l) c.split_at.ensures.back ∙ take-append-drop c.min.result rest in
     front_files f image m ps qs before placed (subst (λ (l : List Pair). GatheredSoFar f image m l before placed) (sym whole) c.loop-rest.invariant.0)
 
@@ -70,6 +82,6 @@ returns-clause-gathered g c =
     let f = c.args.format in
     let image = g.D.Disk.content c.args.disk.now in
     let m = c.args.manifest.now in
-    let live = c.loop-rest.all.live.items in
-    let placed = c.loop-rest.all.placed.items in
+    let live = lives_in c.loop-rest.all.lives.items in
+    let placed = placed_in c.loop-rest.all.placed.items in
     all_gathered f image m live placed (subst (λ (l : List Pair). GatheredSoFar f image m l live placed) (none_left c.loop-rest.rest.now (is_none (length c.loop-rest.rest.now) (sym c.loop-rest-test.false ∙ c.is_empty.ensures))) c.loop-rest.invariant.0)

@@ -1,5 +1,6 @@
 use Rattle.std.proofs.Common.{◌≡◌, ◌⊎◌, [], Some, Err, subst}
 use Rattle.std.specs.FinMap.{empty}
+use Rattle.std.specs.List.{flat_map}
 use Rattle.mvo_pair.specs.Answers.{IsOnly}
 use Rattle.mvo_pair.specs.Writing.{IsStop}
 use Rattle.mvo_image.specs.Opens.{Image, Segments, OpensWith}
@@ -16,8 +17,8 @@ returns-in-Some-2-clause-live g c =
     let f = c.args.format in
     let image = g.D.Disk.content c.args.disk.now in
     let m = c.args.manifest.now in
-    let live = c.in-Some.all.live.items in
-    let placed = c.in-Some.all.placed.items in
+    let live = flat_map (λ live. live.items) c.in-Some.all.lives.items in
+    let placed = flat_map (λ of_pair. of_pair.items) c.in-Some.all.placed.items in
     let all : AreGathered f image m live placed = rw c.in-Some.is at c.in-Ok.ensures.gathered in
     let made : AreMade live c.in-Some-2.made.0 × (c.in-Some-2.made.1.at ≡ with_places empty placed) = rw c.in-Some-2.is at c.in_ok-made.ensures in
     rows_made f image m live placed all c.in-Some-2.made.0 made.0 c.in-Some-2.made.1.at made.1
@@ -27,8 +28,8 @@ returns-in-Some-2-clause-places g c =
     let f = c.args.format in
     let image = g.D.Disk.content c.args.disk.now in
     let m = c.args.manifest.now in
-    let live = c.in-Some.all.live.items in
-    let placed = c.in-Some.all.placed.items in
+    let live = flat_map (λ live. live.items) c.in-Some.all.lives.items in
+    let placed = flat_map (λ of_pair. of_pair.items) c.in-Some.all.placed.items in
     let all : AreGathered f image m live placed = rw c.in-Some.is at c.in-Ok.ensures.gathered in
     let made : AreMade live c.in-Some-2.made.0 × (c.in-Some-2.made.1.at ≡ with_places empty placed) = rw c.in-Some-2.is at c.in_ok-made.ensures in
     places_made f image m live placed all c.in-Some-2.made.0 made.0 c.in-Some-2.made.1.at made.1
@@ -38,8 +39,8 @@ returns-in-Some-2-clause-leads g c =
     let f = c.args.format in
     let image = g.D.Disk.content c.args.disk.now in
     let m = c.args.manifest.now in
-    let live = c.in-Some.all.live.items in
-    let placed = c.in-Some.all.placed.items in
+    let live = flat_map (λ live. live.items) c.in-Some.all.lives.items in
+    let placed = flat_map (λ of_pair. of_pair.items) c.in-Some.all.placed.items in
     let all : AreGathered f image m live placed = rw c.in-Some.is at c.in-Ok.ensures.gathered in
     let made : AreMade live c.in-Some-2.made.0 × (c.in-Some-2.made.1.at ≡ with_places empty placed) = rw c.in-Some-2.is at c.in_ok-made.ensures in
     leads_made f image m live placed all c.in-Some-2.made.0 made.0 c.in-Some-2.made.1.at made.1
