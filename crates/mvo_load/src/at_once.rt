@@ -24,11 +24,7 @@ fn put_all(places: &mut Places, placed: &[(RowKey, Place)]) -> Result<(), AllocE
 }
 
 /// A table of places. The room for all is made first.
-fn table_of(
-    alloc: Global,
-    seed: u64,
-    placed: &[Vec<(RowKey, Place)>],
-) -> Result<Places, AllocError>
+fn table_of(alloc: Global, seed: u64, placed: &[Vec<(RowKey, Place)>]) -> Result<Places, AllocError>
     requires { All MayLie (flat_map (λ of_pair. of_pair.items) placed.now) }
     ensures { IfOk result (λ places. places.at ≡
         with_places map.empty (flat_map (λ of_pair. of_pair.items) placed.now)) }
