@@ -14,6 +14,3 @@ pub use asked::command;
 pub use fault::Fault;
 pub use program::run_program;
 pub use task::Task;
-
-#[cfg(test)]
-mod tests;

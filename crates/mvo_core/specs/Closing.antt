@@ -50,3 +50,8 @@ module _ {A P : Type 0} where
       → Producer GroupData A P → Type 0
   IsClosing old ring result new ring' = (opening : Map) (steps : List Step) (s : State)
       → StandsFor opening steps s old → HasClosed opening steps s ring result new ring'
+
+  -- a rule of the ring that allows each group which begins where the last one ended
+  abbrev pub AllowsNext : (List GroupData → GroupData → Type 0) → CoreData → Producer GroupData A P
+      → Type 0
+  AllowsNext allows c ring = (g : GroupData) → g.prev ≡ c.closed → allows (sent ring) g

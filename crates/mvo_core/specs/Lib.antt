@@ -5,6 +5,7 @@ pub mod Steps
 pub mod Own
 pub mod Keeping
 pub mod Closing
+pub mod Groups
 pub mod Looking
 pub mod Finishing
 pub mod Aborting

@@ -5,18 +5,26 @@ use crate::engine::Core;
 use mvo_group::Group;
 use mvo_tale::NextRecords;
 use mvo_types::Refusal;
-use rtrb::Producer;
+use rtrb::{Producer, Protocol};
+use std::alloc::Global;
 
 impl Core {
     ghost use Rattle.rtrb.specs.Ring.{SameProducer};
-    ghost use Rattle.mvo_core.specs.Closing.{IsClosing};
+    ghost use Rattle.mvo_core.specs.Closing.{IsClosing, AllowsNext};
 
     /// Closes the next group and puts it into the ring: the longest beginning of the commits that
     /// wrote with an end above the last group's mark and at most the low-water, which fits into a
     /// group. If all fit, its mark is the low-water, else the end of the last that does. A group
     /// may hold no records. Refused, in this order: NothingToDo if the mark wouldn't rise, RingFull
     /// if no slot of the ring is free, OutOfMemory.
-    pub fn close_group(&mut self, ring: &mut Producer<Group>) -> Result<Closed, Refusal>
+    ///
+    /// A ring may have a rule on what goes through it, as that each group begins where the one
+    /// before it ended: the core keeps any rule that allows each group from the last mark on.
+    pub fn close_group<P: Protocol<Group>>(
+        &mut self,
+        ring: &mut Producer<Group, Global, P>,
+    ) -> Result<Closed, Refusal>
+        requires allowed { AllowsNext P.allows self.old ring.old }
         ensures step { IsClosing self.old ring.old result self.new ring.new }
         ensures ring { SameProducer ring.old ring.new }
     {

@@ -1,10 +1,12 @@
-//! Tests of scripts, by their replies.
+//! Tests of scripts, by their replies, and of the command line.
 #![tactic(auto)]
 
 #[cfg(test)]
 mod assert;
 #[cfg(test)]
 mod checkpoints;
+#[cfg(test)]
+mod commands;
 #[cfg(test)]
 mod durable;
 #[cfg(test)]

@@ -18,7 +18,7 @@ use Rattle.mvo_tale.specs.Records.{AreRecordsOf}
 use Rattle.mvo_frame.specs.Frames.{mark_after}
 use Rattle.mvo_image.specs.Rows.{after_record, after_groups}
 use Rattle.mvo_recovery.proofs.Grown.{after_groups-append}
-use Rattle.mvo_world.specs.Groups.{AreGroupsOf}
+use Rattle.mvo_core.specs.Groups.{AreGroupsOf}
 use Rattle.mvo_world.proofs.Rows.{left_by_all, left_by_all-append, is_after, records_rows}
 
 -- ---- rows up to a mark, by the line

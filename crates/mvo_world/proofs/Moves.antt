@@ -34,7 +34,7 @@ use Rattle.mvo_store.specs.Steps.{GivenBackFor, RefusedFor, LeftBy, LeftByRead, 
 use Rattle.mvo_store.proofs.Keeping.{OnlyNow, refused_keeps, same_keeps}
 use Rattle.mvo_world.specs.WorldData.{WorldData, waiting, Follow, IsLinked, HasBegun}
 use Rattle.mvo_world.specs.Past.{Past, happened, acknowledged_by, closed_by, with_event, opened_over}
-use Rattle.mvo_world.specs.Groups.{AreGroupsOf}
+use Rattle.mvo_core.specs.Groups.{AreGroupsOf}
 use Rattle.mvo_world.specs.Standing.{IsAfter, RecoversPrefix, LeavesPrefix}
 use Rattle.mvo_world.specs.Replies.{IsReplyTo, IsAsked, HasComeTo, HasRow, IsBodyRefusal, IsGateRefusal}
 use Rattle.mvo_world.specs.Steps.{IsStepBy, IsStep}
@@ -86,7 +86,7 @@ follow_push m last (x ∷ gs) g h e = (h.0, follow_push x.mark last gs g h.1 e)
 pub linked_closed : {D : Type 0} (w : WorldData D) (g : GroupData) → g.prev ≡ w.core.closed → IsLinked w → Follow w.store.mark (option_to_list w.store.pending ++ (w.ring ++ g ∷ [])) g.mark
 linked_closed w g e h = subst (λ gs. Follow w.store.mark gs g.mark) (append_assoc (option_to_list w.store.pending) w.ring (g ∷ [])) (follow_push w.store.mark w.core.closed (waiting w) g h e)
 
-groups_closed : (s : State) (n m : ℕ) (gs : List GroupData) → AreGroupsOf s m gs → AreGroupsOf (after_close s n) m gs
+pub groups_closed : (s : State) (n m : ℕ) (gs : List GroupData) → AreGroupsOf s m gs → AreGroupsOf (after_close s n) m gs
 groups_closed s n m [] h = tt
 groups_closed s n m (g ∷ gs) h = (h.0, record { closed = record { drawn = h.1.closed.drawn; above = h.1.closed.above }; records = h.1.records; rules = h.1.rules }, groups_closed s n g.mark gs h.2)
 

@@ -16,7 +16,7 @@ use Rattle.mvo_store.specs.StoreData.{opening}
 use Rattle.mvo_store.specs.Standing.{Gives, GivesOr, HasSlots, MayBeLeft}
 use Rattle.mvo_world.specs.Past.{Past}
 use Rattle.mvo_world.specs.WorldData.{WorldData, waiting, Follow}
-use Rattle.mvo_world.specs.Groups.{IsGroupOf, AreGroupsOf}
+use Rattle.mvo_core.specs.Groups.{IsGroupOf, AreGroupsOf}
 use Rattle.mvo_world.specs.Standing.{IsOneOf, RecoversPrefix, IsAfter}
 use Rattle.mvo_world.proofs.Rows.{left_by_all}
 use Rattle.mvo_world.proofs.Chain.{rows_up_to_is, chain_rows}

@@ -2,7 +2,6 @@ pub mod Ends
 pub mod Ring
 pub mod WorldData
 pub mod Past
-pub mod Groups
 pub mod Standing
 pub mod Replies
 pub mod Steps

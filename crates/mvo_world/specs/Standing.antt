@@ -17,7 +17,7 @@ use Rattle.mvo_pair.specs.Writing.{IsStop}
 use Rattle.mvo_store.specs.Standing.{Gives, KeepsRows, HasSlots}
 use Rattle.mvo_world.specs.Past.{Past}
 use Rattle.mvo_world.specs.WorldData.{WorldData, waiting}
-use Rattle.mvo_world.specs.Groups.{AreGroupsOf}
+use Rattle.mvo_core.specs.Groups.{AreGroupsOf}
 
 -- it is one of these
 abbrev pub IsOneOf : ℕ → List ℕ → Type 0

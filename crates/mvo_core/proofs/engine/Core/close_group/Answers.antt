@@ -9,7 +9,7 @@ use Rattle.mvo_core.proofs.GroupClosed.{made, full_is, spent_for, ends_above, ab
 use Rattle.mvo_core.proofs.engine.Core.close_group.Goals as goal
 
 pub returns-then-eq-clause-step : goal.returns-then-eq-clause-step
-returns-then-eq-clause-step c = λ opening steps s h.
+returns-then-eq-clause-step g c = λ opening steps s h.
     let f = c.self.inside in
     let old : CoreData = record { versions = f.versions; table = f.table; tale = f.tale; opening = f.opening.0; closed = f.closed.0; grouped = f.grouped } in
     let low = c.low_water-low_water.result.0 in (
@@ -18,7 +18,7 @@ returns-then-eq-clause-step c = λ opening steps s h.
     )
 
 pub returns-then-is_full-clause-step : goal.returns-then-is_full-clause-step
-returns-then-is_full-clause-step c = λ opening steps s h.
+returns-then-is_full-clause-step g c = λ opening steps s h.
     let f = c.self.inside in
     let old : CoreData = record { versions = f.versions; table = f.table; tale = f.tale; opening = f.opening.0; closed = f.closed.0; grouped = f.grouped } in
     let low = c.low_water-low_water.result.0 in (
@@ -27,14 +27,14 @@ returns-then-is_full-clause-step c = λ opening steps s h.
     )
 
 pub next_records-requires-clause-preparing : goal.next_records-requires-clause-preparing
-next_records-requires-clause-preparing c =
+next_records-requires-clause-preparing g c =
     let f = c.self.inside in
     let i = c.self.invariant in
     let old : CoreData = record { versions = f.versions; table = f.table; tale = f.tale; opening = f.opening.0; closed = f.closed.0; grouped = f.grouped } in
     ends_above i.opening i.steps i.state old i.stands c.low_water-low_water.result.0 c.low_water-low_water.ensures
 
 pub next_records-requires-clause-above : goal.next_records-requires-clause-above
-next_records-requires-clause-above c =
+next_records-requires-clause-above g c =
     let f = c.self.inside in
     let i = c.self.invariant in
     let old : CoreData = record { versions = f.versions; table = f.table; tale = f.tale; opening = f.opening.0; closed = f.closed.0; grouped = f.grouped } in
@@ -42,7 +42,7 @@ next_records-requires-clause-above c =
     above_closed i.opening i.steps i.state old i.stands low c.low_water-low_water.ensures i.closed (sym c.eq.ensures ∙ c.if-eq.false)
 
 pub next_records-requires-clause-drawn : goal.next_records-requires-clause-drawn
-next_records-requires-clause-drawn c =
+next_records-requires-clause-drawn g c =
     let f = c.self.inside in
     let i = c.self.invariant in
     let old : CoreData = record { versions = f.versions; table = f.table; tale = f.tale; opening = f.opening.0; closed = f.closed.0; grouped = f.grouped } in
@@ -52,7 +52,7 @@ next_records-requires-clause-drawn c =
     omega (arith, drawn, is, stamped)
 
 pub returns-in_err-next-clause-step : goal.returns-in_err-next-clause-step
-returns-in_err-next-clause-step c = λ opening steps s h.
+returns-in_err-next-clause-step g c = λ opening steps s h.
     let f = c.self.inside in
     let old : CoreData = record { versions = f.versions; table = f.table; tale = f.tale; opening = f.opening.0; closed = f.closed.0; grouped = f.grouped } in
     let low = c.low_water-low_water.result.0 in
@@ -64,21 +64,21 @@ returns-in_err-next-clause-step c = λ opening steps s h.
     c.from_residual.result c.from_residual.ensures.1)
 
 pub invariant_of-self : goal.invariant_of-self
-invariant_of-self c =
+invariant_of-self g c =
     stands_with_group c.self.invariant c.low_water-low_water.result.0 c.low_water-low_water.ensures c.in_ok-next.next c.in_ok-next.ensures.next
 
 pub returns-clause-step : goal.returns-clause-step
-returns-clause-step c = λ opening steps s h.
+returns-clause-step g c = λ opening steps s h.
     let f = c.self.inside in
     let old : CoreData = record { versions = f.versions; table = f.table; tale = f.tale; opening = f.opening.0; closed = f.closed.0; grouped = f.grouped } in
     let low = c.low_water-low_water.result.0 in
     let n = c.in_ok-next.next in
     let stands = subst (StandsFor opening steps s) (sym c.self.view_is) h in
-    let g : GroupData = group_of f.closed.0 n.mark.0 n.records.items in
-    let is = made c.new.result c.unwrap.result g c.new.ensures c.unwrap.ensures in (
+    let now : GroupData = group_of f.closed.0 n.mark.0 n.records.items in
+    let is = made c.new.result c.unwrap.result now c.new.ensures c.unwrap.ensures in (
       closes opening steps s old stands low c.low_water-low_water.ensures (sym c.eq.ensures ∙ c.if-eq.false),
       (
-        g,
+        now,
         c.push_reserved.ensures.sent.0 ∙ ap (λ xs. xs ++ c.unwrap.result ∷ []) c.is_full.ensures.looked.1 ∙ ap (λ (x : GroupData). sent c.args.ring.now ++ x ∷ []) (sym is.1),
         closed_now opening steps s old stands low c.low_water-low_water.ensures n c.in_ok-next.ensures.next f.closed refl is.0,
       ),

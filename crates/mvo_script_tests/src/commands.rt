@@ -1,5 +1,5 @@
-use crate::{Fault, Task, command};
 use clap::error::ErrorKind;
+use mvo_cli::{Fault, Task, command};
 use std::test::Fail;
 
 #[test]

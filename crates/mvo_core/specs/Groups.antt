@@ -1,4 +1,4 @@
--- Which commits the groups of a world hold.
+-- Which commits closed groups hold.
 use Rattle.std.specs.Prelude.{◌≡◌, ℕ, List, [], ◌∷◌, filter}
 use Rattle.mvo_group.specs.Data.{GroupData}
 use Rattle.mvo_group.specs.Rules.{KeepsRules}

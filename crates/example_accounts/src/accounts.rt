@@ -1,0 +1,159 @@
+//! What is done with the engine: the accounts are made, eight threads transfer, and all is counted.
+ghost use Rattle.mvo_engine.specs.Opened.{IsNamedBy};
+
+use crate::transfers::{ACCOUNTS, START, money_in, row_of, transfer};
+use anyhow::bail;
+use mvo_disk::{Disk, MemDisk};
+use mvo_engine::{Engine, Fresh, OpenGate, Run};
+use mvo_store::format;
+use mvo_types::{Answer, Refusal, Stamp};
+use std::alloc::{AllocError, Global};
+use std::marker::Brand;
+use std::sync::Wait;
+use std::thread;
+use std::thread::Threads;
+
+/// How many threads transfer, and how often each does.
+const WORKERS: usize = 8;
+
+const TRANSFERS: u64 = 250;
+
+/// What came of it.
+#[derive(Drop)]
+pub struct Told {
+    pub transfers: usize,
+    pub total: u64,
+    pub durable: bool,
+}
+
+/// A disk in memory with a store that has no rows.
+pub fn formatted(alloc: Global) -> Result<MemDisk, anyhow::Error> {
+    match format(alloc, new_disk(alloc)?) {
+        Ok(disk) => Ok(disk),
+        Err((refusal, _)) => bail!("no store is written: {refusal}"),
+    }
+}
+
+fn new_disk(alloc: Global) -> Result<MemDisk, AllocError> {
+    MemDisk::new(alloc)
+}
+
+/// Opens the disk, and has all threads transfer.
+pub fn on_disk<D: Disk + Drop + Send, R: Threads + Wait + Sync>(
+    rt: &R,
+    alloc: Global,
+    seed: u64,
+    disk: D,
+) -> Result<Told, Refusal> {
+    match Fresh::open(rt, alloc, seed, disk) {
+        Ok(fresh) => run::<Brand, D, R>(rt, alloc, fresh),
+        Err((refusal, _)) => Err(refusal),
+    }
+}
+
+/// Makes an engine and the accounts, has all threads transfer, and counts. It is written for every
+/// run, which the parts name.
+fn run<L: Run + Send + Sync, D: Disk + Drop + Send, R: Threads + Wait + Sync>(
+    rt: &R,
+    alloc: Global,
+    fresh: Fresh<D>,
+) -> Result<Told, Refusal>
+    requires { IsNamedBy D.Disk L.image L.marks L.ring fresh }
+{
+    let engine = Engine::<L, D, OpenGate>::new(fresh, OpenGate);
+    open_accounts(rt, alloc, &engine)?;
+    let ends = transfers(rt, alloc, &engine)?;
+    count(rt, &engine, ends)
+}
+
+/// The transfers of all threads, and the end of each one's last.
+fn transfers<L: Run + Send + Sync, D: Disk + Send, R: Threads + Wait + Sync>(
+    rt: &R,
+    alloc: Global,
+    engine: &Engine<L, D, OpenGate>,
+) -> Result<Vec<Result<Stamp, Refusal>>, AllocError> {
+    thread::map_indices(
+        rt,
+        alloc,
+        WORKERS,
+        &|worker| work(rt, alloc, engine, worker as u64),
+    )
+}
+
+/// Makes the accounts, in one transaction.
+fn open_accounts<L: Run, D: Disk, R: Wait>(
+    rt: &R,
+    alloc: Global,
+    engine: &Engine<L, D, OpenGate>,
+) -> Result<Stamp, Refusal> {
+    let mut session = engine.session(rt)?;
+    session.begin_tx(rt)?;
+    for account in 0..ACCOUNTS {
+        session.insert(rt, row_of(alloc, account, START)?)?;
+    }
+    session.commit_tx(rt)
+}
+
+/// The transfers of one thread. It waits until its last one is durable.
+fn work<L: Run, D: Disk, R: Wait>(
+    rt: &R,
+    alloc: Global,
+    engine: &Engine<L, D, OpenGate>,
+    worker: u64,
+) -> Result<Stamp, Refusal> {
+    let mut session = engine.session(rt)?;
+    let mut last = Stamp(0);
+    for number in 0..TRANSFERS {
+        let (from, to, amount) = choice(worker, number);
+        last = transfer(rt, alloc, &mut session, from, to, amount)?;
+    }
+    engine.flush(rt)?;
+    session.wait_durable(rt, last)?;
+    Ok(last)
+}
+
+/// Which transfer a worker makes: from where, to where, and how much.
+fn choice(worker: u64, number: u64) -> (u64, u64, u64) {
+    let from = (worker
+        .wrapping_mul(31)
+        .wrapping_add(number.wrapping_mul(17)))
+        % ACCOUNTS;
+    let to = (from
+        .wrapping_add(1)
+        .wrapping_add(number.wrapping_mul(7) % 98))
+        % ACCOUNTS;
+    (from, to, number % 10)
+}
+
+/// Counts what all accounts have, and asks whether all transfers are durable.
+fn count<L: Run, D: Disk, R: Wait>(
+    rt: &R,
+    engine: &Engine<L, D, OpenGate>,
+    ends: Vec<Result<Stamp, Refusal>>,
+) -> Result<Told, Refusal> {
+    let mut session = engine.session(rt)?;
+    let transfers = ends.len().saturating_mul(TRANSFERS as usize);
+    let mut durable = true;
+    for end in ends {
+        durable &= session.poll_durable(end?);
+    }
+    session.begin_tx(rt)?;
+    let total = match session.scan(rt, 0, 0, ACCOUNTS)? {
+        Answer::Rows(rows) => total_of(&rows),
+        _ => 0,
+    };
+    session.commit_tx(rt)?;
+    Ok(Told {
+        transfers,
+        total,
+        durable,
+    })
+}
+
+fn total_of(rows: &[mvo_types::Row]) -> u64 {
+    let mut total = 0u64;
+    for row in rows {
+        total = total.wrapping_add(money_in(row));
+    }
+    total
+}

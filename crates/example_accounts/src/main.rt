@@ -1,0 +1,37 @@
+//! Eight threads move money between a hundred accounts. No money is lost or made, and all of it is
+//! durable at the end.
+#![tactic(auto)]
+
+mod accounts;
+mod transfers;
+
+use accounts::{formatted, on_disk};
+use anyhow::bail;
+use std::random::RandomSource;
+
+fn main(rt: HostRuntime) -> Result<(), anyhow::Error> {
+    let alloc = rt.alloc();
+    let disk = formatted(alloc)?;
+    let told = match on_disk(&rt, alloc, draw_seed(&rt)?, disk) {
+        Ok(told) => told,
+        Err(refusal) => bail!("the accounts are left: {refusal}"),
+    };
+    println!(rt; "{} transfers", told.transfers)?;
+    println!(rt; "total {}", told.total)?;
+    println!(rt;
+        "{}",
+        if told.durable {
+            "all durable"
+        } else {
+            "not all durable"
+        }
+    )?;
+    Ok(())
+}
+
+/// Who chooses the keys of rows must not know the seed of the index.
+fn draw_seed(rt: &impl RandomSource) -> Result<u64, anyhow::Error> {
+    let mut bytes = [0; 8];
+    rt.fill_bytes(&mut bytes)?;
+    Ok(u64::from_le_bytes(bytes))
+}

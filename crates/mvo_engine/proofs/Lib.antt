@@ -1,0 +1,4 @@
+pub mod Rings
+pub mod CoreSound
+pub mod StoreSound
+pub mod Begun

@@ -1,0 +1,7 @@
+use Rattle.mvo_engine.proofs.StoreSound.{received_image}
+use Rattle.mvo_engine.proofs.locked_store.LockedStore.into_disk.Goals as goal
+
+pub returns-clause-gives : goal.returns-clause-gives
+returns-clause-gives g c = λ slots.
+    let disk = c.self.inside.store.disk in
+    rw (← c.self.view_is, c.into_disk.ensures) (received_image g.D.Disk c.self.invariant.0 slots (g.D.Disk.content disk) (λ n. g.met.D.Disk.content_may_stay disk n))

@@ -1,0 +1,100 @@
+-- What the calls under the locks come to, and those of a session.
+use Rattle.std.specs.Prelude.{◌≡◌, ℕ, List, [], ◌∷◌, ◌++◌, Option, None, Some, Result, Ok, Err, if◌then◌else◌, max}
+use Rattle.mvo_types.specs.declared.refusal.Refusal.{Refusal}
+use Rattle.mvo_types.specs.declared.refusal.Refusal.TheVariants.{NoSuchTransaction, Busy, NothingToDo}
+use Rattle.mvo_types.specs.declared.ids.TxId.{TxId}
+use Rattle.mvo_types.specs.Keys.{Map}
+use Rattle.mvo_model.specs.Trace.{Step}
+use Rattle.mvo_disk.specs.declared.disk.Disk.{Ghosts}
+use Rattle.mvo_group.specs.Data.{GroupData}
+use Rattle.mvo_theory.specs.State.{State}
+use Rattle.mvo_theory.specs.Calls.{Call}
+use Rattle.mvo_theory.specs.Causes.{is_failure}
+use Rattle.mvo_core.specs.declared.answers.Closed.{Closed}
+use Rattle.mvo_core.specs.Standing.{StandsFor}
+use Rattle.mvo_core.specs.Steps.{IsStep}
+use Rattle.mvo_core.specs.Closing.{IsClosedNow}
+use Rattle.mvo_store.specs.Standing.{Keeps, IsKeeping, after_taken}
+use Rattle.mvo_store.specs.Causes.{why_not_take}
+use Rattle.mvo_store.specs.Steps.{IsMarkOf}
+use Rattle.mvo_engine.specs.States.{CoreState, StoreState, SessionState}
+
+-- a step of the core that closes no group
+pub record IsCoreStep {A : Type 0} (old : CoreState) (call : Call) (result : Result A Refusal)
+    (new : CoreState) : Type 0 where
+  pub step : IsStep old.core call result new.core
+  pub sent : new.sent ≡ old.sent
+  pub made : new.made ≡ old.made
+
+-- the next group is sent, or none
+abbrev pub HasSent : Map → List Step → State → CoreState → Result Closed Refusal → CoreState
+    → Type 0
+HasSent rows steps s old (Ok c) new =
+    (g : GroupData) × (new.sent ≡ old.sent ++ g ∷ []) × IsClosedNow rows steps s c new.core g
+HasSent rows steps s old (Err r) new =
+    (new.sent ≡ old.sent) × StandsFor rows steps s new.core
+
+abbrev pub IsSending : CoreState → Result Closed Refusal → CoreState → Type 0
+IsSending old result new = (rows : Map) (steps : List Step) (s : State)
+    → StandsFor rows steps s old.core → HasSent rows steps s old result new
+
+-- a step of the store that takes no group and makes none durable
+pub record IsStoreStep {D : Type 0} (d : Ghosts D) (old new : StoreState D) : Type 0 where
+  pub keeps : Keeps d old.store new.store
+  pub mark : new.store.mark ≡ old.store.mark
+  pub received : new.received ≡ old.received
+  pub published : new.published ≡ old.published
+
+-- the next group, which begins at the store's mark, is being appended
+pub record HasTaken {D : Type 0} (old new : StoreState D) : Type 0 where
+  pub may : why_not_take old.store ≡ None
+  pub group : GroupData
+  pub prev : group.prev ≡ old.store.mark
+  pub received : new.received ≡ old.received ++ group ∷ []
+  pub store : new.store ≡ record old.store { pending = Some group }
+  pub published : new.published ≡ old.published
+
+-- what the store refuses for, and else that no group was seen in the ring
+abbrev pub is_refusal_to_take : Option Refusal → Refusal → Type 0
+is_refusal_to_take None e = e ≡ NothingToDo
+is_refusal_to_take (Some cause) e = e ≡ cause
+
+pub record IsNotTaken {D : Type 0} (old : StoreState D) (e : Refusal) (new : StoreState D) : Type 0
+  where
+    pub refusal : is_refusal_to_take (why_not_take old.store) e
+    pub store : new.store ≡ old.store
+    pub received : new.received ≡ old.received
+    pub published : new.published ≡ old.published
+
+-- the group that was being appended is durable, and its mark is published
+pub record HasAppended {D : Type 0} (d : Ghosts D) (old : StoreState D) (durable : ℕ)
+    (new : StoreState D) : Type 0 where
+  pub group : IsMarkOf old.store.pending durable
+  pub mark : new.store.mark ≡ durable
+  pub pending : new.store.pending ≡ None
+  pub keeps : IsKeeping d (λ rows. after_taken rows old.store.pending) old.store new.store
+  pub received : new.received ≡ old.received
+  pub published : new.published ≡ max old.published durable
+
+-- ---- a session
+
+-- Refused with Busy where it has a transaction. Begun, it has the new one, and else what it had.
+abbrev pub IsBegun : Option ℕ → Result TxId Refusal → Option ℕ → Type 0
+IsBegun (Some t) result after = (result ≡ Err Busy) × (after ≡ Some t)
+IsBegun None (Ok t) after = after ≡ Some t.0
+IsBegun None (Err r) after = after ≡ None
+
+-- refused where it has none
+abbrev pub IsNoTx : {A : Type 0} → Option ℕ → Result A Refusal → Type 0
+IsNoTx None result = result ≡ Err NoSuchTransaction
+IsNoTx (Some t) result = Unit {0}
+
+-- a refusal that is a failure ends the transaction
+abbrev pub tx_after : {A : Type 0} → Option ℕ → Result A Refusal → Option ℕ
+tx_after tx (Ok a) = tx
+tx_after tx (Err r) = if is_failure r then None else tx
+
+-- so does a commit or a rollback
+abbrev pub tx_ended : {A : Type 0} → Option ℕ → Result A Refusal → Option ℕ
+tx_ended tx (Ok a) = None
+tx_ended tx (Err r) = if is_failure r then None else tx

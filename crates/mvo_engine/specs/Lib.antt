@@ -1,0 +1,6 @@
+pub mod Rings
+pub mod Sound
+pub mod Opened
+pub mod States
+pub mod Calls
+pub mod Legal

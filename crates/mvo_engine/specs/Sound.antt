@@ -1,0 +1,76 @@
+-- What the values under the two locks keep.
+use Rattle.std.specs.Prelude.{◌≡◌, ℕ, ◌≤◌, List, ◌++◌}
+use Rattle.std.specs.Option.{option_to_list}
+use Rattle.mvo_types.specs.Keys.{Map}
+use Rattle.mvo_model.specs.Trace.{Step}
+use Rattle.mvo_disk.specs.declared.disk.Disk.{Ghosts}
+use Rattle.mvo_disk.specs.Disk.{Image, AllOf}
+use Rattle.mvo_group.specs.Data.{GroupData}
+use Rattle.mvo_theory.specs.State.{State}
+use Rattle.mvo_theory.specs.Marks.{IsClosedAt}
+use Rattle.mvo_core.specs.Data.{CoreData}
+use Rattle.mvo_core.specs.Standing.{StandsFor}
+use Rattle.mvo_core.specs.Groups.{AreGroupsOf}
+use Rattle.mvo_frame.specs.Frames.{mark_after}
+use Rattle.mvo_image.specs.Rows.{after_groups}
+use Rattle.mvo_store.specs.StoreData.{StoreData}
+use Rattle.mvo_store.specs.Standing.{Gives, HasSlots, KeepsRows, FollowsMark}
+
+-- The mark up to which the groups lead that went through a ring. The first one leads from 0 to the
+-- opening mark and has no records, unless that mark is 0.
+abbrev pub last_mark : List GroupData → ℕ
+last_mark groups = mark_after 0 groups
+
+-- The core stands for a state to which steps over the opening rows led. The groups that were sent
+-- hold its commits, up to the mark of the last one.
+pub record IsSoundCore (image : Image) (c : CoreData) (sent : List GroupData) : Type 0 where
+  pub rows : Map
+  pub mark : ℕ
+  pub gives : Gives rows mark image
+  pub steps : List Step
+  pub state : State
+  pub stands : StandsFor rows steps state c
+  pub closed : IsClosedAt state.marks.closed state
+  pub groups : AreGroupsOf state 0 sent
+  pub last : last_mark sent ≡ c.closed
+
+-- The groups that were received are durable, but for the one that is being appended. Where the disk
+-- was formatted, a stop now leaves the opening rows followed by the durable ones, or also by that
+-- one.
+pub record IsSoundStore {D : Type 0} (d : Ghosts D) (image : Image) (s : StoreData D)
+    (received : List GroupData) : Type 0 where
+  pub rows : Map
+  pub mark : ℕ
+  pub gives : Gives rows mark image
+  pub durable : List GroupData
+  pub received_is : received ≡ durable ++ option_to_list s.pending
+  pub mark_is : s.mark ≡ last_mark durable
+  pub follows : FollowsMark s.mark s.pending
+  pub keeps : HasSlots image → KeepsRows d s (after_groups rows durable)
+
+-- An image is well formed, and gives the opening rows followed by a beginning of the groups that
+-- were received, up to a mark at least this one.
+pub record GivesReceived (opening : Image) (received : List GroupData) (least : ℕ)
+    (image : Image) : Type 0 where
+  pub rows : Map
+  pub mark : ℕ
+  pub opened : Gives rows mark opening
+  pub front : List GroupData
+  pub behind : List GroupData
+  pub received_is : received ≡ front ++ behind
+  pub slots : HasSlots image
+  pub gives : Gives (after_groups rows front) (last_mark front) image
+  pub covers : least ≤ last_mark front
+
+-- Each image that a stop now may leave of a disk that was formatted gives the opening rows followed
+-- by a beginning of the groups that were received, up to a mark at least the store's.
+pub record LeavesReceived {D : Type 0} (d : Ghosts D) (opening : Image) (received : List GroupData)
+    (s : StoreData D) : Type 0 where
+  pub images : HasSlots opening → (image : Image) → AllOf (d.may_leave s.disk) image →
+      GivesReceived opening received s.mark image
+
+-- An image is well formed, and gives the opening rows followed by groups.
+pub record GivesSome (opening : Image) (image : Image) : Type 0 where
+  pub received : List GroupData
+  pub least : ℕ
+  pub gives : GivesReceived opening received least image

@@ -1,0 +1,22 @@
+-- What contracts see of the values under the locks, and of a session.
+use Rattle.std.specs.Prelude.{ℕ, List, Option, None}
+use Rattle.mvo_group.specs.Data.{GroupData}
+use Rattle.mvo_core.specs.Data.{CoreData}
+use Rattle.mvo_store.specs.StoreData.{StoreData}
+
+-- the core, the groups that were sent so far, and how many sessions were made
+pub record CoreState : Type 0 where
+  pub core : CoreData
+  pub sent : List GroupData
+  pub made : ℕ
+
+-- the store, the groups that were received so far, and the mark that was published last
+pub record StoreState (D : Type 0) : Type 0 where
+  pub store : StoreData D
+  pub received : List GroupData
+  pub published : ℕ
+
+-- the transaction that it has begun and not ended, and how far it has seen commits to be durable
+pub record SessionState : Type 0 where
+  pub tx : Option ℕ
+  pub durable : ℕ

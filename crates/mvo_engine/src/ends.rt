@@ -1,0 +1,36 @@
+ghost use Rattle.std.specs.Prelude.{◌≤◌, IfOk};
+ghost use Rattle.mvo_types.specs.declared.limits.TheConstants.{MAX_STAMP};
+ghost use Rattle.mvo_engine.specs.Opened.{IsFreshRing};
+
+use crate::chain::Chain;
+use mvo_group::Group;
+use mvo_types::Stamp;
+use mvo_world::RING_GROUPS;
+use rtrb::{Consumer, Producer, RingBuffer};
+use std::alloc::{AllocError, Global};
+
+/// Both ends of the ring of closed groups, apart.
+pub struct Ends {
+    pub producer: Producer<Group, Global, Chain>,
+    pub consumer: Consumer<Group, Global, Chain>,
+}
+
+impl Ends {
+    /// The ends of a ring through which the group went that leads up to this mark, if it isn't 0.
+    pub fn up_to(alloc: Global, mark: Stamp) -> Result<Ends, AllocError>
+        requires { mark.0 ≤ MAX_STAMP }
+        ensures { IfOk result (λ ends. IsFreshRing mark.0 ends.producer ends.consumer) }
+    {
+        let (mut producer, mut consumer) = RingBuffer::with_protocol::<Global, Chain>(
+            alloc,
+            RING_GROUPS,
+        )?;
+        if mark.0 > 0 {
+            let group = Group::new(Stamp(0), mark, Vec::new(alloc)).unwrap();
+            producer.push_reserved(group);
+            consumer.slots_beside(&mut producer);
+            let _ = consumer.pop_known();
+        }
+        Ok(Ends { producer, consumer })
+    }
+}

@@ -1,0 +1,141 @@
+ghost use Rattle.std.specs.Prelude.{◌≡◌};
+
+use crate::core_guard::CoreGuard;
+use crate::fresh::Fresh;
+use crate::gate::Gate;
+use crate::locked_core::LockedCore;
+use crate::locked_store::LockedStore;
+use crate::place::Place;
+use crate::run::Run;
+use crate::session::Session;
+use crate::store_guard::StoreGuard;
+use mvo_disk::Disk;
+use mvo_marks::Marks;
+use mvo_types::{Refusal, Stamp};
+use std::sync::{Mutex, MutexGuard, Wait};
+
+/// A store of rows that many threads share: one lock round the core, one round the store, and the
+/// marks beside them.
+///
+/// No step under the lock of the core touches the disk, and asking what is durable takes no lock.
+/// The locks keep what `LockedCore` and `LockedStore` say. It is made of what `Fresh::open` gives.
+#[derive(Drop)]
+pub struct Engine<L: Run, D: Disk, G: Gate + Drop> {
+    gate: G,
+    marks: Marks,
+    core: Mutex<LockedCore<L>>,
+    store: Mutex<LockedStore<L, D>>,
+    ghost named: { marks ≡ L.marks },
+}
+
+impl<L: Run, D: Disk, G: Gate + Drop> Engine<L, D, G> {
+    ghost use Rattle.std.specs.Prelude.{◌≡◌, None, IfOk, IfErr};
+    ghost use Rattle.mvo_types.specs.declared.refusal.Refusal.{Refusal};
+    ghost use Rattle.mvo_store.specs.Standing.{HasSlots};
+    ghost use Rattle.mvo_engine.specs.Opened.{IsNamedBy};
+    ghost use Rattle.mvo_engine.specs.Sound.{GivesSome};
+
+    /// An engine of these parts, which name its run.
+    pub fn new(fresh: Fresh<D>, gate: G) -> Engine<L, D, G>
+        requires { IsNamedBy D.Disk L.image L.marks L.ring fresh }
+    {
+        let Fresh {
+            core,
+            store,
+            producer,
+            consumer,
+            marks,
+            publisher,
+            seat,
+        } = fresh;
+        Engine {
+            gate,
+            marks,
+            core: Mutex::new(LockedCore::new(core, producer, seat)),
+            store: Mutex::new(LockedStore::new(store, consumer, publisher)),
+        }
+    }
+
+    /// A session, which has begun no transaction. Refused with TableFull where as many were made as
+    /// may be (`MAX_SESSIONS`).
+    pub fn session<R: Wait>(&self, rt: &R) -> Result<Session<'_, L, D, G>, Refusal>
+        ensures ok { IfOk result (λ session. session.tx ≡ None) }
+        ensures err { IfErr result (λ r. r ≡ Refusal.TableFull) }
+    {
+        let mut core = self.enter_core(rt);
+        match core.another(&self.marks) {
+            Some(seat) => Ok(Session::new(self, seat)),
+            None => Err(Refusal::TableFull),
+        }
+    }
+
+    /// Closes the next group, where there is one to close and room for it, and makes each closed
+    /// group durable, with a rotation of the log where the segment is full. Answers the store's
+    /// mark, which any session polls with yes from then on. Other threads may begin, read, write
+    /// and commit meanwhile.
+    ///
+    /// Refused, what was made durable stays so: OutOfMemory, Down, DiskFault, and where the log has
+    /// to be rotated ClockSpent and SegmentsFull.
+    pub fn flush<R: Wait>(&self, rt: &R) -> Result<Stamp, Refusal> {
+        self.close_group(rt)?;
+        for _ in rt.forever() {
+            let mut store = self.enter_store(rt);
+            if !store.flush_one(&self.marks)? {
+                return Ok(store.mark());
+            }
+        }
+        unreachable!()
+    }
+
+    // Closes the next group, where there is one to close and room for it.
+    fn close_group<R: Wait>(&self, rt: &R) -> Result<(), Refusal> {
+        match self.enter_core(rt).close_group(&self.marks) {
+            Ok(_) => Ok(()),
+            Err(Refusal::NothingToDo | Refusal::RingFull) => Ok(()),
+            Err(refusal) => Err(refusal),
+        }
+    }
+
+    /// The lock of the core, taken.
+    pub fn lock_core<R: Wait>(&self, rt: &R) -> CoreGuard<'_, L> {
+        CoreGuard::new(self.enter_core(rt))
+    }
+
+    /// The lock of the store, taken.
+    pub fn lock_store<R: Wait>(&self, rt: &R) -> StoreGuard<'_, L, D> {
+        StoreGuard::new(self.enter_store(rt), &self.marks)
+    }
+
+    /// The disk, as it stands. Where it was formatted, it gives the opening rows followed by groups
+    /// that were received.
+    pub fn into_disk(self) -> D
+        ensures { HasSlots L.image → GivesSome L.image (D.content result) }
+    {
+        let Engine { store, .. } = self;
+        store.into_inner().into_disk()
+    }
+
+    // Passes the gate and takes the lock of the core.
+    pub(crate) fn enter_core<R: Wait>(&self, rt: &R) -> MutexGuard<'_, LockedCore<L>> {
+        self.gate.pass(Place::Core);
+        self.core.lock(rt)
+    }
+
+    // Passes the gate and takes the lock of the store.
+    pub(crate) fn enter_store<R: Wait>(&self, rt: &R) -> MutexGuard<'_, LockedStore<L, D>> {
+        self.gate.pass(Place::Store);
+        self.store.lock(rt)
+    }
+
+    // Whether the store is down.
+    pub(crate) fn is_down<R: Wait>(&self, rt: &R) -> bool {
+        self.enter_store(rt).can_take() == Some(Refusal::Down)
+    }
+
+    // The marks.
+    pub(crate) fn marks(&self) -> &Marks
+        ensures { result.now ≡ L.marks }
+    {
+        &self.marks
+    }
+}

@@ -1,0 +1,108 @@
+use crate::chain::Chain;
+use crate::ends::Ends;
+use mvo_core::Core;
+use mvo_disk::Disk;
+use mvo_group::Group;
+use mvo_marks::{Marks, Publisher, Seat};
+use mvo_store::Store;
+use mvo_types::Refusal;
+use mvo_world::World;
+use rtrb::{Consumer, Producer};
+use std::alloc::Global;
+use std::marker::Model;
+use std::thread::Threads;
+
+/// The parts of a run before it has a name: the core and the store of a world, a ring and marks.
+#[derive(Drop)]
+pub struct Fresh<D: Disk> {
+    pub(crate) core: Core,
+    pub(crate) store: Store<D>,
+    pub(crate) producer: Producer<Group, Global, Chain>,
+    pub(crate) consumer: Consumer<Group, Global, Chain>,
+    pub(crate) marks: Marks,
+    pub(crate) publisher: Publisher,
+    pub(crate) seat: Seat,
+}
+
+impl<D: Disk> Model for Fresh<D> {
+    ghost use Rattle.std.specs.Prelude.{◌≡◌};
+    ghost use Rattle.std.specs.Coded.{codes};
+    ghost use Rattle.mvo_hash.specs.Lists.{coded_lists};
+    ghost use Rattle.mvo_range.specs.Place.{coded_map};
+    ghost use Rattle.mvo_txn.specs.Txns.{coded_txns};
+    ghost use Rattle.mvo_ckpt.specs.Places.{coded_places};
+    ghost use Rattle.mvo_engine.specs.Rings.{ring_of, ring_from};
+    ghost use Rattle.mvo_engine.specs.Opened.{FreshData, HasOpened, AreFreshSeats, IsFreshRing};
+
+    ghost Value = { FreshData D };
+
+    ghost coded = { Prim.hlevel (codes, coded_lists, coded_map, coded_txns, coded_places) };
+
+    ghost view = { λ f. record {
+      core = f.core;
+      store = f.store;
+      marks = f.marks;
+      ring = ring_of f.producer;
+    } };
+
+    ghost invariant = { λ f. HasOpened D.Disk (D.content f.store.disk) f.core f.store ×
+        AreFreshSeats f.marks f.store.mark f.publisher f.seat ×
+        IsFreshRing f.store.mark f.producer f.consumer };
+}
+
+impl<D: Disk> Fresh<D> {
+    ghost use Rattle.std.specs.Prelude.{◌≡◌, IfOk, IfErr};
+    ghost use Rattle.mvo_types.specs.declared.refusal.Refusal.{Refusal};
+    ghost use Rattle.mvo_store.specs.Opening.{KeepsContent};
+    ghost use Rattle.mvo_engine.specs.Opened.{IsOpenedWorld, IsNotServed};
+
+    /// Opens what is on the disk, and takes the world apart. Refused as `World::open` is, or with
+    /// OutOfMemory; the disk comes back.
+    pub fn open(
+        rt: &(impl Threads + Sync),
+        alloc: Global,
+        seed: u64,
+        disk: D,
+    ) -> Result<Fresh<D>, (Refusal, D)>
+        ensures content { IfOk result (λ fresh. KeepsContent D.Disk disk fresh.store.disk) }
+        ensures refused { IfErr result (λ e. IsNotServed D.Disk disk e.0 e.1) }
+        ensures content_err { IfErr result (λ e. KeepsContent D.Disk disk e.1) }
+    {
+        let world = match World::open(rt, alloc, seed, disk) {
+            Ok(world) => world,
+            Err(refused) => return Err(refused),
+        };
+        match Fresh::new(alloc, world) {
+            Ok(fresh) => Ok(fresh),
+            Err((refusal, world)) => Err((refusal, world.into_disk())),
+        }
+    }
+
+    /// A world as `open` gives it, taken apart. Refused with OutOfMemory, the world comes back.
+    pub fn new(alloc: Global, world: World<D>) -> Result<Fresh<D>, (Refusal, World<D>)>
+        requires { IsOpenedWorld D.Disk world }
+        ensures core { IfOk result (λ fresh. fresh.core ≡ world.core) }
+        ensures store { IfOk result (λ fresh. fresh.store ≡ world.store) }
+        ensures refused { IfErr result (λ e. e.0 ≡ Refusal.OutOfMemory) }
+        ensures world { IfErr result (λ e. e.1 ≡ world) }
+    {
+        let mark = world.mark();
+        let Ok((marks, publisher, seat)) = Marks::new(alloc, mark) else {
+            return Err((Refusal::OutOfMemory, world));
+        };
+        let Ok(ends) = Ends::up_to(alloc, mark) else {
+            return Err((Refusal::OutOfMemory, world));
+        };
+        let Ends { producer, consumer } = ends;
+        let (core, _, store) = world.into_parts();
+        Ok(Fresh {
+            core,
+            store,
+            producer,
+            consumer,
+            marks,
+            publisher,
+            seat,
+        })
+    }
+}

@@ -1,0 +1,26 @@
+//! The engine for many threads: one lock round the core, one round the store, a ring of closed
+//! groups between them, and marks that are asked without a lock.
+#![tactic(auto)]
+
+mod chain;
+mod core_guard;
+mod ends;
+mod engine;
+mod fresh;
+mod gate;
+mod locked_core;
+mod locked_store;
+mod place;
+mod run;
+mod session;
+mod store_guard;
+
+pub use chain::Chain;
+pub use core_guard::CoreGuard;
+pub use engine::Engine;
+pub use fresh::Fresh;
+pub use gate::{Gate, OpenGate};
+pub use place::Place;
+pub use run::{MAX_SESSIONS, Run};
+pub use session::Session;
+pub use store_guard::StoreGuard;

@@ -1,0 +1,202 @@
+use crate::chain::Chain;
+use crate::run::{MAX_SESSIONS, Run};
+use mvo_core::{Closed, Core, Finishing, Settlement, Validation};
+use mvo_group::Group;
+use mvo_marks::{Marks, Seat};
+use mvo_tale::Tale;
+use mvo_types::{Answer, Refusal, Row, RowKey, Stamp, TxId};
+use rtrb::Producer;
+use std::alloc::Global;
+use std::marker::{Model, PhantomData};
+
+/// What lies under the lock of the core: the core, the end of the ring into which it closes groups,
+/// and the seat from which those of sessions are split.
+///
+/// The core stands for a state of the theory over the rows that the run opened with, and the groups
+/// that were sent hold its commits up to the mark of the last one (`IsSoundCore`).
+#[derive(Drop)]
+pub struct LockedCore<L: Run> {
+    core: Core,
+    ring: Producer<Group, Global, Chain>,
+    seat: Seat,
+    /// How many sessions were made.
+    made: u32,
+    run: PhantomData<L>,
+}
+
+impl<L: Run> Model for LockedCore<L> {
+    ghost use Rattle.std.specs.Prelude.{◌≡◌, ◌≤◌};
+    ghost use Rattle.std.specs.Coded.{codes};
+    ghost use Rattle.mvo_hash.specs.Lists.{coded_lists};
+    ghost use Rattle.mvo_range.specs.Place.{coded_map};
+    ghost use Rattle.mvo_txn.specs.Txns.{coded_txns};
+    ghost use Rattle.rtrb.specs.Ring.{sent};
+    ghost use Rattle.mvo_engine.specs.Rings.{ring_of};
+    ghost use Rattle.mvo_engine.specs.Sound.{IsSoundCore};
+    ghost use Rattle.mvo_engine.specs.States.{CoreState};
+
+    ghost Value = { CoreState };
+
+    ghost coded = { Prim.hlevel (codes, coded_lists, coded_map, coded_txns) };
+
+    ghost view = { λ s. record { core = s.core; sent = sent s.ring; made = s.made } };
+
+    ghost invariant = { λ s. IsSoundCore L.image s.core (sent s.ring) ×
+        (s.seat.marks ≡ L.marks) × (ring_of s.ring ≡ L.ring) };
+}
+
+impl<L: Run> LockedCore<L> {
+    ghost use Rattle.std.specs.Prelude.{◌≡◌, ◌≤◌, ◌+◌, IfOk, IfSome};
+    ghost use Rattle.mvo_types.specs.declared.op.Op.TheVariants as Op;
+    ghost use Rattle.mvo_theory.specs.Calls.Call.{Begin, Do, Precommit, Validate, Settle};
+    ghost use Rattle.mvo_theory.specs.Calls.Call.{Rollback, Finish};
+    ghost use Rattle.mvo_core.specs.Steps.{IsAnswered, IsValidation, IsSettlement, IsFinishing};
+    ghost use Rattle.rtrb.specs.Ring.{sent};
+    ghost use Rattle.mvo_engine.specs.Rings.{ring_of};
+    ghost use Rattle.mvo_engine.specs.Sound.{IsSoundCore};
+    ghost use Rattle.mvo_engine.specs.Legal.{IsLegalCore};
+    ghost use Rattle.mvo_engine.specs.Calls.{IsCoreStep, IsSending};
+
+    /// A core with its end of the ring, of which no session was made.
+    pub fn new(core: Core, ring: Producer<Group, Global, Chain>, seat: Seat) -> LockedCore<L>
+        requires sound { IsSoundCore L.image core (sent ring) }
+        requires seat { seat.marks ≡ L.marks }
+        requires ring { ring_of ring ≡ L.ring }
+        ensures core { result.core ≡ core }
+        ensures sent { result.sent ≡ sent ring }
+        ensures made { result.made ≡ 0 }
+    {
+        LockedCore {
+            core,
+            ring,
+            seat,
+            made: 0,
+            run: PhantomData,
+        }
+    }
+
+    /// The timestamp that was drawn last, or the opening mark.
+    pub fn clock(&self) -> Stamp
+        ensures value { result.0 ≡ self.now.core.table.clock }
+        ensures legal { IsLegalCore L.image self.now.core self.now.sent }
+    {
+        self.core.clock()
+    }
+
+    /// The stored commits, by end timestamp.
+    pub fn tale(&self) -> &Tale
+        ensures { result.now ≡ self.now.core.tale }
+    {
+        self.core.tale()
+    }
+
+    /// A seat for another session, if one may be made.
+    pub fn another(&mut self, marks: &Marks) -> Option<Seat>
+        requires { marks.now ≡ L.marks }
+        ensures seat { IfSome result (λ seat. seat.marks ≡ L.marks) }
+        ensures core { self.new.core ≡ self.old.core }
+        ensures sent { self.new.sent ≡ self.old.sent }
+    {
+        if self.made >= MAX_SESSIONS {
+            return None;
+        }
+        self.made += 1;
+        Some(marks.split(&mut self.seat))
+    }
+
+    /// Closes the next group into the ring, as `Core::close_group` does, and raises the closed mark
+    /// to that of the group.
+    pub fn close_group(&mut self, marks: &Marks) -> Result<Closed, Refusal>
+        requires { marks.now ≡ L.marks }
+        ensures { IsSending self.old result self.new }
+    {
+        let closed = self.core.close_group(&mut self.ring)?;
+        marks.raise_closed(&mut self.seat, closed.mark);
+        Ok(closed)
+    }
+
+    /// As `Core::begin_tx`.
+    pub fn begin_tx(&mut self) -> Result<TxId, Refusal>
+        ensures step { IsCoreStep self.old Begin result self.new }
+    {
+        self.core.begin_tx()
+    }
+
+    /// As `Core::read`.
+    pub fn read(&mut self, tx: TxId, key: RowKey) -> Result<Answer, Refusal>
+        ensures step { IsCoreStep self.old (Do tx.0 (Op.Read key)) result self.new }
+        ensures answer { IfOk result (IsAnswered self.old.core tx.0 (Op.Read key)) }
+    {
+        self.core.read(tx, key)
+    }
+
+    /// As `Core::scan`.
+    pub fn scan(&mut self, tx: TxId, table: u8, lo: u64, hi: u64) -> Result<Answer, Refusal>
+        ensures step { IsCoreStep self.old (Do tx.0 (Op.Scan table lo hi)) result self.new }
+        ensures answer { IfOk result (IsAnswered self.old.core tx.0 (Op.Scan table lo hi)) }
+    {
+        self.core.scan(tx, table, lo, hi)
+    }
+
+    /// As `Core::insert`.
+    pub fn insert(&mut self, tx: TxId, row: Row) -> Result<Answer, Refusal>
+        ensures step { IsCoreStep self.old (Do tx.0 (Op.Insert row)) result self.new }
+        ensures answer { IfOk result (IsAnswered self.old.core tx.0 (Op.Insert row)) }
+    {
+        self.core.insert(tx, row)
+    }
+
+    /// As `Core::update`.
+    pub fn update(&mut self, tx: TxId, row: Row) -> Result<Answer, Refusal>
+        ensures step { IsCoreStep self.old (Do tx.0 (Op.Update row)) result self.new }
+        ensures answer { IfOk result (IsAnswered self.old.core tx.0 (Op.Update row)) }
+    {
+        self.core.update(tx, row)
+    }
+
+    /// As `Core::delete`.
+    pub fn delete(&mut self, tx: TxId, key: RowKey) -> Result<Answer, Refusal>
+        ensures step { IsCoreStep self.old (Do tx.0 (Op.Delete key)) result self.new }
+        ensures answer { IfOk result (IsAnswered self.old.core tx.0 (Op.Delete key)) }
+    {
+        self.core.delete(tx, key)
+    }
+
+    /// As `Core::precommit`.
+    pub fn precommit(&mut self, tx: TxId) -> Result<Stamp, Refusal>
+        ensures step { IsCoreStep self.old (Precommit tx.0) result self.new }
+    {
+        self.core.precommit(tx)
+    }
+
+    /// As `Core::validate_one`.
+    pub fn validate_one(&mut self, tx: TxId) -> Result<Validation, Refusal>
+        ensures step { IsCoreStep self.old (Validate tx.0) result self.new }
+        ensures answer { IfOk result (IsValidation self.old.core tx.0) }
+    {
+        self.core.validate_one(tx)
+    }
+
+    /// As `Core::settle`.
+    pub fn settle(&mut self, tx: TxId) -> Result<Settlement, Refusal>
+        ensures step { IsCoreStep self.old (Settle tx.0) result self.new }
+        ensures answer { IfOk result (IsSettlement self.old.core tx.0) }
+    {
+        self.core.settle(tx)
+    }
+
+    /// As `Core::rollback_tx`.
+    pub fn rollback_tx(&mut self, tx: TxId) -> Result<(), Refusal>
+        ensures step { IsCoreStep self.old (Rollback tx.0) result self.new }
+    {
+        self.core.rollback_tx(tx)
+    }
+
+    /// As `Core::finish_one`.
+    pub fn finish_one(&mut self, tx: TxId) -> Result<Finishing, Refusal>
+        ensures step { IsCoreStep self.old (Finish tx.0) result self.new }
+        ensures answer { IfOk result (IsFinishing self.old.core tx.0) }
+    {
+        self.core.finish_one(tx)
+    }
+}

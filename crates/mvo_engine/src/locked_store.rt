@@ -1,0 +1,222 @@
+mod flushing;
+
+use crate::chain::Chain;
+use crate::run::Run;
+use mvo_disk::Disk;
+use mvo_group::Group;
+use mvo_manifest::Manifest;
+use mvo_marks::{Marks, Publisher, Seat};
+use mvo_store::{Durable, Generation, Store};
+use mvo_types::{Refusal, Stamp};
+use rtrb::Consumer;
+use std::alloc::Global;
+use std::marker::{Model, PhantomData};
+
+/// What lies under the lock of the store: the store, the end of the ring from which it takes
+/// groups, and the seat that publishes its mark.
+///
+/// Each image that a stop now may leave is well formed, and gives the rows that the run opened with
+/// followed by the groups that were received, up to a mark at least the store's (`IsSoundStore`).
+#[derive(Drop)]
+pub struct LockedStore<L: Run, D: Disk> {
+    store: Store<D>,
+    ring: Consumer<Group, Global, Chain>,
+    publisher: Publisher,
+    run: PhantomData<L>,
+}
+
+impl<L: Run, D: Disk> Model for LockedStore<L, D> {
+    ghost use Rattle.std.specs.Prelude.{◌≡◌, ◌≤◌};
+    ghost use Rattle.std.specs.Coded.{codes};
+    ghost use Rattle.mvo_ckpt.specs.Places.{coded_places};
+    ghost use Rattle.rtrb.specs.Ring.{received};
+    ghost use Rattle.mvo_engine.specs.Rings.{ring_from};
+    ghost use Rattle.mvo_engine.specs.Sound.{IsSoundStore};
+    ghost use Rattle.mvo_engine.specs.States.{StoreState};
+
+    ghost Value = { StoreState D };
+
+    ghost coded = { Prim.hlevel (codes, coded_places) };
+
+    ghost view = { λ s. record {
+      store = s.store;
+      received = received s.ring;
+      published = s.publisher.known.published;
+    } };
+
+    ghost invariant = { λ s. IsSoundStore D.Disk L.image s.store (received s.ring) ×
+        (s.publisher.marks ≡ L.marks) × (s.publisher.known.published ≤ s.store.mark) ×
+        (ring_from s.ring ≡ L.ring) };
+}
+
+impl<L: Run, D: Disk> LockedStore<L, D> {
+    ghost use Rattle.std.specs.Prelude.{◌≡◌, ◌≤◌, ◌++◌, ◌∷◌, [], None, Some, true, false};
+    ghost use Rattle.std.specs.Prelude.{OnOk, OnErr, IfOk, IfErr};
+    ghost use Rattle.rtrb.specs.Ring.{received};
+    ghost use Rattle.mvo_group.specs.Data.{GroupData};
+    ghost use Rattle.mvo_store.specs.declared.due.Due.TheVariants as Due;
+    ghost use Rattle.mvo_store.specs.Standing.{HasSlots};
+    ghost use Rattle.mvo_store.specs.Causes.{why_not_take, why_not_append_body};
+    ghost use Rattle.mvo_store.specs.Causes.{why_not_append_open, why_not_rotate};
+    ghost use Rattle.mvo_store.specs.Causes.{why_not_install, why_not_install_open};
+    ghost use Rattle.mvo_store.specs.Steps.{RefusedFor, LeftBy, IsMarkOf, IsRotationOf};
+    ghost use Rattle.mvo_store.specs.Steps.{with_due, IsInstalledBy};
+    ghost use Rattle.mvo_engine.specs.Rings.{ring_from};
+    ghost use Rattle.mvo_engine.specs.Sound.{IsSoundStore, GivesReceived, LeavesReceived};
+    ghost use Rattle.mvo_engine.specs.Calls.{IsStoreStep, HasTaken, IsNotTaken, HasAppended};
+
+    /// A store with its end of the ring and the publishing seat.
+    pub fn new(
+        store: Store<D>,
+        ring: Consumer<Group, Global, Chain>,
+        publisher: Publisher,
+    ) -> LockedStore<L, D>
+        requires sound { IsSoundStore D.Disk L.image store (received ring) }
+        requires marks { publisher.marks ≡ L.marks }
+        requires published { publisher.known.published ≤ store.mark }
+        requires ring { ring_from ring ≡ L.ring }
+        ensures store { result.store ≡ store }
+        ensures received { result.received ≡ received ring }
+    {
+        LockedStore {
+            store,
+            ring,
+            publisher,
+            run: PhantomData,
+        }
+    }
+
+    /// The disk, as it stands.
+    pub fn into_disk(self) -> D
+        ensures disk { result ≡ self.store.disk }
+        ensures gives { HasSlots L.image →
+            GivesReceived L.image self.received self.store.mark (D.content result) }
+    {
+        let LockedStore { store, .. } = self;
+        store.into_disk()
+    }
+
+    /// The mark of the last group that is durable, or the one that the store opened at. Each image
+    /// that a stop now may leave gives the opening rows followed by the groups that were received,
+    /// up to a mark at least this one.
+    pub fn mark(&self) -> Stamp
+        ensures value { result.0 ≡ self.now.store.mark }
+        ensures images { LeavesReceived D.Disk L.image self.now.received self.now.store }
+    {
+        self.store.mark()
+    }
+
+    /// The installed manifest.
+    pub fn manifest(&self) -> &Manifest
+        ensures { result.now ≡ self.now.store.manifest }
+    {
+        self.store.manifest()
+    }
+
+    /// The refusal that `take` would give, but for an empty ring.
+    pub fn can_take(&self) -> Option<Refusal>
+        ensures { result ≡ why_not_take self.now.store }
+    {
+        self.store.can_take()
+    }
+
+    /// What a session has seen of the durable mark is at most the store's mark.
+    pub fn confirm(&mut self, marks: &Marks, seat: &mut Seat)
+        requires marks { marks.now ≡ L.marks }
+        requires seat { seat.old.marks ≡ L.marks }
+        ensures seen { seat.old.known.durable ≤ self.old.store.mark }
+        ensures seat { seat.new ≡ seat.old }
+        ensures store { self.new ≡ self.old }
+    {
+        marks.confirm(&mut self.publisher, seat);
+    }
+
+    /// Takes the next group out of the ring, to append it. Refused: Down, Busy where a group is
+    /// pending, NothingToDo where none was seen in the ring.
+    pub fn take(&mut self) -> Result<(), Refusal>
+        ensures taken { OnOk result (HasTaken self.old self.new) }
+        ensures refused { IfErr result (λ e. IsNotTaken self.old e self.new) }
+    {
+        if let Some(refusal) = self.store.can_take() {
+            return Err(refusal);
+        }
+        let Ok(group) = self.ring.pop() else {
+            return Err(Refusal::NothingToDo);
+        };
+        // A look at a field: from then on the proof knows that the group keeps its rules.
+        let _ = group.mark();
+        match self.store.take_group(group) {
+            Ok(()) => Ok(()),
+            Err((refusal, _)) => Err(refusal),
+        }
+    }
+
+    /// As `Store::append_body`.
+    pub fn append_body(&mut self) -> Result<(), Refusal>
+        ensures refused { RefusedFor (why_not_append_body self.old.store) result }
+        ensures ok { OnOk result (self.new.store ≡ record self.old.store {
+          disk = self.new.store.disk;
+          segment = record self.old.store.segment { next = self.new.store.segment.next };
+          written = true;
+        }) }
+        ensures err { IfErr result (λ e. LeftBy D.Disk e self.old.store self.new.store) }
+        ensures rest { IsStoreStep D.Disk self.old self.new }
+    {
+        self.store.append_body()
+    }
+
+    /// As `Store::append_open`, and publishes the mark that is durable then.
+    pub fn append_open(&mut self, marks: &Marks) -> Result<Durable, Refusal>
+        requires { marks.now ≡ L.marks }
+        ensures refused { RefusedFor (why_not_append_open self.old.store) result }
+        ensures ok { IfOk result (λ durable. HasAppended D.Disk self.old durable self.new) }
+        ensures err { IfErr result (λ e. LeftBy D.Disk e self.old.store self.new.store) }
+        ensures rest { OnErr result (IsStoreStep D.Disk self.old self.new) }
+    {
+        match self.store.append_open() {
+            Ok(durable) => {
+                marks.publish(&mut self.publisher, &durable);
+                Ok(durable)
+            }
+            Err(refusal) => Err(refusal),
+        }
+    }
+
+    /// As `Store::rotate_write`.
+    pub fn rotate_write(&mut self) -> Result<(), Refusal>
+        ensures refused { RefusedFor (why_not_rotate self.old.store) result }
+        ensures err { IfErr result (λ e. LeftBy D.Disk e self.old.store self.new.store) }
+        ensures rest { IsStoreStep D.Disk self.old self.new }
+    {
+        self.store.rotate_write()
+    }
+
+    /// As `Store::install_close`.
+    pub fn install_close(&mut self) -> Result<(), Refusal>
+        ensures refused { RefusedFor (why_not_install Due.Close self.old.store) result }
+        ensures err { IfErr result (λ e. LeftBy D.Disk e self.old.store self.new.store) }
+        ensures rest { IsStoreStep D.Disk self.old self.new }
+    {
+        self.store.install_close()
+    }
+
+    /// As `Store::install_body`.
+    pub fn install_body(&mut self) -> Result<(), Refusal>
+        ensures refused { RefusedFor (why_not_install Due.Body self.old.store) result }
+        ensures err { IfErr result (λ e. LeftBy D.Disk e self.old.store self.new.store) }
+        ensures rest { IsStoreStep D.Disk self.old self.new }
+    {
+        self.store.install_body()
+    }
+
+    /// As `Store::install_open`.
+    pub fn install_open(&mut self) -> Result<Generation, Refusal>
+        ensures refused { RefusedFor (why_not_install_open self.old.store) result }
+        ensures ok { OnOk result (IsInstalledBy self.old.store.job self.old.store
+            self.new.store) }
+        ensures err { IfErr result (λ e. LeftBy D.Disk e self.old.store self.new.store) }
+        ensures rest { IsStoreStep D.Disk self.old self.new }
+    {
+        self.store.install_open()
+    }
+}

@@ -1,0 +1,98 @@
+mod committing;
+mod operating;
+
+use crate::engine::Engine;
+use crate::gate::Gate;
+use crate::locked_core::LockedCore;
+use crate::locked_store::LockedStore;
+use crate::run::Run;
+use mvo_disk::Disk;
+use mvo_marks::Seat;
+use mvo_types::{Refusal, Stamp, TxId};
+use std::marker::Model;
+use std::sync::{MutexGuard, Wait};
+use std::thread;
+
+/// One caller of an engine, in one thread at a time. It has one transaction at a time. A session
+/// that is dropped inside a transaction leaves it unfinished.
+#[derive(Drop)]
+pub struct Session<'e, L: Run, D: Disk, G: Gate + Drop> {
+    engine: &'e Engine<L, D, G>,
+    seat: Seat,
+    tx: Option<TxId>,
+}
+
+impl<'e, L: Run, D: Disk, G: Gate + Drop> Model for Session<'e, L, D, G> {
+    ghost use Rattle.std.specs.Prelude.{◌≡◌};
+    ghost use Rattle.std.specs.Option.{option_map};
+    ghost use Rattle.mvo_engine.specs.States.{SessionState};
+
+    ghost Value = { SessionState };
+
+    ghost view = { λ s. record {
+      tx = option_map (λ t. t.0) s.tx;
+      durable = s.seat.known.durable;
+    } };
+
+    ghost invariant = { λ s. s.seat.marks ≡ L.marks };
+}
+
+impl<'e, L: Run, D: Disk, G: Gate + Drop> Session<'e, L, D, G> {
+    ghost use Rattle.std.specs.Prelude.{◌≡◌, ◌≤◌, None, IsTrue, OnOk, IfErr};
+    ghost use Rattle.mvo_types.specs.declared.refusal.Refusal.{Refusal};
+
+    pub(crate) fn new(engine: &'e Engine<L, D, G>, seat: Seat) -> Session<'e, L, D, G>
+        requires { seat.marks ≡ L.marks }
+        ensures { result.tx ≡ None }
+    {
+        Session {
+            engine,
+            seat,
+            tx: None,
+        }
+    }
+
+    /// Whether all commits that end up to the stamp are on the disk, as the session sees it now. It
+    /// waits for nobody, and takes no lock.
+    pub fn poll_durable(&mut self, stamp: Stamp) -> bool
+        ensures yes { IsTrue result → stamp.0 ≤ self.new.durable }
+        ensures no { stamp.0 ≤ self.new.durable → IsTrue result }
+        ensures seen { self.old.durable ≤ self.new.durable }
+        ensures tx { self.new.tx ≡ self.old.tx }
+    {
+        self.engine.marks().poll_durable(&mut self.seat, stamp)
+    }
+
+    /// Waits until all commits that end up to the stamp are on the disk: until another thread, or
+    /// this one before the call, has flushed them. Refused with Down where the store is down.
+    pub fn wait_durable<R: Wait>(&mut self, rt: &R, stamp: Stamp) -> Result<(), Refusal>
+        ensures ok { OnOk result (stamp.0 ≤ self.new.durable) }
+        ensures err { IfErr result (λ r. r ≡ Refusal.Down) }
+        ensures tx { self.new.tx ≡ self.old.tx }
+    {
+        for _ in rt.forever() {
+            if self.poll_durable(stamp) {
+                return Ok(());
+            }
+            if self.engine.is_down(rt) {
+                return Err(Refusal::Down);
+            }
+            thread::yield_now();
+        }
+        unreachable!()
+    }
+
+    // What it has seen of the durable mark is at most the store's mark.
+    pub(crate) fn confirm(&mut self, store: &mut LockedStore<L, D>)
+        ensures seen { self.old.durable ≤ store.old.store.mark }
+        ensures session { self.new ≡ self.old }
+        ensures store { store.new ≡ store.old }
+    {
+        store.confirm(self.engine.marks(), &mut self.seat);
+    }
+
+    // The lock of the core, taken.
+    fn enter<R: Wait>(&self, rt: &R) -> MutexGuard<'e, LockedCore<L>> {
+        self.engine.enter_core(rt)
+    }
+}

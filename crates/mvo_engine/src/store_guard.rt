@@ -1,0 +1,158 @@
+ghost use Rattle.std.specs.Prelude.{◌≡◌};
+
+use crate::gate::Gate;
+use crate::locked_store::LockedStore;
+use crate::run::Run;
+use crate::session::Session;
+use mvo_disk::Disk;
+use mvo_manifest::Manifest;
+use mvo_marks::Marks;
+use mvo_store::{Durable, Generation};
+use mvo_types::{Refusal, Stamp};
+use std::marker::Model;
+use std::sync::MutexGuard;
+
+/// The lock of the store, taken. It lends the steps of the log.
+#[derive(Drop)]
+pub struct StoreGuard<'e, L: Run, D: Disk> {
+    held: MutexGuard<'e, LockedStore<L, D>>,
+    marks: &'e Marks,
+    ghost named: { marks.now ≡ L.marks },
+}
+
+impl<'e, L: Run, D: Disk> Model for StoreGuard<'e, L, D> {
+    ghost use Rattle.std.specs.Coded.{codes};
+    ghost use Rattle.std.specs.Sync.Mutex.{mutex_guard_value};
+    ghost use Rattle.mvo_ckpt.specs.Places.{coded_places};
+    ghost use Rattle.mvo_engine.specs.States.{StoreState};
+
+    ghost Value = { StoreState D };
+
+    ghost coded = { Prim.hlevel (codes, coded_places) };
+
+    ghost view = { λ g. mutex_guard_value g.held };
+}
+
+impl<'e, L: Run, D: Disk> StoreGuard<'e, L, D> {
+    ghost use Rattle.std.specs.Prelude.{◌≡◌, ◌≤◌, true, OnOk, OnErr, IfOk, IfErr};
+    ghost use Rattle.mvo_store.specs.declared.due.Due.TheVariants as Due;
+    ghost use Rattle.mvo_store.specs.Causes.{why_not_take, why_not_append_body};
+    ghost use Rattle.mvo_store.specs.Causes.{why_not_append_open, why_not_rotate};
+    ghost use Rattle.mvo_store.specs.Causes.{why_not_install, why_not_install_open};
+    ghost use Rattle.mvo_store.specs.Steps.{RefusedFor, LeftBy, IsInstalledBy};
+    ghost use Rattle.mvo_engine.specs.Sound.{LeavesReceived};
+    ghost use Rattle.mvo_engine.specs.Calls.{IsStoreStep, HasTaken, IsNotTaken, HasAppended};
+
+    pub(crate) fn new(
+        held: MutexGuard<'e, LockedStore<L, D>>,
+        marks: &'e Marks,
+    ) -> StoreGuard<'e, L, D>
+        requires { marks.now ≡ L.marks }
+    {
+        StoreGuard { held, marks }
+    }
+
+    /// The mark of the last group that is durable, or the one that the store opened at. Each image
+    /// that a stop now may leave gives the opening rows followed by the groups that were received,
+    /// up to a mark at least this one.
+    pub fn mark(&self) -> Stamp
+        ensures value { result.0 ≡ self.now.store.mark }
+        ensures images { LeavesReceived D.Disk L.image self.now.received self.now.store }
+    {
+        self.held.mark()
+    }
+
+    /// The installed manifest.
+    pub fn manifest(&self) -> &Manifest
+        ensures { result.now ≡ self.now.store.manifest }
+    {
+        self.held.manifest()
+    }
+
+    /// The refusal that `take` would give, but for an empty ring.
+    pub fn can_take(&self) -> Option<Refusal>
+        ensures { result ≡ why_not_take self.now.store }
+    {
+        self.held.can_take()
+    }
+
+    /// How far a session has seen commits to be durable is at most the store's mark.
+    pub fn confirm<G: Gate + Drop>(&mut self, session: &mut Session<'_, L, D, G>)
+        ensures seen { session.old.durable ≤ self.old.store.mark }
+        ensures session { session.new ≡ session.old }
+        ensures store { self.new ≡ self.old }
+    {
+        session.confirm(&mut *self.held);
+    }
+
+    /// Takes the next group out of the ring, to append it. Refused: Down, Busy where a group is
+    /// pending, NothingToDo where none was seen in the ring.
+    pub fn take(&mut self) -> Result<(), Refusal>
+        ensures taken { OnOk result (HasTaken self.old self.new) }
+        ensures refused { IfErr result (λ e. IsNotTaken self.old e self.new) }
+    {
+        self.held.take()
+    }
+
+    /// As `Store::append_body`.
+    pub fn append_body(&mut self) -> Result<(), Refusal>
+        ensures refused { RefusedFor (why_not_append_body self.old.store) result }
+        ensures ok { OnOk result (self.new.store ≡ record self.old.store {
+          disk = self.new.store.disk;
+          segment = record self.old.store.segment { next = self.new.store.segment.next };
+          written = true;
+        }) }
+        ensures err { IfErr result (λ e. LeftBy D.Disk e self.old.store self.new.store) }
+        ensures rest { IsStoreStep D.Disk self.old self.new }
+    {
+        self.held.append_body()
+    }
+
+    /// As `Store::append_open`, and publishes the mark that is durable then.
+    pub fn append_open(&mut self) -> Result<Durable, Refusal>
+        ensures refused { RefusedFor (why_not_append_open self.old.store) result }
+        ensures ok { IfOk result (λ durable. HasAppended D.Disk self.old durable self.new) }
+        ensures err { IfErr result (λ e. LeftBy D.Disk e self.old.store self.new.store) }
+        ensures rest { OnErr result (IsStoreStep D.Disk self.old self.new) }
+    {
+        self.held.append_open(self.marks)
+    }
+
+    /// As `Store::rotate_write`.
+    pub fn rotate_write(&mut self) -> Result<(), Refusal>
+        ensures refused { RefusedFor (why_not_rotate self.old.store) result }
+        ensures err { IfErr result (λ e. LeftBy D.Disk e self.old.store self.new.store) }
+        ensures rest { IsStoreStep D.Disk self.old self.new }
+    {
+        self.held.rotate_write()
+    }
+
+    /// As `Store::install_close`.
+    pub fn install_close(&mut self) -> Result<(), Refusal>
+        ensures refused { RefusedFor (why_not_install Due.Close self.old.store) result }
+        ensures err { IfErr result (λ e. LeftBy D.Disk e self.old.store self.new.store) }
+        ensures rest { IsStoreStep D.Disk self.old self.new }
+    {
+        self.held.install_close()
+    }
+
+    /// As `Store::install_body`.
+    pub fn install_body(&mut self) -> Result<(), Refusal>
+        ensures refused { RefusedFor (why_not_install Due.Body self.old.store) result }
+        ensures err { IfErr result (λ e. LeftBy D.Disk e self.old.store self.new.store) }
+        ensures rest { IsStoreStep D.Disk self.old self.new }
+    {
+        self.held.install_body()
+    }
+
+    /// As `Store::install_open`.
+    pub fn install_open(&mut self) -> Result<Generation, Refusal>
+        ensures refused { RefusedFor (why_not_install_open self.old.store) result }
+        ensures ok { OnOk result (IsInstalledBy self.old.store.job self.old.store
+            self.new.store) }
+        ensures err { IfErr result (λ e. LeftBy D.Disk e self.old.store self.new.store) }
+        ensures rest { IsStoreStep D.Disk self.old self.new }
+    {
+        self.held.install_open()
+    }
+}
