@@ -1,0 +1,5 @@
+//! The tests of the engine.
+#![tactic(auto)]
+
+#[cfg(test)]
+mod tests;

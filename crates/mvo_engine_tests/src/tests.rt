@@ -1,0 +1,25 @@
+mod held_disk;
+mod meeting;
+mod reads_free;
+mod rows;
+mod sessions;
+mod through;
+
+use mvo_disk::MemDisk;
+use mvo_store::format;
+use std::alloc::{AllocError, Global};
+use std::test::Fail;
+
+const SEED: u64 = 7;
+
+fn new_disk(alloc: Global) -> Result<MemDisk, AllocError> {
+    MemDisk::new(alloc)
+}
+
+/// A disk with a store that has no rows.
+fn formatted(alloc: Global) -> Result<MemDisk, Fail> {
+    match format(alloc, new_disk(alloc)?) {
+        Ok(disk) => Ok(disk),
+        Err((refusal, _)) => Err(Fail::from(refusal)),
+    }
+}

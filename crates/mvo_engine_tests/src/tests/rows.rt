@@ -1,0 +1,45 @@
+//! The rows of the tests.
+
+use mvo_disk::Disk;
+use mvo_engine::{Gate, Run, Session};
+use mvo_types::{Answer, Refusal, Row, RowKey, Stamp};
+use std::alloc::{AllocError, Global};
+use std::sync::Wait;
+
+pub const KEY: RowKey = RowKey { table: 0, key: 5 };
+
+/// The row at the key, with a byte of data.
+pub fn row(alloc: Global, byte: u8) -> Result<Row, AllocError> {
+    Row::new(KEY, 50, [byte].to_vec(alloc)?)
+}
+
+/// Puts the row in a transaction of its own, and answers its end.
+pub fn put<L: Run, D: Disk, G: Gate + Drop, R: Wait>(
+    rt: &R,
+    alloc: Global,
+    session: &mut Session<'_, L, D, G>,
+    byte: u8,
+) -> Result<Stamp, Refusal> {
+    session.begin_tx(rt)?;
+    session.insert(rt, row(alloc, byte)?)?;
+    session.commit_tx(rt)
+}
+
+/// The byte of the row's data, as a read in a transaction of its own finds it.
+pub fn found<L: Run, D: Disk, G: Gate + Drop, R: Wait>(
+    rt: &R,
+    session: &mut Session<'_, L, D, G>,
+) -> Result<Option<u8>, Refusal> {
+    session.begin_tx(rt)?;
+    let answer = session.read(rt, KEY)?;
+    session.commit_tx(rt)?;
+    Ok(byte_in(&answer))
+}
+
+/// The byte of the data that was found.
+pub fn byte_in(answer: &Answer) -> Option<u8> {
+    match answer {
+        Answer::Found(Some(row)) => row.bytes().first().copied(),
+        _ => None,
+    }
+}
