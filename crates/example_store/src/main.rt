@@ -28,10 +28,20 @@ fn put(
     disk: MemDisk,
 ) -> Result<MemDisk, anyhow::Error> {
     let mut world = open(rt, alloc, disk)?;
-    let tx = begin(&mut world)?;
-    let replies = run(&mut world, &put_and_flush(tx, row(alloc)?))?;
-    tell(rt, &replies)?;
-    Ok(into_disk(world))
+    let told = put_in(rt, alloc, &mut world);
+    let disk = into_disk(world);
+    told?;
+    Ok(disk)
+}
+
+fn put_in(
+    rt: &impl Runtime,
+    alloc: Global,
+    world: &mut World<MemDisk>,
+) -> Result<(), anyhow::Error> {
+    let tx = begin(world)?;
+    let replies = run(world, &put_and_flush(tx, row(alloc)?))?;
+    tell(rt, &replies)
 }
 
 /// Reads the row.
@@ -41,8 +51,12 @@ fn find(
     disk: MemDisk,
 ) -> Result<(), anyhow::Error> {
     let mut world = open(rt, alloc, disk)?;
-    let tx = begin(&mut world)?;
-    let found = run(&mut world, &[Event::Read(tx, KEY)])?;
+    find_in(rt, &mut world)
+}
+
+fn find_in(rt: &impl Runtime, world: &mut World<MemDisk>) -> Result<(), anyhow::Error> {
+    let tx = begin(world)?;
+    let found = run(world, &[Event::Read(tx, KEY)])?;
     tell(rt, &found)
 }
 
