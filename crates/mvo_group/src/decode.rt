@@ -40,32 +40,24 @@ fn u64_at(bytes: &[u8]) -> Option<(u64, &[u8])>
 }
 
 #[tactic(auto, unfolding(crate::specs::Reading::data_at))]
-fn data_of(alloc: Global, len: u16, bytes: &[u8]) -> Result<Option<(Vec<u8>, &[u8])>, AllocError>
-    ensures { IfOk result (λ found. Reads (λ d. d.items) found (data_at len bytes.now)) }
+fn data_of(len: u16, bytes: &[u8]) -> Option<(&[u8], &[u8])>
+    ensures { Reads (λ d. d.now) result (data_at len bytes.now) }
 {
     let len = len as usize;
     if bytes.len() < len {
-        return Ok(None);
+        return None;
     }
-    let (text, rest) = bytes.split_at(len);
-    Ok(Some((Vec::from_slice(alloc, text)?, rest)))
+    Some(bytes.split_at(len))
 }
 
 #[tactic(auto, unfolding(crate::specs::Reading::put_at))]
-fn put_of(alloc: Global, bytes: &[u8]) -> Result<Option<((u64, Vec<u8>), &[u8])>, AllocError>
-    ensures { IfOk result (λ found. Reads (λ c. record { sort = c.0; bytes = c.1.items }) found
-        (put_at bytes.now)) }
+fn put_of(bytes: &[u8]) -> Option<((u64, &[u8]), &[u8])>
+    ensures { Reads (λ c. record { sort = c.0; bytes = c.1.now }) result (put_at bytes.now) }
 {
-    let Some((sort, rest)) = u64_at(bytes) else {
-        return Ok(None);
-    };
-    let Some((len, rest)) = u16_at(rest) else {
-        return Ok(None);
-    };
-    let Some((data, rest)) = data_of(alloc, len, rest)? else {
-        return Ok(None);
-    };
-    Ok(Some(((sort, data), rest)))
+    let (sort, rest) = u64_at(bytes)?;
+    let (len, rest) = u16_at(rest)?;
+    let (data, rest) = data_of(len, rest)?;
+    Some(((sort, data), rest))
 }
 
 #[tactic(auto, unfolding(crate::specs::Reading::write_at, crate::specs::Reading::effect_at))]
@@ -88,10 +80,11 @@ fn write_of(alloc: Global, bytes: &[u8]) -> Result<Option<(Write, &[u8])>, Alloc
     if tag != PUT {
         return Ok(None);
     }
-    let Some(((sort, bytes), rest)) = put_of(alloc, rest)? else {
+    let Some(((sort, data), rest)) = put_of(rest) else {
         return Ok(None);
     };
-    Ok(Some((Write::Put(Row::new(key, sort, bytes)?), rest)))
+    let row = Row::from_slice(alloc, key, sort, data)?;
+    Ok(Some((Write::Put(row), rest)))
 }
 
 fn writes_of(

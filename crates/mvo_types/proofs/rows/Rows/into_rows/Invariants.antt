@@ -1,6 +1,5 @@
-use Rattle.std.proofs.Common.{◌≡◌, ◌++◌, map}
-use Rattle.mvo_types.specs.RowData.{row_with}
-use Rattle.mvo_types.proofs.Ordered.{Entries, all_rows}
+use Rattle.std.proofs.Common.{◌≡◌, ◌++◌}
+use Rattle.mvo_types.proofs.Ordered.{all_rows}
 use Rattle.mvo_types.proofs.rows.Rows.into_rows.Given as goal
 
 abbrev pub invariant-loop-key : goal.invariant-loop-key
