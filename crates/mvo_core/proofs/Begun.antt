@@ -17,7 +17,7 @@ use Rattle.mvo_theory.specs.Causes.{why_not_begin}
 use Rattle.mvo_theory.specs.Calls as theory
 use Rattle.mvo_theory.specs.Calls.{IsKept, MayCome, steps_of}
 use Rattle.mvo_theory.specs.Calls.Call.{Begin}
-use Rattle.mvo_theory.specs.Calls.Result.{Accepted}
+use Rattle.mvo_theory.specs.Calls.Result.{Accepted, Refused}
 use Rattle.mvo_theory.proofs.Each.{each_append}
 use Rattle.mvo_theory.proofs.Chain.{chained_after_call}
 use Rattle.mvo_theory.proofs.Runs.{kept_after_call}
@@ -50,6 +50,13 @@ refusal_as (Some w) r h = h
 module _ (opening : Map) (steps : List Step) (s : State) (c : CoreData) (h : StandsFor opening steps s c) where
   why_begun : why_not_begun c.table ≡ why_not_begin s
   why_begun = why_not_begun_told opening steps s c.table h.versions.kept h.dependencies.stands
+
+  -- refused, it leaves all as it was
+  pub begin_refused : (r : Refusal) → IsRefusal (why_not_begun c.table) r → LeadsOn opening steps s Begin (Refused r) c
+  begin_refused r why = record {
+    may = subst (λ o. theory.IsRefusal true o r) why_begun (refusal_as (why_not_begun c.table) r why);
+    stands = subst (λ ys. StandsFor opening ys s c) (sym (append-nil steps)) h;
+  }
 
   -- the next timestamp is nobody's id
   fresh : get c.table.seats (c.table.clock + 1) ≡ None
@@ -142,11 +149,8 @@ module _ (opening : Map) (steps : List Step) (s : State) (c : CoreData) (h : Sta
           may = may;
           stands = subst (λ x. StandsFor opening (steps ++ steps_of s Begin Accepted) (changes.after_begin s (s.clock + 1)) (record c { table = x })) (sym is) (stands_begun may);
         }
-    begin_leads (Err r) table is cause why same = record {
-      may = subst (λ o. theory.IsRefusal true o r) why_begun (refusal_as (why_not_begun c.table) r why);
-      stands = subst (λ ys. StandsFor opening ys s (record c { table = table })) (sym (append-nil steps))
-          (subst (λ x. StandsFor opening steps s (record c { table = x })) (sym same) h);
-    }
+    begin_leads (Err r) table is cause why same =
+        subst (λ x. LeadsOn opening steps s Begin (Refused r) (record c { table = x })) (sym same) (begin_refused r why)
 
 -- ---- up to the mark of the group that was closed last all stay settled
 pub still_closed : (opening : Map) (steps : List Step) (s : State) (call : theory.Call) (r : theory.Result) → MayCome s call r → IsKept opening steps s → IsClosedAt s.marks.closed s

@@ -107,8 +107,11 @@ impl Core {
         ensures step { IsStep self.old Begin result self.new }
         ensures id { IfOk result (λ t. t.0 ≡ self.old.table.clock + 1) }
     {
+        if let Some(refusal) = self.table.why_not_begun() {
+            return Err(refusal);
+        }
         let alloc = self.alloc;
-        let work = self.spares.take();
+        let work = self.spares.take()?;
         self.table.begin(begun(alloc, work))
     }
 }

@@ -24,7 +24,7 @@ impl Model for Spares {
 }
 
 impl Spares {
-    ghost use Rattle.std.specs.Prelude.{◌≡◌, []};
+    ghost use Rattle.std.specs.Prelude.{◌≡◌, [], IfOk};
 
     /// None yet, with room for the most that are kept.
     pub fn new(alloc: Global) -> Result<Spares, AllocError> {
@@ -33,14 +33,14 @@ impl Spares {
         })
     }
 
-    /// One in which nothing is done. It takes no memory.
-    pub fn take(&mut self) -> Work
-        ensures history { result.history ≡ [] }
-        ensures words { result.words ≡ [] }
+    /// One in which nothing is done. It takes memory only where none is kept.
+    pub fn take(&mut self) -> Result<Work, AllocError>
+        ensures history { IfOk result (λ w. w.history ≡ []) }
+        ensures words { IfOk result (λ w. w.words ≡ []) }
     {
         let alloc = *self.works.allocator();
         match self.works.pop() {
-            Some(work) => work,
+            Some(work) => Ok(work),
             None => Work::new(alloc),
         }
     }

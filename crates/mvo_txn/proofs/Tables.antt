@@ -1,6 +1,10 @@
 -- Each call keeps the queues those of the seats.
 use Rattle.std.proofs.Common.{◌≡◌, ◌≢◌, ℕ, ◌+◌, ◌<◌, ◌≤◌, List, [], ◌∷◌, ◌++◌, Option, Some, None, refl, sym, ap, subst, ◌∙◌, arith, ⊎_elim}
+use Rattle.std.specs.Prelude.{cond}
+use Rattle.std.proofs.Common.{leb}
 use Rattle.std.proofs.lemmas.Bool.{cases_eq}
+use Rattle.std.proofs.lemmas.Bool.Decides.{leb_tells}
+use Rattle.mvo_types.specs.declared.refusal.Refusal.TheVariants.{TableFull, ClockSpent}
 use Rattle.std.proofs.lemmas.Option.{none-some}
 use Rattle.std.specs.Option.{option_map}
 use Rattle.std.specs.VecDeque.{deque_capacity}
@@ -17,7 +21,7 @@ use Rattle.mvo_txn.specs.declared.seat.Seat.{Seat}
 use Rattle.mvo_txn.specs.Seats.{SeatMap, state_in, with_state, with_state_at, with_kept, with_kept_at}
 use Rattle.mvo_txn.specs.Queue.{stamp_in, open_end, IsListing, IsQueue}
 use Rattle.mvo_txn.specs.Sound.{IsQueueOf, IsSound, KeepsForm}
-use Rattle.mvo_txn.specs.Txns.{IsUnended, IsEnded}
+use Rattle.mvo_txn.specs.Txns.{IsUnended, IsEnded, spent_clock}
 use Rattle.mvo_txn.proofs.Queues.{queue_same, queue_behind, listing_less, listed_below}
 use Rattle.mvo_txn.proofs.Stamps.{get_inserted, get_beside, get_removed, get_left, len_replaced, len_grown, len_left, same_begins, same_ends, same_beside}
 
@@ -214,3 +218,13 @@ ended_is_closed (Some Active) h = absurd h
 ended_is_closed (Some (Preparing end)) h = absurd h
 ended_is_closed (Some (Committed end)) h = refl
 ended_is_closed (Some Aborted) h = refl
+
+-- where one may begin there is room, and the clock isn't spent
+pub may_begin : (count clock : ℕ) → cond (leb MAX_UNFINISHED count) (Some TableFull) (spent_clock clock) ≡ None → (count < MAX_UNFINISHED) × (clock < MAX_STAMP)
+may_begin count clock none =
+    ⊎_elim (λ t. absurd (none-some _ (sym none ∙ ap (λ b. cond b (Some TableFull) (spent_clock clock)) t.0)))
+    (λ t. (t.1, unspent (sym (ap (λ b. cond b (Some TableFull) (spent_clock clock)) t.0) ∙ none)))
+    (leb_tells MAX_UNFINISHED count)
+  where
+    unspent : spent_clock clock ≡ None → clock < MAX_STAMP
+    unspent h = ⊎_elim (λ t. absurd (none-some _ (sym h ∙ ap (λ b. cond b (Some ClockSpent) None) t.0))) (λ t. t.1) (leb_tells MAX_STAMP clock)

@@ -1,4 +1,4 @@
-ghost use Rattle.std.specs.Prelude.{◌≡◌, ◌%◌, ℕ, true, false, IfOk, IfSome, OnOk, OnErr};
+ghost use Rattle.std.specs.Prelude.{◌≡◌, ◌%◌, ℕ, true, false, Some, IfOk, IfSome, OnOk, OnErr};
 ghost use Rattle.std.specs.Bool.{OnTrue, OnFalse};
 ghost use Rattle.std.specs.Option.{IfNone};
 ghost use Rattle.slab.specs.Slab.{get};
@@ -31,6 +31,7 @@ impl Directory {
     }
 
     /// The number of an id's seat.
+    #[inline(always)]
     pub(crate) fn find<P>(&self, chairs: &Slab<Chair<P>>, id: u64) -> Option<usize>
         ensures found { IfSome result (λ n. is_of (get chairs.now n) id ≡ true) }
         ensures none { IfNone result ((n : ℕ) → Knows self.now id n
@@ -40,6 +41,16 @@ impl Directory {
         if is_of(chairs, hint, id) {
             return Some(hint);
         }
+        self.displaced_seat(chairs, id)
+    }
+
+    // The number of the seat of an id that stands at no place.
+    #[inline(never)]
+    fn displaced_seat<P>(&self, chairs: &Slab<Chair<P>>, id: u64) -> Option<usize>
+        ensures found { IfSome result (λ n. is_of (get chairs.now n) id ≡ true) }
+        ensures none { IfNone result ((n : ℕ) → displaced self.now id ≡ Some n
+            → is_of (get chairs.now n) id ≡ false) }
+    {
         match self.displaced.get(&id) {
             Some(number) if is_of(chairs, *number, id) => Some(*number),
             _ => None,
@@ -75,6 +86,7 @@ impl Directory {
     }
 
     // The seat that stands at the id's place.
+    #[inline(always)]
     fn hinted(&self, id: u64) -> usize
         ensures { result ≡ hinted self.now id }
     {
@@ -99,6 +111,7 @@ impl Directory {
 }
 
 // Whether the chair is the id's.
+#[inline(always)]
 fn is_of<P>(chairs: &Slab<Chair<P>>, number: usize, id: u64) -> bool
     ensures { result ≡ is_of (get chairs.now number) id }
 {

@@ -57,6 +57,7 @@ impl<P> Seats<P> {
     }
 
     /// The seat of a transaction.
+    #[inline(always)]
     pub(crate) fn get(&self, id: u64) -> Option<&Seat<P>>
         ensures { option_copied result ≡ map.get self.now id }
     {
@@ -70,6 +71,7 @@ impl<P> Seats<P> {
     }
 
     /// What is kept of a transaction, for writing.
+    #[inline(always)]
     pub(crate) fn kept_mut(&mut self, id: u64) -> Option<&mut P>
         ensures* writes_back { sem 𝓛 (LendsKeptOfSeats P.row self.entry id result) }
         ensures value { option_copied_mut result ≡ kept_in self.old id }

@@ -109,6 +109,19 @@ impl<P> TxnTable<P> {
         self.seats.kept_mut(id.0)
     }
 
+    /// Why no transaction begins, but for want of memory, if there is a cause.
+    pub fn why_not_begun(&self) -> Option<Refusal>
+        ensures { result ≡ why_not_begun self.now }
+    {
+        if self.seats.len() >= MAX_UNFINISHED {
+            return Some(Refusal::TableFull);
+        }
+        if self.clock >= MAX_STAMP {
+            return Some(Refusal::ClockSpent);
+        }
+        None
+    }
+
     /// Begins a transaction: draws its id, and keeps this of it. A refusal drops what was given. It
     /// takes memory only where another unfinished transaction's id has the same rest by 4,096.
     pub fn begin(&mut self, kept: P) -> Result<TxId, Refusal>
@@ -120,11 +133,8 @@ impl<P> TxnTable<P> {
         ensures refused { IfErr result (IsRefusal (why_not_begun self.old)) }
         ensures err { OnErr result (self.new ≡ self.old) }
     {
-        if self.seats.len() >= MAX_UNFINISHED {
-            return Err(Refusal::TableFull);
-        }
-        if self.clock >= MAX_STAMP {
-            return Err(Refusal::ClockSpent);
+        if let Some(refusal) = self.why_not_begun() {
+            return Err(refusal);
         }
         let id = self.clock + 1;
         self.begins.make_room(&self.seats);

@@ -2,6 +2,7 @@
 //! and wrote, and the words of versions that name it.
 #![tactic(auto)]
 
+mod lists;
 mod memory;
 mod operations;
 mod told;

@@ -8,6 +8,9 @@ use std::mem;
 // The memory of more items than this isn't kept for another transaction.
 const FEW: usize = 64;
 
+// Room for more items than this, behind those that are stored, is given back.
+const SPARE: usize = 8;
+
 /// Sees to it that there is room for one item more. The first one takes no more memory than it
 /// needs: many transactions have one operation, and their lists are kept.
 pub fn reserve_one<T: Drop>(items: &mut Vec<T>) -> Result<(), AllocError>
@@ -21,7 +24,8 @@ pub fn reserve_one<T: Drop>(items: &mut Vec<T>) -> Result<(), AllocError>
     items.reserve(1)
 }
 
-/// Takes the items out. Where there are none, the memory stays.
+/// Takes the items out, with room for few more: a commit is stored for long. Where there are none,
+/// the memory stays.
 pub fn take_items<T: Drop>(items: &mut Vec<T>) -> Vec<T>
     ensures taken { result.items ≡ items.old.items }
     ensures left { items.new.items ≡ [] }
@@ -30,7 +34,11 @@ pub fn take_items<T: Drop>(items: &mut Vec<T>) -> Vec<T>
     if items.is_empty() {
         return Vec::new(alloc);
     }
-    mem::replace(items, Vec::new(alloc))
+    let mut taken = mem::replace(items, Vec::new(alloc));
+    if taken.capacity().saturating_sub(taken.len()) > SPARE {
+        taken.shrink_to_fit();
+    }
+    taken
 }
 
 /// Drops the items. The memory of few is kept.

@@ -1,4 +1,4 @@
-ghost use Rattle.std.specs.Prelude.{◌≡◌, ◌-◌, ◌++◌, ◌∷◌, [], ◌<◌, not, ◌==◌, drop, is_some, length, slice_get, OnOk, OnErr};
+ghost use Rattle.std.specs.Prelude.{◌≡◌, ◌-◌, ◌++◌, ◌∷◌, [], ◌<◌, not, ◌==◌, drop, is_some, length, slice_get, IfOk, OnOk, OnErr};
 ghost use Rattle.std.specs.Option.{option_map};
 ghost use Rattle.mvo_types.specs.AnswerData.{answer_data};
 ghost use Rattle.mvo_model.specs.History.{net_write};
@@ -10,29 +10,28 @@ ghost use Rattle.mvo_theory.specs.Limits.{AreLimited};
 ghost use Rattle.mvo_work.specs.Limits.{MayFollow};
 ghost use Rattle.mvo_work.specs.Work.{HasRoom};
 
+use crate::lists::Lists;
 use crate::memory::{clear_items, clear_words, reserve_one, take_items};
 use crate::operations::Operations;
 use crate::told::{entry_of, is_among, key_written, note_write, push_reserved};
 use crate::word_place::WordPlace;
 use mvo_types::{Answer, MAX_ENTRIES, MAX_WRITES, Op, RowKey};
-use mvo_validate::{Entries, Entry};
+use mvo_validate::Entry;
 use std::alloc::{AllocError, Global};
-use std::collections::VecDeque;
 use std::marker::Model;
 
 /// What an unfinished transaction has done. Contracts see its operations with their answers, in
 /// order, the words that finishing still has to replace, in order of writing, and the room.
 ///
-/// What it looked at and the keys that it wrote are kept beside them, each once. `make_room` alone
-/// takes memory. Each call takes constant time, but for that growth and for a search among the keys
-/// written, which are at most 256: in `has_written`, in `is_write_too_many` at that limit, and in
-/// `tell` of a write of a key that was looked at before.
+/// What it looked at and the keys that it wrote are kept beside them, each once. `new` and
+/// `make_room` alone take memory. Each call takes constant time, but for that growth and for a
+/// search among the keys written, which are at most 256: in `has_written`, in `is_write_too_many`
+/// at that limit, and in `tell` of a write of a key that was looked at before.
+///
+/// The lists lie in a block of their own, so that a work is handed on in one word.
 #[derive(Drop)]
 pub struct Work {
-    operations: Vec<(Op, Answer)>,
-    looked_at: Entries,
-    written: Vec<RowKey>,
-    words: VecDeque<WordPlace>,
+    lists: Box<Lists>,
 }
 
 impl Model for Work {
@@ -43,71 +42,69 @@ impl Model for Work {
 
     ghost Value = { WorkData };
 
-    ghost view = { λ w. record {
-      history = history_told w.operations.items;
-      words = w.words.items;
-      room = room_of (vec_capacity w.operations - vec_len w.operations) w.looked_at.room
-          (vec_capacity w.written - vec_len w.written);
-      word_room = deque_capacity w.words - deque_len w.words;
+    ghost view = { λ w. let l = w.lists.value in record {
+      history = history_told l.operations.items;
+      words = l.words.items;
+      room = room_of (vec_capacity l.operations - vec_len l.operations) l.looked_at.room
+          (vec_capacity l.written - vec_len l.written);
+      word_room = deque_capacity l.words - deque_len l.words;
     } };
 
-    ghost invariant = { λ w. IsSound w.operations.items w.looked_at.noted w.written.items };
+    ghost invariant = { λ w. let l = w.lists.value in
+        IsSound l.operations.items l.looked_at.noted l.written.items };
 }
 
 impl Work {
-    /// Nothing done. It takes no memory.
-    pub fn new(alloc: Global) -> Work
-        ensures history { result.history ≡ [] }
-        ensures words { result.words ≡ [] }
+    /// Nothing done.
+    pub fn new(alloc: Global) -> Result<Work, AllocError>
+        ensures history { IfOk result (λ w. w.history ≡ []) }
+        ensures words { IfOk result (λ w. w.words ≡ []) }
     {
-        Work {
-            operations: Vec::new(alloc),
-            looked_at: Entries::new(alloc),
-            written: Vec::new(alloc),
-            words: VecDeque::new(alloc),
-        }
+        let lists = Box::new(alloc, Lists::new(alloc))?;
+        Ok(Work { lists })
     }
 
     /// Whether it keeps as many entries as it may, and this isn't one of them.
     pub fn is_entry_too_many(&self, entry: Entry) -> bool
         ensures { result ≡ is_entry_too_many self.now.history (entry_as entry) }
     {
-        self.looked_at.len() >= MAX_ENTRIES && !self.looked_at.contains(entry)
+        let lists = &*self.lists;
+        lists.looked_at.len() >= MAX_ENTRIES && !lists.looked_at.contains(entry)
     }
 
     /// Whether it has written as many keys as it may, and this isn't one of them.
     pub fn is_write_too_many(&self, key: RowKey) -> bool
         ensures { result ≡ is_write_too_many self.now.history key }
     {
-        self.written.len() >= MAX_WRITES && !is_among(&self.written, key)
+        self.lists.written.len() >= MAX_WRITES && !is_among(&self.lists.written, key)
     }
 
     /// Whether it has written the key.
     pub fn has_written(&self, key: RowKey) -> bool
         ensures { result ≡ is_some (net_write key self.now.history) }
     {
-        is_among(&self.written, key)
+        is_among(&self.lists.written, key)
     }
 
     /// Whether it has written.
     pub fn has_writes(&self) -> bool
         ensures { result ≡ not (length (written_keys self.now.history) == 0) }
     {
-        !self.written.is_empty()
+        !self.lists.written.is_empty()
     }
 
     /// How many entries there are.
     pub fn entry_count(&self) -> usize
         ensures { result ≡ length (entries self.now.history) }
     {
-        self.looked_at.len()
+        self.lists.looked_at.len()
     }
 
     /// The entry at a place, from 0 on, in the order of the first look.
     pub fn entry_at(&self, place: usize) -> Option<Entry>
         ensures { option_map entry_as result ≡ slice_get (entries self.now.history) place }
     {
-        self.looked_at.at(place)
+        self.lists.looked_at.at(place)
     }
 
     /// Sees to it that there is room for an operation and two words more. Refused, it has changed
@@ -118,10 +115,10 @@ impl Work {
         ensures ok { OnOk result (HasRoom self.new) }
         ensures err { OnErr result (¬ HasRoom self.old) }
     {
-        reserve_one(&mut self.operations)?;
-        self.looked_at.make_room()?;
-        reserve_one(&mut self.written)?;
-        self.words.reserve(2)
+        reserve_one(&mut self.lists.operations)?;
+        self.lists.looked_at.make_room()?;
+        reserve_one(&mut self.lists.written)?;
+        self.lists.words.reserve(2)
     }
 
     /// Adds an operation with its answer.
@@ -133,9 +130,10 @@ impl Work {
           room = self.new.room;
         } }
     {
-        let is_new = self.looked_at.note(entry_of(&op));
-        note_write(&mut self.written, key_written(&op, &answer), is_new);
-        push_reserved(&mut self.operations, (op, answer));
+        let lists = &mut *self.lists;
+        let is_new = lists.looked_at.note(entry_of(&op));
+        note_write(&mut lists.written, key_written(&op, &answer), is_new);
+        push_reserved(&mut lists.operations, (op, answer));
     }
 
     /// Adds a word behind the others.
@@ -146,28 +144,28 @@ impl Work {
           word_room = self.old.word_room - 1;
         } }
     {
-        self.words.push_back_reserved(word);
+        self.lists.words.push_back_reserved(word);
     }
 
     /// How many words are still to be replaced.
     pub fn word_count(&self) -> usize
         ensures { result ≡ length self.now.words }
     {
-        self.words.len()
+        self.lists.words.len()
     }
 
     /// The word at a place of the list, from 0 on.
     pub fn word_at(&self, place: usize) -> Option<WordPlace>
         ensures { result ≡ slice_get self.now.words place }
     {
-        self.words.get(place).copied()
+        self.lists.words.get(place).copied()
     }
 
     /// The first word that is still to be replaced, if one is.
     pub fn next_word(&self) -> Option<WordPlace>
         ensures { result ≡ slice_get self.now.words 0 }
     {
-        self.words.front().copied()
+        self.lists.words.front().copied()
     }
 
     /// Takes the first word off, if there is one.
@@ -177,7 +175,7 @@ impl Work {
           word_room = self.new.word_room;
         } }
     {
-        self.words.pop_front();
+        self.lists.words.pop_front();
     }
 
     /// Takes all operations out. The words stay, and it is as if nothing else had been done.
@@ -187,10 +185,10 @@ impl Work {
         ensures limits { AreLimited self.old.history }
         ensures left { self.new ≡ record self.old { history = []; room = self.new.room } }
     {
-        self.looked_at.clear();
+        self.lists.looked_at.clear();
         Operations {
-            told: take_items(&mut self.operations),
-            written: take_items(&mut self.written),
+            told: take_items(&mut self.lists.operations),
+            written: take_items(&mut self.lists.written),
         }
     }
 
@@ -200,9 +198,9 @@ impl Work {
         ensures history { self.new.history ≡ [] }
         ensures words { self.new.words ≡ [] }
     {
-        self.looked_at.clear();
-        clear_items(&mut self.operations);
-        clear_items(&mut self.written);
-        clear_words(&mut self.words);
+        self.lists.looked_at.clear();
+        clear_items(&mut self.lists.operations);
+        clear_items(&mut self.lists.written);
+        clear_words(&mut self.lists.words);
     }
 }

@@ -10,7 +10,7 @@ fn key_of(key: u64) -> RowKey {
 
 #[test]
 fn a_transaction_keeps_4096_entries(rt: HostRuntime) -> Result<(), Fail> {
-    let mut work = Work::new(rt.alloc());
+    let mut work = Work::new(rt.alloc())?;
     for key in 0..4096 {
         assert!(rt; !work.is_entry_too_many(Entry::Key(key_of(key))));
         assert!(rt; told(&mut work, Op::Read(key_of(key)), Answer::Found(None), &[])?);
@@ -26,7 +26,7 @@ fn a_transaction_keeps_4096_entries(rt: HostRuntime) -> Result<(), Fail> {
 
 #[test]
 fn a_transaction_writes_256_keys(rt: HostRuntime) -> Result<(), Fail> {
-    let mut work = Work::new(rt.alloc());
+    let mut work = Work::new(rt.alloc())?;
     for key in 0..256 {
         assert!(rt; !work.is_write_too_many(key_of(key)));
         assert!(rt; told(&mut work, Op::Delete(key_of(key)), Answer::Deleted, &[])?);

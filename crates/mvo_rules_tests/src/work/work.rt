@@ -67,7 +67,7 @@ fn random_operations_leave_what_plain_lists_have(rt: HostRuntime) -> Result<(), 
     let alloc = rt.alloc();
     let mut numbers = Numbers::new();
     for keys in [2, 7, 30] {
-        let mut work = Work::new(alloc);
+        let mut work = Work::new(alloc)?;
         let mut plain = Plain::new(alloc);
         for _ in 0..150 {
             let asked = some_operation(alloc, &mut numbers, keys)?;
