@@ -1,8 +1,6 @@
 -- The core under its lock stays sound.
 use Rattle.std.proofs.Common.{◌≡◌, ℕ, ◌≤◌, List, [], ◌∷◌, ◌++◌, Result, Ok, Err, refl, sym, ap, ◌∙◌, subst, arith}
 use Rattle.std.specs.List.{AllByRecursion}
-use Rattle.std.proofs.lemmas.Bool.{false≢true}
-use Rattle.std.specs.Result.{IsErr}
 use Rattle.rtrb.specs.declared.producer.Producer.{Producer}
 use Rattle.rtrb.specs.Ring.{sent as ring_sent}
 use Rattle.mvo_types.specs.declared.refusal.Refusal.{Refusal}
@@ -32,8 +30,6 @@ use Rattle.mvo_world.proofs.Closed.{group_of_next}
 use Rattle.mvo_world.proofs.Moves.{groups_closed}
 use Rattle.mvo_world.proofs.Standing.{mark_after-append, groups_push}
 use Rattle.mvo_engine.specs.Sound.{IsSoundCore, last_mark}
-use Rattle.mvo_engine.specs.States.{CoreState}
-use Rattle.mvo_engine.specs.Calls.{HasSent}
 use Rattle.mvo_engine.specs.Legal.{IsLegalCore}
 
 module _ {image : Image} {c : CoreData} {sent : List GroupData} (i : IsSoundCore image c sent) where
@@ -110,8 +106,3 @@ module _ {image : Image} {c : CoreData} {sent : List GroupData} (i : IsSoundCore
         (each_weaker (IsPlaced i.state.stamped i.state.clock) (λ (x : StampedTx). x.end ≤ c.table.clock) (λ x p. let is = i.stands.dependencies.stands.clock in let le = p.drawn in omega (arith, is, le)) i.state.stamped i.stands.versions.kept.sound.placed);
     groups = i.groups;
   }
-
--- what a refusal says of what was sent doesn't depend on which one it is
-pub unsent : (rows : Map) (steps : List Step) (s : State) (old new : CoreState) (result : Result closing.Closed Refusal) → IsErr result → (new.sent ≡ old.sent) × StandsFor rows steps s new.core → HasSent rows steps s old result new
-unsent rows steps s old new (Ok x) is h = absurd (false≢true is)
-unsent rows steps s old new (Err r) is h = h

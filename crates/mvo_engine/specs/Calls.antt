@@ -1,5 +1,5 @@
 -- What the calls under the locks come to, and those of a session.
-use Rattle.std.specs.Prelude.{◌≡◌, ℕ, List, [], ◌∷◌, ◌++◌, Option, None, Some, Result, Ok, Err, if◌then◌else◌, max}
+use Rattle.std.specs.Prelude.{◌≡◌, ℕ, Bool, false, List, [], ◌∷◌, ◌++◌, Option, None, Some, Result, Ok, Err, if◌then◌else◌, max}
 use Rattle.mvo_types.specs.declared.refusal.Refusal.{Refusal}
 use Rattle.mvo_types.specs.declared.refusal.Refusal.TheVariants.{NoSuchTransaction, Busy, NothingToDo}
 use Rattle.mvo_types.specs.declared.ids.TxId.{TxId}
@@ -9,11 +9,11 @@ use Rattle.mvo_disk.specs.declared.disk.Disk.{Ghosts}
 use Rattle.mvo_group.specs.Data.{GroupData}
 use Rattle.mvo_theory.specs.State.{State}
 use Rattle.mvo_theory.specs.Calls.{Call}
-use Rattle.mvo_theory.specs.Causes.{is_failure}
+use Rattle.mvo_theory.specs.Causes.{is_failure, why_not_close}
 use Rattle.mvo_core.specs.declared.answers.Closed.{Closed}
 use Rattle.mvo_core.specs.Standing.{StandsFor}
 use Rattle.mvo_core.specs.Steps.{IsStep}
-use Rattle.mvo_core.specs.Closing.{IsClosedNow}
+use Rattle.mvo_core.specs.Closing.{IsClosedNow, IsNotClosed}
 use Rattle.mvo_store.specs.Standing.{Keeps, IsKeeping, after_taken}
 use Rattle.mvo_store.specs.Causes.{why_not_take}
 use Rattle.mvo_store.specs.Steps.{IsMarkOf}
@@ -26,13 +26,15 @@ pub record IsCoreStep {A : Type 0} (old : CoreState) (call : Call) (result : Res
   pub sent : new.sent ≡ old.sent
   pub made : new.made ≡ old.made
 
--- the next group is sent, or none
+-- The next group is sent; or none, by the first cause that stands, and else for want of memory.
+-- Whether the ring is full is what the closing saw of it.
 abbrev pub HasSent : Map → List Step → State → CoreState → Result Closed Refusal → CoreState
     → Type 0
 HasSent rows steps s old (Ok c) new =
-    (g : GroupData) × (new.sent ≡ old.sent ++ g ∷ []) × IsClosedNow rows steps s c new.core g
+    (why_not_close s false ≡ None)
+    × ((g : GroupData) × (new.sent ≡ old.sent ++ g ∷ []) × IsClosedNow rows steps s c new.core g)
 HasSent rows steps s old (Err r) new =
-    (new.sent ≡ old.sent) × StandsFor rows steps s new.core
+    (new.sent ≡ old.sent) × ((full : Bool) × IsNotClosed rows steps s full r new.core)
 
 abbrev pub IsSending : CoreState → Result Closed Refusal → CoreState → Type 0
 IsSending old result new = (rows : Map) (steps : List Step) (s : State)

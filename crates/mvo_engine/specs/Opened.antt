@@ -64,5 +64,5 @@ pub record IsNamedBy {D : Type 0} (d : Ghosts D) (image : Image) (marks : TableI
   pub ring_is : f.ring ≡ ring
 
 -- the store wasn't opened, or memory for the rest was refused
-abbrev pub IsNotServed : {D : Type 0} → Ghosts D → D → Refusal → D → Type 0
-IsNotServed d old e new = IsNotOpened d old e new ⊎ (e ≡ OutOfMemory)
+abbrev pub IsNoRun : {D : Type 0} → Ghosts D → D → Refusal → D → Type 0
+IsNoRun d old e new = IsNotOpened d old e new ⊎ (e ≡ OutOfMemory)

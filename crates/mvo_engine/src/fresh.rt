@@ -54,7 +54,7 @@ impl<D: Disk> Fresh<D> {
     ghost use Rattle.std.specs.Prelude.{◌≡◌, IfOk, IfErr};
     ghost use Rattle.mvo_types.specs.declared.refusal.Refusal.{Refusal};
     ghost use Rattle.mvo_store.specs.Opening.{KeepsContent};
-    ghost use Rattle.mvo_engine.specs.Opened.{IsOpenedWorld, IsNotServed};
+    ghost use Rattle.mvo_engine.specs.Opened.{IsOpenedWorld, IsNoRun};
 
     /// Opens what is on the disk, and takes the world apart. Refused as `World::open` is, or with
     /// OutOfMemory; the disk comes back.
@@ -65,7 +65,7 @@ impl<D: Disk> Fresh<D> {
         disk: D,
     ) -> Result<Fresh<D>, (Refusal, D)>
         ensures content { IfOk result (λ fresh. KeepsContent D.Disk disk fresh.store.disk) }
-        ensures refused { IfErr result (λ e. IsNotServed D.Disk disk e.0 e.1) }
+        ensures refused { IfErr result (λ e. IsNoRun D.Disk disk e.0 e.1) }
         ensures content_err { IfErr result (λ e. KeepsContent D.Disk disk e.1) }
     {
         let world = match World::open(rt, alloc, seed, disk) {

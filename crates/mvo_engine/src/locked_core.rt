@@ -110,9 +110,13 @@ impl<L: Run> LockedCore<L> {
         requires { marks.now ≡ L.marks }
         ensures { IsSending self.old result self.new }
     {
-        let closed = self.core.close_group(&mut self.ring)?;
-        marks.raise_closed(&mut self.seat, closed.mark);
-        Ok(closed)
+        match self.core.close_group(&mut self.ring) {
+            Ok(closed) => {
+                marks.raise_closed(&mut self.seat, closed.mark);
+                Ok(closed)
+            }
+            Err(refusal) => Err(refusal),
+        }
     }
 
     /// As `Core::begin_tx`.

@@ -185,6 +185,12 @@ impl<L: Run, D: Disk> LockedStore<L, D> {
     /// As `Store::rotate_write`.
     pub fn rotate_write(&mut self) -> Result<(), Refusal>
         ensures refused { RefusedFor (why_not_rotate self.old.store) result }
+        ensures ok { OnOk result (self.new.store ≡ record self.old.store {
+          disk = self.new.store.disk;
+          job = self.new.store.job;
+        }) }
+        ensures rotation { OnOk result
+            (IsRotationOf self.old.store.manifest self.new.store.job) }
         ensures err { IfErr result (λ e. LeftBy D.Disk e self.old.store self.new.store) }
         ensures rest { IsStoreStep D.Disk self.old self.new }
     {
@@ -194,6 +200,10 @@ impl<L: Run, D: Disk> LockedStore<L, D> {
     /// As `Store::install_close`.
     pub fn install_close(&mut self) -> Result<(), Refusal>
         ensures refused { RefusedFor (why_not_install Due.Close self.old.store) result }
+        ensures ok { OnOk result (self.new.store ≡ record self.old.store {
+          disk = self.new.store.disk;
+          job = with_due Due.Body self.old.store.job;
+        }) }
         ensures err { IfErr result (λ e. LeftBy D.Disk e self.old.store self.new.store) }
         ensures rest { IsStoreStep D.Disk self.old self.new }
     {
@@ -203,6 +213,10 @@ impl<L: Run, D: Disk> LockedStore<L, D> {
     /// As `Store::install_body`.
     pub fn install_body(&mut self) -> Result<(), Refusal>
         ensures refused { RefusedFor (why_not_install Due.Body self.old.store) result }
+        ensures ok { OnOk result (self.new.store ≡ record self.old.store {
+          disk = self.new.store.disk;
+          job = with_due Due.Open self.old.store.job;
+        }) }
         ensures err { IfErr result (λ e. LeftBy D.Disk e self.old.store self.new.store) }
         ensures rest { IsStoreStep D.Disk self.old self.new }
     {

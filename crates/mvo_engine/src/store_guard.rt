@@ -40,6 +40,7 @@ impl<'e, L: Run, D: Disk> StoreGuard<'e, L, D> {
     ghost use Rattle.mvo_store.specs.Causes.{why_not_append_open, why_not_rotate};
     ghost use Rattle.mvo_store.specs.Causes.{why_not_install, why_not_install_open};
     ghost use Rattle.mvo_store.specs.Steps.{RefusedFor, LeftBy, IsInstalledBy};
+    ghost use Rattle.mvo_store.specs.Steps.{IsRotationOf, with_due};
     ghost use Rattle.mvo_engine.specs.Sound.{LeavesReceived};
     ghost use Rattle.mvo_engine.specs.Calls.{IsStoreStep, HasTaken, IsNotTaken, HasAppended};
 
@@ -121,6 +122,12 @@ impl<'e, L: Run, D: Disk> StoreGuard<'e, L, D> {
     /// As `Store::rotate_write`.
     pub fn rotate_write(&mut self) -> Result<(), Refusal>
         ensures refused { RefusedFor (why_not_rotate self.old.store) result }
+        ensures ok { OnOk result (self.new.store ≡ record self.old.store {
+          disk = self.new.store.disk;
+          job = self.new.store.job;
+        }) }
+        ensures rotation { OnOk result
+            (IsRotationOf self.old.store.manifest self.new.store.job) }
         ensures err { IfErr result (λ e. LeftBy D.Disk e self.old.store self.new.store) }
         ensures rest { IsStoreStep D.Disk self.old self.new }
     {
@@ -130,6 +137,10 @@ impl<'e, L: Run, D: Disk> StoreGuard<'e, L, D> {
     /// As `Store::install_close`.
     pub fn install_close(&mut self) -> Result<(), Refusal>
         ensures refused { RefusedFor (why_not_install Due.Close self.old.store) result }
+        ensures ok { OnOk result (self.new.store ≡ record self.old.store {
+          disk = self.new.store.disk;
+          job = with_due Due.Body self.old.store.job;
+        }) }
         ensures err { IfErr result (λ e. LeftBy D.Disk e self.old.store self.new.store) }
         ensures rest { IsStoreStep D.Disk self.old self.new }
     {
@@ -139,6 +150,10 @@ impl<'e, L: Run, D: Disk> StoreGuard<'e, L, D> {
     /// As `Store::install_body`.
     pub fn install_body(&mut self) -> Result<(), Refusal>
         ensures refused { RefusedFor (why_not_install Due.Body self.old.store) result }
+        ensures ok { OnOk result (self.new.store ≡ record self.old.store {
+          disk = self.new.store.disk;
+          job = with_due Due.Open self.old.store.job;
+        }) }
         ensures err { IfErr result (λ e. LeftBy D.Disk e self.old.store self.new.store) }
         ensures rest { IsStoreStep D.Disk self.old self.new }
     {
