@@ -13,6 +13,7 @@ pub enum Work {
     Hot,
     Crowd,
     Stalls,
+    Threads,
 }
 
 /// What is run, and how much of it.
@@ -89,6 +90,7 @@ impl Config {
             "hot" => Work::Hot,
             "open" => Work::Crowd,
             "stalls" => Work::Stalls,
+            "threads" => Work::Threads,
             _ => bail!("no workload has this name"),
         };
         self.works.push(work)?;

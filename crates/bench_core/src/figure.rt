@@ -1,6 +1,7 @@
 use crate::checksum::Checksum;
 use crate::config::Config;
 use anyhow::Result;
+use std::rt::Clock;
 use std::time::Instant;
 
 /// A workload that runs: its name, and when it began.
@@ -12,7 +13,7 @@ pub struct Figure<'a> {
 }
 
 impl<'a> Figure<'a> {
-    pub fn start(rt: &HostRuntime, config: &Config, name: &'a str) -> Result<Figure<'a>> {
+    pub fn start(rt: &impl Clock, config: &Config, name: &'a str) -> Result<Figure<'a>> {
         Ok(Figure {
             name,
             rows: config.rows,
@@ -21,14 +22,19 @@ impl<'a> Figure<'a> {
     }
 
     /// Prints the checksum, and the nanoseconds for one of so many operations.
-    pub fn tell(&self, rt: &HostRuntime, operations: u64, sum: Checksum) -> Result<()> {
+    pub fn tell(
+        &self,
+        rt: &(impl Clock + Print + Eprint),
+        operations: u64,
+        sum: Checksum,
+    ) -> Result<()> {
         let nanos = self.nanos(rt, operations)?;
         self.tell_sum(rt, sum)?;
         self.tell_nanos(rt, operations, nanos)
     }
 
     /// Prints so many nanoseconds for one of so many operations.
-    pub fn tell_nanos(&self, rt: &HostRuntime, operations: u64, nanos: u128) -> Result<()> {
+    pub fn tell_nanos(&self, rt: &impl Eprint, operations: u64, nanos: u128) -> Result<()> {
         let (name, rows) = (self.name, self.rows);
         eprintln!(rt;
             "{{\"engine\":\"ravundi\",\"name\":\"{name}\",\"rows\":{rows},\"operations\":{operations},\"ns\":{nanos}}}"
@@ -48,12 +54,14 @@ impl<'a> Figure<'a> {
         Ok(())
     }
 
-    fn nanos(&self, rt: &HostRuntime, operations: u64) -> Result<u128> {
+    /// How many nanoseconds one of so many operations has taken.
+    pub fn nanos(&self, rt: &impl Clock, operations: u64) -> Result<u128> {
         let nanos = self.start.elapsed(rt)?.as_nanos();
         Ok(nanos.checked_div(u128::from(operations)).unwrap_or(0))
     }
 
-    fn tell_sum(&self, rt: &HostRuntime, sum: Checksum) -> Result<()> {
+    /// Prints the checksum.
+    pub fn tell_sum(&self, rt: &impl Print, sum: Checksum) -> Result<()> {
         let (name, rows, sum) = (self.name, self.rows, sum.0);
         println!(rt; "{name} {rows}: {sum}")?;
         Ok(())

@@ -18,7 +18,8 @@ pub fn run(rt: &HostRuntime, config: &Config, session: &mut Session) -> Result<(
     update_hot(rt, config, session)?;
     read_old(rt, config, session, old)?;
     read_new(rt, config, session)?;
-    session.roll_back(old)
+    session.roll_back(old)?;
+    Ok(())
 }
 
 fn update_hot(rt: &HostRuntime, config: &Config, session: &mut Session) -> Result<()> {

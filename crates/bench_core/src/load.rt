@@ -4,6 +4,7 @@ use crate::figure::Figure;
 use crate::resident::resident;
 use crate::rows::loaded;
 use crate::session::Session;
+use crate::stopped::Stopped;
 use anyhow::Result;
 
 /// So many rows a transaction.
@@ -23,7 +24,7 @@ pub fn run(rt: &HostRuntime, config: &Config, session: &mut Session) -> Result<(
     figure.tell_bytes(rt, bytes, sum)
 }
 
-fn insert(session: &mut Session, from: u64, to: u64, sum: &mut Checksum) -> Result<()> {
+fn insert(session: &mut Session, from: u64, to: u64, sum: &mut Checksum) -> Result<(), Stopped> {
     let alloc = session.alloc();
     let tx = session.begin()?;
     for key in from..to {

@@ -18,7 +18,10 @@ mod resident;
 mod rows;
 mod scans;
 mod session;
+mod shared;
 mod stalls;
+mod stopped;
+mod threads;
 mod times;
 mod updates;
 mod zipf;
@@ -35,6 +38,9 @@ fn main(rt: HostRuntime) -> Result<()> {
     run_beside_old(&rt, &config, &mut session)?;
     if config.has(Work::Stalls) {
         stalls::run(&rt, &config)?;
+    }
+    if config.has(Work::Threads) {
+        threads::run(&rt, rt.alloc(), &config)?;
     }
     Ok(())
 }

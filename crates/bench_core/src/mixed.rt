@@ -4,6 +4,7 @@ use crate::figure::Figure;
 use crate::keys::{Keys, mixed};
 use crate::rows::changed;
 use crate::session::Session;
+use crate::stopped::Stopped;
 use anyhow::Result;
 
 const SEED: u64 = 4;
@@ -27,14 +28,14 @@ pub fn run(rt: &HostRuntime, config: &Config, session: &mut Session) -> Result<(
 }
 
 /// Reads a row in a transaction.
-pub fn read_one(session: &mut Session, key: u64, sum: &mut Checksum) -> Result<()> {
+pub fn read_one(session: &mut Session, key: u64, sum: &mut Checksum) -> Result<(), Stopped> {
     let tx = session.begin()?;
     sum.add(&session.read(tx, key)?);
     session.commit(tx)
 }
 
 /// Reads a row and updates it in a transaction.
-pub fn update_one(session: &mut Session, key: u64, sum: &mut Checksum) -> Result<()> {
+pub fn update_one(session: &mut Session, key: u64, sum: &mut Checksum) -> Result<(), Stopped> {
     let tx = session.begin()?;
     let row = session.read(tx, key)?;
     sum.add(&row);

@@ -3,6 +3,7 @@ use crate::config::Config;
 use crate::figure::Figure;
 use crate::keys::Keys;
 use crate::session::Session;
+use crate::stopped::Stopped;
 use anyhow::Result;
 
 const SEED: u64 = 1;
@@ -44,7 +45,12 @@ fn run_ten(
 }
 
 /// So many transactions, each of which reads so many rows.
-fn read_all(session: &mut Session, keys: &Keys, count: u64, each: u64) -> Result<Checksum> {
+fn read_all(
+    session: &mut Session,
+    keys: &Keys,
+    count: u64,
+    each: u64,
+) -> Result<Checksum, Stopped> {
     let mut sum = Checksum(0);
     for at in 0..count {
         let tx = session.begin()?;

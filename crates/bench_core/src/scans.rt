@@ -4,6 +4,7 @@ use crate::figure::Figure;
 use crate::keys::Keys;
 use crate::rows::sort_of;
 use crate::session::Session;
+use crate::stopped::Stopped;
 use anyhow::Result;
 
 const SEED: u64 = 3;
@@ -24,7 +25,12 @@ pub fn run(rt: &HostRuntime, config: &Config, session: &mut Session) -> Result<(
     figure.tell(rt, config.fewer, sum)
 }
 
-fn scan_one(session: &mut Session, low: u64, width: u64, sum: &mut Checksum) -> Result<()> {
+fn scan_one(
+    session: &mut Session,
+    low: u64,
+    width: u64,
+    sum: &mut Checksum,
+) -> Result<(), Stopped> {
     let tx = session.begin()?;
     let rows = session.scan(tx, low, low.saturating_add(width))?;
     for row in &rows {

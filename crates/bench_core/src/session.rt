@@ -1,5 +1,5 @@
 use crate::rows::{TABLE, key_of};
-use anyhow::{Result, bail};
+use crate::stopped::Stopped;
 use mvo_core::{Core, Finishing, Settlement, Validation};
 use mvo_types::{Answer, Row, Rows, Stamp, TxId};
 use std::alloc::Global;
@@ -16,7 +16,7 @@ pub struct Session {
 
 impl Session {
     /// No rows yet.
-    pub fn new(alloc: Global) -> Result<Session> {
+    pub fn new(alloc: Global) -> Result<Session, Stopped> {
         let core = Core::open(alloc, 7, Rows::new(alloc), Stamp(0))?;
         Ok(Session { alloc, core })
     }
@@ -25,90 +25,90 @@ impl Session {
         self.alloc
     }
 
-    pub fn begin(&mut self) -> Result<TxId> {
+    pub fn begin(&mut self) -> Result<TxId, Stopped> {
         Ok(self.core.begin_tx()?)
     }
 
     /// The row at a key, which has one.
-    pub fn read(&mut self, tx: TxId, key: u64) -> Result<Row> {
+    pub fn read(&mut self, tx: TxId, key: u64) -> Result<Row, Stopped> {
         match self.core.read(tx, key_of(key))? {
             Answer::Found(Some(row)) => Ok(row),
-            _ => bail!("a row is missing"),
+            _ => Err(Stopped::Unexpected),
         }
     }
 
-    pub fn insert(&mut self, tx: TxId, row: Row) -> Result<()> {
+    pub fn insert(&mut self, tx: TxId, row: Row) -> Result<(), Stopped> {
         match self.core.insert(tx, row)? {
             Answer::Inserted => Ok(()),
-            _ => bail!("a row stands there already"),
+            _ => Err(Stopped::Unexpected),
         }
     }
 
-    pub fn update(&mut self, tx: TxId, row: Row) -> Result<()> {
+    pub fn update(&mut self, tx: TxId, row: Row) -> Result<(), Stopped> {
         match self.core.update(tx, row)? {
             Answer::Updated => Ok(()),
-            _ => bail!("a row to be updated is missing"),
+            _ => Err(Stopped::Unexpected),
         }
     }
 
-    pub fn scan(&mut self, tx: TxId, low: u64, high: u64) -> Result<Vec<Row>> {
+    pub fn scan(&mut self, tx: TxId, low: u64, high: u64) -> Result<Vec<Row>, Stopped> {
         match self.core.scan(tx, TABLE, low, high)? {
             Answer::Rows(rows) => Ok(rows),
-            _ => bail!("a scan isn't answered with rows"),
+            _ => Err(Stopped::Unexpected),
         }
     }
 
     /// The whole end of a transaction.
-    pub fn commit(&mut self, tx: TxId) -> Result<()> {
+    pub fn commit(&mut self, tx: TxId) -> Result<(), Stopped> {
         self.precommit(tx)?;
         self.validate(tx)?;
         self.settle(tx)?;
         self.finish(tx)
     }
 
-    pub fn precommit(&mut self, tx: TxId) -> Result<()> {
+    pub fn precommit(&mut self, tx: TxId) -> Result<(), Stopped> {
         self.core.precommit(tx)?;
         Ok(())
     }
 
     /// One check, and whether it was the last.
-    pub fn validate_one(&mut self, tx: TxId) -> Result<bool> {
+    pub fn validate_one(&mut self, tx: TxId) -> Result<bool, Stopped> {
         Ok(self.core.validate_one(tx)? == Validation::Valid)
     }
 
-    pub fn settle(&mut self, tx: TxId) -> Result<()> {
+    pub fn settle(&mut self, tx: TxId) -> Result<(), Stopped> {
         match self.core.settle(tx)? {
             Settlement::Committed(_) => Ok(()),
-            Settlement::Waiting(_) => bail!("a transaction waits"),
+            Settlement::Waiting(_) => Err(Stopped::Unexpected),
         }
     }
 
     /// One word, and whether it was the last.
-    pub fn finish_one(&mut self, tx: TxId) -> Result<bool> {
+    pub fn finish_one(&mut self, tx: TxId) -> Result<bool, Stopped> {
         Ok(self.core.finish_one(tx)? == Finishing::Done)
     }
 
     /// Takes a transaction back.
-    pub fn roll_back(&mut self, tx: TxId) -> Result<()> {
+    pub fn roll_back(&mut self, tx: TxId) -> Result<(), Stopped> {
         self.core.rollback_tx(tx)?;
         self.finish(tx)
     }
 
-    fn validate(&mut self, tx: TxId) -> Result<()> {
+    fn validate(&mut self, tx: TxId) -> Result<(), Stopped> {
         for _ in 0..MOST {
             if self.validate_one(tx)? {
                 return Ok(());
             }
         }
-        bail!("a transaction has too many entries")
+        Err(Stopped::Unexpected)
     }
 
-    fn finish(&mut self, tx: TxId) -> Result<()> {
+    fn finish(&mut self, tx: TxId) -> Result<(), Stopped> {
         for _ in 0..MOST {
             if self.finish_one(tx)? {
                 return Ok(());
             }
         }
-        bail!("a transaction has too many words")
+        Err(Stopped::Unexpected)
     }
 }

@@ -4,6 +4,7 @@ use crate::figure::Figure;
 use crate::keys::Keys;
 use crate::rows::{changed, changed_in};
 use crate::session::Session;
+use crate::stopped::Stopped;
 use anyhow::Result;
 
 const SEED: u64 = 2;
@@ -18,7 +19,7 @@ pub fn run(rt: &HostRuntime, config: &Config, session: &mut Session) -> Result<(
 }
 
 /// So many transactions.
-pub fn update_all(session: &mut Session, keys: &Keys, count: u64) -> Result<Checksum> {
+pub fn update_all(session: &mut Session, keys: &Keys, count: u64) -> Result<Checksum, Stopped> {
     let mut sum = Checksum(0);
     for round in 0..count {
         let at = round.wrapping_mul(2);
@@ -35,7 +36,7 @@ fn update_two(
     other: u64,
     round: u64,
     sum: &mut Checksum,
-) -> Result<()> {
+) -> Result<(), Stopped> {
     let alloc = session.alloc();
     let tx = session.begin()?;
     let first = session.read(tx, one)?;

@@ -10,8 +10,8 @@ use std::rt::Clock;
 use std::thread::Threads;
 use std::time::Instant;
 
-// How many pairs hold the rows.
-const PAIRS: u64 = 4;
+/// How many pairs hold the rows.
+pub const PAIRS: u64 = 4;
 
 // The key of the record of a number, in another order.
 fn key_of(number: u64) -> RowKey {
@@ -79,22 +79,26 @@ fn write_manifest(alloc: Global, disk: &mut MemDisk, manifest: &Manifest) -> Res
     Ok(())
 }
 
-// A disk with a store that holds so many rows in its pairs, and none in its log.
-fn written(alloc: Global, count: u64) -> Result<MemDisk> {
+/// The pair of a number from 0 on, where the pairs hold so many rows.
+pub fn pair_of(number: u16, count: u64) -> Pair {
+    let each = count / PAIRS;
+    let lo = u64::from(number).wrapping_mul(each);
+    let file = number.wrapping_mul(2).wrapping_add(3);
+    pair(file, lo, lo.wrapping_add(each))
+}
+
+/// A disk with a store that holds so many rows in its pairs, and none in its log.
+pub fn written(alloc: Global, count: u64) -> Result<MemDisk> {
     let Ok(mut disk) = format(alloc, MemDisk::new(alloc)?) else {
         bail!("the disk isn't formatted");
     };
-    let each = count / PAIRS;
     let mut pairs = Vec::new(alloc);
-    let mut file = 3u16;
-    for number in 0..PAIRS {
-        let lo = number.wrapping_mul(each);
-        let pair = pair(file, lo, lo.wrapping_add(each));
-        file = file.wrapping_add(2);
+    for number in 0..PAIRS as u16 {
+        let pair = pair_of(number, count);
         write_pair(alloc, &mut disk, pair)?;
         pairs.push(pair)?;
     }
-    let mark = Stamp(each.wrapping_mul(PAIRS));
+    let mark = Stamp((count / PAIRS).wrapping_mul(PAIRS));
     let segments = vec![in alloc; 2u16]?;
     let Some(manifest) = Manifest::new(1, mark, pairs, segments)? else {
         bail!("the pairs and the segment make a manifest");
@@ -121,8 +125,8 @@ where
     Ok(())
 }
 
-// The sum of the sorts of all rows.
-fn sum_of(rows: &Rows, count: u64) -> Result<u64> {
+/// The sum of the sorts of all rows.
+pub fn sum_of(rows: &Rows, count: u64) -> Result<u64> {
     let mut sum = 0u64;
     for number in 0..count {
         if let Some(row) = rows.get(key_of(number.wrapping_add(1)))? {

@@ -1,0 +1,96 @@
+//! What one thread does through a session.
+use crate::checksum::Checksum;
+use crate::keys::Keys;
+use crate::rows::{changed, changed_in, key_of, number_of};
+use mvo_disk::Disk;
+use mvo_engine::{Engine, Gate, Run, Session};
+use mvo_types::{Answer, Refusal, Row};
+use std::alloc::Global;
+use std::sync::Wait;
+
+/// Which of so many transactions a thread runs: every `step`th one, from the first on.
+#[derive(Clone, Copy)]
+pub struct Work {
+    pub first: u64,
+    pub step: u64,
+    pub count: u64,
+}
+
+/// The transactions of one thread, and the checksum of what they read.
+pub fn transact<L: Run, D: Disk, G: Gate + Drop, R: Wait>(
+    rt: &R,
+    alloc: Global,
+    engine: &Engine<L, D, G>,
+    keys: &Keys,
+    work: Work,
+) -> Result<Checksum, Refusal> {
+    let mut session = engine.session(rt)?;
+    let mut sum = Checksum(0);
+    for index in 0..work.count.checked_div(work.step).unwrap_or(0) {
+        let round = index.wrapping_mul(work.step).wrapping_add(work.first);
+        let at = round.wrapping_mul(2);
+        let (one, other) = (keys.at(at), keys.at(at.wrapping_add(1)));
+        let other = if one == other { one ^ 1 } else { other };
+        let read = tried(rt, alloc, &mut session, (one, other), round)?;
+        sum.add(&read.0);
+        sum.add(&read.1);
+    }
+    Ok(sum)
+}
+
+/// Whether another transaction was in the way.
+fn may_retry(refusal: Refusal) -> bool {
+    matches!(
+        refusal,
+        Refusal::WriteConflict(_) | Refusal::ValidationFailed(_) | Refusal::DependencyAborted(_)
+    )
+}
+
+/// Tries the transaction until no other is in its way. What it read then.
+fn tried<L: Run, D: Disk, G: Gate + Drop, R: Wait>(
+    rt: &R,
+    alloc: Global,
+    session: &mut Session<'_, L, D, G>,
+    of: (u64, u64),
+    round: u64,
+) -> Result<(Row, Row), Refusal> {
+    for _ in rt.forever() {
+        match update_two(rt, alloc, session, of, round) {
+            Err(refusal) if may_retry(refusal) => {}
+            result => return result,
+        }
+    }
+    unreachable!()
+}
+
+fn update_two<L: Run, D: Disk, G: Gate + Drop, R: Wait>(
+    rt: &R,
+    alloc: Global,
+    session: &mut Session<'_, L, D, G>,
+    of: (u64, u64),
+    round: u64,
+) -> Result<(Row, Row), Refusal> {
+    session.begin_tx(rt)?;
+    let first = found(session.read(rt, key_of(of.0))?)?;
+    let second = found(session.read(rt, key_of(of.1))?)?;
+    session.update(rt, changed_in(alloc, &first, 1, round)?)?;
+    session.update(rt, changed(alloc, &second, u8::MAX)?)?;
+    session.commit_tx(rt)?;
+    Ok((first, second))
+}
+
+/// The number that updates change, of the row at a key.
+pub fn number_in<L: Run, D: Disk, G: Gate + Drop, R: Wait>(
+    rt: &R,
+    session: &mut Session<'_, L, D, G>,
+    key: u64,
+) -> Result<u8, Refusal> {
+    Ok(number_of(&found(session.read(rt, key_of(key))?)?))
+}
+
+fn found(answer: Answer) -> Result<Row, Refusal> {
+    match answer {
+        Answer::Found(Some(row)) => Ok(row),
+        _ => Err(Refusal::NothingToDo),
+    }
+}

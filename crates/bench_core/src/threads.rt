@@ -1,0 +1,234 @@
+//! Two reads and two updates a transaction, through sessions of an engine, in several threads.
+ghost use Rattle.mvo_engine.specs.Opened.{IsNamedBy};
+
+use crate::checksum::Checksum;
+use crate::config::Config;
+use crate::figure::Figure;
+use crate::keys::Keys;
+use crate::rows::loaded;
+use crate::shared::{Work, number_in, transact};
+use crate::stopped::Stopped;
+use anyhow::{Result, bail};
+use mvo_disk::{Disk, MemDisk};
+use mvo_engine::{Engine, Fresh, Gate, OpenGate, Run, Session};
+use mvo_store::format;
+use mvo_types::Refusal;
+use std::alloc::{AllocError, Global};
+use std::marker::Brand;
+use std::rt::{Clock, Runtime};
+use std::sync::Wait;
+use std::thread;
+use std::thread::Threads;
+use std::time::Instant;
+
+const SEED: u64 = 2;
+
+/// So many rows a transaction, where all are written or read.
+const EACH: u64 = 100;
+
+/// What the threads do: so many transactions in all.
+#[derive(Clone, Copy)]
+struct Task<'a> {
+    rows: u64,
+    keys: &'a Keys,
+    count: u64,
+    threads: usize,
+}
+
+/// What came of it: the checksum, and the nanoseconds in all.
+#[derive(Clone, Copy)]
+struct Done {
+    sum: Checksum,
+    nanos: u128,
+}
+
+/// Runs the transactions of `updates` with one, two and four threads, each time over rows of its
+/// own. One thread is told the same as the core without an engine, which the checksum shows. The
+/// checksum of several is the sum of a number in all rows, which no transaction changes.
+pub fn run<R: Runtime + Threads + Wait + Sync>(
+    rt: &R,
+    alloc: Global,
+    config: &Config,
+) -> Result<()> {
+    let (rows, count) = (config.rows, config.transactions);
+    let keys = Keys::uniform(alloc, rows, SEED, count.saturating_mul(2))?;
+    for (threads, name) in [(1, "threads_1"), (2, "threads_2"), (4, "threads_4")] {
+        let task = Task {
+            rows,
+            keys: &keys,
+            count,
+            threads,
+        };
+        let done = on_disk(rt, alloc, formatted(alloc)?, task)?;
+        let each = done.nanos.checked_div(u128::from(count)).unwrap_or(0);
+        let figure = Figure::start(rt, config, name)?;
+        figure.tell_sum(rt, done.sum)?;
+        figure.tell_nanos(rt, count, each)?;
+    }
+    Ok(())
+}
+
+/// A disk in memory with a store that has no rows.
+fn formatted(alloc: Global) -> Result<MemDisk> {
+    match format(alloc, new_disk(alloc)?) {
+        Ok(disk) => Ok(disk),
+        Err((refusal, _)) => bail!("no store is written: {refusal}"),
+    }
+}
+
+fn new_disk(alloc: Global) -> Result<MemDisk, AllocError> {
+    MemDisk::new(alloc)
+}
+
+/// Opens the disk, and runs the threads.
+fn on_disk<D: Disk + Drop + Send, R: Clock + Threads + Wait + Sync>(
+    rt: &R,
+    alloc: Global,
+    disk: D,
+    task: Task<'_>,
+) -> Result<Done, Stopped> {
+    match Fresh::open(rt, alloc, 7, disk) {
+        Ok(fresh) => with_engine::<Brand, D, R>(rt, alloc, fresh, task),
+        Err((refusal, _)) => Err(Stopped::Refused(refusal)),
+    }
+}
+
+/// Makes an engine, and runs the threads. It is written for every run, which the parts name.
+fn with_engine<L: Run + Send + Sync, D: Disk + Drop + Send, R: Clock + Threads + Wait + Sync>(
+    rt: &R,
+    alloc: Global,
+    fresh: Fresh<D>,
+    task: Task<'_>,
+) -> Result<Done, Stopped>
+    requires { IsNamedBy D.Disk L.image L.marks L.ring fresh }
+{
+    let engine = Engine::<L, D, OpenGate>::new(fresh, OpenGate);
+    on_engine(rt, alloc, &engine, task)
+}
+
+/// Loads the rows, and times the transactions of all threads.
+fn on_engine<L: Run + Send + Sync, D: Disk + Send, R: Clock + Threads + Wait + Sync>(
+    rt: &R,
+    alloc: Global,
+    engine: &Engine<L, D, OpenGate>,
+    task: Task<'_>,
+) -> Result<Done, Stopped> {
+    load(rt, alloc, engine, task.rows)?;
+    let Ok(start) = Instant::now(rt) else {
+        return Err(Stopped::Unexpected);
+    };
+    let told = all_threads(rt, alloc, engine, task)?;
+    let Ok(time) = start.elapsed(rt) else {
+        return Err(Stopped::Unexpected);
+    };
+    let nanos = time.as_nanos();
+    let sum = match first_of(told)? {
+        Some(sum) => sum,
+        None => total(rt, engine, task.rows)?,
+    };
+    Ok(Done { sum, nanos })
+}
+
+/// The checksum of the one thread, or none of several. Refused where one of them was.
+fn first_of(told: Vec<Result<Checksum, Refusal>>) -> Result<Option<Checksum>, Refusal> {
+    let is_one = told.len() == 1;
+    let mut first = None;
+    for one in told {
+        first = Some(one?);
+    }
+    Ok(if is_one { first } else { None })
+}
+
+/// The transactions of all threads, and the checksum of what each one read.
+fn all_threads<L: Run + Send + Sync, D: Disk + Send, R: Threads + Wait + Sync>(
+    rt: &R,
+    alloc: Global,
+    engine: &Engine<L, D, OpenGate>,
+    task: Task<'_>,
+) -> Result<Vec<Result<Checksum, Refusal>>, AllocError> {
+    let Task {
+        keys,
+        count,
+        threads,
+        ..
+    } = task;
+    let step = threads as u64;
+    thread::map_indices(
+        rt,
+        alloc,
+        threads,
+        &|first| {
+            let first = first as u64;
+            transact(rt, alloc, engine, keys, Work { first, step, count })
+        },
+    )
+}
+
+/// Puts all rows.
+fn load<L: Run, D: Disk, G: Gate + Drop, R: Wait>(
+    rt: &R,
+    alloc: Global,
+    engine: &Engine<L, D, G>,
+    rows: u64,
+) -> Result<(), Refusal> {
+    let mut session = engine.session(rt)?;
+    for batch in 0..rows.saturating_add(EACH - 1) / EACH {
+        let from = batch.saturating_mul(EACH);
+        put(
+            rt,
+            alloc,
+            &mut session,
+            from,
+            from.saturating_add(EACH).min(rows),
+        )?;
+    }
+    Ok(())
+}
+
+/// Puts the rows of these keys.
+fn put<L: Run, D: Disk, G: Gate + Drop, R: Wait>(
+    rt: &R,
+    alloc: Global,
+    session: &mut Session<'_, L, D, G>,
+    from: u64,
+    to: u64,
+) -> Result<(), Refusal> {
+    session.begin_tx(rt)?;
+    for key in from..to {
+        session.insert(rt, loaded(alloc, key)?)?;
+    }
+    session.commit_tx(rt)?;
+    Ok(())
+}
+
+/// The sum of the number that updates change, over all rows: what one row gets another gives.
+fn total<L: Run, D: Disk, G: Gate + Drop, R: Wait>(
+    rt: &R,
+    engine: &Engine<L, D, G>,
+    rows: u64,
+) -> Result<Checksum, Refusal> {
+    let mut session = engine.session(rt)?;
+    let mut sum = 0u8;
+    for batch in 0..rows.saturating_add(EACH - 1) / EACH {
+        let from = batch.saturating_mul(EACH);
+        let to = from.saturating_add(EACH).min(rows);
+        sum = sum.wrapping_add(total_of(rt, &mut session, from, to)?);
+    }
+    Ok(Checksum(u64::from(sum)))
+}
+
+/// The sum over the rows of these keys.
+fn total_of<L: Run, D: Disk, G: Gate + Drop, R: Wait>(
+    rt: &R,
+    session: &mut Session<'_, L, D, G>,
+    from: u64,
+    to: u64,
+) -> Result<u8, Refusal> {
+    session.begin_tx(rt)?;
+    let mut sum = 0u8;
+    for key in from..to {
+        sum = sum.wrapping_add(number_in(rt, session, key)?);
+    }
+    session.commit_tx(rt)?;
+    Ok(sum)
+}
