@@ -13,6 +13,10 @@ use mvo_disk::Disk;
 use mvo_marks::Marks;
 use mvo_types::{Refusal, Stamp};
 use std::sync::{Mutex, MutexGuard, Wait};
+use std::thread;
+
+/// How often a thread tries to take the lock of the core before it sleeps over it.
+const TRIES: u32 = 256;
 
 /// A store of rows that many threads share: one lock round the core, one round the store, and the
 /// marks beside them.
@@ -115,9 +119,16 @@ impl<L: Run, D: Disk, G: Gate + Drop> Engine<L, D, G> {
         store.into_inner().into_disk()
     }
 
-    // Passes the gate and takes the lock of the core.
+    // Passes the gate and takes the lock of the core. It tries for a while first, since a step
+    // gives the lock back sooner than a thread falls asleep and is woken.
     pub(crate) fn enter_core<R: Wait>(&self, rt: &R) -> MutexGuard<'_, LockedCore<L>> {
         self.gate.pass(Place::Core);
+        for _ in 0..TRIES {
+            if let Some(core) = self.core.try_lock() {
+                return core;
+            }
+            thread::yield_now();
+        }
         self.core.lock(rt)
     }
 

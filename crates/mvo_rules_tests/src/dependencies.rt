@@ -163,28 +163,39 @@ fn depend_on_all(table: &mut Table, id: TxId, on: &[TxId]) -> Result<(), AllocEr
     }
 }
 
-#[test]
-fn registers_several(rt: HostRuntime) -> Result<(), Fail> {
-    let mut table = TxnTable::new(rt.alloc(), Stamp(0))?;
+/// The fifth depends on three of the others, which are Preparing.
+fn depend_on_three(table: &mut Table, alloc: Global) -> Result<(), Fail> {
     for _ in 0..5 {
-        begin(&mut table, rt.alloc())?;
+        begin(table, alloc)?;
     }
     for id in 1..=4 {
-        prepare(&mut table, TxId(id))?;
+        prepare(table, TxId(id))?;
     }
-    register(&mut table, TxId(5), TxId(3))?;
-    depend_on_all(&mut table, TxId(5), &[TxId(4), TxId(2), TxId(4), TxId(3)])?;
+    register(table, TxId(5), TxId(3))?;
+    depend_on_all(table, TxId(5), &[TxId(4), TxId(2), TxId(4), TxId(3)])?;
+    Ok(())
+}
+
+/// The fifth waits for the three, one after another.
+fn wait_for_three(rt: &impl Abort, table: &mut Table) {
     let on = [TxId(2), TxId(3), TxId(4)];
     for (settled, id) in on.iter().enumerate() {
-        assert_eq!(rt; waiting_for(&table, TxId(5)), Some(*id));
+        assert_eq!(rt; waiting_for(table, TxId(5)), Some(*id));
         if let Some(seat) = table.get(TxId(5)) {
             assert_eq!(rt;
                 seat.kept.dependencies.unsettled(),
                 3usize.saturating_sub(settled)
             );
         }
-        settle(&mut table, *id, false);
+        settle(table, *id, false);
     }
-    assert_eq!(rt; waiting_for(&table, TxId(5)), None);
+    assert_eq!(rt; waiting_for(table, TxId(5)), None);
+}
+
+#[test]
+fn registers_several(rt: HostRuntime) -> Result<(), Fail> {
+    let mut table = TxnTable::new(rt.alloc(), Stamp(0))?;
+    depend_on_three(&mut table, rt.alloc())?;
+    wait_for_three(&rt, &mut table);
     Ok(())
 }

@@ -1,6 +1,7 @@
 use mvo_range::{Place, RangeIndex};
 use mvo_types::RowKey;
 use std::alloc::{AllocError, Global};
+use std::process::Abort;
 use std::test::Fail;
 
 // A generator of pseudo-random numbers with a fixed start.
@@ -59,33 +60,73 @@ fn taken(list: &mut Vec<(Place, u32)>, place: Place) -> Option<u32> {
     }
 }
 
+// Removes the place from both, or else puts the number there in both.
+fn change_both(
+    rt: &impl Abort,
+    index: &mut RangeIndex,
+    list: &mut Vec<(Place, u32)>,
+    place: Place,
+    number: Option<u32>,
+) -> Result<(), Fail> {
+    let want = taken(list, place);
+    let was = match number {
+        Some(number) => {
+            list.push((place, number))?;
+            index.add(place, number)?
+        }
+        None => index.remove(place),
+    };
+    assert_eq!(rt; was, want);
+    assert_eq!(rt; index.len(), list.len());
+    Ok(())
+}
+
+// Both have the same entries from the place on and behind it.
+fn compare(
+    rt: &impl Abort,
+    index: &RangeIndex,
+    list: &Vec<(Place, u32)>,
+    first: Place,
+    hi: u64,
+) -> Result<(), Fail> {
+    let alloc = *list.allocator();
+    let walked: Vec<(Place, u32)> = index.between(first.table, first.sort, hi).collect(alloc)?;
+    let want = listed(alloc, list.as_slice(), first, false, hi)?;
+    assert_eq!(rt; walked.as_slice(), want.as_slice());
+    let walked: Vec<(Place, u32)> = index.after(first, hi).collect(alloc)?;
+    let want = listed(alloc, list.as_slice(), first, true, hi)?;
+    assert_eq!(rt; walked.as_slice(), want.as_slice());
+    Ok(())
+}
+
+// One step on both.
+fn step_on_both(
+    rt: &impl Abort,
+    numbers: &mut Numbers,
+    index: &mut RangeIndex,
+    list: &mut Vec<(Place, u32)>,
+    step: u32,
+) -> Result<(), Fail> {
+    let place = numbers.place();
+    let number = if numbers.below(3) == 0 {
+        None
+    } else {
+        Some(step)
+    };
+    change_both(rt, index, list, place, number)?;
+    let first = numbers.place();
+    compare(rt, index, list, first, numbers.below(6))
+}
+
 #[test]
 fn agrees_with_a_plain_list(rt: HostRuntime) -> Result<(), Fail> {
-    let alloc = rt.alloc();
     let mut numbers = Numbers {
         state: 88172645463325252,
     };
-    let mut index = RangeIndex::new(alloc);
-    let mut list: Vec<(Place, u32)> = Vec::new(alloc);
+    let mut index = RangeIndex::new(rt.alloc());
+    let mut list: Vec<(Place, u32)> = Vec::new(rt.alloc());
     for step in 0u32..4000 {
-        let place = numbers.place();
-        if numbers.below(3) == 0 {
-            let want = taken(&mut list, place);
-            assert_eq!(rt; index.remove(place), want, "at step {step}");
-        } else {
-            let want = taken(&mut list, place);
-            list.push((place, step))?;
-            assert_eq!(rt; index.add(place, step)?, want, "at step {step}");
-        }
-        assert_eq!(rt; index.len(), list.len(), "at step {step}");
-        let first = numbers.place();
-        let hi = numbers.below(6);
-        let walked: Vec<(Place, u32)> = index.between(first.table, first.sort, hi).collect(alloc)?;
-        let want = listed(alloc, list.as_slice(), first, false, hi)?;
-        assert_eq!(rt; walked.as_slice(), want.as_slice(), "at step {step}");
-        let walked: Vec<(Place, u32)> = index.after(first, hi).collect(alloc)?;
-        let want = listed(alloc, list.as_slice(), first, true, hi)?;
-        assert_eq!(rt; walked.as_slice(), want.as_slice(), "at step {step}");
+        step_on_both(&rt, &mut numbers, &mut index, &mut list, step)?;
     }
     Ok(())
 }

@@ -4,73 +4,99 @@ use std::alloc::{AllocError, Global};
 use std::process::Abort;
 use std::test::Fail;
 
-fn row(alloc: Global, table: u8, key: u64, sort: u64, byte: u8) -> Result<Row, AllocError> {
-    Row::new(RowKey { table, key }, sort, [byte].to_vec(alloc)?)
+/// A row of table 0: its key, its sort and its only byte.
+type Plain = (u64, u64, u8);
+
+const TWO: [Plain; 2] = [(1, 10, 0x61), (2, 20, 0x62)];
+
+/// Those two and two more, by sort, and by key where sorts are the same.
+const FOUR: [Plain; 4] = [(4, 5, 0x64), (1, 10, 0x61), (3, 10, 0x63), (2, 20, 0x62)];
+
+fn key_of(key: u64) -> RowKey {
+    RowKey { table: 0, key }
+}
+
+fn row(alloc: Global, (key, sort, byte): Plain) -> Result<Row, AllocError> {
+    Row::new(key_of(key), sort, [byte].to_vec(alloc)?)
 }
 
 fn two_rows(alloc: Global) -> Result<Serial, AllocError> {
     let mut rows = Rows::new(alloc);
-    rows.put(row(alloc, 0, 1, 10, 0x61)?)?;
-    rows.put(row(alloc, 0, 2, 20, 0x62)?)?;
+    for plain in TWO {
+        rows.put(row(alloc, plain)?)?;
+    }
     Ok(Serial::new(alloc, rows))
 }
 
-fn assert_found(rt: &impl Abort, answer: &Answer, wanted: &[Row]) {
+fn assert_row(rt: &impl Abort, row: &Row, (key, sort, byte): Plain) {
+    assert_eq!(rt; row.key, key_of(key));
+    assert_eq!(rt; row.sort, sort);
+    assert_eq!(rt; row.bytes(), [byte].as_slice());
+}
+
+/// The answer is these rows, in this order.
+fn assert_rows(rt: &impl Abort, answer: &Answer, wanted: &[Plain]) {
     let Answer::Rows(found) = answer else {
         panic!(rt; "no rows");
     };
     assert_eq!(rt; found.len(), wanted.len());
-    for (is, want) in found.iter().zip(wanted) {
-        assert!(rt; is.same(want));
+    for (row, plain) in found.iter().zip(wanted) {
+        assert_row(rt, row, *plain);
     }
+}
+
+/// A scan is answered with these rows.
+fn scans(rt: &impl Abort, store: &mut Serial, scan: Op, wanted: &[Plain]) -> Result<(), Fail> {
+    assert_rows(rt, &store.apply(&scan)?, wanted);
+    Ok(())
+}
+
+fn scans_ranges(rt: &impl Abort, store: &mut Serial) -> Result<(), Fail> {
+    scans(rt, store, Op::Scan(0, 0, 100), &TWO)?;
+    scans(rt, store, Op::Scan(0, 10, 20), &TWO)?;
+    scans(rt, store, Op::Scan(0, 100, 0), &[])?;
+    scans(rt, store, Op::Scan(1, 0, 100), &[])
 }
 
 #[test]
 fn a_scan_gives_the_rows_of_its_range(rt: HostRuntime) -> Result<(), Fail> {
-    let alloc = rt.alloc();
-    let mut store = two_rows(alloc)?;
-    let both = vec![in alloc; row(alloc, 0, 1, 10, 0x61)?, row(alloc, 0, 2, 20, 0x62)?]?;
-    assert_found(&rt, &store.apply(&Op::Scan(0, 0, 100))?, &both);
-    assert_found(&rt, &store.apply(&Op::Scan(0, 10, 20))?, &both);
-    assert_found(&rt, &store.apply(&Op::Scan(0, 100, 0))?, &[]);
-    assert_found(&rt, &store.apply(&Op::Scan(1, 0, 100))?, &[]);
+    let mut store = two_rows(rt.alloc())?;
+    scans_ranges(&rt, &mut store)
+}
+
+fn inserts(rt: &impl Abort, alloc: Global, store: &mut Serial, plain: Plain) -> Result<(), Fail> {
+    let added = store.apply(&Op::Insert(row(alloc, plain)?))?;
+    assert!(rt; matches!(added, Answer::Inserted));
+    Ok(())
+}
+
+fn scans_four(rt: &impl Abort, alloc: Global, store: &mut Serial) -> Result<(), Fail> {
+    inserts(rt, alloc, store, (4, 5, 0x64))?;
+    inserts(rt, alloc, store, (3, 10, 0x63))?;
+    scans(rt, store, Op::Scan(0, 0, 100), &FOUR)?;
+    assert_rows(rt, &Answer::Rows(store.scan(0, 0, 100)?), &FOUR);
     Ok(())
 }
 
 #[test]
 fn a_scan_goes_by_sort_and_then_by_key(rt: HostRuntime) -> Result<(), Fail> {
-    let alloc = rt.alloc();
-    let mut store = two_rows(alloc)?;
-    let added = store.apply(&Op::Insert(row(alloc, 0, 4, 5, 0x64)?))?;
-    assert!(rt; matches!(added, Answer::Inserted));
-    let added = store.apply(&Op::Insert(row(alloc, 0, 3, 10, 0x63)?))?;
-    assert!(rt; matches!(added, Answer::Inserted));
-    let wanted = vec![in alloc;
-        row(alloc, 0, 4, 5, 0x64)?,
-        row(alloc, 0, 1, 10, 0x61)?,
-        row(alloc, 0, 3, 10, 0x63)?,
-        row(alloc, 0, 2, 20, 0x62)?,
-    ]?;
-    assert_found(&rt, &store.apply(&Op::Scan(0, 0, 100))?, &wanted);
-    assert_found(&rt, &Answer::Rows(store.scan(0, 0, 100)?), &wanted);
-    Ok(())
+    let mut store = two_rows(rt.alloc())?;
+    scans_four(&rt, rt.alloc(), &mut store)
 }
 
-#[test]
-fn writes_are_told_what_stood_at_the_key(rt: HostRuntime) -> Result<(), Fail> {
-    let alloc = rt.alloc();
-    let mut store = two_rows(alloc)?;
-    let ops = vec![in alloc;
-        Op::Insert(row(alloc, 0, 1, 30, 0x63)?),
-        Op::Update(row(alloc, 0, 9, 30, 0x63)?),
-        Op::Update(row(alloc, 0, 2, 30, 0x63)?),
-        Op::Delete(RowKey { table: 0, key: 1 }),
-        Op::Read(RowKey { table: 0, key: 1 }),
-        Op::Delete(RowKey { table: 0, key: 1 }),
-    ]?;
-    let told = store.run(&vec![in alloc; ops]?)?;
-    assert_eq!(rt; told.len(), 1);
-    let told = &told[0];
+fn writes(alloc: Global) -> Result<Vec<Op>, AllocError> {
+    let mut ops = Vec::new(alloc);
+    ops.push(Op::Insert(row(alloc, (1, 30, 0x63))?))?;
+    ops.push(Op::Update(row(alloc, (9, 30, 0x63))?))?;
+    ops.push(Op::Update(row(alloc, (2, 30, 0x63))?))?;
+    ops.push(Op::Delete(key_of(1)))?;
+    ops.push(Op::Read(key_of(1)))?;
+    ops.push(Op::Delete(key_of(1)))?;
+    Ok(ops)
+}
+
+/// What the writes are told.
+fn assert_told(rt: &impl Abort, told: &[Answer]) {
     assert_eq!(rt; told.len(), 6);
     assert!(rt; matches!(&told[0], Answer::Exists));
     assert!(rt; matches!(&told[1], Answer::Absent));
@@ -78,9 +104,26 @@ fn writes_are_told_what_stood_at_the_key(rt: HostRuntime) -> Result<(), Fail> {
     assert!(rt; matches!(&told[3], Answer::Deleted));
     assert!(rt; matches!(&told[4], Answer::Found(None)));
     assert!(rt; matches!(&told[5], Answer::Absent));
-    assert_eq!(rt; store.rows().len(), 1);
-    let left = store.into_rows();
-    let left = left.get(RowKey { table: 0, key: 2 })?.ok_or("a row")?;
-    assert!(rt; left.same(&row(alloc, 0, 2, 30, 0x63)?));
+}
+
+fn tells(rt: &impl Abort, alloc: Global, store: &mut Serial) -> Result<(), Fail> {
+    let told = store.run(&vec![in alloc; writes(alloc)?]?)?;
+    assert_eq!(rt; told.len(), 1);
+    assert_told(rt, &told[0]);
     Ok(())
+}
+
+/// What the writes leave.
+fn assert_left(rt: &impl Abort, rows: &Rows) -> Result<(), Fail> {
+    assert_eq!(rt; rows.len(), 1);
+    assert_row(rt, &rows.get(key_of(2))?.ok_or("a row")?, (2, 30, 0x63));
+    Ok(())
+}
+
+#[test]
+fn writes_are_told_what_stood_at_the_key(rt: HostRuntime) -> Result<(), Fail> {
+    let mut store = two_rows(rt.alloc())?;
+    tells(&rt, rt.alloc(), &mut store)?;
+    assert_left(&rt, store.rows())?;
+    assert_left(&rt, &store.into_rows())
 }

@@ -43,14 +43,18 @@ const ROLLED_BACK: [Step; 11] = [
 /// X and Y insert a key, and neither sees the other. X draws its end, T deletes the row that X put,
 /// Y draws its end, and T does. Then X rolls back and Y commits: T's removal is the latest change,
 /// though the row that it ended was put before Y's.
+fn removes_what_was_rolled_back(rt: &impl Abort, story: &mut Story) -> Result<(), Fail> {
+    story.follow(&ROLLED_BACK)?;
+    shows(rt, story, story.removed_by(2)?);
+    story.withdraw(2)?;
+    shows(rt, story, story.put_by(1)?);
+    Ok(())
+}
+
 #[test]
 fn a_removal_of_what_was_rolled_back_stands_in_front(rt: HostRuntime) -> Result<(), Fail> {
     let mut story = Story::new(rt.alloc())?;
-    story.follow(&ROLLED_BACK)?;
-    shows(&rt, &story, story.removed_by(2)?);
-    story.withdraw(2)?;
-    shows(&rt, &story, story.put_by(1)?);
-    Ok(())
+    removes_what_was_rolled_back(&rt, &mut story)
 }
 
 /// X and T, before X is withdrawn.
@@ -72,17 +76,25 @@ const COMMITS: [Step; 5] = [Begin, Insert(2, 2), Precommit(2), Settle(2), Precom
 /// T deletes the row that X put, and X rolls back. Y inserts the key and commits, and only then T
 /// draws its end: its removal is the latest change, though it stands at a row that nobody has put
 /// any more. X may have taken its word back by then.
-fn removes_what_nobody_put(rt: &impl Abort, alloc: Global, between: &[Step]) -> Result<(), Fail> {
-    let mut story = Story::new(alloc)?;
-    story.follow(&NOBODY_PUT)?;
-    story.follow(between)?;
-    story.follow(&COMMITS)?;
-    shows(rt, &story, story.removed_by(1)?);
+fn removes_what_nobody_put(
+    rt: &impl Abort,
+    story: &mut Story,
+    between: &[Step],
+) -> Result<(), Fail> {
+    for steps in [&NOBODY_PUT, between, &COMMITS] {
+        story.follow(steps)?;
+    }
+    shows(rt, story, story.removed_by(1)?);
     Ok(())
+}
+
+fn stands_in_front(rt: &impl Abort, alloc: Global, between: &[Step]) -> Result<(), Fail> {
+    let mut story = Story::new(alloc)?;
+    removes_what_nobody_put(rt, &mut story, between)
 }
 
 #[test]
 fn a_removal_of_what_nobody_has_put_stands_in_front(rt: HostRuntime) -> Result<(), Fail> {
-    removes_what_nobody_put(&rt, rt.alloc(), &[])?;
-    removes_what_nobody_put(&rt, rt.alloc(), &TAKES_BACK)
+    stands_in_front(&rt, rt.alloc(), &[])?;
+    stands_in_front(&rt, rt.alloc(), &TAKES_BACK)
 }

@@ -2,6 +2,7 @@ use crate::numbers::Numbers;
 use mvo_hash::Heads;
 use mvo_types::RowKey;
 use std::alloc::AllocError;
+use std::process::Abort;
 use std::test::Fail;
 
 fn some_key(numbers: &mut Numbers) -> RowKey {
@@ -51,29 +52,54 @@ fn done_to_both(
     Ok((answer, before))
 }
 
+/// One step on both, which answer alike, and say the same of two keys.
+fn step_on_both(
+    rt: &impl Abort,
+    numbers: &mut Numbers,
+    heads: &mut Heads,
+    list: &mut Vec<(RowKey, u32)>,
+    step: u32,
+) -> Result<(), Fail> {
+    let key = some_key(numbers);
+    let call = numbers.below(5);
+    let (answer, wanted) = done_to_both(heads, list, call, key, step)?;
+    assert_eq!(rt; answer, wanted, "at step {step}");
+    for shown in [key, some_key(numbers)] {
+        assert_eq!(rt;
+            heads.get(shown),
+            listed(list.as_slice(), shown),
+            "at step {step}"
+        );
+    }
+    Ok(())
+}
+
+/// Many steps on both.
+fn agree(
+    rt: &impl Abort,
+    numbers: &mut Numbers,
+    heads: &mut Heads,
+    list: &mut Vec<(RowKey, u32)>,
+) -> Result<(), Fail> {
+    for step in 0u32..6000 {
+        step_on_both(rt, numbers, heads, list, step)?;
+    }
+    for entry in &*list {
+        assert_eq!(rt; heads.get(entry.0), Some(entry.1));
+    }
+    Ok(())
+}
+
 #[test]
 fn agrees_with_a_plain_list(rt: HostRuntime) -> Result<(), Fail> {
     let alloc = rt.alloc();
     for seed in 0u64..4 {
-        let mut numbers = Numbers::new();
         let mut heads = Heads::new(alloc, seed);
         let mut list: Vec<(RowKey, u32)> = Vec::new(alloc);
         if seed == 3 {
             heads.reserve(600)?;
         }
-        for step in 0u32..6000 {
-            let key = some_key(&mut numbers);
-            let call = numbers.below(5);
-            let (answer, wanted) = done_to_both(&mut heads, &mut list, call, key, step)?;
-            assert_eq!(rt; answer, wanted, "at step {step}");
-            for shown in [key, some_key(&mut numbers)] {
-                let wanted = listed(list.as_slice(), shown);
-                assert_eq!(rt; heads.get(shown), wanted, "at step {step}");
-            }
-        }
-        for entry in &list {
-            assert_eq!(rt; heads.get(entry.0), Some(entry.1));
-        }
+        agree(&rt, &mut Numbers::new(), &mut heads, &mut list)?;
     }
     Ok(())
 }

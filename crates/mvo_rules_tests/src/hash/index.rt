@@ -8,6 +8,7 @@ use mvo_hash::HashIndex;
 use mvo_types::RowKey;
 use std::alloc::{AllocError, Global};
 use std::mem::size_of;
+use std::process::Abort;
 use std::test::Fail;
 
 fn some_version(numbers: &mut Numbers) -> VersionNo {
@@ -118,96 +119,149 @@ fn walks_over(index: &HashIndex, versions: &[VersionNo]) -> bool {
     true
 }
 
-#[test]
-fn agrees_with_a_plain_list(rt: HostRuntime) -> Result<(), Fail> {
-    let alloc = rt.alloc();
-    for seed in 0u64..3 {
-        let mut numbers = Numbers::new();
-        let mut index = HashIndex::new(alloc, seed);
-        let mut list: Vec<(RowKey, VersionNo)> = Vec::new(alloc);
-        for step in 0u32..9000 {
-            let key = some_key(&mut numbers);
-            let number = some_version(&mut numbers);
-            let room = index.room();
-            let knew = if numbers.below(3) == 0 {
-                toggled_in_both(&mut index, &mut list, key, number)?
-            } else {
-                let knew = fronted_in_both(&mut index, &mut list, number)?;
-                assert_eq!(rt; index.room(), room, "at step {step}");
-                knew
-            };
-            assert!(rt; knew, "at step {step}");
-            for shown in [key, some_key(&mut numbers)] {
-                let wanted = listed(alloc, list.as_slice(), shown)?;
-                let versions = index.versions_of(alloc, shown)?;
-                assert_eq!(rt; versions.as_slice(), wanted.as_slice(), "at step {step}");
-                assert_eq!(rt;
-                    index.newest(shown),
-                    wanted.first().copied(),
-                    "at step {step}"
-                );
-                assert!(rt; walks_over(&index, wanted.as_slice()), "at step {step}");
-            }
+// The index has these versions of the key, the newest first.
+fn assert_versions(
+    rt: &impl Abort,
+    alloc: Global,
+    index: &HashIndex,
+    key: RowKey,
+    wanted: &[VersionNo],
+) -> Result<(), Fail> {
+    assert_eq!(rt; index.versions_of(alloc, key)?.as_slice(), wanted);
+    assert_eq!(rt; index.newest(key), wanted.first().copied());
+    assert!(rt; walks_over(index, wanted));
+    Ok(())
+}
+
+// One step on both, at which the index knows what the list has. It answers the key.
+fn step_on_both(
+    rt: &impl Abort,
+    numbers: &mut Numbers,
+    index: &mut HashIndex,
+    list: &mut Vec<(RowKey, VersionNo)>,
+    step: u32,
+) -> Result<RowKey, Fail> {
+    let key = some_key(numbers);
+    let number = some_version(numbers);
+    let room = index.room();
+    let knew = if numbers.below(3) == 0 {
+        toggled_in_both(index, list, key, number)?
+    } else {
+        let knew = fronted_in_both(index, list, number)?;
+        assert_eq!(rt; index.room(), room, "at step {step}");
+        knew
+    };
+    assert!(rt; knew, "at step {step}");
+    Ok(key)
+}
+
+// Many steps on both.
+fn agree(
+    rt: &impl Abort,
+    index: &mut HashIndex,
+    list: &mut Vec<(RowKey, VersionNo)>,
+) -> Result<(), Fail> {
+    let alloc = *list.allocator();
+    let mut numbers = Numbers::new();
+    for step in 0u32..9000 {
+        let key = step_on_both(rt, &mut numbers, index, list, step)?;
+        for shown in [key, some_key(&mut numbers)] {
+            let wanted = listed(alloc, list.as_slice(), shown)?;
+            assert_versions(rt, alloc, index, shown, wanted.as_slice())?;
         }
     }
     Ok(())
 }
 
 #[test]
-fn a_version_comes_to_the_front_of_its_key_alone(rt: HostRuntime) -> Result<(), Fail> {
-    let alloc = rt.alloc();
-    let mut index = HashIndex::new(alloc, 2);
-    let keys = [RowKey { table: 3, key: 4 }, RowKey { table: 3, key: 5 }];
-    for number in 0u32..8 {
-        let number = VersionNo(number);
-        let key = keys[(number.0 & 1) as usize];
-        let held = index.is_held(number);
-        assert!(rt; !held);
-        index.add(key, number)?;
-    }
-    // The oldest, one in between, and one that is in front already.
-    for (number, wanted) in [(0, [0, 6, 4, 2]), (4, [4, 0, 6, 2]), (4, [4, 0, 6, 2])] {
-        let number = VersionNo(number);
-        let there = has(alloc, &index, keys[0], number)?;
-        assert!(rt; there);
-        index.bring_to_front(keys[0], number);
-        let wanted = wanted.map(|n| VersionNo(n));
-        assert_eq!(rt;
-            index.versions_of(alloc, keys[0])?.as_slice(),
-            wanted.as_slice()
-        );
-        assert!(rt; walks_over(&index, wanted.as_slice()));
-        let others = [7, 5, 3, 1].map(|n| VersionNo(n));
-        assert_eq!(rt;
-            index.versions_of(alloc, keys[1])?.as_slice(),
-            others.as_slice()
-        );
+fn agrees_with_a_plain_list(rt: HostRuntime) -> Result<(), Fail> {
+    for seed in 0u64..3 {
+        let mut list = Vec::new(rt.alloc());
+        agree(&rt, &mut HashIndex::new(rt.alloc(), seed), &mut list)?;
     }
     Ok(())
 }
 
-#[test]
-fn the_last_two_numbers_are_refused(rt: HostRuntime) -> Result<(), Fail> {
-    let alloc = rt.alloc();
-    let mut index = HashIndex::new(alloc, 1);
-    let key = RowKey { table: 3, key: 4 };
-    for number in [VersionNo(u32::MAX - 1), VersionNo(u32::MAX)] {
+const KEYS: [RowKey; 2] = [RowKey { table: 3, key: 4 }, RowKey { table: 3, key: 5 }];
+
+// Adds 8 versions, in turn to one key and the other.
+fn add_in_turn(rt: &impl Abort, index: &mut HashIndex) -> Result<(), Fail> {
+    for number in 0u32..8 {
+        let number = VersionNo(number);
+        let key = KEYS[(number.0 & 1) as usize];
         let held = index.is_held(number);
         assert!(rt; !held);
-        assert_eq!(rt; index.add(key, number), Err(AllocError));
-        assert_eq!(rt; index.newest(key), None);
+        index.add(key, number)?;
     }
-    let number = VersionNo(9);
+    Ok(())
+}
+
+// Brings the version to the front of the first key, which then has these. The other keeps its own.
+fn bring_to_front(
+    rt: &impl Abort,
+    alloc: Global,
+    index: &mut HashIndex,
+    number: u32,
+    wanted: [u32; 4],
+) -> Result<(), Fail> {
+    let number = VersionNo(number);
+    let there = has(alloc, index, KEYS[0], number)?;
+    assert!(rt; there);
+    index.bring_to_front(KEYS[0], number);
+    assert_versions(rt, alloc, index, KEYS[0], &wanted.map(|n| VersionNo(n)))?;
+    assert_versions(
+        rt,
+        alloc,
+        index,
+        KEYS[1],
+        &[7, 5, 3, 1].map(|n| VersionNo(n)),
+    )
+}
+
+#[test]
+fn a_version_comes_to_the_front_of_its_key_alone(rt: HostRuntime) -> Result<(), Fail> {
+    let mut index = HashIndex::new(rt.alloc(), 2);
+    add_in_turn(&rt, &mut index)?;
+    // The oldest, one in between, and one that is in front already.
+    for (number, wanted) in [(0, [0, 6, 4, 2]), (4, [4, 0, 6, 2]), (4, [4, 0, 6, 2])] {
+        bring_to_front(&rt, rt.alloc(), &mut index, number, wanted)?;
+    }
+    Ok(())
+}
+
+// The index takes the version, and gives it back.
+fn takes(
+    rt: &impl Abort,
+    alloc: Global,
+    index: &mut HashIndex,
+    key: RowKey,
+    number: VersionNo,
+) -> Result<(), Fail> {
     let held = index.is_held(number);
     assert!(rt; !held);
     assert_eq!(rt; index.add(key, number), Ok(()));
     assert_eq!(rt; index.newest(key), Some(number));
-    let there = has(alloc, &index, key, number)?;
+    let there = has(alloc, index, key, number)?;
     assert!(rt; there);
     index.remove(key, number);
+    assert_versions(rt, alloc, index, key, &[])
+}
+
+// The index has no place for the version.
+fn refuses(rt: &impl Abort, index: &mut HashIndex, key: RowKey, number: VersionNo) {
+    let held = index.is_held(number);
+    assert!(rt; !held);
+    assert_eq!(rt; index.add(key, number), Err(AllocError));
     assert_eq!(rt; index.newest(key), None);
-    assert_eq!(rt; index.versions_of(alloc, key)?.len(), 0);
-    Ok(())
+}
+
+#[test]
+fn the_last_two_numbers_are_refused(rt: HostRuntime) -> Result<(), Fail> {
+    let mut index = HashIndex::new(rt.alloc(), 1);
+    for number in [VersionNo(u32::MAX - 1), VersionNo(u32::MAX)] {
+        refuses(&rt, &mut index, KEYS[0], number);
+    }
+    takes(&rt, rt.alloc(), &mut index, KEYS[0], VersionNo(9))
 }
 
 #[test]
@@ -217,35 +271,51 @@ fn a_version_with_its_links_takes_at_most_96_bytes(rt: HostRuntime) {
     assert!(rt; slot + 8 <= 96);
 }
 
-#[test]
-fn room_is_reserved_for_a_share_of_the_versions(rt: HostRuntime) -> Result<(), Fail> {
-    let alloc = rt.alloc();
-    let mut index = HashIndex::new(alloc, 5);
+// Room is reserved, and no more where that is refused.
+fn reserves(rt: &impl Abort, index: &mut HashIndex) -> Result<(), Fail> {
     assert_eq!(rt; index.room(), 0);
     index.reserve(2560)?;
     let reserved = index.room();
     assert!(rt; reserved >= 10);
     assert_eq!(rt; index.reserve(usize::MAX), Err(AllocError));
     assert_eq!(rt; index.room(), reserved);
-    for step in 0u32..500 {
-        let key = RowKey {
-            table: 1,
-            key: (step / 2) as u64,
-        };
-        let number = VersionNo(step);
-        let held = index.is_held(number);
-        assert!(rt; !held);
-        let room = index.room();
-        index.add(key, number)?;
-        assert!(rt; index.room() >= room.saturating_sub(1));
-        assert_eq!(rt; index.newest(key), Some(number));
-    }
+    Ok(())
+}
+
+// A version takes room for one at most.
+fn takes_room_for_one(rt: &impl Abort, index: &mut HashIndex, step: u32) -> Result<(), Fail> {
+    let key = RowKey {
+        table: 1,
+        key: (step / 2) as u64,
+    };
+    let number = VersionNo(step);
+    let held = index.is_held(number);
+    assert!(rt; !held);
+    let room = index.room();
+    index.add(key, number)?;
+    assert!(rt; index.room() >= room.saturating_sub(1));
+    assert_eq!(rt; index.newest(key), Some(number));
+    Ok(())
+}
+
+// A version that is removed gives no room back where its key has another.
+fn gives_no_room_back(rt: &impl Abort, alloc: Global, index: &mut HashIndex) -> Result<(), Fail> {
     let room = index.room();
     let key = RowKey { table: 1, key: 7 };
-    let there = has(alloc, &index, key, VersionNo(14))?;
+    let there = has(alloc, index, key, VersionNo(14))?;
     assert!(rt; there);
     index.remove(key, VersionNo(14));
     assert_eq!(rt; index.room(), room);
     assert_eq!(rt; index.newest(key), Some(VersionNo(15)));
     Ok(())
+}
+
+#[test]
+fn room_is_reserved_for_a_share_of_the_versions(rt: HostRuntime) -> Result<(), Fail> {
+    let mut index = HashIndex::new(rt.alloc(), 5);
+    reserves(&rt, &mut index)?;
+    for step in 0u32..500 {
+        takes_room_for_one(&rt, &mut index, step)?;
+    }
+    gives_no_room_back(&rt, rt.alloc(), &mut index)
 }

@@ -1,27 +1,43 @@
 use mvo_hash::OpenTable;
 use mvo_types::RowKey;
 use std::alloc::AllocError;
+use std::process::Abort;
 use std::test::Fail;
+
+/// A key that is new takes room for one, and its later numbers take none.
+fn takes_room_for_one(
+    rt: &impl Abort,
+    table: &mut OpenTable,
+    key: RowKey,
+    number: u32,
+) -> Result<(), Fail> {
+    let room = table.room();
+    assert_eq!(rt; table.put(key, number)?, None);
+    assert_eq!(rt; table.room().checked_add(1), Some(room));
+    let later = number.saturating_add(1);
+    assert_eq!(rt; table.put(key, later)?, Some(number));
+    assert_eq!(rt; table.get(key), Some(later));
+    assert_eq!(rt; table.room().checked_add(1), Some(room));
+    Ok(())
+}
+
+/// Room for 500 keys lasts for them, whose keys begin there.
+fn lasts_for_500(rt: &impl Abort, table: &mut OpenTable, first: u64) -> Result<(), Fail> {
+    table.reserve(500)?;
+    assert!(rt; table.room() >= 500);
+    for step in 0u32..500 {
+        let key = first.saturating_add(step as u64);
+        takes_room_for_one(rt, table, RowKey { table: 1, key }, step)?;
+    }
+    Ok(())
+}
 
 #[test]
 fn reserved_room_lasts_for_so_many_keys(rt: HostRuntime) -> Result<(), Fail> {
     let mut table = OpenTable::new(rt.alloc(), 11);
     assert_eq!(rt; table.room(), 0);
-    for round in 0u64..3 {
-        table.reserve(500)?;
-        assert!(rt; table.room() >= 500);
-        for step in 0u32..500 {
-            let key = RowKey {
-                table: 1,
-                key: round * 1000 + step as u64,
-            };
-            let room = table.room();
-            assert_eq!(rt; table.put(key, step)?, None);
-            assert_eq!(rt; table.room() + 1, room);
-            assert_eq!(rt; table.put(key, step + 1)?, Some(step));
-            assert_eq!(rt; table.get(key), Some(step + 1));
-            assert_eq!(rt; table.room() + 1, room);
-        }
+    for first in [0, 1000, 2000] {
+        lasts_for_500(&rt, &mut table, first)?;
     }
     for key in [0, 499, 1000, 2499] {
         let number = (key % 1000) as u32 + 1;

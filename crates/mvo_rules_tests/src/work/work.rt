@@ -62,30 +62,52 @@ fn words_of(alloc: Global, work: &mut Work) -> Result<Vec<WordPlace>, AllocError
     Ok(words)
 }
 
+/// An operation on one of so many keys is told to both, and at times a word is dropped.
+fn step_on_both(
+    rt: &impl Abort,
+    alloc: Global,
+    numbers: &mut Numbers,
+    keys: u64,
+    work: &mut Work,
+    plain: &mut Plain,
+) -> Result<(), Fail> {
+    let asked = some_operation(alloc, numbers, keys)?;
+    tell_both(rt, work, plain, asked)?;
+    if numbers.below(4) == 0 {
+        work.drop_word();
+        plain.drop_word();
+    }
+    assert_same(rt, work, plain, some_key(numbers, keys));
+    Ok(())
+}
+
+/// Operations and words are taken, and nothing is left of them.
+fn take_all(rt: &impl Abort, alloc: Global, work: &mut Work, plain: &Plain) -> Result<(), Fail> {
+    assert_operations(rt, &work.take_operations(), plain);
+    assert_eq!(rt; work.entry_count(), 0);
+    assert!(rt; !work.has_writes());
+    assert!(rt; work.take_operations().told.is_empty());
+    let words = words_of(alloc, work)?;
+    assert_eq!(rt; words.as_slice(), plain.words.as_slice());
+    assert_eq!(rt; work.next_word(), None);
+    Ok(())
+}
+
+/// Many operations on so many keys.
+fn agree(rt: &impl Abort, alloc: Global, numbers: &mut Numbers, keys: u64) -> Result<(), Fail> {
+    let mut work = Work::new(alloc)?;
+    let mut plain = Plain::new(alloc);
+    for _ in 0..150 {
+        step_on_both(rt, alloc, numbers, keys, &mut work, &mut plain)?;
+    }
+    take_all(rt, alloc, &mut work, &plain)
+}
+
 #[test]
 fn random_operations_leave_what_plain_lists_have(rt: HostRuntime) -> Result<(), Fail> {
-    let alloc = rt.alloc();
     let mut numbers = Numbers::new();
     for keys in [2, 7, 30] {
-        let mut work = Work::new(alloc)?;
-        let mut plain = Plain::new(alloc);
-        for _ in 0..150 {
-            let asked = some_operation(alloc, &mut numbers, keys)?;
-            tell_both(&rt, &mut work, &mut plain, asked)?;
-            if numbers.below(4) == 0 {
-                work.drop_word();
-                plain.drop_word();
-            }
-            assert_same(&rt, &work, &plain, some_key(&mut numbers, keys));
-        }
-        let operations = work.take_operations();
-        assert_operations(&rt, &operations, &plain);
-        assert_eq!(rt; work.entry_count(), 0);
-        assert!(rt; !work.has_writes());
-        assert!(rt; work.take_operations().told.is_empty());
-        let words = words_of(alloc, &mut work)?;
-        assert_eq!(rt; words.as_slice(), plain.words.as_slice());
-        assert_eq!(rt; work.next_word(), None);
+        agree(&rt, rt.alloc(), &mut numbers, keys)?;
     }
     Ok(())
 }
