@@ -29,18 +29,35 @@ mod zipf;
 use anyhow::Result;
 use config::{Config, Work};
 use session::Session;
+use std::rt::Runtime;
+use std::sync::Wait;
+use std::thread::Threads;
 
 fn main(rt: HostRuntime) -> Result<()> {
     let config = Config::given(&rt)?;
     let mut session = Session::new(rt.alloc())?;
-    load::run(&rt, &config, &mut session)?;
-    run_plain(&rt, &config, &mut session)?;
-    run_beside_old(&rt, &config, &mut session)?;
+    run_on(&rt, &config, &mut session)?;
+    run_apart(&rt, &rt, &config)
+}
+
+/// What runs on one core, which is loaded first.
+fn run_on(rt: &HostRuntime, config: &Config, session: &mut Session) -> Result<()> {
+    load::run(rt, config, session)?;
+    run_plain(rt, config, session)?;
+    run_beside_old(rt, config, session)
+}
+
+/// What loads rows of its own.
+fn run_apart<R: Runtime + Threads + Wait + Sync>(
+    rt: &HostRuntime,
+    threads: &R,
+    config: &Config,
+) -> Result<()> {
     if config.has(Work::Stalls) {
-        stalls::run(&rt, &config)?;
+        stalls::run(rt, config)?;
     }
     if config.has(Work::Threads) {
-        threads::run(&rt, rt.alloc(), &config)?;
+        threads::run(threads, rt.alloc(), config)?;
     }
     Ok(())
 }

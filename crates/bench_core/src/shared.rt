@@ -73,10 +73,22 @@ fn update_two<L: Run, D: Disk, G: Gate + Drop, R: Wait>(
     session.begin_tx(rt)?;
     let first = found(session.read(rt, key_of(of.0))?)?;
     let second = found(session.read(rt, key_of(of.1))?)?;
-    session.update(rt, changed_in(alloc, &first, 1, round)?)?;
-    session.update(rt, changed(alloc, &second, u8::MAX)?)?;
-    session.commit_tx(rt)?;
+    write_two(rt, alloc, session, (&first, &second), round)?;
     Ok((first, second))
+}
+
+/// Updates both rows and commits.
+fn write_two<L: Run, D: Disk, G: Gate + Drop, R: Wait>(
+    rt: &R,
+    alloc: Global,
+    session: &mut Session<'_, L, D, G>,
+    (first, second): (&Row, &Row),
+    round: u64,
+) -> Result<(), Refusal> {
+    session.update(rt, changed_in(alloc, first, 1, round)?)?;
+    session.update(rt, changed(alloc, second, u8::MAX)?)?;
+    session.commit_tx(rt)?;
+    Ok(())
 }
 
 /// The number that updates change, of the row at a key.

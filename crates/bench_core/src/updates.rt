@@ -6,6 +6,7 @@ use crate::rows::{changed, changed_in};
 use crate::session::Session;
 use crate::stopped::Stopped;
 use anyhow::Result;
+use mvo_types::{Row, TxId};
 
 const SEED: u64 = 2;
 
@@ -37,13 +38,24 @@ fn update_two(
     round: u64,
     sum: &mut Checksum,
 ) -> Result<(), Stopped> {
-    let alloc = session.alloc();
     let tx = session.begin()?;
     let first = session.read(tx, one)?;
     let second = session.read(tx, other)?;
     sum.add(&first);
     sum.add(&second);
-    session.update(tx, changed_in(alloc, &first, 1, round)?)?;
-    session.update(tx, changed(alloc, &second, u8::MAX)?)?;
+    write_two(session, tx, &first, &second, round)
+}
+
+/// Updates both rows and commits.
+fn write_two(
+    session: &mut Session,
+    tx: TxId,
+    first: &Row,
+    second: &Row,
+    round: u64,
+) -> Result<(), Stopped> {
+    let alloc = session.alloc();
+    session.update(tx, changed_in(alloc, first, 1, round)?)?;
+    session.update(tx, changed(alloc, second, u8::MAX)?)?;
     session.commit(tx)
 }

@@ -30,14 +30,41 @@ pub fn run(
 ) -> Result<()> {
     let mut store = open(rt, threads, scratch, commits)?;
     let mut raw = open_raw(rt, scratch, commits)?;
-    let bytes = vec![in rt.alloc(); 0x5au8; group_len(commits)]?;
+    time(rt, &mut store, &mut raw, rounds, commits)
+}
+
+/// The rounds, in turn.
+fn time(
+    rt: &HostRuntime,
+    store: &mut HostStore,
+    raw: &mut Raw,
+    rounds: u64,
+    commits: u64,
+) -> Result<()> {
     let (mut groups, mut appends) = (Times::new(rt), Times::new(rt));
     for _ in 0..rounds {
-        groups.note(time_of(rt, &mut store, commits)?)?;
-        appends.note(raw.append(rt, &bytes)?)?;
+        round(rt, store, raw, commits, &mut groups, &mut appends)?;
     }
     println!(rt; "groups of {commits}: mark {}", store.mark())?;
-    let (group, append) = (groups.median(), appends.median());
+    tell(rt, commits, groups.median(), appends.median())
+}
+
+/// One group, and one raw append of as many bytes.
+fn round(
+    rt: &HostRuntime,
+    store: &mut HostStore,
+    raw: &mut Raw,
+    commits: u64,
+    groups: &mut Times,
+    appends: &mut Times,
+) -> Result<()> {
+    groups.note(time_of(rt, store, commits)?)?;
+    let bytes = vec![in rt.alloc(); 0x5au8; group_len(commits)]?;
+    appends.note(raw.append(rt, &bytes)?)
+}
+
+/// Tells the medians of groups and of appends, in nanoseconds.
+fn tell(rt: &HostRuntime, commits: u64, group: u64, append: u64) -> Result<()> {
     let rows = commits.saturating_mul(1_000_000_000);
     let a_second = rows.checked_div(group).unwrap_or(0);
     eprintln!(rt; "groups of {commits}: p50 {group} ns, {a_second} rows a second")?;
@@ -86,12 +113,18 @@ fn record(alloc: Global, end: u64) -> Result<Record, AllocError> {
     })
 }
 
-/// The next group of so many commits.
-fn group(alloc: Global, prev: u64, commits: u64) -> Result<Group> {
+/// Those of so many commits.
+fn records(alloc: Global, prev: u64, commits: u64) -> Result<Vec<Record>, AllocError> {
     let mut records = Vec::with_capacity(alloc, commits as usize)?;
     for number in 1..=commits {
         records.push(record(alloc, prev.wrapping_add(number))?)?;
     }
+    Ok(records)
+}
+
+/// The next group of so many commits.
+fn group(alloc: Global, prev: u64, commits: u64) -> Result<Group> {
+    let records = records(alloc, prev, commits)?;
     let mark = prev.wrapping_add(commits);
     match Group::new(Stamp(prev), Stamp(mark), records) {
         Some(group) => Ok(group),
@@ -115,13 +148,17 @@ fn append(store: &mut HostStore, group: Group) -> Result<()> {
     if store.take_group(group).is_err() {
         bail!("the group is taken");
     }
+    Ok(write(store)?)
+}
+
+/// Writes the group that was taken.
+fn write(store: &mut HostStore) -> Result<(), Refusal> {
     match store.append_body() {
-        Ok(()) => {}
         Err(Refusal::SegmentFull) => {
             rotate(store)?;
             store.append_body()?;
         }
-        Err(refusal) => return Err(refusal.into()),
+        appended => appended?,
     }
     store.append_open()?;
     Ok(())

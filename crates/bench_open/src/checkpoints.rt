@@ -1,4 +1,5 @@
 use crate::log::sum_of;
+use crate::opening::{Opened, open};
 use crate::steps::{MemStore, checkpoint_data, checkpoint_delta, checkpoint_read, install};
 use crate::writer::{rotate, written};
 use anyhow::{Result, bail};
@@ -8,7 +9,6 @@ use mvo_types::{MAX_PAIRS, Refusal};
 use std::alloc::Global;
 use std::rt::Clock;
 use std::thread::Threads;
-use std::time::Instant;
 
 fn write_deltas(store: &mut MemStore) -> Result<(), Refusal> {
     for _ in 0..=MAX_PAIRS {
@@ -55,18 +55,14 @@ where
     R: AllocGlobal + Clock + Eprint + Print + Threads + Sync,
 {
     let (disk, pairs) = pairs_of(rt, rt.alloc(), count)?;
-    let start = Instant::now(rt)?;
-    let opened = Store::open(rt, rt.alloc(), disk);
-    let nanos = start.elapsed(rt)?.as_nanos();
-    let Ok((_, rows, mark)) = opened else {
-        bail!("the store isn't opened");
-    };
-    eprintln!(rt; "{count} rows from checkpoints: {} ms", nanos / 1_000_000)?;
-    let sum = sum_of(&rows, count)?;
-    println!(rt;
-        "rows {} mark {mark} checkpoints {pairs} sum {}",
-        rows.len(),
-        sum
-    )?;
+    let opened = open(rt, disk)?;
+    tell(rt, count, pairs, &opened)
+}
+
+fn tell<R: Eprint + Print>(rt: &R, count: u64, pairs: usize, opened: &Opened) -> Result<()> {
+    eprintln!(rt; "{count} rows from checkpoints: {} ms", opened.millis)?;
+    let sum = sum_of(&opened.rows, count)?;
+    let (rows, mark) = (opened.rows.len(), opened.mark);
+    println!(rt; "rows {rows} mark {mark} checkpoints {pairs} sum {sum}")?;
     Ok(())
 }

@@ -16,24 +16,34 @@ pub fn run<R>(rt: &R, count: u64) -> Result<()>
 where
     R: AllocGlobal + Clock + Eprint + Print,
 {
-    let alloc = rt.alloc();
-    let mut disk = written(alloc, count)?;
+    let mut disk = written(rt.alloc(), count)?;
+    let mut rows = Rows::new(rt.alloc());
+    let mut places = Places::new(rt.alloc(), 7);
     let start = Instant::now(rt)?;
-    let mut rows = Rows::new(alloc);
-    let mut places = Places::new(alloc, 7);
+    read_all(rt.alloc(), &mut disk, count, &mut rows, &mut places)?;
+    tell(rt, count, &rows, start.elapsed(rt)?.as_nanos() / 1_000_000)
+}
+
+fn tell<R: Eprint + Print>(rt: &R, count: u64, rows: &Rows, millis: u128) -> Result<()> {
+    eprintln!(rt; "{count} rows from {PAIRS} pairs, one after another: {millis} ms")?;
+    let sum = sum_of(rows, count)?;
+    println!(rt; "rows {} in turn sum {sum}", rows.len())?;
+    Ok(())
+}
+
+fn read_all(
+    alloc: Global,
+    disk: &mut MemDisk,
+    count: u64,
+    rows: &mut Rows,
+    places: &mut Places,
+) -> Result<()> {
     for number in 0..PAIRS as u16 {
         let pair = pair_of(number, count);
-        let live = live_of(alloc, &mut disk, pair)?;
-        place_all(&mut places, pair.data_file, &live)?;
-        put_all(&mut rows, live)?;
+        let live = live_of(alloc, disk, pair)?;
+        place_all(places, pair.data_file, &live)?;
+        put_all(rows, live)?;
     }
-    let nanos = start.elapsed(rt)?.as_nanos();
-    eprintln!(rt;
-        "{count} rows from {PAIRS} pairs, one after another: {} ms",
-        nanos / 1_000_000
-    )?;
-    let sum = sum_of(&rows, count)?;
-    println!(rt; "rows {} in turn sum {}", rows.len(), sum)?;
     Ok(())
 }
 

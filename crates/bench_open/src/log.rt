@@ -1,31 +1,24 @@
+use crate::opening::{Opened, open};
 use crate::writer::written;
-use anyhow::{Result, bail};
-use mvo_store::Store;
+use anyhow::Result;
 use mvo_types::{RowKey, Rows};
 use std::rt::Clock;
 use std::thread::Threads;
-use std::time::Instant;
 
 // The rows of a store that holds so many in its log, and the time of opening it.
 pub fn run<R>(rt: &R, count: u64) -> Result<()>
 where
     R: AllocGlobal + Clock + Eprint + Print + Threads + Sync,
 {
-    let disk = written(rt, rt.alloc(), count)?;
-    let start = Instant::now(rt)?;
-    let opened = Store::open(rt, rt.alloc(), disk);
-    let nanos = start.elapsed(rt)?.as_nanos();
-    let Ok((store, rows, mark)) = opened else {
-        bail!("the store isn't opened");
-    };
-    eprintln!(rt; "{count} rows from the log: {} ms", nanos / 1_000_000)?;
-    let segments = store.manifest().segments().len();
-    let sum = sum_of(&rows, count)?;
-    println!(rt;
-        "rows {} mark {mark} segments {segments} sum {}",
-        rows.len(),
-        sum
-    )?;
+    let opened = open(rt, written(rt, rt.alloc(), count)?)?;
+    tell(rt, count, &opened)
+}
+
+fn tell<R: Eprint + Print>(rt: &R, count: u64, opened: &Opened) -> Result<()> {
+    eprintln!(rt; "{count} rows from the log: {} ms", opened.millis)?;
+    let sum = sum_of(&opened.rows, count)?;
+    let (rows, mark, segments) = (opened.rows.len(), opened.mark, opened.segments);
+    println!(rt; "rows {rows} mark {mark} segments {segments} sum {sum}")?;
     Ok(())
 }
 

@@ -8,6 +8,7 @@
 mod checkpoints;
 mod in_turn;
 mod log;
+mod opening;
 mod pairs;
 mod steps;
 mod writer;

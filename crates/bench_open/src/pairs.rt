@@ -1,14 +1,14 @@
+use crate::opening::{Opened, open};
 use crate::writer::sort_of;
 use anyhow::{Result, bail};
 use mvo_disk::{Disk, MemDisk};
 use mvo_manifest::Manifest;
 use mvo_pair::{Entry, FIRST_FORMAT, Pair, are_entries, write_data, write_delta};
-use mvo_store::{Store, format};
+use mvo_store::format;
 use mvo_types::{Row, RowKey, Rows, Stamp};
 use std::alloc::{AllocError, Global};
 use std::rt::Clock;
 use std::thread::Threads;
-use std::time::Instant;
 
 /// How many pairs hold the rows.
 pub const PAIRS: u64 = 4;
@@ -87,23 +87,34 @@ pub fn pair_of(number: u16, count: u64) -> Pair {
     pair(file, lo, lo.wrapping_add(each))
 }
 
+// Writes the pairs, and answers them.
+fn write_pairs(alloc: Global, disk: &mut MemDisk, count: u64) -> Result<Vec<Pair>> {
+    let mut pairs = Vec::new(alloc);
+    for number in 0..PAIRS as u16 {
+        let pair = pair_of(number, count);
+        write_pair(alloc, disk, pair)?;
+        pairs.push(pair)?;
+    }
+    Ok(pairs)
+}
+
+// The manifest of the pairs and of a segment without groups.
+fn manifest(alloc: Global, pairs: Vec<Pair>, count: u64) -> Result<Manifest> {
+    let mark = Stamp((count / PAIRS).wrapping_mul(PAIRS));
+    let segments = vec![in alloc; 2u16]?;
+    match Manifest::new(1, mark, pairs, segments)? {
+        Some(manifest) => Ok(manifest),
+        None => bail!("the pairs and the segment make a manifest"),
+    }
+}
+
 /// A disk with a store that holds so many rows in its pairs, and none in its log.
 pub fn written(alloc: Global, count: u64) -> Result<MemDisk> {
     let Ok(mut disk) = format(alloc, MemDisk::new(alloc)?) else {
         bail!("the disk isn't formatted");
     };
-    let mut pairs = Vec::new(alloc);
-    for number in 0..PAIRS as u16 {
-        let pair = pair_of(number, count);
-        write_pair(alloc, &mut disk, pair)?;
-        pairs.push(pair)?;
-    }
-    let mark = Stamp((count / PAIRS).wrapping_mul(PAIRS));
-    let segments = vec![in alloc; 2u16]?;
-    let Some(manifest) = Manifest::new(1, mark, pairs, segments)? else {
-        bail!("the pairs and the segment make a manifest");
-    };
-    write_manifest(alloc, &mut disk, &manifest)?;
+    let pairs = write_pairs(alloc, &mut disk, count)?;
+    write_manifest(alloc, &mut disk, &manifest(alloc, pairs, count)?)?;
     Ok(disk)
 }
 
@@ -112,16 +123,15 @@ pub fn run<R>(rt: &R, count: u64) -> Result<()>
 where
     R: AllocGlobal + Clock + Eprint + Print + Threads + Sync,
 {
-    let disk = written(rt.alloc(), count)?;
-    let start = Instant::now(rt)?;
-    let opened = Store::open(rt, rt.alloc(), disk);
-    let nanos = start.elapsed(rt)?.as_nanos();
-    let Ok((_, rows, mark)) = opened else {
-        bail!("the store isn't opened");
-    };
-    eprintln!(rt; "{count} rows from {PAIRS} pairs: {} ms", nanos / 1_000_000)?;
-    let sum = sum_of(&rows, count)?;
-    println!(rt; "rows {} mark {mark} pairs {PAIRS} sum {}", rows.len(), sum)?;
+    let opened = open(rt, written(rt.alloc(), count)?)?;
+    tell(rt, count, &opened)
+}
+
+fn tell<R: Eprint + Print>(rt: &R, count: u64, opened: &Opened) -> Result<()> {
+    eprintln!(rt; "{count} rows from {PAIRS} pairs: {} ms", opened.millis)?;
+    let sum = sum_of(&opened.rows, count)?;
+    let (rows, mark) = (opened.rows.len(), opened.mark);
+    println!(rt; "rows {rows} mark {mark} pairs {PAIRS} sum {sum}")?;
     Ok(())
 }
 

@@ -82,6 +82,19 @@ fn append(store: &mut MemStore, group: Group) -> Result<()> {
     Ok(())
 }
 
+// Appends so many rows, group by group.
+fn append_all(store: &mut MemStore, alloc: Global, count: u64) -> Result<()> {
+    for number in 0..count {
+        let key = number.wrapping_mul(WRITES * RECORDS);
+        if key >= count {
+            break;
+        }
+        let next = count.min(key.wrapping_add(WRITES * RECORDS));
+        append(store, group(alloc, store.mark().0, key, next)?)?;
+    }
+    Ok(())
+}
+
 // A disk with a store that holds so many rows in its log.
 pub fn written(rt: &(impl Threads + Sync), alloc: Global, count: u64) -> Result<MemDisk> {
     let Ok(disk) = format(alloc, MemDisk::new(alloc)?) else {
@@ -90,14 +103,6 @@ pub fn written(rt: &(impl Threads + Sync), alloc: Global, count: u64) -> Result<
     let Ok((mut store, _, _)) = Store::open(rt, alloc, disk) else {
         bail!("the new store isn't opened");
     };
-    for number in 0..count {
-        let key = number.wrapping_mul(WRITES * RECORDS);
-        if key >= count {
-            break;
-        }
-        let next = count.min(key.wrapping_add(WRITES * RECORDS));
-        let group = group(alloc, store.mark().0, key, next)?;
-        append(&mut store, group)?;
-    }
+    append_all(&mut store, alloc, count)?;
     Ok(store.into_disk())
 }
