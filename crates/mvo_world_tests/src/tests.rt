@@ -14,7 +14,7 @@ mod steps;
 mod told;
 mod vectors;
 
-use calls::{formatted, into_disk, mark, run, step, stop, try_open};
+use calls::{close, formatted, left, mark, run, step, stop, try_open};
 use images::bytes_of;
 use mvo_disk::{Disk, FileImage, MemDisk};
 use mvo_types::{Answer, RowKey, Stamp, TxId};
@@ -79,7 +79,9 @@ fn found(
     disk: MemDisk,
 ) -> Result<(u64, Option<usize>), Fail> {
     let mut world = opened(rt, alloc, disk)?;
-    found_in(&mut world)
+    let found = found_in(&mut world);
+    close(world);
+    found
 }
 
 /// Compares the bytes of a file.
@@ -146,24 +148,38 @@ fn follow_all(
     Ok(())
 }
 
-/// The world after all these steps, from a new store.
-fn following(
-    rt: &(impl Abort + Threads + Sync),
-    alloc: Global,
-    tables: &[&[(Step, &str)]],
-) -> Result<World<MemDisk>, Fail> {
-    let mut world = fresh(rt, alloc)?;
-    follow_all(rt, alloc, &mut world, tables)?;
-    Ok(world)
-}
-
-/// The disk that it leaves.
+/// The disk after all these steps, from a new store.
 fn disk_after(
     rt: &(impl Abort + Threads + Sync),
     alloc: Global,
     tables: &[&[(Step, &str)]],
 ) -> Result<MemDisk, Fail> {
-    Ok(into_disk(following(rt, alloc, tables)?))
+    let mut world = fresh(rt, alloc)?;
+    let followed = follow_all(rt, alloc, &mut world, tables);
+    left(world, followed)
+}
+
+/// Runs the steps. It answers the mark of what is durable.
+fn follow_to_mark(
+    rt: &impl Abort,
+    alloc: Global,
+    world: &mut World<MemDisk>,
+    tables: &[&[(Step, &str)]],
+) -> Result<Stamp, Fail> {
+    follow_all(rt, alloc, world, tables)?;
+    Ok(mark(world))
+}
+
+/// The mark of what is durable after all these steps, from a new store.
+fn mark_after(
+    rt: &(impl Abort + Threads + Sync),
+    alloc: Global,
+    tables: &[&[(Step, &str)]],
+) -> Result<Stamp, Fail> {
+    let mut world = fresh(rt, alloc)?;
+    let mark = follow_to_mark(rt, alloc, &mut world, tables);
+    close(world);
+    mark
 }
 
 #[test]
@@ -177,10 +193,10 @@ fn one_put_is_durable(rt: HostRuntime) -> Result<(), Fail> {
 #[test]
 fn the_mark_rises_with_the_gate(rt: HostRuntime) -> Result<(), Fail> {
     let alloc = rt.alloc();
-    let written = following(&rt, alloc, &[&ONE_PUT])?;
-    assert_eq!(rt; mark(&written), Stamp(0));
-    let durable = following(&rt, alloc, &[&ONE_PUT, &OPENING_OF_THE_GATE])?;
-    assert_eq!(rt; mark(&durable), Stamp(2));
+    let written = mark_after(&rt, alloc, &[&ONE_PUT])?;
+    assert_eq!(rt; written, Stamp(0));
+    let durable = mark_after(&rt, alloc, &[&ONE_PUT, &OPENING_OF_THE_GATE])?;
+    assert_eq!(rt; durable, Stamp(2));
     Ok(())
 }
 
@@ -239,12 +255,33 @@ const FILES_OF_MERGED: [(u16, &[u8]); 5] = [
 // The files of the pairs that it replaced are empty then.
 const FILES_OF_RECLAIMED: [(u16, &[u8]); 4] = [(4, &[]), (5, &[]), (6, &[]), (7, &[])];
 
+/// Two pairs, their merge, and these steps.
+fn follow_merge(
+    rt: &impl Abort,
+    alloc: Global,
+    world: &mut World<MemDisk>,
+    tables: &[&[(Step, &str)]],
+) -> Result<(), Fail> {
+    follow_all(rt, alloc, world, &TWO_PAIRS)?;
+    follow(rt, alloc, world, &MERGE)?;
+    follow_all(rt, alloc, world, tables)
+}
+
+/// The disk after that, from a new store.
+fn disk_after_merge(
+    rt: &(impl Abort + Threads + Sync),
+    alloc: Global,
+    tables: &[&[(Step, &str)]],
+) -> Result<MemDisk, Fail> {
+    let mut world = fresh(rt, alloc)?;
+    let merged = follow_merge(rt, alloc, &mut world, tables);
+    left(world, merged)
+}
+
 #[test]
 fn a_merge_keeps_the_rows(rt: HostRuntime) -> Result<(), Fail> {
     let alloc = rt.alloc();
-    let mut world = following(&rt, alloc, &TWO_PAIRS)?;
-    follow(&rt, alloc, &mut world, &MERGE)?;
-    let disk = into_disk(world);
+    let disk = disk_after_merge(&rt, alloc, &[])?;
     hold(&rt, &disk, &FILES_OF_MERGED);
     // Two bytes of an older, longer manifest lie behind it.
     assert!(rt; bytes_of(&disk, 1).starts_with(&SLOT_OF_MERGED));
@@ -254,10 +291,7 @@ fn a_merge_keeps_the_rows(rt: HostRuntime) -> Result<(), Fail> {
 #[test]
 fn the_files_of_merged_pairs_are_reclaimed(rt: HostRuntime) -> Result<(), Fail> {
     let alloc = rt.alloc();
-    let mut world = following(&rt, alloc, &TWO_PAIRS)?;
-    follow(&rt, alloc, &mut world, &MERGE)?;
-    follow(&rt, alloc, &mut world, &RECLAIMS_OF_PAIRS)?;
-    let disk = into_disk(world);
+    let disk = disk_after_merge(&rt, alloc, &[&RECLAIMS_OF_PAIRS])?;
     hold(&rt, &disk, &FILES_OF_RECLAIMED);
     gives(&rt, alloc, disk, 4, Some(1))
 }
@@ -275,8 +309,8 @@ fn reclaimed(
     disk: MemDisk,
 ) -> Result<MemDisk, Fail> {
     let mut world = opened(rt, alloc, disk)?;
-    follow(rt, alloc, &mut world, &RECLAIMS_OF_A_ROTATION)?;
-    Ok(into_disk(world))
+    let followed = follow(rt, alloc, &mut world, &RECLAIMS_OF_A_ROTATION);
+    left(world, followed)
 }
 
 #[test]
@@ -299,19 +333,19 @@ fn a_commit_that_wrote_nothing_is_polled_yes(rt: HostRuntime) -> Result<(), Fail
 
 #[test]
 fn a_transaction_falls_with_the_one_it_waits_for(rt: HostRuntime) -> Result<(), Fail> {
-    let _ = following(&rt, rt.alloc(), &[&PUT_AND_REPLACE, &FALL])?;
+    let _ = disk_after(&rt, rt.alloc(), &[&PUT_AND_REPLACE, &FALL])?;
     Ok(())
 }
 
 #[test]
 fn a_transaction_is_settled_after_the_one_it_waits_for(rt: HostRuntime) -> Result<(), Fail> {
-    let _ = following(&rt, rt.alloc(), &[&PUT_AND_REPLACE, &SETTLES])?;
+    let _ = disk_after(&rt, rt.alloc(), &[&PUT_AND_REPLACE, &SETTLES])?;
     Ok(())
 }
 
 #[test]
 fn refuses_steps_out_of_turn(rt: HostRuntime) -> Result<(), Fail> {
-    let _ = following(&rt, rt.alloc(), &[&OUT_OF_TURN, &GROUPS_IN_TURN])?;
+    let _ = disk_after(&rt, rt.alloc(), &[&OUT_OF_TURN, &GROUPS_IN_TURN])?;
     Ok(())
 }
 
@@ -323,11 +357,11 @@ fn close_one(
     prev: u64,
 ) -> Result<(), Fail> {
     let mark = prev.saturating_add(1);
-    let _ = step(world, Event::Begin);
-    let reply = step(world, Event::CloseGroup);
     let closed = format!(in alloc;
         "Closed(Closed {{ prev: Stamp({prev}), mark: Stamp({mark}) }})"
     )?;
+    let _ = step(world, Event::Begin);
+    let reply = step(world, Event::CloseGroup);
     assert_reply(rt, alloc, &reply, closed.as_str())
 }
 
@@ -343,12 +377,18 @@ fn close_all(
     Ok(())
 }
 
+fn fill_the_ring(rt: &impl Abort, alloc: Global, world: &mut World<MemDisk>) -> Result<(), Fail> {
+    close_all(rt, alloc, world, RING_GROUPS as u64)?;
+    follow(rt, alloc, world, &A_FULL_RING)
+}
+
 #[test]
 fn as_many_groups_wait_as_the_ring_has_room_for(rt: HostRuntime) -> Result<(), Fail> {
     let alloc = rt.alloc();
     let mut world = fresh(&rt, alloc)?;
-    close_all(&rt, alloc, &mut world, RING_GROUPS as u64)?;
-    follow(&rt, alloc, &mut world, &A_FULL_RING)
+    let filled = fill_the_ring(&rt, alloc, &mut world);
+    close(world);
+    filled
 }
 
 #[test]
@@ -375,14 +415,24 @@ fn segment_with(alloc: Global, gate: u8) -> Result<FileImage, Fail> {
     Ok(FileImage { file: 2, bytes })
 }
 
-// The disk after what opening the gate does first.
-fn with_gate(disk: MemDisk) -> Result<MemDisk, Fail> {
-    let mut disk = disk;
+// What opening the gate does first.
+fn write_gate(disk: &mut MemDisk) -> Result<(), Fail> {
     if disk.faults() != 0 || disk.bytes(2).len() < 9 {
         return Err(Fail::from("the body is written"));
     }
     disk.write_at(2, 8, &[0xa5])?;
-    Ok(disk)
+    Ok(())
+}
+
+// The disk that a stop within the write of the gate leaves so.
+fn stopped_at_gate(
+    rt: &(impl Abort + Threads + Sync),
+    alloc: Global,
+    images: &[FileImage],
+) -> Result<MemDisk, Fail> {
+    let mut disk = disk_after(rt, alloc, &[&ONE_PUT])?;
+    write_gate(&mut disk)?;
+    stop(disk, images)
 }
 
 // What is found after a stop within the write of the gate, which leaves it so.
@@ -391,9 +441,9 @@ fn found_at_gate(
     alloc: Global,
     gate: u8,
 ) -> Result<(u64, Option<usize>), Fail> {
-    let disk = with_gate(disk_after(rt, alloc, &[&ONE_PUT])?)?;
     let image = segment_with(alloc, gate)?;
-    found(rt, alloc, stop(disk, &[image])?)
+    let disk = stopped_at_gate(rt, alloc, &[image])?;
+    found(rt, alloc, disk)
 }
 
 #[test]

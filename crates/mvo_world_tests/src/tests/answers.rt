@@ -4,8 +4,10 @@ use super::checked::{assert_floors, fresh};
 use super::draws::Draws;
 use super::observed::Counts;
 use super::runs::Run;
+use std::alloc::Global;
 use std::process::Abort;
 use std::test::Fail;
+use std::thread::Threads;
 
 /// So many runs, each from a new store.
 const RUNS_IN_ALL: u64 = 100;
@@ -39,15 +41,27 @@ fn assert_counts(rt: &impl Abort, counts: &Counts) {
     assert_floors(rt, &floors);
 }
 
+/// The run of this number, from a new store.
+fn compare_run(
+    rt: &(impl Abort + Threads + Sync),
+    alloc: Global,
+    number: u64,
+    counts: Counts,
+) -> Result<Counts, Fail> {
+    let mut draws = Draws::new(alloc, number.wrapping_mul(0x9e37_79b9_7f4a_7c15));
+    let run = Run::of(rt, fresh(alloc)?, &mut draws, counts, 0)?;
+    let compared = run.compare_answers(rt);
+    let counts = run.into_counts();
+    compared?;
+    Ok(counts)
+}
+
 #[test]
 fn committed_answers_are_serial(rt: HostRuntime) -> Result<(), Fail> {
     let alloc = rt.alloc();
     let mut counts = Counts::new();
     for number in 1..=RUNS_IN_ALL {
-        let mut draws = Draws::new(alloc, number.wrapping_mul(0x9e37_79b9_7f4a_7c15));
-        let run = Run::of(&rt, fresh(alloc)?, &mut draws, counts, 0)?;
-        run.compare_answers(&rt)?;
-        counts = run.observed.counts;
+        counts = compare_run(&rt, alloc, number, counts)?;
     }
     assert_counts(&rt, &counts);
     Ok(())

@@ -60,6 +60,18 @@ pub fn into_disk(world: World<MemDisk>) -> MemDisk {
     world.into_disk()
 }
 
+/// Lets go of the world and of its disk.
+pub fn close(world: World<MemDisk>) {
+    let _ = into_disk(world);
+}
+
+/// The disk, as it stands, unless what was done with the world failed.
+pub fn left(world: World<MemDisk>, done: Result<(), Fail>) -> Result<MemDisk, Fail> {
+    let disk = into_disk(world);
+    done?;
+    Ok(disk)
+}
+
 /// Stops the disk, which leaves these images.
 pub fn stop(disk: MemDisk, images: &[FileImage]) -> Result<MemDisk, Fail> {
     let mut disk = disk;

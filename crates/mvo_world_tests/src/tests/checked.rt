@@ -1,12 +1,12 @@
 //! Opens what a run or a stop of it left, and compares it with what is due.
 
-use super::calls::{formatted, mark, step};
+use super::calls::{close, formatted, mark, step};
 use super::events::TABLES;
 use super::images::files_on;
 use super::runs::{Run, Start, opened};
 use super::step::row_with;
 use super::{TWO_PAIRS, disk_after};
-use mvo_disk::MemDisk;
+use mvo_disk::{FileImage, MemDisk};
 use mvo_model::Serial;
 use mvo_types::{Answer, Row, RowKey, Rows, Stamp, TxId};
 use mvo_world::{Event, Reply, World};
@@ -67,9 +67,16 @@ fn all_rows(alloc: Global, rows: &Rows) -> Result<Vec<Row>, AllocError> {
     Ok(all)
 }
 
-/// Compares what is answered.
-fn compare(rt: &impl Abort, answer: &Answer, wanted: &Answer) {
-    assert!(rt; is_same(answer, wanted), "{answer:?}, and not {wanted:?}");
+/// Asks, and compares what is answered.
+fn compare(
+    rt: &impl Abort,
+    world: &mut World<MemDisk>,
+    event: Event,
+    wanted: &Answer,
+) -> Result<(), Fail> {
+    let answer = ask(world, event)?;
+    assert!(rt; is_same(&answer, wanted), "{answer:?}, and not {wanted:?}");
+    Ok(())
 }
 
 fn compare_key(
@@ -79,10 +86,8 @@ fn compare_key(
     key: RowKey,
     serial: &Serial,
 ) -> Result<(), Fail> {
-    let answer = ask(world, Event::Read(id, key))?;
     let wanted = Answer::Found(serial.rows().get(key)?);
-    compare(rt, &answer, &wanted);
-    Ok(())
+    compare(rt, world, Event::Read(id, key), &wanted)
 }
 
 fn compare_table(
@@ -92,10 +97,8 @@ fn compare_table(
     table: u8,
     serial: &Serial,
 ) -> Result<(), Fail> {
-    let answer = ask(world, Event::Scan(id, table, 0, u64::MAX))?;
     let wanted = Answer::Rows(serial.scan(table, 0, u64::MAX)?);
-    compare(rt, &answer, &wanted);
-    Ok(())
+    compare(rt, world, Event::Scan(id, table, 0, u64::MAX), &wanted)
 }
 
 /// Compares all rows of a world that was opened.
@@ -132,9 +135,20 @@ pub fn check_world(
         "after {answered} events"
     );
     let serial = run.serial_up_to(answered, mark)?;
-    compare_rows(rt, world, keys, &serial)?;
-    let rows = all_rows(run.alloc, serial.rows())?;
+    let rows = check_rows(rt, run.alloc, world, keys, &serial)?;
     Ok(Found { mark, rows })
+}
+
+/// Compares all rows of a world that was opened, and copies them.
+fn check_rows(
+    rt: &impl Abort,
+    alloc: Global,
+    world: &mut World<MemDisk>,
+    keys: &[RowKey],
+    serial: &Serial,
+) -> Result<Vec<Row>, Fail> {
+    compare_rows(rt, world, keys, serial)?;
+    Ok(all_rows(alloc, serial.rows())?)
 }
 
 /// Opens a disk and compares it so.
@@ -146,7 +160,9 @@ pub fn check_disk(
     disk: MemDisk,
 ) -> Result<Found, Fail> {
     let mut world = opened(rt, run.alloc, disk)?;
-    check_world(rt, run, keys, answered, &mut world)
+    let found = check_world(rt, run, keys, answered, &mut world);
+    close(world);
+    found
 }
 
 /// A new store.
@@ -158,14 +174,26 @@ pub fn fresh(alloc: Global) -> Result<Start, Fail> {
     })
 }
 
-/// A store with two pairs and one row, whose first record is dead.
-pub fn with_pairs(rt: &(impl Abort + Threads + Sync), alloc: Global) -> Result<Start, Fail> {
+/// The one row that the store with two pairs has.
+fn row_of_pairs(alloc: Global) -> Result<Vec<Row>, AllocError> {
     let mut rows = Vec::new(alloc);
     rows.push(row_with(alloc, 50, 0x62)?)?;
+    Ok(rows)
+}
+
+fn files_of_pairs(
+    rt: &(impl Abort + Threads + Sync),
+    alloc: Global,
+) -> Result<Vec<FileImage>, Fail> {
     let disk = disk_after(rt, alloc, &TWO_PAIRS)?;
+    Ok(files_on(alloc, &disk, 8)?)
+}
+
+/// A store with two pairs and one row, whose first record is dead.
+pub fn with_pairs(rt: &(impl Abort + Threads + Sync), alloc: Global) -> Result<Start, Fail> {
     Ok(Start {
-        files: files_on(alloc, &disk, 8)?,
-        rows,
+        rows: row_of_pairs(alloc)?,
+        files: files_of_pairs(rt, alloc)?,
         mark: Stamp(4),
     })
 }

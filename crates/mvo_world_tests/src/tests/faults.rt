@@ -8,7 +8,7 @@ use super::images::{disk_after, disk_of, is_look};
 use super::observed::{Counts, count};
 use super::runs::{RUNS, Run, Start, all_keys, try_open};
 use super::told::is_of_store;
-use mvo_disk::{Disk, MemDisk};
+use mvo_disk::{Call, Disk, FileImage, MemDisk};
 use mvo_types::{Refusal, RowKey};
 use mvo_world::{Event, Reply, World};
 use std::alloc::{AllocError, Global};
@@ -106,13 +106,28 @@ impl Trial {
     /// Runs from a store with pairs, and on from what is left after faults.
     fn go(&mut self, rt: &(impl Abort + Threads + Sync), counts: Counts) -> Result<Counts, Fail> {
         let mut counts = counts;
-        let mut start = with_pairs(rt, self.alloc)?;
+        self.next = Some(with_pairs(rt, self.alloc)?);
         for number in 0..RUNS {
-            let run = Run::of(rt, start, &mut self.draws, counts, number)?;
-            counts = run.observed.counts;
-            self.fail_everywhere(rt, &run)?;
-            start = self.next.take().ok_or("a start of the next run")?;
+            counts = self.go_on(rt, counts, number)?;
+            if self.next.is_none() {
+                return Err(Fail::from("a start of the next run"));
+            }
         }
+        Ok(counts)
+    }
+
+    /// One run.
+    fn go_on(
+        &mut self,
+        rt: &(impl Abort + Threads + Sync),
+        counts: Counts,
+        number: u64,
+    ) -> Result<Counts, Fail> {
+        let start = self.next.take().ok_or("a start of the run")?;
+        let run = Run::of(rt, start, &mut self.draws, counts, number)?;
+        let failed = self.fail_everywhere(rt, &run);
+        let counts = run.into_counts();
+        failed?;
         Ok(counts)
     }
 
@@ -125,8 +140,19 @@ impl Trial {
     ) -> Result<(), Fail> {
         let written = disk_of(self.alloc, &run.start.files)?.calls().len();
         let whole = run.disk_after(rt, run.events.len())?;
+        self.fail_at_each(rt, run, written, whole.calls())
+    }
+
+    /// Runs with a fault at each such call past the first ones.
+    fn fail_at_each(
+        &mut self,
+        rt: &(impl Abort + Threads + Sync),
+        run: &Run,
+        written: usize,
+        calls: &[Call],
+    ) -> Result<(), Fail> {
         let mut number = 0;
-        for call in whole.calls().iter().skip(written) {
+        for call in calls.iter().skip(written) {
             if !is_look(call) || self.draws.below(LOOKS) == 0 {
                 self.fail_at(rt, run, number)?;
             }
@@ -146,12 +172,21 @@ impl Trial {
         disk.fail_at(calls);
         match try_open(rt, self.alloc, disk) {
             Ok(world) => self.run_on(rt, run, world),
-            Err((refusal, disk)) => {
-                assert_eq!(rt; refusal, Refusal::DiskFault);
-                count(&mut self.met.in_opening);
-                self.check_left(rt, run, 0, disk)
-            }
+            Err((refusal, disk)) => self.check_refused(rt, run, refusal, disk),
         }
+    }
+
+    /// Checks what an opening leaves that met the fault.
+    fn check_refused(
+        &mut self,
+        rt: &(impl Abort + Threads + Sync),
+        run: &Run,
+        refusal: Refusal,
+        disk: MemDisk,
+    ) -> Result<(), Fail> {
+        assert_eq!(rt; refusal, Refusal::DiskFault);
+        count(&mut self.met.in_opening);
+        self.check_left(rt, run, 0, disk)
     }
 
     /// Runs up to the fault, and on with a store that is down.
@@ -162,8 +197,9 @@ impl Trial {
         world: World<MemDisk>,
     ) -> Result<(), Fail> {
         let mut world = world;
-        let answered = self.repeat(rt, run, &mut world)?;
-        self.check_left(rt, run, answered, into_disk(world))
+        let answered = self.repeat(rt, run, &mut world);
+        let disk = into_disk(world);
+        self.check_left(rt, run, answered?, disk)
     }
 
     /// The events of the run. It answers which of them met the fault.
@@ -211,42 +247,78 @@ impl Trial {
         disk: MemDisk,
     ) -> Result<(), Fail> {
         assert_eq!(rt; disk.faults(), 1);
-        for _ in 0..IMAGES {
-            let again = disk_after(self.alloc, disk.calls(), disk.calls().len())?;
-            self.check_stopped(rt, run, answered, again)?;
-        }
+        self.stop_copies(rt, run, answered, disk.calls())?;
         check_disk(rt, run, &self.keys, answered, disk)?;
         Ok(())
     }
 
+    /// Stops some disks on which the calls were made.
+    fn stop_copies(
+        &mut self,
+        rt: &(impl Abort + Threads + Sync),
+        run: &Run,
+        answered: usize,
+        calls: &[Call],
+    ) -> Result<(), Fail> {
+        for _ in 0..IMAGES {
+            let again = disk_after(self.alloc, calls, calls.len())?;
+            self.stop_disk(rt, run, answered, again)?;
+        }
+        Ok(())
+    }
+
     /// Stops the disk with a random image, and opens that.
-    fn check_stopped(
+    fn stop_disk(
         &mut self,
         rt: &(impl Abort + Threads + Sync),
         run: &Run,
         answered: usize,
         disk: MemDisk,
     ) -> Result<(), Fail> {
-        let drawn = self.draws.images(&disk)?;
+        let files = self.drawn_files(&disk)?;
+        let Found { mark, rows } = self.check_stopped(rt, run, answered, disk, &files)?;
+        self.keep(Start { files, rows, mark });
+        Ok(())
+    }
+
+    /// The files of a random image of the disk.
+    fn drawn_files(&mut self, disk: &MemDisk) -> Result<Vec<FileImage>, Fail> {
+        let drawn = self.draws.images(disk)?;
         if drawn.is_torn {
             count(&mut self.met.torn);
         }
-        let files = drawn.images;
-        let disk = stop(disk, &files)?;
+        Ok(drawn.images)
+    }
+
+    /// Stops the disk, which leaves these files, and opens it.
+    fn check_stopped(
+        &mut self,
+        rt: &(impl Abort + Threads + Sync),
+        run: &Run,
+        answered: usize,
+        disk: MemDisk,
+        files: &[FileImage],
+    ) -> Result<Found, Fail> {
+        let disk = stop(disk, files)?;
         let found = check_disk(rt, run, &self.keys, answered, disk)?;
+        self.note_found(run, answered, &found);
+        Ok(found)
+    }
+
+    fn note_found(&mut self, run: &Run, answered: usize, found: &Found) {
         self.met.rows = self.met.rows.saturating_add(found.rows.len() as u64);
-        if run
-            .known
-            .get(answered)
-            .is_some_and(|known| known.durable < found.mark)
-        {
+        let mark = found.mark;
+        let known = run.known.get(answered);
+        if known.is_some_and(|known| known.durable < mark) {
             count(&mut self.met.unanswered);
         }
+    }
+
+    /// The next run may start from it.
+    fn keep(&mut self, start: Start) {
         if self.next.is_none() || self.draws.below(16) == 0 {
-            let Found { mark, rows } = found;
-            self.next = Some(Start { files, rows, mark });
+            self.next = Some(start);
         }
-        Ok(())
     }
 }
 
@@ -274,15 +346,27 @@ fn assert_met(rt: &impl Abort, counts: &Counts, met: &Met) {
     assert_eq!(rt; met.strange, 0);
 }
 
+/// The faults of a seed.
+fn try_seed(
+    rt: &(impl Abort + Threads + Sync),
+    alloc: Global,
+    seed: u64,
+    counts: &mut Counts,
+    met: &mut Met,
+) -> Result<(), Fail> {
+    let mut trial = Trial::new(alloc, seed, *met)?;
+    *counts = trial.go(rt, *counts)?;
+    *met = trial.met;
+    Ok(())
+}
+
 #[test]
 fn faults_leave_the_rows_of_serial(rt: HostRuntime) -> Result<(), Fail> {
     let alloc = rt.alloc();
     let mut counts = Counts::new();
     let mut met = Met::new();
     for seed in SEEDS {
-        let mut trial = Trial::new(alloc, seed, met)?;
-        counts = trial.go(&rt, counts)?;
-        met = trial.met;
+        try_seed(&rt, alloc, seed, &mut counts, &mut met)?;
     }
     assert_met(&rt, &counts, &met);
     Ok(())

@@ -115,16 +115,43 @@ impl Draws {
             is_synced: true,
             is_torn: false,
         };
+        self.draw_images(disk, &mut drawn)?;
+        Ok(drawn)
+    }
+
+    fn draw_images(&mut self, disk: &MemDisk, drawn: &mut Drawn) -> Result<(), Fail> {
         let all = Loose::after(self.alloc, disk.calls())?;
+        self.draw_each(disk, &all, drawn)?;
+        Ok(())
+    }
+
+    fn draw_each(
+        &mut self,
+        disk: &MemDisk,
+        all: &[Loose],
+        drawn: &mut Drawn,
+    ) -> Result<(), AllocError> {
         let mut file = 0;
-        for loose in &all {
-            let bytes = self.image(bytes_of(disk, file), loose)?;
-            drawn.is_synced = drawn.is_synced && loose.is_exact;
-            drawn.is_torn = drawn.is_torn || bytes_of(disk, file) != bytes.as_slice();
-            drawn.images.push(FileImage { file, bytes })?;
+        for loose in all {
+            self.draw_image(file, bytes_of(disk, file), loose, drawn)?;
             file = file.saturating_add(1);
         }
-        Ok(drawn)
+        Ok(())
+    }
+
+    /// An image of the file, beside those that are drawn.
+    fn draw_image(
+        &mut self,
+        file: u16,
+        content: &[u8],
+        loose: &Loose,
+        drawn: &mut Drawn,
+    ) -> Result<(), AllocError> {
+        let bytes = self.image(content, loose)?;
+        drawn.is_synced = drawn.is_synced && loose.is_exact;
+        drawn.is_torn = drawn.is_torn || content != bytes.as_slice();
+        drawn.images.push(FileImage { file, bytes })?;
+        Ok(())
     }
 
     /// An image of the file with this content.
@@ -224,26 +251,42 @@ pub fn files_on(alloc: Global, disk: &MemDisk, count: u16) -> Result<Vec<FileIma
 /// A disk with these files, synced.
 pub fn disk_of(alloc: Global, files: &[FileImage]) -> Result<MemDisk, Fail> {
     let mut disk = MemDisk::new(alloc)?;
-    for image in files {
-        if disk.faults() != 0 || image.file >= FILE_COUNT {
-            return Err(Fail::from("a file, and no fault"));
-        }
-        disk.write_at(image.file, 0, &image.bytes)?;
-        if disk.faults() != 0 {
-            return Err(Fail::from("no fault"));
-        }
-        disk.sync(image.file)?;
-    }
+    write_files(&mut disk, files)?;
     Ok(disk)
+}
+
+fn write_files(disk: &mut MemDisk, files: &[FileImage]) -> Result<(), Fail> {
+    for image in files {
+        write_file(disk, image)?;
+    }
+    Ok(())
+}
+
+/// Writes a file, and syncs it.
+fn write_file(disk: &mut MemDisk, image: &FileImage) -> Result<(), Fail> {
+    if disk.faults() != 0 || image.file >= FILE_COUNT {
+        return Err(Fail::from("a file, and no fault"));
+    }
+    disk.write_at(image.file, 0, &image.bytes)?;
+    if disk.faults() != 0 {
+        return Err(Fail::from("no fault"));
+    }
+    disk.sync(image.file)?;
+    Ok(())
 }
 
 /// A disk on which the first of these calls were made.
 pub fn disk_after(alloc: Global, calls: &[Call], number: usize) -> Result<MemDisk, Fail> {
     let mut disk = MemDisk::new(alloc)?;
-    for call in calls.iter().take(number) {
-        make(&mut disk, call)?;
-    }
+    make_first(&mut disk, calls, number)?;
     Ok(disk)
+}
+
+fn make_first(disk: &mut MemDisk, calls: &[Call], number: usize) -> Result<(), Fail> {
+    for call in calls.iter().take(number) {
+        make(disk, call)?;
+    }
+    Ok(())
 }
 
 /// A disk on which the calls before one of them were made, and of a write itself at most so many
@@ -254,13 +297,18 @@ pub fn disk_in_part(
     number: usize,
     most: usize,
 ) -> Result<MemDisk, Fail> {
-    let mut disk = disk_after(alloc, calls, number)?;
     let Some(call) = calls.get(number) else {
         return Err(Fail::from("one of the calls"));
     };
+    let mut disk = disk_after(alloc, calls, number)?;
+    make_part(alloc, &mut disk, call, most)?;
+    Ok(disk)
+}
+
+/// Makes a call, and of a write at most so many bytes.
+fn make_part(alloc: Global, disk: &mut MemDisk, call: &Call, most: usize) -> Result<(), Fail> {
     let Work::Write { at, bytes, .. } = &call.work else {
-        make(&mut disk, call)?;
-        return Ok(disk);
+        return make(disk, call);
     };
     let len = bytes.len().min(most);
     let bytes = bytes[..len].to_vec(alloc)?;
@@ -270,8 +318,7 @@ pub fn disk_in_part(
         work: Work::Write { at, len, bytes },
         failed: false,
     };
-    make(&mut disk, &part)?;
-    Ok(disk)
+    make(disk, &part)
 }
 
 /// Where the last write among these calls begins.

@@ -343,23 +343,31 @@ impl Observed {
     /// A reply to a step of an unfinished transaction, which goes back unless it is finished.
     fn note_step(&mut self, tx: Open, event: &Event, reply: Reply) -> Result<(), AllocError> {
         let mut tx = tx;
+        let is_done = matches!(&reply, Reply::Finished(Finishing::Done));
+        self.note_in(&mut tx, event, reply)?;
+        if !is_done {
+            self.open.push(tx)?;
+        }
+        Ok(())
+    }
+
+    /// Notes in the transaction what it was replied.
+    fn note_in(&mut self, tx: &mut Open, event: &Event, reply: Reply) -> Result<(), AllocError> {
         match reply {
-            Reply::Answered(answer) => self.note_answer(&mut tx, event, answer)?,
-            Reply::Prepared(end) => self.note_end(&mut tx, end),
+            Reply::Answered(answer) => self.note_answer(tx, event, answer)?,
+            Reply::Prepared(end) => self.note_end(tx, end),
             Reply::Validated(Validation::More) => {}
             Reply::Validated(Validation::Valid) => tx.phase = Phase::Valid,
-            Reply::Settled(Settlement::Committed(end)) => self.keep(&mut tx, end)?,
+            Reply::Settled(Settlement::Committed(end)) => self.keep(tx, end)?,
             Reply::Settled(Settlement::Waiting(_)) => count(&mut self.counts.waiting),
             Reply::RolledBack => {
                 tx.phase = Phase::Over;
                 count(&mut self.counts.rolled_back);
             }
-            Reply::Finished(Finishing::More) => {}
-            Reply::Finished(Finishing::Done) => return Ok(()),
-            Reply::Refused(refusal) => self.note_failure(&mut tx, refusal),
+            Reply::Finished(_) => {}
+            Reply::Refused(refusal) => self.note_failure(tx, refusal),
             _ => count(&mut self.counts.strange),
         }
-        self.open.push(tx)?;
         Ok(())
     }
 

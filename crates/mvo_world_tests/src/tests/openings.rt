@@ -1,14 +1,15 @@
 //! Openings of a disk that no stop made whole, stopped and refused at each of their calls, against
 //! one map that runs the committed transactions one after another.
 
-use super::calls::{into_disk, stop};
+use super::calls::{close, into_disk, stop};
 use super::checked::{Found, assert_floors, check_disk, check_world, with_pairs};
 use super::draws::Draws;
 use super::images::{disk_after, disk_in_part, is_look};
 use super::observed::{Counts, Job, count};
 use super::runs::{RUNS, Run, Start, all_keys, opened, try_open};
-use mvo_disk::{Call, Disk, MemDisk};
+use mvo_disk::{Call, Disk, FileImage, MemDisk};
 use mvo_types::{Refusal, RowKey, Stamp};
+use mvo_world::World;
 use std::alloc::{AllocError, Global};
 use std::process::Abort;
 use std::test::Fail;
@@ -77,13 +78,28 @@ impl Trial {
     /// Runs from a store with pairs, and on from what a stop within an opening left.
     fn go(&mut self, rt: &(impl Abort + Threads + Sync), counts: Counts) -> Result<Counts, Fail> {
         let mut counts = counts;
-        let mut start = with_pairs(rt, self.alloc)?;
+        self.next = Some(with_pairs(rt, self.alloc)?);
         for number in 0..RUNS {
-            let run = Run::of(rt, start, &mut self.draws, counts, number)?;
-            counts = run.observed.counts;
-            self.open_everywhere(rt, &run)?;
-            start = self.next.take().ok_or("a start of the next run")?;
+            counts = self.go_on(rt, counts, number)?;
+            if self.next.is_none() {
+                return Err(Fail::from("a start of the next run"));
+            }
         }
+        Ok(counts)
+    }
+
+    /// One run.
+    fn go_on(
+        &mut self,
+        rt: &(impl Abort + Threads + Sync),
+        counts: Counts,
+        number: u64,
+    ) -> Result<Counts, Fail> {
+        let start = self.next.take().ok_or("a start of the run")?;
+        let run = Run::of(rt, start, &mut self.draws, counts, number)?;
+        let opened = self.open_everywhere(rt, &run);
+        let counts = run.into_counts();
+        opened?;
         Ok(counts)
     }
 
@@ -94,15 +110,37 @@ impl Trial {
         run: &Run,
     ) -> Result<(), Fail> {
         for answered in 0..run.events.len() {
-            if !run.is_write(answered) {
-                continue;
+            if run.is_write(answered) {
+                self.open_within(rt, run, answered)?;
             }
-            let before = run.disk_after(rt, answered)?.calls().len();
-            let disk = run.disk_after(rt, answered.saturating_add(1))?;
-            for (number, call) in disk.calls().iter().enumerate().skip(before) {
-                if !is_look(call) {
-                    self.open_after(rt, run, answered, disk.calls(), number)?;
-                }
+        }
+        Ok(())
+    }
+
+    /// Opens what each such call of an event leaves.
+    fn open_within(
+        &mut self,
+        rt: &(impl Abort + Threads + Sync),
+        run: &Run,
+        answered: usize,
+    ) -> Result<(), Fail> {
+        let before = run.disk_after(rt, answered)?.calls().len();
+        let disk = run.disk_after(rt, answered.saturating_add(1))?;
+        self.open_after_each(rt, run, answered, before, disk.calls())
+    }
+
+    /// Opens what each such call past the first ones leaves.
+    fn open_after_each(
+        &mut self,
+        rt: &(impl Abort + Threads + Sync),
+        run: &Run,
+        answered: usize,
+        before: usize,
+        calls: &[Call],
+    ) -> Result<(), Fail> {
+        for (number, call) in calls.iter().enumerate().skip(before) {
+            if !is_look(call) {
+                self.open_after(rt, run, answered, calls, number)?;
             }
         }
         Ok(())
@@ -122,22 +160,30 @@ impl Trial {
         let disk = disk_in_part(self.alloc, calls, number, most)?;
         let from = disk.calls().len();
         let mut world = opened(rt, self.alloc, disk)?;
-        let found = check_world(rt, run, &self.keys, answered, &mut world)?;
-        self.note_opening(run, answered, &found);
+        let mark = self.check_opening(rt, run, answered, &mut world);
         let disk = into_disk(world);
-        self.stop_opening(rt, run, answered, from, found.mark, disk.calls())?;
-        for _ in 0..FAULTS {
-            self.fail_opening(rt, run, answered, from, disk.calls())?;
-        }
-        Ok(())
+        self.break_opening(rt, run, answered, from, mark?, disk.calls())
     }
 
-    fn note_opening(&mut self, run: &Run, answered: usize, found: &Found) {
+    /// Compares the world that was opened. It answers the mark.
+    fn check_opening(
+        &mut self,
+        rt: &impl Abort,
+        run: &Run,
+        answered: usize,
+        world: &mut World<MemDisk>,
+    ) -> Result<Stamp, Fail> {
+        let mark = check_world(rt, run, &self.keys, answered, world)?.mark;
+        self.note_opening(run, answered, mark);
+        Ok(mark)
+    }
+
+    fn note_opening(&mut self, run: &Run, answered: usize, mark: Stamp) {
         count(&mut self.met.openings);
         let Some(known) = run.known.get(answered) else {
             return;
         };
-        if known.durable < found.mark {
+        if known.durable < mark {
             count(&mut self.met.unanswered);
         }
         if known.job != Job::None {
@@ -148,8 +194,25 @@ impl Trial {
         }
     }
 
+    /// Stops the opening everywhere, and has calls of it fail.
+    fn break_opening(
+        &mut self,
+        rt: &(impl Abort + Threads + Sync),
+        run: &Run,
+        answered: usize,
+        from: usize,
+        mark: Stamp,
+        calls: &[Call],
+    ) -> Result<(), Fail> {
+        self.stop_opening(rt, run, answered, from, mark, calls)?;
+        for _ in 0..FAULTS {
+            self.fail_opening(rt, run, answered, from, calls)?;
+        }
+        Ok(())
+    }
+
     /// Stops before the opening and after each of its calls, which stand behind the first ones, and
-    /// opens again. After the last of them nothing that it answered is lost.
+    /// opens again.
     fn stop_opening(
         &mut self,
         rt: &(impl Abort + Threads + Sync),
@@ -159,17 +222,41 @@ impl Trial {
         mark: Stamp,
         calls: &[Call],
     ) -> Result<(), Fail> {
-        let found = self.stop_after(rt, run, answered, calls, from)?;
-        self.keep(found);
+        self.keep_stop(rt, run, answered, calls, from)?;
         for (number, call) in calls.iter().enumerate().skip(from) {
             if !is_look(call) {
-                let found = self.stop_after(rt, run, answered, calls, number.saturating_add(1))?;
-                self.keep(found);
+                self.keep_stop(rt, run, answered, calls, number.saturating_add(1))?;
             }
         }
-        let found = self.stop_after(rt, run, answered, calls, calls.len())?;
-        assert_eq!(rt; found.mark, mark, "after {answered} events");
+        self.stop_behind(rt, run, answered, mark, calls)
+    }
+
+    /// Stops after the last call of the opening: nothing that it answered is lost.
+    fn stop_behind(
+        &mut self,
+        rt: &(impl Abort + Threads + Sync),
+        run: &Run,
+        answered: usize,
+        mark: Stamp,
+        calls: &[Call],
+    ) -> Result<(), Fail> {
+        let found = self.stop_after(rt, run, answered, calls, calls.len())?.mark;
+        assert_eq!(rt; found, mark, "after {answered} events");
         count(&mut self.met.ends);
+        Ok(())
+    }
+
+    /// Stops so, and the next run may start from what is left.
+    fn keep_stop(
+        &mut self,
+        rt: &(impl Abort + Threads + Sync),
+        run: &Run,
+        answered: usize,
+        calls: &[Call],
+        number: usize,
+    ) -> Result<(), Fail> {
+        let found = self.stop_after(rt, run, answered, calls, number)?;
+        self.keep(found);
         Ok(())
     }
 
@@ -199,16 +286,47 @@ impl Trial {
         let number = calls.len().saturating_sub(from) as u64;
         let mut disk = disk_after(self.alloc, calls, from)?;
         disk.fail_at(self.draws.below(number));
-        let Err((refusal, disk)) = try_open(rt, self.alloc, disk) else {
-            return Err(Fail::from("an opening that is refused"));
-        };
+        match try_open(rt, self.alloc, disk) {
+            Ok(world) => {
+                close(world);
+                Err(Fail::from("an opening that is refused"))
+            }
+            Err((refusal, disk)) => self.check_refused(rt, run, answered, refusal, disk),
+        }
+    }
+
+    /// Opens what a stop leaves after the fault, and the disk as it stands.
+    fn check_refused(
+        &mut self,
+        rt: &(impl Abort + Threads + Sync),
+        run: &Run,
+        answered: usize,
+        refusal: Refusal,
+        disk: MemDisk,
+    ) -> Result<(), Fail> {
+        self.note_fault(rt, refusal, &disk);
+        self.stop_copy(rt, run, answered, disk.calls())?;
+        check_disk(rt, run, &self.keys, answered, disk)?;
+        Ok(())
+    }
+
+    fn note_fault(&mut self, rt: &impl Abort, refusal: Refusal, disk: &MemDisk) {
         assert_eq!(rt; refusal, Refusal::DiskFault);
         assert_eq!(rt; disk.faults(), 1);
         count(&mut self.met.faults);
-        let again = disk_after(self.alloc, disk.calls(), disk.calls().len())?;
+    }
+
+    /// Stops a disk on which the calls were made, and the next run may start from what is left.
+    fn stop_copy(
+        &mut self,
+        rt: &(impl Abort + Threads + Sync),
+        run: &Run,
+        answered: usize,
+        calls: &[Call],
+    ) -> Result<(), Fail> {
+        let again = disk_after(self.alloc, calls, calls.len())?;
         let found = self.stop_disk(rt, run, answered, again)?;
         self.keep(found);
-        check_disk(rt, run, &self.keys, answered, disk)?;
         Ok(())
     }
 
@@ -220,15 +338,33 @@ impl Trial {
         answered: usize,
         disk: MemDisk,
     ) -> Result<Start, Fail> {
-        let drawn = self.draws.images(&disk)?;
+        let files = self.drawn_files(&disk)?;
+        let Found { mark, rows } = self.check_stopped(rt, run, answered, disk, &files)?;
+        Ok(Start { files, rows, mark })
+    }
+
+    /// The files of a random image of the disk.
+    fn drawn_files(&mut self, disk: &MemDisk) -> Result<Vec<FileImage>, Fail> {
+        let drawn = self.draws.images(disk)?;
         if drawn.is_torn {
             count(&mut self.met.torn);
         }
-        let files = drawn.images;
-        let disk = stop(disk, &files)?;
-        let Found { mark, rows } = check_disk(rt, run, &self.keys, answered, disk)?;
-        self.met.rows = self.met.rows.saturating_add(rows.len() as u64);
-        Ok(Start { files, rows, mark })
+        Ok(drawn.images)
+    }
+
+    /// Stops the disk, which leaves these files, and opens it.
+    fn check_stopped(
+        &mut self,
+        rt: &(impl Abort + Threads + Sync),
+        run: &Run,
+        answered: usize,
+        disk: MemDisk,
+        files: &[FileImage],
+    ) -> Result<Found, Fail> {
+        let disk = stop(disk, files)?;
+        let found = check_disk(rt, run, &self.keys, answered, disk)?;
+        self.met.rows = self.met.rows.saturating_add(found.rows.len() as u64);
+        Ok(found)
     }
 
     /// The next run may start from it.
@@ -259,15 +395,27 @@ fn assert_met(rt: &impl Abort, counts: &Counts, met: &Met) {
     assert_floors(rt, &floors);
 }
 
+/// The openings of a seed.
+fn try_seed(
+    rt: &(impl Abort + Threads + Sync),
+    alloc: Global,
+    seed: u64,
+    counts: &mut Counts,
+    met: &mut Met,
+) -> Result<(), Fail> {
+    let mut trial = Trial::new(alloc, seed, *met)?;
+    *counts = trial.go(rt, *counts)?;
+    *met = trial.met;
+    Ok(())
+}
+
 #[test]
 fn openings_may_be_stopped(rt: HostRuntime) -> Result<(), Fail> {
     let alloc = rt.alloc();
     let mut counts = Counts::new();
     let mut met = Met::new();
     for seed in SEEDS {
-        let mut trial = Trial::new(alloc, seed, met)?;
-        counts = trial.go(&rt, counts)?;
-        met = trial.met;
+        try_seed(&rt, alloc, seed, &mut counts, &mut met)?;
     }
     assert_met(&rt, &counts, &met);
     Ok(())

@@ -7,7 +7,7 @@ use super::draws::Draws;
 use super::images::{Drawn, disk_after, is_look, last_write};
 use super::observed::{Counts, Known, count};
 use super::runs::{RUNS, Run, Start, all_keys};
-use mvo_disk::{Call, MemDisk};
+use mvo_disk::{Call, FileImage, MemDisk};
 use mvo_types::{RowKey, Stamp};
 use mvo_world::Event;
 use std::alloc::{AllocError, Global};
@@ -129,19 +129,39 @@ impl Trial {
     /// Runs from a store with pairs, and on from what stops left.
     fn go(&mut self, rt: &(impl Abort + Threads + Sync), counts: Counts) -> Result<Counts, Fail> {
         let mut counts = counts;
-        let mut start = with_pairs(rt, self.alloc)?;
+        self.next = Some(with_pairs(rt, self.alloc)?);
         for number in 0..RUNS {
-            if start.mark > Stamp(0) && !start.rows.is_empty() {
-                count(&mut self.met.reopened);
+            counts = self.go_on(rt, counts, number)?;
+            if self.next.is_none() {
+                return Err(Fail::from("a start of the next run"));
             }
-            let run = Run::of(rt, start, &mut self.draws, counts, number)?;
-            counts = run.observed.counts;
-            let old = run.compare_answers(rt)?;
-            self.met.old_answers = self.met.old_answers.saturating_add(old);
-            self.stop_everywhere(rt, &run)?;
-            start = self.next.take().ok_or("a start of the next run")?;
         }
         Ok(counts)
+    }
+
+    /// One run.
+    fn go_on(
+        &mut self,
+        rt: &(impl Abort + Threads + Sync),
+        counts: Counts,
+        number: u64,
+    ) -> Result<Counts, Fail> {
+        let start = self.next.take().ok_or("a start of the run")?;
+        if start.mark > Stamp(0) && !start.rows.is_empty() {
+            count(&mut self.met.reopened);
+        }
+        let run = Run::of(rt, start, &mut self.draws, counts, number)?;
+        let checked = self.check_run(rt, &run);
+        let counts = run.into_counts();
+        checked?;
+        Ok(counts)
+    }
+
+    /// Compares what the run was answered, and stops it.
+    fn check_run(&mut self, rt: &(impl Abort + Threads + Sync), run: &Run) -> Result<(), Fail> {
+        let old = run.compare_answers(rt)?;
+        self.met.old_answers = self.met.old_answers.saturating_add(old);
+        self.stop_everywhere(rt, run)
     }
 
     /// Stops the run after each call of the disk, before and after the events that make them, and
@@ -157,18 +177,29 @@ impl Trial {
             if number != 0 && !is_end && !run.is_at_write(number) && self.draws.below(24) != 0 {
                 continue;
             }
-            let disk = run.disk_after(rt, number)?;
-            let calls = disk.calls().len();
-            if number != 0 {
-                self.stop_after_calls(rt, run, number, before, disk.calls())?;
-            }
-            before = calls;
-            self.stop_between(rt, run, number, known.durable, disk)?;
+            before = self.stop_at(rt, run, number, before, known.durable)?;
         }
         Ok(())
     }
 
-    /// Stops after each call past the first ones, which the event before made.
+    /// Stops after each call of the event before this number, and after that event. It answers how
+    /// many calls were made.
+    fn stop_at(
+        &mut self,
+        rt: &(impl Abort + Threads + Sync),
+        run: &Run,
+        number: usize,
+        before: usize,
+        wanted: Stamp,
+    ) -> Result<usize, Fail> {
+        let disk = run.disk_after(rt, number)?;
+        let made = disk.calls().len();
+        self.stop_after_calls(rt, run, number, before, disk.calls())?;
+        self.stop_between(rt, run, number, wanted, disk)?;
+        Ok(made)
+    }
+
+    /// Stops after each call past the first ones, which the event before made, if there is one.
     fn stop_after_calls(
         &mut self,
         rt: &(impl Abort + Threads + Sync),
@@ -177,7 +208,9 @@ impl Trial {
         before: usize,
         calls: &[Call],
     ) -> Result<(), Fail> {
-        let answered = number.saturating_sub(1);
+        let Some(answered) = number.checked_sub(1) else {
+            return Ok(());
+        };
         for earlier in before..calls.len() {
             if calls.get(earlier).is_some_and(is_look) {
                 continue;
@@ -215,6 +248,38 @@ impl Trial {
         moment: Moment,
         calls: &[Call],
     ) -> Result<(), Fail> {
+        for _ in 0..IMAGES {
+            if self.stop_with_image(rt, run, moment, calls)? {
+                break;
+            }
+        }
+        Ok(())
+    }
+
+    /// Stops within an event, with a random image. It answers whether there is no other.
+    fn stop_with_image(
+        &mut self,
+        rt: &(impl Abort + Threads + Sync),
+        run: &Run,
+        moment: Moment,
+        calls: &[Call],
+    ) -> Result<bool, Fail> {
+        let disk = disk_after(self.alloc, calls, moment.made)?;
+        let drawn = self.draws.images(&disk)?;
+        let is_synced = drawn.is_synced;
+        let wanted = self.note_stop(run, moment, calls, &drawn)?;
+        self.check(rt, run, moment.answered, wanted, disk, drawn)?;
+        Ok(is_synced)
+    }
+
+    /// Notes a stop within an event. It answers the mark that is due.
+    fn note_stop(
+        &mut self,
+        run: &Run,
+        moment: Moment,
+        calls: &[Call],
+        drawn: &Drawn,
+    ) -> Result<Stamp, Fail> {
         let Moment {
             answered,
             before,
@@ -224,19 +289,9 @@ impl Trial {
             return Err(Fail::from("an event of the run"));
         };
         let written = last_write(calls, before, made);
-        for _ in 0..IMAGES {
-            let disk = disk_after(self.alloc, calls, made)?;
-            let drawn = self.draws.images(&disk)?;
-            let is_synced = drawn.is_synced;
-            let is_open = written.is_some_and(|place| drawn.is_open(place));
-            self.met.note_within(event, is_synced, is_open);
-            let wanted = mark_within(known, event, is_open);
-            self.check(rt, run, answered, wanted, disk, drawn)?;
-            if is_synced {
-                break;
-            }
-        }
-        Ok(())
+        let is_open = written.is_some_and(|place| drawn.is_open(place));
+        self.met.note_within(event, drawn.is_synced, is_open);
+        Ok(mark_within(known, event, is_open))
     }
 
     /// Stops the disk with the image, opens it, and compares its mark and its rows.
@@ -253,17 +308,34 @@ impl Trial {
             count(&mut self.met.torn);
         }
         let files = drawn.images;
-        let disk = stop(disk, &files)?;
-        let found = check_disk(rt, run, &self.keys, answered, disk)?;
-        assert_eq!(rt; found.mark, wanted, "after {answered} events");
-        self.met.rows = self.met.rows.saturating_add(found.rows.len() as u64);
+        let Found { mark, rows } = self.check_stopped(rt, run, answered, disk, &files)?;
+        assert_eq!(rt; mark, wanted, "after {answered} events");
         // A job that a stop ended leaves a file to be reclaimed.
         let one_of = if run.has_job(answered) { 4 } else { 16 };
-        if self.next.is_none() || self.draws.below(one_of) == 0 {
-            let Found { mark, rows } = found;
-            self.next = Some(Start { files, rows, mark });
-        }
+        self.keep(Start { files, rows, mark }, one_of);
         Ok(())
+    }
+
+    /// Stops the disk, which leaves these files, and opens it.
+    fn check_stopped(
+        &mut self,
+        rt: &(impl Abort + Threads + Sync),
+        run: &Run,
+        answered: usize,
+        disk: MemDisk,
+        files: &[FileImage],
+    ) -> Result<Found, Fail> {
+        let disk = stop(disk, files)?;
+        let found = check_disk(rt, run, &self.keys, answered, disk)?;
+        self.met.rows = self.met.rows.saturating_add(found.rows.len() as u64);
+        Ok(found)
+    }
+
+    /// The next run may start from it.
+    fn keep(&mut self, start: Start, one_of: u64) {
+        if self.next.is_none() || self.draws.below(one_of) == 0 {
+            self.next = Some(start);
+        }
     }
 }
 
@@ -301,15 +373,27 @@ fn assert_met(rt: &impl Abort, counts: &Counts, met: &Met) {
     assert_floors(rt, &floors);
 }
 
+/// The stops of a seed.
+fn try_seed(
+    rt: &(impl Abort + Threads + Sync),
+    alloc: Global,
+    seed: u64,
+    counts: &mut Counts,
+    met: &mut Met,
+) -> Result<(), Fail> {
+    let mut trial = Trial::new(alloc, seed, *met)?;
+    *counts = trial.go(rt, *counts)?;
+    *met = trial.met;
+    Ok(())
+}
+
 #[test]
 fn stops_leave_the_rows_of_serial(rt: HostRuntime) -> Result<(), Fail> {
     let alloc = rt.alloc();
     let mut counts = Counts::new();
     let mut met = Met::new();
     for seed in SEEDS {
-        let mut trial = Trial::new(alloc, seed, met)?;
-        counts = trial.go(&rt, counts)?;
-        met = trial.met;
+        try_seed(&rt, alloc, seed, &mut counts, &mut met)?;
     }
     assert_met(&rt, &counts, &met);
     Ok(())

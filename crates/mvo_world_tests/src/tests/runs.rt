@@ -1,6 +1,6 @@
 //! A run of random events, and what is due after a stop of it.
 
-use super::calls::{self, into_disk, step_copy};
+use super::calls::{self, close, left, step_copy};
 use super::checked::is_same;
 use super::draws::Draws;
 use super::events::{KEYS, key_at};
@@ -85,6 +85,14 @@ fn key_of(op: &Op) -> Option<RowKey> {
     }
 }
 
+/// Puts copies of the rows.
+fn put_all(rows: &mut Rows, others: &[Row]) -> Result<(), AllocError> {
+    for row in others {
+        rows.put(row.copy()?)?;
+    }
+    Ok(())
+}
+
 /// Compares what a transaction was told with what the slow program tells it.
 fn compare_commit(rt: &impl Abort, commit: &Commit, serial: &mut Serial) -> Result<(), Fail> {
     let wanted = serial.run_one(&commit.ops)?;
@@ -110,11 +118,32 @@ impl Run {
         counts: Counts,
         number: u64,
     ) -> Result<Run, Fail> {
-        let alloc = draws.alloc;
-        let mut world = opened(rt, alloc, disk_of(alloc, &start.files)?)?;
-        let mut run = Run::new(alloc, start, counts);
-        run.go(&mut world, draws, number)?;
+        let mut run = Run::new(draws.alloc, start, counts);
+        run.go_from_start(rt, draws, number)?;
         Ok(run)
+    }
+
+    /// The world that it starts from.
+    fn world(&self, rt: &(impl Threads + Sync)) -> Result<World<MemDisk>, Fail> {
+        let disk = disk_of(self.alloc, &self.start.files)?;
+        opened(rt, self.alloc, disk)
+    }
+
+    fn go_from_start(
+        &mut self,
+        rt: &(impl Threads + Sync),
+        draws: &mut Draws,
+        number: u64,
+    ) -> Result<(), Fail> {
+        let mut world = self.world(rt)?;
+        let gone = self.go(&mut world, draws, number);
+        close(world);
+        gone
+    }
+
+    /// What was counted, of a run that is over.
+    pub fn into_counts(self) -> Counts {
+        self.observed.counts
     }
 
     fn new(alloc: Global, start: Start, counts: Counts) -> Run {
@@ -139,18 +168,24 @@ impl Run {
     }
 
     fn take(&mut self, world: &mut World<MemDisk>, event: Event) -> Result<(), Fail> {
-        self.known.push(self.observed.known)?;
-        let reply = step_copy(world, &event)?;
-        self.observed.note(&event, reply)?;
+        self.observe(world, &event)?;
         self.events.push(event)?;
+        Ok(())
+    }
+
+    /// Notes what is known before the event, and what is answered to it.
+    fn observe(&mut self, world: &mut World<MemDisk>, event: &Event) -> Result<(), Fail> {
+        self.known.push(self.observed.known)?;
+        let reply = step_copy(world, event)?;
+        self.observed.note(event, reply)?;
         Ok(())
     }
 
     /// The disk after the first events: the run again, up to there.
     pub fn disk_after(&self, rt: &(impl Threads + Sync), number: usize) -> Result<MemDisk, Fail> {
-        let mut world = opened(rt, self.alloc, disk_of(self.alloc, &self.start.files)?)?;
-        self.repeat(&mut world, number)?;
-        Ok(into_disk(world))
+        let mut world = self.world(rt)?;
+        let repeated = self.repeat(&mut world, number);
+        left(world, repeated)
     }
 
     fn repeat(&self, world: &mut World<MemDisk>, number: usize) -> Result<(), Fail> {
@@ -194,10 +229,19 @@ impl Run {
     pub fn compare_answers(&self, rt: &impl Abort) -> Result<u64, Fail> {
         let old = self.serial()?;
         let mut serial = self.serial()?;
+        self.compare_commits(rt, &old, &mut serial)
+    }
+
+    fn compare_commits(
+        &self,
+        rt: &impl Abort,
+        old: &Serial,
+        serial: &mut Serial,
+    ) -> Result<u64, Fail> {
         let mut number = 0u64;
         for commit in &self.observed.commits {
-            compare_commit(rt, commit, &mut serial)?;
-            number = number.saturating_add(count_old(commit, &old));
+            compare_commit(rt, commit, serial)?;
+            number = number.saturating_add(count_old(commit, old));
         }
         Ok(number)
     }
@@ -205,9 +249,7 @@ impl Run {
     /// The slow program at the start of the run.
     pub fn serial(&self) -> Result<Serial, AllocError> {
         let mut rows = Rows::new(self.alloc);
-        for row in &self.start.rows {
-            rows.put(row.copy()?)?;
-        }
+        put_all(&mut rows, &self.start.rows)?;
         Ok(Serial::new(self.alloc, rows))
     }
 
@@ -215,12 +257,22 @@ impl Run {
     /// the mark.
     pub fn serial_up_to(&self, number: usize, mark: Stamp) -> Result<Serial, AllocError> {
         let mut serial = self.serial()?;
+        self.commit_up_to(&mut serial, number, mark)?;
+        Ok(serial)
+    }
+
+    fn commit_up_to(
+        &self,
+        serial: &mut Serial,
+        number: usize,
+        mark: Stamp,
+    ) -> Result<(), AllocError> {
         for commit in &self.observed.commits {
             if commit.event < number && commit.end <= mark {
                 let _ = serial.run_one(&commit.ops)?;
             }
         }
-        Ok(serial)
+        Ok(())
     }
 
     /// Whether the mark is at least each timestamp that the first events acknowledged.
