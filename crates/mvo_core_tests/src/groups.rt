@@ -6,7 +6,9 @@ use crate::session::Call::{
 };
 use crate::session::{Call, Session};
 use mvo_core::Closed;
+use mvo_group::Group;
 use mvo_types::{Refusal, Stamp};
+use std::alloc::Global;
 use std::process::Abort;
 use std::test::Fail;
 
@@ -100,11 +102,16 @@ fn take_turns(rt: &impl Abort, session: &mut Session, turns: &[Turn]) -> Result<
     Ok(())
 }
 
+fn has_body(rt: &impl Abort, group: &Group, body: &[u8]) -> Result<(), Fail> {
+    let encoded = group.encode()?;
+    assert_eq!(rt; encoded.as_slice(), body);
+    Ok(())
+}
+
 /// The oldest group in the ring has the body.
 fn takes(rt: &impl Abort, session: &mut Session, body: &[u8]) -> Result<(), Fail> {
     let group = session.take().ok_or("a group")?;
-    assert_eq!(rt; group.encode()?.as_slice(), body);
-    Ok(())
+    has_body(rt, &group, body)
 }
 
 fn check_net_writes(rt: &impl Abort, session: &mut Session) -> Result<(), Fail> {
@@ -117,7 +124,9 @@ fn check_net_writes(rt: &impl Abort, session: &mut Session) -> Result<(), Fail> 
 #[test]
 fn a_group_has_the_net_writes(rt: HostRuntime) -> Result<(), Fail> {
     let mut session = Session::new(rt.alloc())?;
-    check_net_writes(&rt, &mut session)
+    let checked = check_net_writes(&rt, &mut session);
+    session.end();
+    checked
 }
 
 fn check_low_water(rt: &impl Abort, session: &mut Session) -> Result<(), Fail> {
@@ -130,11 +139,19 @@ fn check_low_water(rt: &impl Abort, session: &mut Session) -> Result<(), Fail> {
 #[test]
 fn a_group_ends_below_one_that_is_preparing(rt: HostRuntime) -> Result<(), Fail> {
     let mut session = Session::new(rt.alloc())?;
-    check_low_water(&rt, &mut session)
+    let checked = check_low_water(&rt, &mut session);
+    session.end();
+    checked
 }
 
-/// The groups that the turns close are these, whenever the first is closed.
-fn check_two(rt: &impl Abort, session: &mut Session, turns: &[Turn]) -> Result<(), Fail> {
+/// The groups that the turns close behind the lines are these, whenever the first is closed.
+fn check_two(
+    rt: &impl Abort,
+    session: &mut Session,
+    lines: &[(Call, &str)],
+    turns: &[Turn],
+) -> Result<(), Fail> {
+    session.follow(rt, lines)?;
     take_turns(rt, session, turns)?;
     takes(rt, session, &EMPTY_BODY)?;
     takes(rt, session, &BODY_OF_TWO)?;
@@ -142,13 +159,23 @@ fn check_two(rt: &impl Abort, session: &mut Session, turns: &[Turn]) -> Result<(
     Ok(())
 }
 
+/// They are these in a fresh session.
+fn closes_two(
+    rt: &impl Abort,
+    alloc: Global,
+    lines: &[(Call, &str)],
+    turns: &[Turn],
+) -> Result<(), Fail> {
+    let mut session = Session::new(alloc)?;
+    let checked = check_two(rt, &mut session, lines, turns);
+    session.end();
+    checked
+}
+
 #[test]
 fn a_commit_waits_for_those_that_end_before_it(rt: HostRuntime) -> Result<(), Fail> {
-    let mut session = Session::new(rt.alloc())?;
-    check_two(&rt, &mut session, &BESIDE_A_PREPARING_ONE)?;
-    let mut session = Session::new(rt.alloc())?;
-    session.follow(&rt, &IS_PREPARING)?;
-    check_two(&rt, &mut session, &BEHIND_BOTH)
+    closes_two(&rt, rt.alloc(), &[], &BESIDE_A_PREPARING_ONE)?;
+    closes_two(&rt, rt.alloc(), &IS_PREPARING, &BEHIND_BOTH)
 }
 
 /// After a begin, the low-water is one above the mark of the group before.
@@ -169,12 +196,17 @@ fn close_all(rt: &impl Abort, session: &mut Session) -> Result<(), Fail> {
     Ok(())
 }
 
-/// The oldest group in the ring has this prev, and the mark one above.
-fn takes_from(rt: &impl Abort, session: &mut Session, prev: u64) -> Result<(), Fail> {
-    let group = session.take().ok_or("a group")?;
+/// It has no record, this prev, and the mark one above.
+fn is_empty_from(rt: &impl Abort, group: &Group, prev: u64) {
     assert_eq!(rt; group.prev(), Stamp(prev));
     assert_eq!(rt; group.mark(), Stamp(prev.saturating_add(1)));
     assert!(rt; group.records().is_empty());
+}
+
+/// The oldest group in the ring is empty, from this prev on.
+fn takes_from(rt: &impl Abort, session: &mut Session, prev: u64) -> Result<(), Fail> {
+    let group = session.take().ok_or("a group")?;
+    is_empty_from(rt, &group, prev);
     Ok(())
 }
 
@@ -205,5 +237,7 @@ fn check_ring(rt: &impl Abort, session: &mut Session) -> Result<(), Fail> {
 #[test]
 fn as_many_groups_wait_as_the_ring_has_room_for(rt: HostRuntime) -> Result<(), Fail> {
     let mut session = Session::new(rt.alloc())?;
-    check_ring(&rt, &mut session)
+    let checked = check_ring(&rt, &mut session);
+    session.end();
+    checked
 }

@@ -10,12 +10,7 @@ use std::test::Fail;
 
 const TX: TxId = TxId(1);
 
-/// A session in which the transaction 1 has begun.
-fn begun(rt: &impl Abort, alloc: Global) -> Result<Session, Fail> {
-    let mut session = Session::new(alloc)?;
-    session.follow(rt, &[(Begin, "began 1")])?;
-    Ok(session)
-}
+const IS_BEGUN: [(Call, &str); 1] = [(Begin, "began 1")];
 
 /// A row of so many bytes.
 fn row(alloc: Global, key: u64, len: usize) -> Result<Row, AllocError> {
@@ -47,12 +42,15 @@ fn begin_all(rt: &impl Abort, session: &mut Session) -> Result<(), Fail> {
 #[test]
 fn transactions_are_1024(rt: HostRuntime) -> Result<(), Fail> {
     let mut session = Session::new(rt.alloc())?;
-    begin_all(&rt, &mut session)
+    let checked = begin_all(&rt, &mut session);
+    session.end();
+    checked
 }
 
 const ANOTHER_KEY: [(Call, &str); 1] = [(Insert(1, 256, 256, 97), "refused 31")];
 
 fn write_keys(rt: &impl Abort, alloc: Global, session: &mut Session) -> Result<(), Fail> {
+    session.follow(rt, &IS_BEGUN)?;
     for key in 0..256 {
         inserts(rt, alloc, session, key, 1, "inserted")?;
     }
@@ -64,8 +62,10 @@ fn write_keys(rt: &impl Abort, alloc: Global, session: &mut Session) -> Result<(
 
 #[test]
 fn written_keys_are_256(rt: HostRuntime) -> Result<(), Fail> {
-    let mut session = begun(&rt, rt.alloc())?;
-    write_keys(&rt, rt.alloc(), &mut session)
+    let mut session = Session::new(rt.alloc())?;
+    let checked = write_keys(&rt, rt.alloc(), &mut session);
+    session.end();
+    checked
 }
 
 /// What it has looked at already isn't another entry.
@@ -77,6 +77,7 @@ const NO_MORE_ENTRIES: [(Call, &str); 4] = [
 ];
 
 fn read_keys(rt: &impl Abort, alloc: Global, session: &mut Session) -> Result<(), Fail> {
+    session.follow(rt, &IS_BEGUN)?;
     for key in 0..4_095 {
         reads(rt, alloc, session, RowKey { table: 0, key }, "none")?;
     }
@@ -86,8 +87,10 @@ fn read_keys(rt: &impl Abort, alloc: Global, session: &mut Session) -> Result<()
 
 #[test]
 fn entries_are_4096(rt: HostRuntime) -> Result<(), Fail> {
-    let mut session = begun(&rt, rt.alloc())?;
-    read_keys(&rt, rt.alloc(), &mut session)
+    let mut session = Session::new(rt.alloc())?;
+    let checked = read_keys(&rt, rt.alloc(), &mut session);
+    session.end();
+    checked
 }
 
 /// The insert of a row of so many bytes is answered so.
@@ -130,6 +133,7 @@ fn check_table_16(rt: &impl Abort, alloc: Global, session: &mut Session) -> Resu
 }
 
 fn check_lens(rt: &impl Abort, alloc: Global, session: &mut Session) -> Result<(), Fail> {
+    session.follow(rt, &IS_BEGUN)?;
     inserts(rt, alloc, session, 1, 1_024, "inserted")?;
     inserts(rt, alloc, session, 2, 1_025, "refused 33")?;
     check_reads(rt, alloc, session)?;
@@ -138,6 +142,8 @@ fn check_lens(rt: &impl Abort, alloc: Global, session: &mut Session) -> Result<(
 
 #[test]
 fn data_has_1024_bytes_and_tables_are_16(rt: HostRuntime) -> Result<(), Fail> {
-    let mut session = begun(&rt, rt.alloc())?;
-    check_lens(&rt, rt.alloc(), &mut session)
+    let mut session = Session::new(rt.alloc())?;
+    let checked = check_lens(&rt, rt.alloc(), &mut session);
+    session.end();
+    checked
 }

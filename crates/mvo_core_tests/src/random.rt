@@ -109,9 +109,11 @@ fn no_counts() -> Counts {
 
 impl Course {
     fn new(alloc: Global, seed: u64) -> Result<Course, Fail> {
+        let replayed = opening_rows(alloc)?;
+        let session = Session::over(alloc, opening_rows(alloc)?, MARK)?;
         Ok(Course {
             alloc,
-            session: Session::over(alloc, opening_rows(alloc)?, MARK)?,
+            session,
             draws: Draws(seed),
             open: Vec::new(alloc),
             ends: Vec::new(alloc),
@@ -119,7 +121,7 @@ impl Course {
             answers: Vec::new(alloc),
             counts: no_counts(),
             closed: Stamp(u64::from(MARK)),
-            replayed: opening_rows(alloc)?,
+            replayed,
         })
     }
 
@@ -313,15 +315,15 @@ impl Course {
     /// Keeps a committed transaction, in its place by end timestamp.
     fn keep(&mut self, tx: &mut Open, end: Stamp) -> Result<(), AllocError> {
         let at = ends_below(&self.ends, end);
-        let ops = mem::replace(&mut tx.ops, Vec::new(self.alloc));
-        let answers = mem::replace(&mut tx.answers, Vec::new(self.alloc));
         tx.phase = Phase::Over;
         if at > self.ends.len() || at > self.ops.len() || at > self.answers.len() {
             count(&mut self.counts.strange);
             return Ok(());
         }
         self.ends.insert(at, end)?;
+        let ops = mem::replace(&mut tx.ops, Vec::new(self.alloc));
         self.ops.insert(at, ops)?;
+        let answers = mem::replace(&mut tx.answers, Vec::new(self.alloc));
         self.answers.insert(at, answers)?;
         Ok(())
     }
@@ -354,11 +356,16 @@ impl Course {
             count(&mut self.counts.strange);
         }
         for record in group.into_records() {
-            for write in record.writes {
-                match write {
-                    Write::Put(row) => self.replayed.put(row)?,
-                    Write::Delete(key) => self.replayed.remove(key),
-                }
+            self.replay_all(record.writes)?;
+        }
+        Ok(())
+    }
+
+    fn replay_all(&mut self, writes: Vec<Write>) -> Result<(), AllocError> {
+        for write in writes {
+            match write {
+                Write::Put(row) => self.replayed.put(row)?,
+                Write::Delete(key) => self.replayed.remove(key),
             }
         }
         Ok(())
@@ -392,14 +399,15 @@ impl Course {
 pub fn opening_rows(alloc: Global) -> Result<Rows, AllocError> {
     let mut rows = Rows::new(alloc);
     for third in 0..KEYS / 3 {
-        let key = third.wrapping_mul(3);
-        rows.put(Row::new(
-            RowKey { table: 0, key },
-            third,
-            third.to_be_bytes().to_vec(alloc)?,
-        )?)?;
+        rows.put(opening_row(alloc, third)?)?;
     }
     Ok(rows)
+}
+
+fn opening_row(alloc: Global, third: u64) -> Result<Row, AllocError> {
+    let key = third.wrapping_mul(3);
+    let bytes = third.to_be_bytes().to_vec(alloc)?;
+    Row::new(RowKey { table: 0, key }, third, bytes)
 }
 
 /// Whether it tells of a row.
@@ -454,13 +462,6 @@ fn run(course: &mut Course) -> Result<(), AllocError> {
     course.end()
 }
 
-/// A whole course.
-fn ended(alloc: Global, seed: u64) -> Result<Course, Fail> {
-    let mut course = Course::new(alloc, seed)?;
-    run(&mut course)?;
-    Ok(course)
-}
-
 /// The committed answers are those of one map.
 fn check_answers(rt: &impl Abort, serial: &mut Serial, course: &Course) -> Result<(), Fail> {
     let wanted = serial.run(&course.ops)?;
@@ -470,22 +471,37 @@ fn check_answers(rt: &impl Abort, serial: &mut Serial, course: &Course) -> Resul
     Ok(())
 }
 
-/// The groups leave its rows.
-fn check_rows(rt: &impl Abort, alloc: Global, serial: Serial, replayed: Rows) -> Result<(), Fail> {
-    let left = serial.into_rows().into_rows(alloc)?;
+/// The rows of that map.
+fn rows_of_serial(rt: &impl Abort, alloc: Global, course: &Course) -> Result<Vec<Row>, Fail> {
+    let mut serial = Serial::new(alloc, opening_rows(alloc)?);
+    check_answers(rt, &mut serial, course)?;
+    Ok(serial.into_rows().into_rows(alloc)?)
+}
+
+/// The groups leave these rows.
+fn check_rows(
+    rt: &impl Abort,
+    alloc: Global,
+    course: &mut Course,
+    left: &[Row],
+) -> Result<(), Fail> {
+    let replayed = mem::replace(&mut course.replayed, Rows::new(alloc));
     let replayed = replayed.into_rows(alloc)?;
     assert!(rt; !left.is_empty());
-    assert!(rt; are_same(&left, &replayed));
+    assert!(rt; are_same(left, &replayed));
     Ok(())
 }
 
-fn follow(rt: &impl Abort, alloc: Global, seed: u64) -> Result<(), Fail> {
-    let course = ended(alloc, seed)?;
-    let mut serial = Serial::new(alloc, opening_rows(alloc)?);
-    check_answers(rt, &mut serial, &course)?;
+fn check_course(rt: &impl Abort, alloc: Global, course: &mut Course) -> Result<(), Fail> {
+    run(course)?;
+    let left = rows_of_serial(rt, alloc, course)?;
     check_counts(rt, &course.counts);
-    let Course { replayed, .. } = course;
-    check_rows(rt, alloc, serial, replayed)
+    check_rows(rt, alloc, course, &left)
+}
+
+fn follow(rt: &impl Abort, alloc: Global, seed: u64) -> Result<(), Fail> {
+    let mut course = Course::new(alloc, seed)?;
+    check_course(rt, alloc, &mut course)
 }
 
 #[test]

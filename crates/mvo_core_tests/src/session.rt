@@ -46,34 +46,40 @@ pub struct Session {
 }
 
 impl Session {
-    fn of(alloc: Global, core: Core, slots: usize) -> Result<Session, Refusal> {
-        let (producer, consumer) = RingBuffer::new(alloc, slots)?;
-        Ok(Session {
+    fn of(alloc: Global, core: Core, ring: (Producer<Group>, Consumer<Group>)) -> Session {
+        let (producer, consumer) = ring;
+        Session {
             alloc,
             core,
             producer,
             consumer,
-        })
+        }
     }
 
     /// A fresh core.
     pub fn new(alloc: Global) -> Result<Session, Refusal> {
+        let ring = RingBuffer::new(alloc, RING_GROUPS)?;
         let core = Core::open(alloc, 7, Rows::new(alloc), Stamp(0))?;
-        Session::of(alloc, core, RING_GROUPS)
+        Ok(Session::of(alloc, core, ring))
     }
 
     /// A core over these rows, with the clock at their mark.
     pub fn over(alloc: Global, rows: Rows, mark: u8) -> Result<Session, Refusal> {
+        let ring = RingBuffer::new(alloc, FEW_GROUPS)?;
         let core = Core::open(alloc, 7, rows, Stamp(u64::from(mark)))?;
-        Session::of(alloc, core, FEW_GROUPS)
+        Ok(Session::of(alloc, core, ring))
     }
 
     /// A core over these rows that has so many timestamps left.
     pub fn late(alloc: Global, rows: Rows, left: u8) -> Result<Session, Refusal> {
         let mark = Stamp(MAX_STAMP - u64::from(left));
+        let ring = RingBuffer::new(alloc, FEW_GROUPS)?;
         let core = Core::open(alloc, 7, rows, mark)?;
-        Session::of(alloc, core, FEW_GROUPS)
+        Ok(Session::of(alloc, core, ring))
     }
+
+    /// Lets go of the core and of the ring.
+    pub fn end(self) {}
 
     pub fn clock(&self) -> Stamp {
         self.core.clock()

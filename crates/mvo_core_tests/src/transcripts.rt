@@ -85,13 +85,24 @@ const OWN_ROWS_ARE_SCANNED: [(Call, &str); 7] = [
     (Commit(3), "committed 4"),
 ];
 
-/// A fresh session's replies are those of the parts, one behind the other.
-fn follow(rt: &impl Abort, alloc: Global, parts: &[&[(Call, &str)]]) -> Result<(), Fail> {
-    let mut session = Session::new(alloc)?;
+/// The replies are those of the parts, one behind the other.
+fn follow_parts(
+    rt: &impl Abort,
+    session: &mut Session,
+    parts: &[&[(Call, &str)]],
+) -> Result<(), Fail> {
     for lines in parts {
         session.follow(rt, *lines)?;
     }
     Ok(())
+}
+
+/// So they are in a fresh session.
+fn follow(rt: &impl Abort, alloc: Global, parts: &[&[(Call, &str)]]) -> Result<(), Fail> {
+    let mut session = Session::new(alloc)?;
+    let followed = follow_parts(rt, &mut session, parts);
+    session.end();
+    followed
 }
 
 #[test]

@@ -9,6 +9,7 @@ use crate::met::{
 };
 use crate::twins::Twins;
 use mvo_types::{Op, Row, RowKey};
+use std::alloc::Global;
 use std::process::Abort;
 use std::test::Fail;
 
@@ -77,11 +78,17 @@ fn follow(
     Ok(())
 }
 
+fn follow_young(rt: &impl Abort, alloc: Global, seed: u64) -> Result<(), Fail> {
+    let mut twins = Twins::young(alloc, seed)?;
+    let followed = follow(rt, &mut twins, STEPS, &FLOORS);
+    twins.end();
+    followed
+}
+
 #[test]
 fn replies_are_those_of_the_plain_model(rt: HostRuntime) -> Result<(), Fail> {
     for seed in [1, 0x9e37_79b9_7f4a_7c15] {
-        let mut twins = Twins::young(rt.alloc(), seed)?;
-        follow(&rt, &mut twins, STEPS, &FLOORS)?;
+        follow_young(&rt, rt.alloc(), seed)?;
     }
     Ok(())
 }
@@ -89,7 +96,9 @@ fn replies_are_those_of_the_plain_model(rt: HostRuntime) -> Result<(), Fail> {
 #[test]
 fn the_clock_ends(rt: HostRuntime) -> Result<(), Fail> {
     let mut twins = Twins::old(rt.alloc(), 100, 5)?;
-    follow(&rt, &mut twins, 2_000, &LATE_FLOORS)
+    let followed = follow(&rt, &mut twins, 2_000, &LATE_FLOORS);
+    twins.end();
+    followed
 }
 
 /// Random operations of one, in so many keys that hardly one comes twice.
@@ -144,7 +153,9 @@ fn ask_past_limits(rt: &impl Abort, twins: &mut Twins) -> Result<(), Fail> {
 #[test]
 fn limits_are_those_of_the_plain_model(rt: HostRuntime) -> Result<(), Fail> {
     let mut twins = Twins::young(rt.alloc(), 3)?;
-    ask_past_limits(&rt, &mut twins)
+    let asked = ask_past_limits(&rt, &mut twins);
+    twins.end();
+    asked
 }
 
 fn insert(rt: &impl Abort, twins: &mut Twins, key: u64) -> Result<(), Fail> {
@@ -172,5 +183,7 @@ fn close_many(rt: &impl Abort, twins: &mut Twins) -> Result<(), Fail> {
 #[test]
 fn a_group_holds_1024_commits(rt: HostRuntime) -> Result<(), Fail> {
     let mut twins = Twins::young(rt.alloc(), 4)?;
-    close_many(&rt, &mut twins)
+    let closed = close_many(&rt, &mut twins);
+    twins.end();
+    closed
 }

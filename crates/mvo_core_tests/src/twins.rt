@@ -73,32 +73,55 @@ fn due(plain: &mut Plain, id: u64, event: &Event) -> Result<Reply, AllocError> {
     }
 }
 
+/// The model over the opening rows, with this mark.
+fn plain_at(alloc: Global, mark: u64) -> Result<Plain, Fail> {
+    let rows = opening_rows(alloc)?.into_rows(alloc)?;
+    Ok(Plain::over(alloc, rows, mark)?)
+}
+
+fn young_session(alloc: Global) -> Result<Session, Fail> {
+    let rows = opening_rows(alloc)?;
+    Ok(Session::over(alloc, rows, MARK)?)
+}
+
+/// One that has so many timestamps left.
+fn old_session(alloc: Global, left: u8) -> Result<Session, Fail> {
+    let rows = opening_rows(alloc)?;
+    Ok(Session::late(alloc, rows, left)?)
+}
+
 impl Twins {
-    fn new(alloc: Global, session: Session, mark: u64, seed: u64) -> Result<Twins, Fail> {
-        let rows = opening_rows(alloc)?.into_rows(alloc)?;
-        Ok(Twins {
+    fn of(alloc: Global, session: Session, plain: Plain, met: Met, seed: u64) -> Twins {
+        Twins {
             session,
-            plain: Plain::over(alloc, rows, mark)?,
+            plain,
             events: Events {
                 alloc,
                 draws: Draws(seed),
                 keys: 6,
             },
             waiting: VecDeque::new(alloc),
-            met: Met::new(alloc)?,
-        })
+            met,
+        }
     }
 
     pub fn young(alloc: Global, seed: u64) -> Result<Twins, Fail> {
-        let session = Session::over(alloc, opening_rows(alloc)?, MARK)?;
-        Twins::new(alloc, session, u64::from(MARK), seed)
+        let met = Met::new(alloc)?;
+        let plain = plain_at(alloc, u64::from(MARK))?;
+        let session = young_session(alloc)?;
+        Ok(Twins::of(alloc, session, plain, met, seed))
     }
 
     /// So many timestamps are left.
     pub fn old(alloc: Global, left: u8, seed: u64) -> Result<Twins, Fail> {
-        let session = Session::late(alloc, opening_rows(alloc)?, left)?;
-        Twins::new(alloc, session, MAX_STAMP - u64::from(left), seed)
+        let met = Met::new(alloc)?;
+        let plain = plain_at(alloc, MAX_STAMP - u64::from(left))?;
+        let session = old_session(alloc, left)?;
+        Ok(Twins::of(alloc, session, plain, met, seed))
     }
+
+    /// Lets go of both.
+    pub fn end(self) {}
 
     pub fn advance(&mut self, rt: &impl Abort) -> Result<(), Fail> {
         if self.events.draws.below(16) == 0 {
