@@ -31,41 +31,100 @@ fn of_one(alloc: Global, write: Write) -> Result<Group, Fail> {
     Ok(Group::new(Stamp(0), Stamp(2), records).ok_or("a group")?)
 }
 
+/// The group (0, 2] of the put of ONE_PUT.
+fn of_put(alloc: Global) -> Result<Group, Fail> {
+    let row = Row::new(RowKey { table: 0, key: 5 }, 50, [0x61].to_vec(alloc)?)?;
+    of_one(alloc, Write::Put(row))
+}
+
+/// The group is encoded as these bytes.
+fn is_encoded(rt: &impl Abort, group: &Group, bytes: &[u8]) -> Result<(), Fail> {
+    assert_eq!(rt; group.encode()?.as_slice(), bytes);
+    assert_eq!(rt; group.encoded_len(), bytes.len());
+    Ok(())
+}
+
+/// Both groups, one behind the other, are so long.
+fn both_are_long(rt: &impl Abort, first: &Group, second: &Group, len: usize) -> Result<(), Fail> {
+    let mut both = first.encode()?;
+    second.encode_into(&mut both)?;
+    assert_eq!(rt; both.len(), len);
+    Ok(())
+}
+
+fn are_written(rt: &impl Abort, empty: &Group, put: &Group, delete: &Group) -> Result<(), Fail> {
+    is_encoded(rt, empty, &EMPTY)?;
+    is_encoded(rt, put, &ONE_PUT)?;
+    assert_eq!(rt; put.encoded_len(), 49);
+    is_encoded(rt, delete, &ONE_DELETE)?;
+    assert_eq!(rt; delete.encoded_len(), 38);
+    both_are_long(rt, put, delete, 87)
+}
+
 #[test]
 fn the_vectors_are_written(rt: HostRuntime) -> Result<(), Fail> {
     let alloc = rt.alloc();
     let empty = Group::new(Stamp(0), Stamp(1), Vec::new(alloc)).ok_or("a group")?;
-    assert_eq!(rt; empty.encode()?.as_slice(), EMPTY.as_slice());
-    let put = of_one(
-        alloc,
-        Write::Put(Row::new(RowKey { table: 0, key: 5 }, 50, [0x61].to_vec(alloc)?)?),
-    )?;
-    assert_eq!(rt; put.encode()?.as_slice(), ONE_PUT.as_slice());
-    assert_eq!(rt; put.encoded_len(), 49);
+    let put = of_put(alloc)?;
     let delete = of_one(alloc, Write::Delete(RowKey { table: 0, key: 7 }))?;
-    assert_eq!(rt; delete.encode()?.as_slice(), ONE_DELETE.as_slice());
-    assert_eq!(rt; delete.encoded_len(), 38);
-    let mut both = put.encode()?;
-    delete.encode_into(&mut both)?;
-    assert_eq!(rt; both.len(), 87);
+    are_written(&rt, &empty, &put, &delete)
+}
+
+fn read(alloc: Global, vector: &[u8]) -> Result<Group, Fail> {
+    Ok(Group::decode(alloc, vector)?.ok_or("a group")?)
+}
+
+fn is_empty(rt: &impl Abort, group: &Group) {
+    assert_eq!(rt; (group.prev(), group.mark()), (Stamp(0), Stamp(1)));
+    assert_eq!(rt; group.records().len(), 0);
+}
+
+fn is_of_put(rt: &impl Abort, group: &Group) -> Result<(), Fail> {
+    assert_eq!(rt; (group.prev(), group.mark()), (Stamp(0), Stamp(2)));
+    let first = group.records().first().ok_or("a record")?;
+    assert_eq!(rt; first.end, Stamp(2));
+    let write = first.writes.first().ok_or("a write")?;
+    assert_eq!(rt; write.key(), RowKey { table: 0, key: 5 });
     Ok(())
 }
 
 #[test]
 fn the_vectors_are_read(rt: HostRuntime) -> Result<(), Fail> {
     let alloc = rt.alloc();
-    let empty = Group::decode(alloc, &EMPTY)?.ok_or("a group")?;
-    assert_eq!(rt; (empty.prev(), empty.mark()), (Stamp(0), Stamp(1)));
-    assert_eq!(rt; empty.records().len(), 0);
-    let put = Group::decode(alloc, &ONE_PUT)?.ok_or("a group")?;
-    assert_eq!(rt; (put.prev(), put.mark()), (Stamp(0), Stamp(2)));
-    let first = put.records().first().ok_or("a record")?;
-    assert_eq!(rt; first.end, Stamp(2));
-    let write = first.writes.first().ok_or("a write")?;
-    assert_eq!(rt; write.key(), RowKey { table: 0, key: 5 });
-    let delete = Group::decode(alloc, &ONE_DELETE)?.ok_or("a group")?;
-    assert_eq!(rt; delete.into_records().len(), 1);
+    is_empty(&rt, &read(alloc, &EMPTY)?);
+    is_of_put(&rt, &read(alloc, &ONE_PUT)?)?;
+    let records = read(alloc, &ONE_DELETE)?.into_records();
+    assert_eq!(rt; records.len(), 1);
     Ok(())
+}
+
+/// The vector with a change of the byte at a place.
+fn changed(alloc: Global, vector: &[u8], at: usize, change: u8) -> Result<Vec<u8>, Fail> {
+    let mut bytes = vector.to_vec(alloc)?;
+    if let Some(byte) = bytes.get_mut(at) {
+        *byte ^= change;
+    }
+    Ok(bytes)
+}
+
+/// Whether the bytes are a group, which must be encoded as exactly these.
+fn is_group(rt: &impl Abort, alloc: Global, bytes: &[u8]) -> Result<bool, Fail> {
+    let Some(group) = Group::decode(alloc, bytes)? else {
+        return Ok(false);
+    };
+    assert_eq!(rt; group.encode()?.as_slice(), bytes);
+    Ok(true)
+}
+
+/// Whether the vector with such a change is a group.
+fn stays_group(
+    rt: &impl Abort,
+    alloc: Global,
+    vector: &[u8],
+    at: usize,
+    change: u8,
+) -> Result<bool, Fail> {
+    is_group(rt, alloc, &changed(alloc, vector, at, change)?)
 }
 
 /// Cuts a vector at each length, which leaves no group. Puts each other value at each byte, which
@@ -82,13 +141,7 @@ fn is_one_spelling(
     let mut found = 0usize;
     for i in 0..vector.len() {
         for change in 1..=255 {
-            let mut bytes = vector.to_vec(alloc)?;
-            if let Some(byte) = bytes.get_mut(i) {
-                *byte ^= change;
-            }
-            if let Some(group) = Group::decode(alloc, &bytes)? {
-                let again = group.encode()?;
-                assert_eq!(rt; again.as_slice(), bytes.as_slice());
+            if stays_group(rt, alloc, vector, i, change)? {
                 found = found.wrapping_add(1);
             }
         }

@@ -3,6 +3,7 @@ use mvo_format::VERSION;
 use mvo_manifest::{Manifest, Pair, close_slot, open_slot, pick, read_slot, write_slot};
 use mvo_types::Stamp;
 use std::alloc::Global;
+use std::process::Abort;
 use std::test::Fail;
 
 // Slot 0 as it is formatted: generation 0, no pairs, segment 2.
@@ -52,6 +53,12 @@ fn found(alloc: Global, bytes: &[u8]) -> Result<String, Fail> {
     }
 }
 
+// What is found of slot 0 is this line.
+fn finds(rt: &impl Abort, alloc: Global, bytes: &[u8], line: &str) -> Result<(), Fail> {
+    assert_eq!(rt; found(alloc, bytes)?.as_str(), line);
+    Ok(())
+}
+
 // What is found of both slots, as such a line.
 fn chosen(alloc: Global, first: &[u8], second: &[u8]) -> Result<String, Fail> {
     match pick(alloc, VERSION, first, second) {
@@ -63,33 +70,43 @@ fn chosen(alloc: Global, first: &[u8], second: &[u8]) -> Result<String, Fail> {
     }
 }
 
+// The manifest is encoded as what stands behind the gate of PAIR.
+fn is_encoded(rt: &impl Abort, alloc: Global, manifest: &Manifest) -> Result<(), Fail> {
+    let bytes = manifest.encode(alloc, VERSION)?;
+    assert_eq!(rt; Some(bytes.as_slice()), PAIR.get(1..));
+    Ok(())
+}
+
 #[test]
 fn the_vectors_are_read(rt: HostRuntime) -> Result<(), Fail> {
     let alloc = rt.alloc();
-    assert_eq!(rt; found(alloc, &FRESH)?.as_str(), "0");
-    assert_eq!(rt; found(alloc, &PAIR)?.as_str(), "2");
-    assert_eq!(rt; found(alloc, &ROTATED)?.as_str(), "refused 54 0");
-    let bytes = of_pair(alloc)?.encode(alloc, VERSION)?;
-    assert_eq!(rt; Some(bytes.as_slice()), PAIR.get(1..));
+    finds(&rt, alloc, &FRESH, "0")?;
+    finds(&rt, alloc, &PAIR, "2")?;
+    finds(&rt, alloc, &ROTATED, "refused 54 0")?;
+    is_encoded(&rt, alloc, &of_pair(alloc)?)
+}
+
+// What is found of both slots is this line.
+fn chooses(
+    rt: &impl Abort,
+    alloc: Global,
+    first: &[u8],
+    second: &[u8],
+    line: &str,
+) -> Result<(), Fail> {
+    assert_eq!(rt; chosen(alloc, first, second)?.as_str(), line);
     Ok(())
 }
 
 #[test]
 fn both_slots_are_looked_at(rt: HostRuntime) -> Result<(), Fail> {
     let alloc = rt.alloc();
-    assert_eq!(rt; chosen(alloc, &[], &[0])?.as_str(), "refused 53");
-    assert_eq!(rt; chosen(alloc, &FRESH, &[])?.as_str(), "0");
-    assert_eq!(rt; chosen(alloc, &FRESH, &ROTATED)?.as_str(), "1");
-    assert_eq!(rt; chosen(alloc, &PAIR, &ROTATED)?.as_str(), "2");
-    assert_eq!(rt;
-        chosen(alloc, &FRESH[..34], &ROTATED)?.as_str(),
-        "refused 54 0"
-    );
-    assert_eq!(rt;
-        chosen(alloc, &PAIR, &ROTATED[..36])?.as_str(),
-        "refused 54 1"
-    );
-    Ok(())
+    chooses(&rt, alloc, &[], &[0], "refused 53")?;
+    chooses(&rt, alloc, &FRESH, &[], "0")?;
+    chooses(&rt, alloc, &FRESH, &ROTATED, "1")?;
+    chooses(&rt, alloc, &PAIR, &ROTATED, "2")?;
+    chooses(&rt, alloc, &FRESH[..34], &ROTATED, "refused 54 0")?;
+    chooses(&rt, alloc, &PAIR, &ROTATED[..36], "refused 54 1")
 }
 
 #[test]
@@ -145,44 +162,50 @@ fn is_plain(bytes: &[u8]) -> bool {
     are_files && are_different && rises && records <= 4_194_304 && two(bytes, 59) == 1
 }
 
+// PAIR with a change of the byte at a place.
+fn changed(alloc: Global, at: usize, change: u8) -> Result<Vec<u8>, Fail> {
+    let mut bytes = PAIR.to_vec(alloc)?;
+    if let Some(byte) = bytes.get_mut(at) {
+        *byte ^= change;
+    }
+    Ok(bytes)
+}
+
+// What is found of these bytes goes by the rules of the fields from the pair on.
+fn is_found_by_rules(rt: &impl Abort, alloc: Global, bytes: &[u8]) -> Result<(), Fail> {
+    let expected = if is_plain(bytes) { "2" } else { "refused 54 0" };
+    finds(rt, alloc, bytes, expected)
+}
+
 #[test]
 fn each_change_behind_is_found(rt: HostRuntime) -> Result<(), Fail> {
     let alloc = rt.alloc();
     for i in 31..PAIR.len() {
         for change in 1..=255u8 {
-            let mut bytes = PAIR.to_vec(alloc)?;
-            if let Some(byte) = bytes.get_mut(i) {
-                *byte ^= change;
-            }
-            let expected = if is_plain(&bytes) {
-                "2"
-            } else {
-                "refused 54 0"
-            };
-            assert_eq!(rt; found(alloc, &bytes)?.as_str(), expected);
+            is_found_by_rules(&rt, alloc, &changed(alloc, i, change)?)?;
         }
     }
+    Ok(())
+}
+
+// What is found of PAIR with such a change goes by the place.
+fn is_found_by_place(rt: &impl Abort, alloc: Global, at: usize, change: u8) -> Result<(), Fail> {
+    let line = found(alloc, &changed(alloc, at, change)?)?;
+    let expected = plain(at, change);
+    assert!(rt; line.as_str() == expected || expected == "another" && !line.starts_with("r"));
     Ok(())
 }
 
 #[test]
 fn each_change_is_found(rt: HostRuntime) -> Result<(), Fail> {
     let alloc = rt.alloc();
-    assert_eq!(rt; found(alloc, &PAIR[..0])?.as_str(), "closed");
+    finds(&rt, alloc, &PAIR[..0], "closed")?;
     for len in 1..PAIR.len() {
-        assert_eq!(rt; found(alloc, &PAIR[..len])?.as_str(), "refused 54 0");
+        finds(&rt, alloc, &PAIR[..len], "refused 54 0")?;
     }
     for i in 0..31usize {
         for change in 1..=255u8 {
-            let mut bytes = PAIR.to_vec(alloc)?;
-            if let Some(byte) = bytes.get_mut(i) {
-                *byte ^= change;
-            }
-            let line = found(alloc, &bytes)?;
-            let expected = plain(i, change);
-            assert!(rt;
-                line.as_str() == expected || expected == "another" && !line.starts_with("r")
-            );
+            is_found_by_place(&rt, alloc, i, change)?;
         }
     }
     Ok(())

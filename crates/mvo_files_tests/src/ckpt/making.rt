@@ -24,6 +24,13 @@ pub fn group(prev: u64, mark: u64, records: Vec<Record>) -> Result<Group, Fail> 
     Ok(Group::new(Stamp(prev), Stamp(mark), records).ok_or("a group")?)
 }
 
+/// The group (prev, mark] of one transaction that ends at the mark, with one write.
+pub fn group_of_one(alloc: Global, prev: u64, mark: u64, write: Write) -> Result<Group, Fail> {
+    let mut records = Vec::new(alloc);
+    records.push(commit(alloc, mark, write)?)?;
+    group(prev, mark, records)
+}
+
 /// A pair with this data file. Nothing else of it is looked at.
 pub fn pair(data_file: u16) -> Pair {
     Pair {

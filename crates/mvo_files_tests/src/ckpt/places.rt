@@ -3,6 +3,8 @@ use crate::ckpt::making::row;
 use mvo_ckpt::{Place, Places};
 use mvo_pair::{Entry, Live};
 use mvo_types::{RowKey, Stamp};
+use std::alloc::{AllocError, Global};
+use std::process::Abort;
 use std::test::Fail;
 
 const LAST: Place = Place {
@@ -10,9 +12,7 @@ const LAST: Place = Place {
     number: 4_194_303,
 };
 
-#[test]
-fn places_are_put_and_removed(rt: HostRuntime) -> Result<(), Fail> {
-    let mut places = Places::new(rt.alloc(), 3);
+fn puts_and_removes(rt: &impl Abort, places: &mut Places) -> Result<(), Fail> {
     let key = RowKey {
         table: 15,
         key: u64::MAX,
@@ -37,20 +37,35 @@ fn places_are_put_and_removed(rt: HostRuntime) -> Result<(), Fail> {
 }
 
 #[test]
-fn live_records_have_their_places(rt: HostRuntime) -> Result<(), Fail> {
-    let alloc = rt.alloc();
-    let mut places = Places::new(alloc, 3);
+fn places_are_put_and_removed(rt: HostRuntime) -> Result<(), Fail> {
+    let mut places = Places::new(rt.alloc(), 3);
+    puts_and_removes(&rt, &mut places)
+}
+
+/// A record of this begin, and of a row with this key.
+fn entry(alloc: Global, begin: u64, key: u64) -> Result<Entry, AllocError> {
+    let row = row(alloc, key, 0, 0)?;
+    let begin = Stamp(begin);
+    Ok(Entry { begin, row })
+}
+
+/// Live records of the keys from 100 on, under each third number.
+fn forty_live(alloc: Global) -> Result<Vec<Live>, AllocError> {
     let mut live = Vec::new(alloc);
     for number in 0u32..40 {
-        let begin = Stamp(2);
-        let row = row(alloc, u64::from(number) + 100, 0, 0)?;
+        let entry = entry(alloc, 2, u64::from(number) + 100)?;
         live.push(Live {
             number: number * 3,
-            entry: Entry { begin, row },
+            entry,
         })?;
     }
+    Ok(live)
+}
+
+/// The places get those of these records, and have each one then.
+fn gains_forty(rt: &impl Abort, places: &mut Places, live: &[Live]) -> Result<(), Fail> {
     assert!(rt; live.iter().all(|l| l.number < 4_194_304));
-    places.add_pair(6, &live)?;
+    places.add_pair(6, live)?;
     for number in 0u32..40 {
         let key = RowKey {
             table: 0,
@@ -69,9 +84,15 @@ fn live_records_have_their_places(rt: HostRuntime) -> Result<(), Fail> {
 }
 
 #[test]
-fn a_checkpoint_is_taken_over(rt: HostRuntime) -> Result<(), Fail> {
+fn live_records_have_their_places(rt: HostRuntime) -> Result<(), Fail> {
     let alloc = rt.alloc();
     let mut places = Places::new(alloc, 3);
+    let live = forty_live(alloc)?;
+    gains_forty(&rt, &mut places, &live)
+}
+
+/// The keys 0, 1 and 2 get their places in file 2.
+fn put_three(places: &mut Places) -> Result<(), AllocError> {
     for number in 0u32..3 {
         let place = Place {
             data_file: 2,
@@ -79,15 +100,23 @@ fn a_checkpoint_is_taken_over(rt: HostRuntime) -> Result<(), Fail> {
         };
         places.put(key_of(u64::from(number)), place)?;
     }
+    Ok(())
+}
+
+/// Records of the keys 1 and 9.
+fn two_records(alloc: Global) -> Result<Vec<Entry>, AllocError> {
     let mut records = Vec::new(alloc);
     for key in [1, 9] {
-        let begin = Stamp(4);
-        let row = row(alloc, key, 0, 0)?;
-        records.push(Entry { begin, row })?;
+        records.push(entry(alloc, 4, key)?)?;
     }
+    Ok(records)
+}
+
+fn takes_over(rt: &impl Abort, places: &mut Places, records: &[Entry]) -> Result<(), Fail> {
+    put_three(places)?;
     assert!(rt; records.len() < 3);
     places.reserve(records.len())?;
-    places.take_over(6, &records, &[key_of(0), key_of(7)]);
+    places.take_over(6, records, &[key_of(0), key_of(7)]);
     let at = |data_file, number| Some(Place { data_file, number });
     assert_eq!(rt; places.get(key_of(0)), None);
     assert_eq!(rt; places.get(key_of(1)), at(6, 0));
@@ -95,6 +124,14 @@ fn a_checkpoint_is_taken_over(rt: HostRuntime) -> Result<(), Fail> {
     assert_eq!(rt; places.get(key_of(7)), None);
     assert_eq!(rt; places.get(key_of(9)), at(6, 1));
     Ok(())
+}
+
+#[test]
+fn a_checkpoint_is_taken_over(rt: HostRuntime) -> Result<(), Fail> {
+    let alloc = rt.alloc();
+    let mut places = Places::new(alloc, 3);
+    let records = two_records(alloc)?;
+    takes_over(&rt, &mut places, &records)
 }
 
 fn key_of(key: u64) -> RowKey {

@@ -5,6 +5,7 @@ use mvo_ckpt::{Checkpoint, Place, build};
 use mvo_group::{Group, Record, Write};
 use mvo_types::{RowKey, Stamp};
 use std::alloc::{AllocError, Global};
+use std::process::Abort;
 use std::test::Fail;
 
 /// One write: the end of its transaction, its key, and the sort of a put.
@@ -39,23 +40,32 @@ fn write_of(alloc: Global, line: &Line) -> Result<Write, AllocError> {
     })
 }
 
+/// The writes of the transaction with this end.
+fn writes_of(alloc: Global, lines: &[Line], end: u64) -> Result<Vec<Write>, AllocError> {
+    let mut writes = Vec::new(alloc);
+    for line in lines {
+        if line.0 == end {
+            writes.push(write_of(alloc, line)?)?;
+        }
+    }
+    Ok(writes)
+}
+
+/// That transaction as a group of its own.
+fn group_to(alloc: Global, lines: &[Line], end: u64) -> Result<Group, Fail> {
+    let mut records = Vec::new(alloc);
+    records.push(Record {
+        end: Stamp(end),
+        writes: writes_of(alloc, lines, end)?,
+    })?;
+    group(end.saturating_sub(1), end, records)
+}
+
 /// Each transaction as a group of its own.
 fn groups_of(alloc: Global, lines: &[Line]) -> Result<Vec<Group>, Fail> {
     let mut groups = Vec::new(alloc);
     for end in 1u64..30 {
-        let mut writes = Vec::new(alloc);
-        for line in lines {
-            if line.0 == end {
-                writes.push(write_of(alloc, line)?)?;
-            }
-        }
-        let records = vec![in alloc;
-            Record {
-                end: Stamp(end),
-                writes
-            },
-        ]?;
-        groups.push(group(end - 1, end, records)?)?;
+        groups.push(group_to(alloc, lines, end)?)?;
     }
     Ok(groups)
 }
@@ -134,34 +144,77 @@ fn numbers_in(
     Ok(numbers)
 }
 
+/// The checkpoint of these transactions.
+fn checkpoint_of(
+    alloc: Global,
+    lines: &[Line],
+    list: &[(RowKey, Place)],
+) -> Result<Checkpoint, Fail> {
+    let table = table_of(alloc, list)?;
+    let pairs = [pair(6), pair(2), pair(4)];
+    Ok(build(alloc, &table, &pairs, groups_of(alloc, lines)?)?)
+}
+
+/// The deltas name each number in a file at written keys: how many these are.
+fn has_numbers(
+    rt: &impl Abort,
+    alloc: Global,
+    round: u32,
+    made: &Checkpoint,
+    lines: &[Line],
+    list: &[(RowKey, Place)],
+) -> Result<usize, Fail> {
+    let mut gained = 0usize;
+    let mut deltas = made.deltas.iter();
+    for data_file in [6u16, 2, 4] {
+        let wanted = numbers_in(alloc, lines, list, data_file)?;
+        if wanted.is_empty() {
+            continue;
+        }
+        let delta = deltas.next().ok_or("a delta")?;
+        assert_eq!(rt; delta.data_file, data_file, "round {round}");
+        assert_eq!(rt;
+            delta.numbers.as_slice(),
+            wanted.as_slice(),
+            "round {round}"
+        );
+        gained = gained.saturating_add(wanted.len());
+    }
+    assert!(rt; deltas.next().is_none(), "round {round}");
+    Ok(gained)
+}
+
+/// How many numbers the deltas of some transactions' checkpoint name, which must be the plain one.
+fn agrees(
+    rt: &impl Abort,
+    alloc: Global,
+    round: u32,
+    lines: &[Line],
+    list: &[(RowKey, Place)],
+) -> Result<usize, Fail> {
+    let made = checkpoint_of(alloc, lines, list)?;
+    assert!(rt; has_last(&made, lines), "round {round}");
+    has_numbers(rt, alloc, round, &made, lines, list)
+}
+
+fn some_agree(
+    rt: &impl Abort,
+    alloc: Global,
+    round: u32,
+    numbers: &mut Numbers,
+) -> Result<usize, Fail> {
+    let lines = some_lines(alloc, numbers)?;
+    let list = some_places(alloc, numbers)?;
+    agrees(rt, alloc, round, &lines, &list)
+}
+
 #[test]
 fn agrees_with_a_plain_checkpoint(rt: HostRuntime) -> Result<(), Fail> {
-    let alloc = rt.alloc();
     let mut numbers = Numbers::new();
     let mut gained = 0usize;
     for round in 0u32..40 {
-        let lines = some_lines(alloc, &mut numbers)?;
-        let list = some_places(alloc, &mut numbers)?;
-        let table = table_of(alloc, &list)?;
-        let pairs = [pair(6), pair(2), pair(4)];
-        let made = build(alloc, &table, &pairs, groups_of(alloc, &lines)?)?;
-        assert!(rt; has_last(&made, &lines), "round {round}");
-        let mut deltas = made.deltas.iter();
-        for data_file in [6u16, 2, 4] {
-            let wanted = numbers_in(alloc, &lines, &list, data_file)?;
-            if wanted.is_empty() {
-                continue;
-            }
-            let delta = deltas.next().ok_or("a delta")?;
-            assert_eq!(rt; delta.data_file, data_file, "round {round}");
-            assert_eq!(rt;
-                delta.numbers.as_slice(),
-                wanted.as_slice(),
-                "round {round}"
-            );
-            gained = gained.saturating_add(wanted.len());
-        }
-        assert!(rt; deltas.next().is_none(), "round {round}");
+        let named = some_agree(&rt, rt.alloc(), round, &mut numbers)?;
+        gained = gained.saturating_add(named);
     }
     assert!(rt; gained > 100);
     Ok(())

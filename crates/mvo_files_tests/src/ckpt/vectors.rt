@@ -1,75 +1,98 @@
 //! The checkpoints of one row that is put, updated and deleted.
-use crate::ckpt::making::{commit, group, pair, row, table_of};
-use mvo_ckpt::{Place, build};
-use mvo_group::Write;
+use crate::ckpt::making::{group_of_one, pair, row, table_of};
+use mvo_ckpt::{Checkpoint, Place, build};
+use mvo_group::{Group, Write};
+use mvo_pair::Pair;
 use mvo_types::RowKey;
+use std::alloc::Global;
+use std::process::Abort;
 use std::test::Fail;
 
 const KEY: RowKey = RowKey { table: 0, key: 5 };
 
+/// The group (prev, mark] of a put of the key, with this byte of data.
+fn put(alloc: Global, prev: u64, mark: u64, byte: u8) -> Result<Group, Fail> {
+    group_of_one(alloc, prev, mark, Write::Put(row(alloc, 5, 50, byte)?))
+}
+
+/// That group alone.
+fn only_put(alloc: Global, prev: u64, mark: u64, byte: u8) -> Result<Vec<Group>, Fail> {
+    let mut groups = Vec::new(alloc);
+    groups.push(put(alloc, prev, mark, byte)?)?;
+    Ok(groups)
+}
+
+/// A put of the key, and then a delete of it.
+fn put_and_delete(alloc: Global) -> Result<Vec<Group>, Fail> {
+    let mut groups = only_put(alloc, 2, 4, 0x62)?;
+    groups.push(group_of_one(alloc, 4, 6, Write::Delete(KEY))?)?;
+    Ok(groups)
+}
+
+/// The checkpoint of these groups, where the key has its place under this number in file 4.
+fn checkpoint(
+    alloc: Global,
+    number: u32,
+    pairs: &[Pair],
+    groups: Vec<Group>,
+) -> Result<Checkpoint, Fail> {
+    let place = Place {
+        data_file: 4,
+        number,
+    };
+    let places = table_of(alloc, &[(KEY, place)])?;
+    Ok(build(alloc, &places, pairs, groups)?)
+}
+
+/// The only record is a put of the key with this begin and this byte of data.
+fn has_put(
+    rt: &impl Abort,
+    alloc: Global,
+    made: &Checkpoint,
+    begin: u64,
+    byte: u8,
+) -> Result<(), Fail> {
+    assert_eq!(rt; made.records.len(), 1);
+    assert_eq!(rt; made.records[0].begin.0, begin);
+    assert!(rt; made.records[0].row.same(&row(alloc, 5, 50, byte)?));
+    Ok(())
+}
+
+/// The only delta names this number of file 4.
+fn ends(rt: &impl Abort, made: &Checkpoint, number: u32) {
+    assert_eq!(rt; made.deltas.len(), 1);
+    assert_eq!(rt; made.deltas[0].data_file, 4);
+    assert_eq!(rt; made.deltas[0].numbers.as_slice(), [number].as_slice());
+}
+
 #[test]
 fn a_put_is_a_record(rt: HostRuntime) -> Result<(), Fail> {
     let alloc = rt.alloc();
-    let put = commit(alloc, 2, Write::Put(row(alloc, 5, 50, 0x61)?))?;
-    let groups = vec![in alloc; group(0, 2, vec![in alloc; put]?)?]?;
-    let made = build(alloc, &table_of(alloc, &[])?, &[], groups)?;
-    assert_eq!(rt; made.records.len(), 1);
-    assert_eq!(rt; made.records[0].begin.0, 2);
-    assert!(rt; made.records[0].row.same(&row(alloc, 5, 50, 0x61)?));
+    let made = build(
+        alloc,
+        &table_of(alloc, &[])?,
+        &[],
+        only_put(alloc, 0, 2, 0x61)?,
+    )?;
     assert_eq!(rt; made.gone.len(), 0);
     assert_eq!(rt; made.deltas.len(), 0);
-    Ok(())
+    has_put(&rt, alloc, &made, 2, 0x61)
 }
 
 #[test]
 fn an_update_ends_the_record_of_the_older_pair(rt: HostRuntime) -> Result<(), Fail> {
     let alloc = rt.alloc();
-    let put = commit(alloc, 4, Write::Put(row(alloc, 5, 50, 0x62)?))?;
-    let groups = vec![in alloc; group(2, 4, vec![in alloc; put]?)?]?;
-    let places = table_of(
-        alloc,
-        &[(
-            KEY,
-            Place {
-                data_file: 4,
-                number: 0,
-            },
-        )],
-    )?;
-    let made = build(alloc, &places, &[pair(4)], groups)?;
-    assert_eq!(rt; made.records.len(), 1);
-    assert_eq!(rt; made.records[0].begin.0, 4);
-    assert!(rt; made.records[0].row.same(&row(alloc, 5, 50, 0x62)?));
-    assert_eq!(rt; made.deltas.len(), 1);
-    assert_eq!(rt; made.deltas[0].data_file, 4);
-    assert_eq!(rt; made.deltas[0].numbers.as_slice(), [0].as_slice());
-    Ok(())
+    let made = checkpoint(alloc, 0, &[pair(4)], only_put(alloc, 2, 4, 0x62)?)?;
+    ends(&rt, &made, 0);
+    has_put(&rt, alloc, &made, 4, 0x62)
 }
 
 #[test]
 fn a_delete_leaves_no_record(rt: HostRuntime) -> Result<(), Fail> {
     let alloc = rt.alloc();
-    let put = commit(alloc, 4, Write::Put(row(alloc, 5, 50, 0x62)?))?;
-    let gone = commit(alloc, 6, Write::Delete(KEY))?;
-    let groups = vec![in alloc;
-        group(2, 4, vec![in alloc; put]?)?,
-        group(4, 6, vec![in alloc; gone]?)?,
-    ]?;
-    let places = table_of(
-        alloc,
-        &[(
-            KEY,
-            Place {
-                data_file: 4,
-                number: 9,
-            },
-        )],
-    )?;
-    let made = build(alloc, &places, &[pair(6), pair(4)], groups)?;
+    let made = checkpoint(alloc, 9, &[pair(6), pair(4)], put_and_delete(alloc)?)?;
     assert_eq!(rt; made.records.len(), 0);
     assert_eq!(rt; made.gone.as_slice(), [KEY].as_slice());
-    assert_eq!(rt; made.deltas.len(), 1);
-    assert_eq!(rt; made.deltas[0].data_file, 4);
-    assert_eq!(rt; made.deltas[0].numbers.as_slice(), [9].as_slice());
+    ends(&rt, &made, 9);
     Ok(())
 }

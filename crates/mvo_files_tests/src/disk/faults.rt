@@ -1,4 +1,5 @@
 use mvo_disk::{Disk, DiskFault, MemDisk};
+use std::process::Abort;
 use std::test::Fail;
 
 // One call after another of each kind, until one fails: how many went on.
@@ -22,21 +23,26 @@ fn calls_until_a_fault(disk: &mut MemDisk) -> Result<u64, DiskFault> {
     Err(DiskFault)
 }
 
-#[test]
-fn fails_the_call_that_was_named(rt: HostRuntime) -> Result<(), Fail> {
-    for number in 0..20 {
-        let mut disk = MemDisk::new(rt.alloc())?;
-        disk.fail_at(number);
-        assert_eq!(rt; calls_until_a_fault(&mut disk)?, number);
-        assert_eq!(rt; disk.faults(), 1);
-        assert_eq!(rt; disk.calls().len() as u64, number);
-    }
+fn fails_call(rt: &impl Abort, disk: &mut MemDisk, number: u64) -> Result<(), Fail> {
+    disk.fail_at(number);
+    assert_eq!(rt; calls_until_a_fault(disk)?, number);
+    assert_eq!(rt; disk.faults(), 1);
+    assert_eq!(rt; disk.calls().len() as u64, number);
     Ok(())
 }
 
 #[test]
-fn a_call_that_fails_changes_nothing(rt: HostRuntime) -> Result<(), Fail> {
-    let mut disk = MemDisk::new(rt.alloc())?;
+fn fails_the_call_that_was_named(rt: HostRuntime) -> Result<(), Fail> {
+    for number in 0..20 {
+        let mut disk = MemDisk::new(rt.alloc())?;
+        fails_call(&rt, &mut disk, number)?;
+    }
+    Ok(())
+}
+
+fn fails_without_a_change(rt: &impl Abort, disk: &mut MemDisk) -> Result<(), Fail> {
+    let count = disk.faults();
+    assert_eq!(rt; count, 0);
     disk.write_at(3, 0, b"ab")?;
     disk.sync(3)?;
     disk.fail_at(1);
@@ -51,4 +57,10 @@ fn a_call_that_fails_changes_nothing(rt: HostRuntime) -> Result<(), Fail> {
     assert_eq!(rt; disk.cut(3, 1), Ok(()));
     assert_eq!(rt; disk.bytes(3), b"a".as_slice());
     Ok(())
+}
+
+#[test]
+fn a_call_that_fails_changes_nothing(rt: HostRuntime) -> Result<(), Fail> {
+    let mut disk = MemDisk::new(rt.alloc())?;
+    fails_without_a_change(&rt, &mut disk)
 }

@@ -1,4 +1,6 @@
 use mvo_disk::{Call, Disk, MemDisk, Work, read_whole, rewrite_synced, write_synced};
+use std::alloc::Global;
+use std::process::Abort;
 use std::test::Fail;
 
 fn call(file: u16, work: Work) -> Call {
@@ -9,17 +11,21 @@ fn call(file: u16, work: Work) -> Call {
     }
 }
 
-#[test]
-fn keeps_a_record_of_its_calls(rt: HostRuntime) -> Result<(), Fail> {
-    let alloc = rt.alloc();
-    let mut disk = MemDisk::new(alloc)?;
-    write_synced(&mut disk, 2, 0, b"abc")?;
-    rewrite_synced(&mut disk, 7, b"de")?;
-    let read = read_whole(alloc, &mut disk, 2)?;
+/// Writes file 7 anew, beside file 2 with the bytes `abc`.
+fn rewrites_beside(rt: &impl Abort, alloc: Global, disk: &mut MemDisk) -> Result<(), Fail> {
+    let count = disk.faults();
+    assert_eq!(rt; count, 0);
+    rewrite_synced(disk, 7, b"de")?;
+    let read = read_whole(alloc, disk, 2)?;
     assert_eq!(rt; read.as_slice(), b"abc".as_slice());
     assert_eq!(rt; disk.bytes(7), b"de".as_slice());
-    let (first, second) = (b"abc".to_vec(alloc)?, b"de".to_vec(alloc)?);
-    let calls = [
+    assert_eq!(rt; disk.faults(), 0);
+    Ok(())
+}
+
+/// These calls, of which the first writes the first bytes, and another the second ones.
+fn calls_with(first: Vec<u8>, second: Vec<u8>) -> [Call; 7] {
+    [
         call(
             2,
             Work::Write {
@@ -41,8 +47,16 @@ fn keeps_a_record_of_its_calls(rt: HostRuntime) -> Result<(), Fail> {
         call(7, Work::Sync),
         call(2, Work::Length),
         call(2, Work::Read { at: 0, len: 3 }),
-    ];
+    ]
+}
+
+#[test]
+fn keeps_a_record_of_its_calls(rt: HostRuntime) -> Result<(), Fail> {
+    let alloc = rt.alloc();
+    let mut disk = MemDisk::new(alloc)?;
+    write_synced(&mut disk, 2, 0, b"abc")?;
+    rewrites_beside(&rt, alloc, &mut disk)?;
+    let calls = calls_with(b"abc".to_vec(alloc)?, b"de".to_vec(alloc)?);
     assert!(rt; disk.calls() == calls.as_slice(), "{:?}", disk.calls());
-    assert_eq!(rt; disk.faults(), 0);
     Ok(())
 }

@@ -1,5 +1,6 @@
 use mvo_disk::{Disk, DiskFault, FileImage, MemDisk, StopRefusal};
 use std::alloc::{AllocError, Global};
+use std::process::Abort;
 use std::test::Fail;
 
 // The texts of the letters a and b with at most three of them.
@@ -76,18 +77,34 @@ fn image(alloc: Global, file: u16, text: &str) -> Result<FileImage, AllocError> 
     })
 }
 
+// A stop that leaves this text in a file.
+fn stop_with(
+    alloc: Global,
+    disk: &mut MemDisk,
+    file: u16,
+    text: &str,
+) -> Result<Result<(), StopRefusal>, AllocError> {
+    let image = image(alloc, file, text)?;
+    Ok(disk.stop(&[image]))
+}
+
+// Whether a stop after these steps can leave the text.
+fn can_leave(alloc: Global, steps: &[Step], text: &str) -> Result<bool, Fail> {
+    let mut disk = after(alloc, steps)?;
+    match stop_with(alloc, &mut disk, 3, text)? {
+        Ok(()) => Ok(true),
+        Err(StopRefusal::NotAnImage) => Ok(false),
+        Err(refused) => Err(refused)?,
+    }
+}
+
 // The texts that a stop after these steps can leave, each followed by a comma.
 fn images_of(alloc: Global, steps: &[Step]) -> Result<String, Fail> {
     let mut all = String::new(alloc);
     for text in TEXTS {
-        let mut disk = after(alloc, steps)?;
-        match disk.stop(&[image(alloc, 3, text)?]) {
-            Ok(()) => {
-                all.push_str(text)?;
-                all.push_str(",")?;
-            }
-            Err(StopRefusal::NotAnImage) => {}
-            Err(refused) => return Err(refused)?,
+        if can_leave(alloc, steps, text)? {
+            all.push_str(text)?;
+            all.push_str(",")?;
         }
     }
     Ok(all)
@@ -101,27 +118,46 @@ fn leaves_the_images_of_the_model(rt: HostRuntime) -> Result<(), Fail> {
     Ok(())
 }
 
-#[test]
-fn stops_each_file_for_itself(rt: HostRuntime) -> Result<(), Fail> {
-    let alloc = rt.alloc();
-    let mut disk = MemDisk::new(alloc)?;
+// Three writes, of which the first is synced.
+fn write_two_files(disk: &mut MemDisk) -> Result<(), DiskFault> {
+    if disk.faults() != 0 {
+        return Err(DiskFault);
+    }
     disk.write_at(3, 0, b"ab")?;
     disk.sync(3)?;
     disk.write_at(3, 0, b"b")?;
-    disk.write_at(4, 0, b"x")?;
-    // File 5 was not written.
-    let refused = disk.stop(&[image(alloc, 3, "bb")?, image(alloc, 5, "a")?]);
-    assert_eq!(rt; refused, Err(StopRefusal::NotAnImage));
+    disk.write_at(4, 0, b"x")
+}
+
+// File 5 was not written.
+fn refuses_file_5(rt: &impl Abort, alloc: Global, disk: &mut MemDisk) -> Result<(), Fail> {
+    let images = [image(alloc, 3, "bb")?, image(alloc, 5, "a")?];
+    assert_eq!(rt; disk.stop(&images), Err(StopRefusal::NotAnImage));
     assert_eq!(rt; disk.calls().len(), 4);
-    // File 4 isn't named, and keeps its content.
-    disk.stop(&[image(alloc, 3, "abz")?])?;
+    Ok(())
+}
+
+// File 4 isn't named, and keeps its content.
+fn leaves_file_4(rt: &impl Abort, alloc: Global, disk: &mut MemDisk) -> Result<(), Fail> {
+    stop_with(alloc, disk, 3, "abz")??;
     assert_eq!(rt; disk.bytes(3), b"abz".as_slice());
     assert_eq!(rt; disk.bytes(4), b"x".as_slice());
     assert_eq!(rt; disk.calls().len(), 0);
-    // What a stop leaves counts as synced.
-    assert_eq!(rt;
-        disk.stop(&[image(alloc, 4, "")?]),
-        Err(StopRefusal::NotAnImage)
-    );
     Ok(())
+}
+
+fn stops_one_by_one(rt: &impl Abort, alloc: Global, disk: &mut MemDisk) -> Result<(), Fail> {
+    write_two_files(disk)?;
+    refuses_file_5(rt, alloc, disk)?;
+    leaves_file_4(rt, alloc, disk)?;
+    // What a stop leaves counts as synced.
+    let refused = stop_with(alloc, disk, 4, "")?;
+    assert_eq!(rt; refused, Err(StopRefusal::NotAnImage));
+    Ok(())
+}
+
+#[test]
+fn stops_each_file_for_itself(rt: HostRuntime) -> Result<(), Fail> {
+    let mut disk = MemDisk::new(rt.alloc())?;
+    stops_one_by_one(&rt, rt.alloc(), &mut disk)
 }

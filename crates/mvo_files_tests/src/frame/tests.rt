@@ -4,6 +4,7 @@ use mvo_frame::{Kind, Segment, read_all};
 use mvo_group::Group;
 use mvo_types::Stamp;
 use std::alloc::Global;
+use std::process::Abort;
 use std::test::Fail;
 
 // A segment with the group (0, 2]: one record, end 2, one put at table 0, key 5, sort 50, data 61.
@@ -40,30 +41,40 @@ fn plain_frame(alloc: Global, rest: &[u8]) -> Result<Option<(Group, usize)>, Fai
     Ok(Group::decode(alloc, body)?.map(|group| (group, 4 + len)))
 }
 
+// Where the closed gate behind the only frame stands, by such a reading.
+fn plain_gate(alloc: Global, rest: &[u8]) -> Result<Option<usize>, Fail> {
+    let Some((group, len)) = plain_frame(alloc, rest)? else {
+        return Ok(None);
+    };
+    let last = rest.get(len).copied().unwrap_or(0xa5);
+    if group.prev().0 != 0 || last == 0xa5 {
+        return Ok(None);
+    }
+    Ok(Some(len.saturating_add(9)))
+}
+
+fn corrupt(alloc: Global) -> Result<String, Fail> {
+    Ok(format!(in alloc; "refused 54 3")?)
+}
+
 // The same as `found`, by a plain reading of at most one frame.
 fn plain(alloc: Global, bytes: &[u8]) -> Result<String, Fail> {
-    let corrupt = format!(in alloc; "refused 54 3")?;
     if bytes.len() < 8 || !bytes.starts_with(b"MVOL") {
-        return Ok(corrupt);
+        return corrupt(alloc);
     }
     if !bytes[4..].starts_with(&[1, 0, 0, 0]) {
         return Ok(format!(in alloc; "refused 55")?);
     }
     let Some((gate, rest)) = bytes[8..].split_first() else {
-        return Ok(corrupt);
+        return corrupt(alloc);
     };
     if *gate != 0xa5 {
         return Ok(format!(in alloc; "0 at 8")?);
     }
-    let Some((group, len)) = plain_frame(alloc, rest)? else {
-        return Ok(corrupt);
-    };
-    let last = rest.get(len).copied().unwrap_or(0xa5);
-    if group.prev().0 != 0 || last == 0xa5 {
-        return Ok(corrupt);
+    match plain_gate(alloc, rest)? {
+        Some(place) => Ok(format!(in alloc; "1 at {place}")?),
+        None => corrupt(alloc),
     }
-    let place = len.saturating_add(9);
-    Ok(format!(in alloc; "1 at {place}")?)
 }
 
 #[test]
@@ -87,27 +98,49 @@ fn a_group_is_appended(rt: HostRuntime) -> Result<(), Fail> {
     Ok(())
 }
 
+// What is found of a segment is this line.
+fn finds(
+    rt: &impl Abort,
+    alloc: Global,
+    format: Format,
+    kind: Kind,
+    bytes: &[u8],
+    line: &str,
+) -> Result<(), Fail> {
+    assert_eq!(rt; found(alloc, format, kind, bytes)?.as_str(), line);
+    Ok(())
+}
+
 #[test]
 fn the_vector_is_read(rt: HostRuntime) -> Result<(), Fail> {
     let alloc = rt.alloc();
-    assert_eq!(rt;
-        found(alloc, FIRST_FORMAT, Kind::Last, &SEGMENT)?.as_str(),
-        "1 at 62"
-    );
-    assert_eq!(rt;
-        found(alloc, FIRST_FORMAT, Kind::Sealed, &SEGMENT)?.as_str(),
-        "1 at 62"
-    );
     let fresh = b"MVOL\x01\0\0\0\0";
-    assert_eq!(rt;
-        found(alloc, FIRST_FORMAT, Kind::Last, fresh)?.as_str(),
-        "0 at 8"
-    );
-    assert_eq!(rt;
-        found(alloc, FIRST_FORMAT, Kind::Sealed, fresh)?.as_str(),
-        "refused 54 3"
-    );
-    Ok(())
+    finds(&rt, alloc, FIRST_FORMAT, Kind::Last, &SEGMENT, "1 at 62")?;
+    finds(&rt, alloc, FIRST_FORMAT, Kind::Sealed, &SEGMENT, "1 at 62")?;
+    finds(&rt, alloc, FIRST_FORMAT, Kind::Last, fresh, "0 at 8")?;
+    finds(
+        &rt,
+        alloc,
+        FIRST_FORMAT,
+        Kind::Sealed,
+        fresh,
+        "refused 54 3",
+    )
+}
+
+// What is found of a last segment is what a plain reading finds.
+fn agrees(rt: &impl Abort, alloc: Global, bytes: &[u8]) -> Result<(), Fail> {
+    let line = plain(alloc, bytes)?;
+    finds(rt, alloc, FIRST_FORMAT, Kind::Last, bytes, &line)
+}
+
+// SEGMENT with a change of the byte at a place.
+fn changed(alloc: Global, at: usize, change: u8) -> Result<Vec<u8>, Fail> {
+    let mut bytes = SEGMENT.to_vec(alloc)?;
+    if let Some(byte) = bytes.get_mut(at) {
+        *byte ^= change;
+    }
+    Ok(bytes)
 }
 
 // Cut at each length, and with each other value at each byte.
@@ -115,22 +148,11 @@ fn the_vector_is_read(rt: HostRuntime) -> Result<(), Fail> {
 fn each_change_is_found(rt: HostRuntime) -> Result<(), Fail> {
     let alloc = rt.alloc();
     for len in 0..SEGMENT.len() {
-        let bytes = &SEGMENT[..len];
-        assert_eq!(rt;
-            found(alloc, FIRST_FORMAT, Kind::Last, bytes)?,
-            plain(alloc, bytes)?
-        );
+        agrees(&rt, alloc, &SEGMENT[..len])?;
     }
     for i in 0..SEGMENT.len() {
         for change in 1..=255 {
-            let mut bytes = SEGMENT.to_vec(alloc)?;
-            if let Some(byte) = bytes.get_mut(i) {
-                *byte ^= change;
-            }
-            assert_eq!(rt;
-                found(alloc, FIRST_FORMAT, Kind::Last, &bytes)?,
-                plain(alloc, &bytes)?
-            );
+            agrees(&rt, alloc, &changed(alloc, i, change)?)?;
         }
     }
     Ok(())
@@ -145,18 +167,11 @@ fn the_limits_are_those_of_the_version(rt: HostRuntime) -> Result<(), Fail> {
         max_table: 0,
         max_data_len: 1,
     };
-    assert_eq!(rt;
-        found(alloc, enough, Kind::Last, &SEGMENT)?.as_str(),
-        "1 at 62"
-    );
+    finds(&rt, alloc, enough, Kind::Last, &SEGMENT, "1 at 62")?;
     let short = Format {
         version: VERSION,
         max_table: 0,
         max_data_len: 0,
     };
-    assert_eq!(rt;
-        found(alloc, short, Kind::Last, &SEGMENT)?.as_str(),
-        "refused 54 3"
-    );
-    Ok(())
+    finds(&rt, alloc, short, Kind::Last, &SEGMENT, "refused 54 3")
 }

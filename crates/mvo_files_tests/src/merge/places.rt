@@ -1,7 +1,8 @@
 //! Places after a merge.
-use crate::merge::calls::{built, moved, place_of, put};
-use crate::merge::making::lives;
+use crate::merge::calls::{moved, place_of, put};
+use crate::merge::vectors::two_and_two;
 use mvo_ckpt::Places;
+use mvo_pair::Entry;
 use std::alloc::Global;
 use std::process::Abort;
 use std::test::Fail;
@@ -31,13 +32,16 @@ fn have(rt: &impl Abort, places: &Places, wanted: &[(u64, Option<(u16, usize)>)]
     }
 }
 
+// The places go over to these records, and are those of AFTER then.
+fn moves(rt: &impl Abort, places: &mut Places, records: &[Entry]) -> Result<(), Fail> {
+    moved(places, 10, records)?;
+    have(rt, places, &AFTER);
+    Ok(())
+}
+
 #[test]
 fn places_are_moved(rt: HostRuntime) -> Result<(), Fail> {
-    let alloc = rt.alloc();
-    let left = lives(alloc, &[(1, 2, 7), (4, 3, 9)])?;
-    let merged = built(alloc, left, lives(alloc, &[(0, 4, 1), (5, 6, 2)])?)?;
-    let mut places = before(alloc)?;
-    moved(&mut places, 10, &merged.records)?;
-    have(&rt, &places, &AFTER);
-    Ok(())
+    let merged = two_and_two(rt.alloc())?;
+    let mut places = before(rt.alloc())?;
+    moves(&rt, &mut places, &merged.records)
 }

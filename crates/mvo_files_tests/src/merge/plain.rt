@@ -118,6 +118,17 @@ fn merge(rt: &impl Abort, alloc: Global, left: &[Line], right: &[Line]) -> Resul
     Ok(merged)
 }
 
+/// The merged pair's delta entries for what came late of these lines.
+fn late_entries(
+    alloc: Global,
+    merged: &Merged,
+    left: &[Line],
+    right: &[Line],
+) -> Result<Vec<u32>, Fail> {
+    let (left, right) = (late_of(alloc, left)?, late_of(alloc, right)?);
+    renumbered(alloc, merged, &left, &right)
+}
+
 /// How many numbers the merged pair's delta gets, each of which must be one that came late.
 fn late_numbers(
     rt: &impl Abort,
@@ -126,8 +137,7 @@ fn late_numbers(
     left: &[Line],
     right: &[Line],
 ) -> Result<usize, Fail> {
-    let late = (late_of(alloc, left)?, late_of(alloc, right)?);
-    let entries = renumbered(alloc, merged, &late.0, &late.1)?;
+    let entries = late_entries(alloc, merged, left, right)?;
     assert!(rt; names_others(&entries, &both(alloc, left, right)?));
     Ok(entries.len())
 }
@@ -146,18 +156,25 @@ fn places_stand(
     Ok(())
 }
 
+/// How many numbers the delta of the lines' merge gets, which must be the plain one.
+fn agrees(rt: &impl Abort, alloc: Global, left: &[Line], right: &[Line]) -> Result<usize, Fail> {
+    let merged = merge(rt, alloc, left, right)?;
+    places_stand(rt, alloc, &merged, left, right)?;
+    late_numbers(rt, alloc, &merged, left, right)
+}
+
+fn some_agree(rt: &impl Abort, alloc: Global, numbers: &mut Numbers) -> Result<usize, Fail> {
+    let left = some_lines(alloc, numbers, 100)?;
+    let right = some_lines(alloc, numbers, 40)?;
+    agrees(rt, alloc, &left, &right)
+}
+
 #[test]
 fn agrees_with_a_plain_merge(rt: HostRuntime) -> Result<(), Fail> {
-    let alloc = rt.alloc();
     let mut numbers = Numbers::new();
     let mut named = 0usize;
     for _ in 0u32..40 {
-        let left = some_lines(alloc, &mut numbers, 100)?;
-        let right = some_lines(alloc, &mut numbers, 40)?;
-        let merged = merge(&rt, alloc, &left, &right)?;
-        let late = late_numbers(&rt, alloc, &merged, &left, &right)?;
-        named = named.saturating_add(late);
-        places_stand(&rt, alloc, &merged, &left, &right)?;
+        named = named.saturating_add(some_agree(&rt, rt.alloc(), &mut numbers)?);
     }
     assert!(rt; named > 100);
     Ok(())

@@ -22,8 +22,8 @@ fn the_only_live_record_is_that_of_the_right_pair(rt: HostRuntime) -> Result<(),
     Ok(())
 }
 
-// Two live records of each pair.
-fn two_and_two(alloc: Global) -> Result<Merged, Fail> {
+/// The merge of two live records of each pair.
+pub fn two_and_two(alloc: Global) -> Result<Merged, Fail> {
     let left = lives(alloc, &[(1, 2, 7), (4, 3, 9)])?;
     built(alloc, left, lives(alloc, &[(0, 4, 1), (5, 6, 2)])?)
 }
@@ -35,12 +35,16 @@ fn records_stand_pair_by_pair(rt: HostRuntime) -> Result<(), Fail> {
     Ok(())
 }
 
+fn has_ranks(rt: &impl Abort, alloc: Global, merged: &Merged) -> Result<(), Fail> {
+    let late = renumbered(alloc, merged, &[4], &[5, 0])?;
+    assert_eq!(rt; late.as_slice(), [1, 3, 2].as_slice());
+    let none = renumbered(alloc, merged, &[], &[])?;
+    assert_eq!(rt; none.len(), 0);
+    Ok(())
+}
+
 #[test]
 fn late_numbers_are_ranks(rt: HostRuntime) -> Result<(), Fail> {
     let merged = two_and_two(rt.alloc())?;
-    let late = renumbered(rt.alloc(), &merged, &[4], &[5, 0])?;
-    assert_eq!(rt; late.as_slice(), [1, 3, 2].as_slice());
-    let none = renumbered(rt.alloc(), &merged, &[], &[])?;
-    assert_eq!(rt; none.len(), 0);
-    Ok(())
+    has_ranks(&rt, rt.alloc(), &merged)
 }

@@ -3,6 +3,7 @@ use crate::pair::vectors::{count, pair};
 use mvo_pair::Pair;
 use mvo_types::{Refusal, Stamp};
 use std::alloc::{AllocError, Global};
+use std::process::Abort;
 use std::test::Fail;
 
 /// The pair (2, 9].
@@ -21,18 +22,27 @@ fn append(out: &mut Vec<u8>, number: u64, len: usize) -> Result<(), AllocError> 
     Ok(())
 }
 
-/// A data file with records of this begin, table, key and length of data.
-fn data_of(alloc: Global, records: &[(u64, u64, u64, u64)]) -> Result<Vec<u8>, AllocError> {
+/// Begin, table, key and length of data.
+type Line = (u64, u64, u64, u64);
+
+fn append_record(out: &mut Vec<u8>, record: Line) -> Result<(), AllocError> {
+    let (begin, table, key, len) = record;
+    append(out, begin, 8)?;
+    append(out, table, 1)?;
+    append(out, key, 8)?;
+    append(out, 7, 8)?;
+    append(out, len, 2)?;
+    for _ in 0..len {
+        out.push(0x61)?;
+    }
+    Ok(())
+}
+
+/// A data file with such records.
+fn data_of(alloc: Global, records: &[Line]) -> Result<Vec<u8>, AllocError> {
     let mut out = b"MVOD\x01\0\0\0".to_vec(alloc)?;
-    for (begin, table, key, len) in records {
-        append(&mut out, *begin, 8)?;
-        append(&mut out, *table, 1)?;
-        append(&mut out, *key, 8)?;
-        append(&mut out, 7, 8)?;
-        append(&mut out, *len, 2)?;
-        for _ in 0..*len {
-            out.push(0x61)?;
-        }
+    for record in records {
+        append_record(&mut out, *record)?;
     }
     Ok(out)
 }
@@ -43,6 +53,25 @@ fn delta_of(alloc: Global, numbers: &[u64]) -> Result<Vec<u8>, AllocError> {
         append(&mut out, *number, 4)?;
     }
     Ok(out)
+}
+
+/// Two records are those of a pair, or aren't.
+fn are_read(
+    rt: &impl Abort,
+    alloc: Global,
+    records: [Line; 2],
+    delta: &[u8],
+    is_good: bool,
+) -> Result<(), Fail> {
+    let data = data_of(alloc, &records)?;
+    let found = count(alloc, above_two(2, 0), &data, delta);
+    let wanted = if is_good {
+        Ok(2)
+    } else {
+        Err(Refusal::Corrupt(4))
+    };
+    assert!(rt; found == wanted, "{records:?}");
+    Ok(())
 }
 
 #[test]
@@ -66,15 +95,22 @@ fn records_rise_within_the_limits(rt: HostRuntime) -> Result<(), Fail> {
         ([(3, 0, 5, 1_025), (4, 0, 0, 0)], false),
     ];
     for (records, is_good) in cases {
-        let data = data_of(alloc, &records)?;
-        let found = count(alloc, above_two(2, 0), &data, &delta);
-        let wanted = if is_good {
-            Ok(2)
-        } else {
-            Err(Refusal::Corrupt(4))
-        };
-        assert!(rt; found == wanted, "{records:?}");
+        are_read(&rt, alloc, records, &delta, is_good)?;
     }
+    Ok(())
+}
+
+/// Two numbers beside three records are answered so.
+fn are_counted(
+    rt: &impl Abort,
+    alloc: Global,
+    data: &[u8],
+    numbers: [u64; 2],
+    wanted: Result<usize, Refusal>,
+) -> Result<(), Fail> {
+    let delta = delta_of(alloc, &numbers)?;
+    let found = count(alloc, above_two(3, 2), data, &delta);
+    assert!(rt; found == wanted, "{numbers:?}");
     Ok(())
 }
 
@@ -92,9 +128,7 @@ fn numbers_are_below_the_count_and_not_repeated(rt: HostRuntime) -> Result<(), F
         ([0xffff_ffff, 0], broken),
     ];
     for (numbers, wanted) in cases {
-        let delta = delta_of(alloc, &numbers)?;
-        let found = count(alloc, above_two(3, 2), &data, &delta);
-        assert!(rt; found == wanted, "{numbers:?}");
+        are_counted(&rt, alloc, &data, numbers, wanted)?;
     }
     Ok(())
 }
