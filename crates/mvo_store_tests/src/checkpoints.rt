@@ -36,12 +36,17 @@ const ONE_IS_EMPTIED: [(Step, Reply); 2] = [
     (Reclaim, Emptied(Reclaimed::Done)),
 ];
 
+// The oldest segment becomes a pair.
+fn makes_a_pair(rt: &impl Abort, alloc: Global, store: &mut Store<MemDisk>) -> Result<(), Fail> {
+    follow(rt, alloc, store, &FIRST_CHECKPOINT)?;
+    names(rt, store, &[3]);
+    follow(rt, alloc, store, &ONE_IS_EMPTIED)
+}
+
 // A disk whose oldest segment became a pair.
 fn checkpointed(rt: &(impl Abort + Threads + Sync), alloc: Global) -> Result<MemDisk, Fail> {
     let mut store = following(rt, alloc, &SEALED)?;
-    follow(rt, alloc, &mut store, &FIRST_CHECKPOINT)?;
-    names(rt, &store, &[3]);
-    follow(rt, alloc, &mut store, &ONE_IS_EMPTIED)?;
+    makes_a_pair(rt, alloc, &mut store)?;
     Ok(store.into_disk())
 }
 
@@ -77,16 +82,26 @@ const SECOND_CHECKPOINT: [(Step, Reply); 7] = [
     (InstallOpen, Installed(Generation(4))),
 ];
 
+// The segment of an update becomes the second pair.
+fn makes_a_second_pair(
+    rt: &impl Abort,
+    alloc: Global,
+    store: &mut Store<MemDisk>,
+) -> Result<(), Fail> {
+    follow(rt, alloc, store, &UPDATE)?;
+    names(rt, store, &[3, 2]);
+    follow(rt, alloc, store, &SECOND_CHECKPOINT)?;
+    names(rt, store, &[2]);
+    Ok(())
+}
+
 // The disk with two pairs.
 fn with_second_pair(
-    rt: &(impl Abort + Threads + Sync),
+    rt: &impl Abort,
     alloc: Global,
     mut store: Store<MemDisk>,
 ) -> Result<MemDisk, Fail> {
-    follow(rt, alloc, &mut store, &UPDATE)?;
-    names(rt, &store, &[3, 2]);
-    follow(rt, alloc, &mut store, &SECOND_CHECKPOINT)?;
-    names(rt, &store, &[2]);
+    makes_a_second_pair(rt, alloc, &mut store)?;
     Ok(store.into_disk())
 }
 
@@ -237,14 +252,24 @@ fn goes_through(rt: &impl Abort, alloc: Global, store: &mut Store<MemDisk>) -> R
     Ok(())
 }
 
+// The next checkpoint goes through, and a stop behind it takes no round away.
+fn goes_on(
+    rt: &(impl Abort + Threads + Sync),
+    alloc: Global,
+    mut store: Store<MemDisk>,
+) -> Result<(), Fail> {
+    goes_through(rt, alloc, &mut store)?;
+    let _ = after_stop(rt, alloc, store, 3)?;
+    Ok(())
+}
+
 // Whether a checkpoint failed at this call, after which the rounds must be there.
 fn fails_at(rt: &(impl Abort + Threads + Sync), alloc: Global, call: u64) -> Result<bool, Fail> {
     let mut store = failing(rt, alloc, call)?;
     let failed = has_failed(rt, alloc, &mut store)?;
-    let mut store = after_stop(rt, alloc, store, 3)?;
+    let store = after_stop(rt, alloc, store, 3)?;
     if failed {
-        goes_through(rt, alloc, &mut store)?;
-        let _ = after_stop(rt, alloc, store, 3)?;
+        goes_on(rt, alloc, store)?;
     }
     Ok(failed)
 }

@@ -25,6 +25,17 @@ const TO_THE_GATE: [(Step, Reply); 3] = [
     (AppendBody, Done),
 ];
 
+// Appends one group. Opening the gate of the next one is answered so.
+fn append_two(
+    rt: &impl Abort,
+    alloc: Global,
+    store: &mut Store<MemDisk>,
+    answer: Reply,
+) -> Result<(), Fail> {
+    follow(rt, alloc, store, &TO_THE_GATE)?;
+    follow(rt, alloc, store, &[(AppendOpen, answer)])
+}
+
 // A store with one durable group. Opening the gate of the next one is answered so.
 fn two_groups(
     rt: &(impl Abort + Threads + Sync),
@@ -33,8 +44,7 @@ fn two_groups(
     answer: Reply,
 ) -> Result<Store<MemDisk>, Fail> {
     let mut store = store_on(rt, alloc, failing(alloc, calls)?)?;
-    follow(rt, alloc, &mut store, &TO_THE_GATE)?;
-    follow(rt, alloc, &mut store, &[(AppendOpen, answer)])?;
+    append_two(rt, alloc, &mut store, answer)?;
     Ok(store)
 }
 

@@ -44,12 +44,21 @@ const FOUR_ARE_EMPTIED: [(Step, Reply); 5] = [
     (Reclaim, Emptied(Reclaimed::Done)),
 ];
 
+// Two pairs become one, and their files are emptied.
+fn becomes_one_pair(
+    rt: &impl Abort,
+    alloc: Global,
+    store: &mut Store<MemDisk>,
+) -> Result<(), Fail> {
+    follow(rt, alloc, store, &TO_ONE)?;
+    spans(rt, store, &[(0, 4)]);
+    follow(rt, alloc, store, &FOUR_ARE_EMPTIED)
+}
+
 // A disk whose two pairs became one.
 fn merged(rt: &(impl Abort + Threads + Sync), alloc: Global) -> Result<MemDisk, Fail> {
     let mut store = following(rt, alloc, &TWO_PAIRS)?;
-    follow(rt, alloc, &mut store, &TO_ONE)?;
-    spans(rt, &store, &[(0, 4)]);
-    follow(rt, alloc, &mut store, &FOUR_ARE_EMPTIED)?;
+    becomes_one_pair(rt, alloc, &mut store)?;
     Ok(store.into_disk())
 }
 
@@ -147,25 +156,19 @@ const KEY_2_AGAIN: [(Step, Reply); 3] = [
     (Checkpoint, Installed(Generation(10))),
 ];
 
-// A disk whose three pairs became one in files 6 and 7, after a checkpoint of a group that wrote
-// key 2 again.
+// Three pairs become one in files 6 and 7. Then a checkpoint of a group that wrote key 2 again.
+fn merges_all(rt: &impl Abort, alloc: Global, store: &mut Store<MemDisk>) -> Result<(), Fail> {
+    follow(rt, alloc, store, &[(Merge(1), Installed(Generation(7)))])?;
+    spans(rt, store, &[(0, 2), (2, 6)]);
+    follow(rt, alloc, store, &[(Merge(0), Installed(Generation(8)))])?;
+    spans(rt, store, &[(0, 6)]);
+    follow(rt, alloc, store, &KEY_2_AGAIN)
+}
+
+// The disk after these merges and that checkpoint.
 fn all_merged(rt: &(impl Abort + Threads + Sync), alloc: Global) -> Result<MemDisk, Fail> {
     let mut store = store_on(rt, alloc, three_pairs(rt, alloc)?)?;
-    follow(
-        rt,
-        alloc,
-        &mut store,
-        &[(Merge(1), Installed(Generation(7)))],
-    )?;
-    spans(rt, &store, &[(0, 2), (2, 6)]);
-    follow(
-        rt,
-        alloc,
-        &mut store,
-        &[(Merge(0), Installed(Generation(8)))],
-    )?;
-    spans(rt, &store, &[(0, 6)]);
-    follow(rt, alloc, &mut store, &KEY_2_AGAIN)?;
+    merges_all(rt, alloc, &mut store)?;
     Ok(store.into_disk())
 }
 
@@ -218,14 +221,24 @@ fn goes_through(rt: &impl Abort, alloc: Global, store: &mut Store<MemDisk>) -> R
     Ok(())
 }
 
+// The next merge goes through, and a stop behind it takes no round away.
+fn goes_on(
+    rt: &(impl Abort + Threads + Sync),
+    alloc: Global,
+    mut store: Store<MemDisk>,
+) -> Result<(), Fail> {
+    goes_through(rt, alloc, &mut store)?;
+    let _ = after_stop(rt, alloc, store, 3)?;
+    Ok(())
+}
+
 // Whether a merge failed at this call, after which the rounds must be there.
 fn fails_at(rt: &(impl Abort + Threads + Sync), alloc: Global, call: u64) -> Result<bool, Fail> {
     let mut store = failing(rt, alloc, call)?;
     let failed = has_failed(rt, alloc, &mut store)?;
-    let mut store = after_stop(rt, alloc, store, 3)?;
+    let store = after_stop(rt, alloc, store, 3)?;
     if failed {
-        goes_through(rt, alloc, &mut store)?;
-        let _ = after_stop(rt, alloc, store, 3)?;
+        goes_on(rt, alloc, store)?;
     }
     Ok(failed)
 }

@@ -157,6 +157,17 @@ impl Run {
         Ok(false)
     }
 
+    // What was found must be what is durable.
+    fn has_durable(&mut self, rt: &impl Abort, rows: &Rows, mark: Stamp) -> Result<(), Fail> {
+        if mark == self.after.mark() {
+            self.plain = self.after;
+        }
+        assert_eq!(rt; mark, self.plain.mark());
+        assert!(rt; has_all(rows, self.plain)?);
+        self.after = self.plain;
+        Ok(())
+    }
+
     // The store on a disk, which must have what is durable.
     fn open(
         &mut self,
@@ -165,12 +176,7 @@ impl Run {
         disk: MemDisk,
     ) -> Result<Store<MemDisk>, Fail> {
         let (store, rows, mark) = opened(rt, alloc, disk)?;
-        if mark == self.after.mark() {
-            self.plain = self.after;
-        }
-        assert_eq!(rt; mark, self.plain.mark());
-        assert!(rt; has_all(&rows, self.plain)?);
-        self.after = self.plain;
+        self.has_durable(rt, &rows, mark)?;
         Ok(store)
     }
 }
@@ -204,6 +210,19 @@ fn reclaim(alloc: Global, store: &mut Store<MemDisk>) -> Result<(), Fail> {
     Ok(())
 }
 
+// A run over what a stop left.
+fn goes_on(
+    rt: &(impl Abort + Threads + Sync),
+    alloc: Global,
+    run: &mut Run,
+    mut store: Store<MemDisk>,
+) -> Result<(), Fail> {
+    reclaim(alloc, &mut store)?;
+    let _ = run.go(alloc, &mut store)?;
+    let _ = run.open(rt, alloc, stopped(store.into_disk())?)?;
+    Ok(())
+}
+
 // A run over a new store up to a call that fails, and another over what a stop left, if the first
 // one met the failure.
 fn fails_at(
@@ -215,11 +234,9 @@ fn fails_at(
     let mut store = failing(rt, alloc, call)?;
     let failed = run.go(alloc, &mut store)?;
     let disk = stopped_somehow(alloc, store.into_disk())?;
-    let mut store = run.open(rt, alloc, disk)?;
+    let store = run.open(rt, alloc, disk)?;
     if failed {
-        reclaim(alloc, &mut store)?;
-        let _ = run.go(alloc, &mut store)?;
-        let _ = run.open(rt, alloc, stopped(store.into_disk())?)?;
+        goes_on(rt, alloc, run, store)?;
     }
     Ok(failed)
 }

@@ -18,13 +18,8 @@ fn new_store(rt: &(impl Threads + Sync), alloc: Global) -> Result<Store<MemDisk>
     }
 }
 
-/// All up to the mark is on a disk.
-pub(crate) fn durable(
-    rt: &(impl Threads + Sync),
-    alloc: Global,
-    mark: Stamp,
-) -> Result<Durable, Fail> {
-    let mut store = new_store(rt, alloc)?;
+/// Appends a group without records up to the mark.
+fn append(alloc: Global, store: &mut Store<MemDisk>, mark: Stamp) -> Result<Durable, Fail> {
     let prev = store.mark();
     let group = Group::new(prev, mark, Vec::new(alloc)).ok_or("a group without records")?;
     if let Err((refusal, _)) = store.take_group(group) {
@@ -32,4 +27,14 @@ pub(crate) fn durable(
     }
     store.append_body()?;
     Ok(store.append_open()?)
+}
+
+/// All up to the mark is on a disk.
+pub(crate) fn durable(
+    rt: &(impl Threads + Sync),
+    alloc: Global,
+    mark: Stamp,
+) -> Result<Durable, Fail> {
+    let mut store = new_store(rt, alloc)?;
+    append(alloc, &mut store, mark)
 }
