@@ -1,6 +1,7 @@
 use crate::watch::{mixed, pick, tell};
 use anyhow::Result;
 use mvo_range::{Place, RangeIndex};
+use std::alloc::{AllocError, Global};
 use std::collections::BTreeMap;
 use std::rt::Clock;
 use std::time::Instant;
@@ -33,26 +34,51 @@ pub fn run<R: AllocGlobal + Clock + Eprint + Print>(rt: &R, count: u64) -> Resul
 
 fn index<R: AllocGlobal + Clock + Eprint>(rt: &R, count: u64) -> Result<u64> {
     let mut index = RangeIndex::new(rt.alloc());
+    time_index(rt, &mut index, count)
+}
+
+fn time_index<R: AllocGlobal + Clock + Eprint>(
+    rt: &R,
+    index: &mut RangeIndex,
+    count: u64,
+) -> Result<u64> {
     let start = Instant::now(rt)?;
+    add_all(index, count)?;
+    tell(rt, start, "ordered index: add", count, count)?;
+    let start = Instant::now(rt)?;
+    let walked = walk_all(index, count);
+    tell(rt, start, "ordered index: walk 100", count, WALKS)?;
+    let built = build(rt, index, count)?;
+    let start = Instant::now(rt)?;
+    let removed = remove_all(index, count);
+    tell(rt, start, "ordered index: remove", count, count)?;
+    Ok(walked.wrapping_add(built).wrapping_add(removed))
+}
+
+fn add_all(index: &mut RangeIndex, count: u64) -> Result<(), AllocError> {
     for at in 0..count {
         index.add(place_of(at), (at & 0xFFFF) as u32)?;
     }
-    tell(rt, start, "ordered index: add", count, count)?;
+    Ok(())
+}
+
+// The sum of the numbers that walks meet.
+fn walk_all(index: &RangeIndex, count: u64) -> u64 {
     let mut sum = 0u64;
-    let start = Instant::now(rt)?;
     for at in 0..WALKS {
         let from = place_of(pick(at, count));
         for (_, number) in index.between(3, from.sort, u64::MAX).take(STEPS) {
             sum = sum.wrapping_add(number as u64);
         }
     }
-    tell(rt, start, "ordered index: walk 100", count, WALKS)?;
-    let mut entries: Vec<(Place, u32)> = Vec::new(rt.alloc());
-    for entry in index.between(3, 0, u64::MAX) {
-        entries.push(entry)?;
-    }
+    sum
+}
+
+// Builds another index of the same entries, and answers how many it has.
+fn build<R: AllocGlobal + Clock + Eprint>(rt: &R, index: &RangeIndex, count: u64) -> Result<u64> {
+    let entries = entries_of(rt.alloc(), index)?;
     let start = Instant::now(rt)?;
-    let built = RangeIndex::from_entries(rt.alloc(), entries)?;
+    let len = len_of_built(rt.alloc(), entries)?;
     tell(
         rt,
         start,
@@ -60,26 +86,64 @@ fn index<R: AllocGlobal + Clock + Eprint>(rt: &R, count: u64) -> Result<u64> {
         count,
         count,
     )?;
-    sum = sum.wrapping_add(built.len() as u64);
-    let start = Instant::now(rt)?;
+    Ok(len)
+}
+
+fn entries_of(alloc: Global, index: &RangeIndex) -> Result<Vec<(Place, u32)>, AllocError> {
+    let mut entries = Vec::new(alloc);
+    for entry in index.between(3, 0, u64::MAX) {
+        entries.push(entry)?;
+    }
+    Ok(entries)
+}
+
+fn len_of_built(alloc: Global, entries: Vec<(Place, u32)>) -> Result<u64, AllocError> {
+    let built = RangeIndex::from_entries(alloc, entries)?;
+    Ok(built.len() as u64)
+}
+
+fn remove_all(index: &mut RangeIndex, count: u64) -> u64 {
+    let mut sum = 0u64;
     for at in 0..count {
         if let Some(number) = index.remove(place_of(at)) {
             sum = sum.wrapping_add(number as u64);
         }
     }
-    tell(rt, start, "ordered index: remove", count, count)?;
-    Ok(sum)
+    sum
 }
 
 fn standard<R: AllocGlobal + Clock + Eprint>(rt: &R, count: u64) -> Result<u64> {
     let mut index: BTreeMap<Place, u32> = BTreeMap::new(rt.alloc());
+    time_standard(rt, &mut index, count)
+}
+
+fn time_standard<R: Clock + Eprint>(
+    rt: &R,
+    index: &mut BTreeMap<Place, u32>,
+    count: u64,
+) -> Result<u64> {
     let start = Instant::now(rt)?;
+    insert_all(index, count)?;
+    tell(rt, start, "std BTreeMap: add", count, count)?;
+    let start = Instant::now(rt)?;
+    let walked = walk_all_standard(index, count);
+    tell(rt, start, "std BTreeMap: walk 100", count, WALKS)?;
+    let len = index.len() as u64;
+    let start = Instant::now(rt)?;
+    let removed = remove_all_standard(index, count);
+    tell(rt, start, "std BTreeMap: remove", count, count)?;
+    Ok(walked.wrapping_add(len).wrapping_add(removed))
+}
+
+fn insert_all(index: &mut BTreeMap<Place, u32>, count: u64) -> Result<(), AllocError> {
     for at in 0..count {
         index.insert(place_of(at), (at & 0xFFFF) as u32)?;
     }
-    tell(rt, start, "std BTreeMap: add", count, count)?;
+    Ok(())
+}
+
+fn walk_all_standard(index: &BTreeMap<Place, u32>, count: u64) -> u64 {
     let mut sum = 0u64;
-    let start = Instant::now(rt)?;
     for at in 0..WALKS {
         let from = Place {
             key: 0,
@@ -91,14 +155,15 @@ fn standard<R: AllocGlobal + Clock + Eprint>(rt: &R, count: u64) -> Result<u64> 
             }
         }
     }
-    tell(rt, start, "std BTreeMap: walk 100", count, WALKS)?;
-    sum = sum.wrapping_add(index.len() as u64);
-    let start = Instant::now(rt)?;
+    sum
+}
+
+fn remove_all_standard(index: &mut BTreeMap<Place, u32>, count: u64) -> u64 {
+    let mut sum = 0u64;
     for at in 0..count {
         if let Some(number) = index.remove(&place_of(at)) {
             sum = sum.wrapping_add(number as u64);
         }
     }
-    tell(rt, start, "std BTreeMap: remove", count, count)?;
-    Ok(sum)
+    sum
 }

@@ -15,29 +15,46 @@ const ROUNDS: usize = 5;
 
 pub fn run<R: AllocGlobal + Clock + Eprint + Print>(rt: &R, count: usize) -> Result<()> {
     let mut puts = vec![in rt.alloc(); u128::MAX; count]?;
+    run_with(rt, count, puts.as_mut_slice())?;
+    println!(rt; "stalls {count}")?;
+    Ok(())
+}
+
+fn run_with<R: AllocGlobal + Clock + Eprint>(
+    rt: &R,
+    count: usize,
+    puts: &mut [u128],
+) -> Result<()> {
     let mut adds = vec![in rt.alloc(); u128::MAX; count]?;
+    run_with_both(rt, count, puts, adds.as_mut_slice())
+}
+
+fn run_with_both<R: AllocGlobal + Clock + Eprint>(
+    rt: &R,
+    count: usize,
+    puts: &mut [u128],
+    adds: &mut [u128],
+) -> Result<()> {
     let mut slots = vec![in rt.alloc(); u128::MAX; count]?;
+    run_rounds(rt, puts, adds, slots.as_mut_slice())
+}
+
+fn run_rounds<R: AllocGlobal + Clock + Eprint>(
+    rt: &R,
+    puts: &mut [u128],
+    adds: &mut [u128],
+    slots: &mut [u128],
+) -> Result<()> {
     for round in 1..=ROUNDS {
-        time_puts(rt, puts.as_mut_slice())?;
-        time_adds(rt, adds.as_mut_slice())?;
-        time_slots(rt, slots.as_mut_slice())?;
+        time_puts(rt, puts)?;
+        time_adds(rt, adds)?;
+        time_slots(rt, slots)?;
         if round == 1 || round == ROUNDS {
-            tell_longest(rt, "longest put of a key", round, puts.as_slice())?;
-            tell_longest(
-                rt,
-                "longest add of a version to its key",
-                round,
-                adds.as_slice(),
-            )?;
-            tell_longest(
-                rt,
-                "longest add of a version to its slot",
-                round,
-                slots.as_slice(),
-            )?;
+            tell_longest(rt, "longest put of a key", round, puts)?;
+            tell_longest(rt, "longest add of a version to its key", round, adds)?;
+            tell_longest(rt, "longest add of a version to its slot", round, slots)?;
         }
     }
-    println!(rt; "stalls {count}")?;
     Ok(())
 }
 
@@ -52,6 +69,10 @@ fn tell_longest<R: Eprint>(rt: &R, name: &str, rounds: usize, times: &[u128]) ->
 // Nanoseconds of each put of a key, with no room reserved.
 fn time_puts<R: AllocGlobal + Clock>(rt: &R, times: &mut [u128]) -> Result<()> {
     let mut index = Heads::new(rt.alloc(), mixed(1));
+    put_all(rt, &mut index, times)
+}
+
+fn put_all<R: Clock>(rt: &R, index: &mut Heads, times: &mut [u128]) -> Result<()> {
     let mut at = 0u64;
     for time in times {
         let start = Instant::now(rt)?;
@@ -65,6 +86,10 @@ fn time_puts<R: AllocGlobal + Clock>(rt: &R, times: &mut [u128]) -> Result<()> {
 // The same of the first version of a key.
 fn time_adds<R: AllocGlobal + Clock>(rt: &R, times: &mut [u128]) -> Result<()> {
     let mut index = HashIndex::new(rt.alloc(), mixed(1));
+    add_all(rt, &mut index, times)
+}
+
+fn add_all<R: Clock>(rt: &R, index: &mut HashIndex, times: &mut [u128]) -> Result<()> {
     let mut at = 0u64;
     for time in times {
         let version = VersionNo((at & 0xFFFF_FFFF) as u32);
@@ -81,14 +106,27 @@ fn time_adds<R: AllocGlobal + Clock>(rt: &R, times: &mut [u128]) -> Result<()> {
 // The same of a version, in its slot by number.
 fn time_slots<R: AllocGlobal + Clock>(rt: &R, times: &mut [u128]) -> Result<()> {
     let mut chains = Chains::new(rt.alloc());
+    fill_slots(rt, &mut chains, times)
+}
+
+fn fill_slots<R: AllocGlobal + Clock>(
+    rt: &R,
+    chains: &mut Chains,
+    times: &mut [u128],
+) -> Result<()> {
     let mut at = 0u64;
     for time in times {
         let row = Row::new(key_of(at), at, Vec::new(rt.alloc()))?;
-        let begin = Word::stamp(Stamp(1));
-        let start = Instant::now(rt)?;
-        chains.add(row, begin)?;
-        *time = (*time).min(start.elapsed(rt)?.as_nanos());
+        let spent = time_slot(rt, chains, row)?;
+        *time = (*time).min(spent);
         at = at.wrapping_add(1);
     }
     Ok(())
+}
+
+fn time_slot<R: Clock>(rt: &R, chains: &mut Chains, row: Row) -> Result<u128> {
+    let begin = Word::stamp(Stamp(1));
+    let start = Instant::now(rt)?;
+    chains.add(row, begin)?;
+    Ok(start.elapsed(rt)?.as_nanos())
 }

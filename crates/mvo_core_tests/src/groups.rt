@@ -1,5 +1,6 @@
 //! Closed groups.
 
+use crate::equal::{holds, same};
 use crate::reply::Reply;
 use crate::session::Call::{
     Begin, Commit, Delete, Finish, Insert, Precommit, Read, Settle, Update, Validate,
@@ -97,14 +98,14 @@ fn close(session: &mut Session) -> Result<(u64, u64), Refusal> {
 fn take_turns(rt: &impl Abort, session: &mut Session, turns: &[Turn]) -> Result<(), Fail> {
     for (lines, answer) in turns {
         session.follow(rt, *lines)?;
-        assert_eq!(rt; close(session), *answer);
+        same(rt, &close(session), answer);
     }
     Ok(())
 }
 
 fn has_body(rt: &impl Abort, group: &Group, body: &[u8]) -> Result<(), Fail> {
     let encoded = group.encode()?;
-    assert_eq!(rt; encoded.as_slice(), body);
+    same(rt, &encoded.as_slice(), &body);
     Ok(())
 }
 
@@ -131,8 +132,8 @@ fn a_group_has_the_net_writes(rt: HostRuntime) -> Result<(), Fail> {
 
 fn check_low_water(rt: &impl Abort, session: &mut Session) -> Result<(), Fail> {
     take_turns(rt, session, &BELOW_A_PREPARING_ONE)?;
-    assert_eq!(rt; session.tale_len(), 1);
-    assert_eq!(rt; session.clock(), Stamp(2));
+    same(rt, &session.tale_len(), &1);
+    same(rt, &session.clock(), &Stamp(2));
     take_turns(rt, session, &BEHIND_A_COMMITTED_ONE)
 }
 
@@ -155,7 +156,7 @@ fn check_two(
     take_turns(rt, session, turns)?;
     takes(rt, session, &EMPTY_BODY)?;
     takes(rt, session, &BODY_OF_TWO)?;
-    assert!(rt; session.take().is_none());
+    holds(rt, session.take().is_none());
     Ok(())
 }
 
@@ -184,8 +185,8 @@ fn close_one(
     session: &mut Session,
     answer: Result<(u64, u64), Refusal>,
 ) -> Result<(), Fail> {
-    assert!(rt; matches!(session.begin(), Reply::Began(_)));
-    assert_eq!(rt; close(session), answer);
+    holds(rt, matches!(session.begin(), Reply::Began(_)));
+    same(rt, &close(session), &answer);
     Ok(())
 }
 
@@ -198,9 +199,9 @@ fn close_all(rt: &impl Abort, session: &mut Session) -> Result<(), Fail> {
 
 /// It has no record, this prev, and the mark one above.
 fn is_empty_from(rt: &impl Abort, group: &Group, prev: u64) {
-    assert_eq!(rt; group.prev(), Stamp(prev));
-    assert_eq!(rt; group.mark(), Stamp(prev.saturating_add(1)));
-    assert!(rt; group.records().is_empty());
+    same(rt, &group.prev(), &Stamp(prev));
+    same(rt, &group.mark(), &Stamp(prev.saturating_add(1)));
+    holds(rt, group.records().is_empty());
 }
 
 /// The oldest group in the ring is empty, from this prev on.
@@ -214,17 +215,17 @@ fn take_all(rt: &impl Abort, session: &mut Session) -> Result<(), Fail> {
     for prev in 1..65 {
         takes_from(rt, session, prev)?;
     }
-    assert!(rt; session.take().is_none());
+    holds(rt, session.take().is_none());
     Ok(())
 }
 
 /// A full ring changes nothing, and that there is nothing to do comes before it.
 fn check_full(rt: &impl Abort, session: &mut Session) -> Result<(), Fail> {
-    assert_eq!(rt; close(session), Err(Refusal::NothingToDo));
+    same(rt, &close(session), &Err(Refusal::NothingToDo));
     close_one(rt, session, Err(Refusal::RingFull))?;
-    assert_eq!(rt; close(session), Err(Refusal::RingFull));
+    same(rt, &close(session), &Err(Refusal::RingFull));
     takes_from(rt, session, 0)?;
-    assert_eq!(rt; close(session), Ok((64, 65)));
+    same(rt, &close(session), &Ok((64, 65)));
     Ok(())
 }
 

@@ -4,6 +4,8 @@
 #[cfg(test)]
 mod draws;
 #[cfg(test)]
+mod equal;
+#[cfg(test)]
 mod events;
 #[cfg(test)]
 mod groups;

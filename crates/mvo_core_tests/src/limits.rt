@@ -1,8 +1,9 @@
 //! Each limit holds one, and not one more.
 
+use crate::equal::{holds, same};
 use crate::reply::Reply;
 use crate::session::Call::{Begin, Finish, Insert, Read, Rollback, Scan};
-use crate::session::{Call, Session};
+use crate::session::{Call, Session, text_of};
 use mvo_types::{Row, RowKey, TxId};
 use std::alloc::{AllocError, Global};
 use std::process::Abort;
@@ -18,7 +19,7 @@ fn row(alloc: Global, key: u64, len: usize) -> Result<Row, AllocError> {
 }
 
 fn says(rt: &impl Abort, alloc: Global, reply: &Reply, text: &str) -> Result<(), Fail> {
-    assert_eq!(rt; format!(in alloc; "{reply}")?.as_str(), text);
+    same(rt, &text_of(alloc, reply)?.as_str(), &text);
     Ok(())
 }
 
@@ -33,7 +34,7 @@ const NO_MORE_BEGIN: [(Call, &str); 5] = [
 
 fn begin_all(rt: &impl Abort, session: &mut Session) -> Result<(), Fail> {
     for _ in 0..1_024 {
-        assert!(rt; matches!(session.begin(), Reply::Began(_)));
+        holds(rt, matches!(session.begin(), Reply::Began(_)));
     }
     session.follow(rt, &NO_MORE_BEGIN)?;
     Ok(())

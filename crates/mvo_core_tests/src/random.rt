@@ -2,6 +2,7 @@
 //! after another, and against the rows that the groups leave.
 
 use crate::draws::Draws;
+use crate::equal::{holds, same};
 use crate::reply::Reply;
 use crate::same::{are_same, is_same};
 use crate::session::Session;
@@ -38,7 +39,6 @@ enum Phase {
 }
 
 /// An unfinished transaction, with what it asked for and what it was told.
-#[derive(Drop)]
 struct Open {
     id: TxId,
     phase: Phase,
@@ -62,7 +62,6 @@ struct Counts {
 }
 
 /// A core, and the committed transactions by end timestamp, as the replies tell.
-#[derive(Drop)]
 struct Course {
     alloc: Global,
     session: Session,
@@ -107,11 +106,43 @@ fn no_counts() -> Counts {
     }
 }
 
+impl Drop for Open {
+    fn drop(self) {
+        let Open {
+            id: _,
+            phase: _,
+            ops: _,
+            answers: _,
+        } = self;
+    }
+}
+
+impl Drop for Course {
+    fn drop(self) {
+        let Course {
+            alloc: _,
+            session: _,
+            draws: _,
+            open: _,
+            ends: _,
+            ops: _,
+            answers: _,
+            counts: _,
+            closed: _,
+            replayed: _,
+        } = self;
+    }
+}
+
 impl Course {
     fn new(alloc: Global, seed: u64) -> Result<Course, Fail> {
+        let session = opened(alloc)?;
         let replayed = opening_rows(alloc)?;
-        let session = Session::over(alloc, opening_rows(alloc)?, MARK)?;
-        Ok(Course {
+        Ok(Course::of(alloc, session, replayed, seed))
+    }
+
+    fn of(alloc: Global, session: Session, replayed: Rows, seed: u64) -> Course {
+        Course {
             alloc,
             session,
             draws: Draws(seed),
@@ -122,7 +153,7 @@ impl Course {
             counts: no_counts(),
             closed: Stamp(u64::from(MARK)),
             replayed,
-        })
+        }
     }
 
     /// One call: the closing of a group, a begin, or one of a transaction that is open.
@@ -143,17 +174,24 @@ impl Course {
             return Ok(());
         }
         let mut tx = self.open.swap_remove(at);
-        match tx.phase {
-            Phase::Active => self.ask(&mut tx)?,
-            Phase::Preparing => self.lead_on(&mut tx)?,
-            Phase::Valid => self.settle(&mut tx)?,
-            Phase::Over | Phase::Gone => self.finish(&mut tx),
-        }
+        self.go_on_with(&mut tx)?;
         if !matches!(tx.phase, Phase::Gone) {
             self.open.push(tx)?;
         }
         self.counts.most_preparing = self.counts.most_preparing.max(self.preparing());
         Ok(())
+    }
+
+    fn go_on_with(&mut self, tx: &mut Open) -> Result<(), AllocError> {
+        match tx.phase {
+            Phase::Active => self.ask(tx),
+            Phase::Preparing => self.lead_on(tx),
+            Phase::Valid => self.settle(tx),
+            Phase::Over | Phase::Gone => {
+                self.finish(tx);
+                Ok(())
+            }
+        }
     }
 
     /// How many are Preparing.
@@ -321,10 +359,17 @@ impl Course {
             return Ok(());
         }
         self.ends.insert(at, end)?;
-        let ops = mem::replace(&mut tx.ops, Vec::new(self.alloc));
-        self.ops.insert(at, ops)?;
-        let answers = mem::replace(&mut tx.answers, Vec::new(self.alloc));
-        self.answers.insert(at, answers)?;
+        self.keep_ops(at, mem::replace(&mut tx.ops, Vec::new(self.alloc)))?;
+        self.keep_answers(at, mem::replace(&mut tx.answers, Vec::new(self.alloc)))
+    }
+
+    fn keep_ops(&mut self, at: usize, ops: Vec<Op>) -> Result<(), AllocError> {
+        self.ops.insert(at.min(self.ops.len()), ops)?;
+        Ok(())
+    }
+
+    fn keep_answers(&mut self, at: usize, answers: Vec<Answer>) -> Result<(), AllocError> {
+        self.answers.insert(at.min(self.answers.len()), answers)?;
         Ok(())
     }
 
@@ -384,15 +429,24 @@ impl Course {
 
     /// Rolls back what is open, finishes it and closes the last group.
     fn end(&mut self) -> Result<(), AllocError> {
-        let open = mem::replace(&mut self.open, Vec::new(self.alloc));
-        for mut tx in open {
-            if matches!(tx.phase, Phase::Active | Phase::Preparing | Phase::Valid) {
-                self.roll_back(&mut tx);
-            }
-            self.finish(&mut tx);
+        let mut open = mem::replace(&mut self.open, Vec::new(self.alloc));
+        for tx in open.iter_mut() {
+            self.end_one(tx);
         }
         self.close()
     }
+
+    fn end_one(&mut self, tx: &mut Open) {
+        if matches!(tx.phase, Phase::Active | Phase::Preparing | Phase::Valid) {
+            self.roll_back(tx);
+        }
+        self.finish(tx);
+    }
+}
+
+/// A session over the opening rows.
+fn opened(alloc: Global) -> Result<Session, Fail> {
+    Ok(Session::over(alloc, opening_rows(alloc)?, MARK)?)
 }
 
 /// A row at every third of the keys.
@@ -423,22 +477,30 @@ fn has_row(answer: &Answer) -> bool {
 /// Compares the answers, transaction by transaction, and counts those that tell of a row.
 fn compare(rt: &impl Abort, told: &[Vec<Answer>], wanted: &[Vec<Answer>]) -> u64 {
     let mut rows = 0;
-    assert_eq!(rt; told.len(), wanted.len());
+    same(rt, &told.len(), &wanted.len());
     for (answers, others) in told.iter().zip(wanted) {
-        assert_eq!(rt; answers.len(), others.len());
-        for (answer, other) in answers.iter().zip(others) {
-            assert!(rt; is_same(answer, other), "{answer:?}, and not {other:?}");
-            if has_row(answer) {
-                count(&mut rows);
-            }
-        }
+        compare_all(rt, answers, others, &mut rows);
     }
     rows
 }
 
+fn compare_all(rt: &impl Abort, told: &[Answer], wanted: &[Answer], rows: &mut u64) {
+    same(rt, &told.len(), &wanted.len());
+    for (answer, other) in told.iter().zip(wanted) {
+        compare_one(rt, answer, other);
+        if has_row(answer) {
+            count(rows);
+        }
+    }
+}
+
+fn compare_one(rt: &impl Abort, answer: &Answer, other: &Answer) {
+    assert!(rt; is_same(answer, other), "{answer:?}, and not {other:?}");
+}
+
 /// Enough of each came about.
 fn check_counts(rt: &impl Abort, counts: &Counts) {
-    assert_eq!(rt; counts.strange, 0);
+    same(rt, &counts.strange, &0);
     for (met, least) in [
         (counts.conflicts, 100),
         (counts.failed, 100),
@@ -466,8 +528,8 @@ fn run(course: &mut Course) -> Result<(), AllocError> {
 fn check_answers(rt: &impl Abort, serial: &mut Serial, course: &Course) -> Result<(), Fail> {
     let wanted = serial.run(&course.ops)?;
     let rows = compare(rt, &course.answers, &wanted);
-    assert!(rt; rows > 500);
-    assert!(rt; course.ends.len() > 500);
+    holds(rt, rows > 500);
+    holds(rt, course.ends.len() > 500);
     Ok(())
 }
 
@@ -487,8 +549,8 @@ fn check_rows(
 ) -> Result<(), Fail> {
     let replayed = mem::replace(&mut course.replayed, Rows::new(alloc));
     let replayed = replayed.into_rows(alloc)?;
-    assert!(rt; !left.is_empty());
-    assert!(rt; are_same(left, &replayed));
+    holds(rt, !left.is_empty());
+    holds(rt, are_same(left, &replayed));
     Ok(())
 }
 

@@ -23,13 +23,13 @@ impl fmt::Display for Reply {
             Reply::Began(id) => write!(f, "began {id}"),
             Reply::Answered(answer) => write_answer(f, answer),
             Reply::Preparing(end) => write!(f, "preparing {end}"),
-            Reply::Checked(Validation::More) => write!(f, "more"),
-            Reply::Checked(Validation::Valid) => write!(f, "valid"),
+            Reply::Checked(Validation::More) => f.write_str("more"),
+            Reply::Checked(Validation::Valid) => f.write_str("valid"),
             Reply::Settled(Settlement::Committed(end)) => write!(f, "committed {end}"),
             Reply::Settled(Settlement::Waiting(id)) => write!(f, "waiting {id}"),
-            Reply::RolledBack => write!(f, "rolled back"),
-            Reply::Finished(Finishing::More) => write!(f, "more"),
-            Reply::Finished(Finishing::Done) => write!(f, "done"),
+            Reply::RolledBack => f.write_str("rolled back"),
+            Reply::Finished(Finishing::More) => f.write_str("more"),
+            Reply::Finished(Finishing::Done) => f.write_str("done"),
             Reply::Refused(refusal) => write!(f, "{refusal}"),
         }
     }
@@ -43,13 +43,13 @@ fn write_answer<W: fmt::Write>(f: &mut fmt::Formatter<W>, answer: &Answer) -> fm
             write!(f, "row {sort} ")?;
             write_data(f, row.bytes())
         }
-        Answer::Found(None) => write!(f, "none"),
+        Answer::Found(None) => f.write_str("none"),
         Answer::Rows(rows) => write_rows(f, rows),
-        Answer::Inserted => write!(f, "inserted"),
-        Answer::Exists => write!(f, "exists"),
-        Answer::Updated => write!(f, "updated"),
-        Answer::Deleted => write!(f, "deleted"),
-        Answer::Absent => write!(f, "absent"),
+        Answer::Inserted => f.write_str("inserted"),
+        Answer::Exists => f.write_str("exists"),
+        Answer::Updated => f.write_str("updated"),
+        Answer::Deleted => f.write_str("deleted"),
+        Answer::Absent => f.write_str("absent"),
     }
 }
 

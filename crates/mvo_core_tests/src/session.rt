@@ -1,5 +1,6 @@
 //! A core that is asked as a script asks it.
 
+use crate::equal::same_at;
 use crate::reply::Reply;
 use mvo_core::{Closed, Core, Finishing, Settlement, Validation};
 use mvo_group::Group;
@@ -37,12 +38,22 @@ const RING_GROUPS: usize = 64;
 pub const FEW_GROUPS: usize = 2;
 
 /// A core, and both ends of the ring that groups are closed into.
-#[derive(Drop)]
 pub struct Session {
     alloc: Global,
     core: Core,
     producer: Producer<Group>,
     consumer: Consumer<Group>,
+}
+
+impl Drop for Session {
+    fn drop(self) {
+        let Session {
+            alloc: _,
+            core: _,
+            producer: _,
+            consumer: _,
+        } = self;
+    }
 }
 
 impl Session {
@@ -234,15 +245,24 @@ impl Session {
 
     /// Asks for each line, and compares the text of the reply.
     pub fn follow(&mut self, rt: &impl Abort, lines: &[(Call, &str)]) -> Result<(), AllocError> {
-        let mut line = 0_usize;
+        let mut line = 0_u64;
         for (call, wanted) in lines {
             line = line.saturating_add(1);
-            let reply = self.ask(*call)?;
-            let text = format!(in self.alloc; "{reply}")?;
-            assert_eq!(rt; text.as_str(), *wanted, "in line {line}");
+            let text = self.reply_to(*call)?;
+            same_at(rt, &text.as_str(), wanted, line);
         }
         Ok(())
     }
+
+    /// The text of the reply to a call.
+    fn reply_to(&mut self, call: Call) -> Result<String, AllocError> {
+        let reply = self.ask(call)?;
+        text_of(self.alloc, &reply)
+    }
+}
+
+pub fn text_of(alloc: Global, reply: &Reply) -> Result<String, AllocError> {
+    format!(in alloc; "{reply}")
 }
 
 pub fn key_of(key: u64) -> RowKey {

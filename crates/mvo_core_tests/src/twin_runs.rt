@@ -1,5 +1,6 @@
 //! Random calls of a core and of the plain model, also wrong ones.
 
+use crate::equal::same;
 use crate::events::Event;
 use crate::met::{
     ABSENT, BEGAN, COMMITTED, COMPARED_GROUP, CONFLICT_WITH_ACTIVE, DELETED, DONE, EXISTS, GROUP,
@@ -174,9 +175,9 @@ fn close_many(rt: &impl Abort, twins: &mut Twins) -> Result<(), Fail> {
         twins.close(rt)?;
         twins.take(rt)?;
     }
-    assert_eq!(rt; twins.met.count(GROUP), 2);
-    assert_eq!(rt; twins.met.count(GROUP_OF_SEVERAL), 2);
-    assert_eq!(rt; twins.met.count(COMPARED_GROUP), 2);
+    same(rt, &twins.met.count(GROUP), &2);
+    same(rt, &twins.met.count(GROUP_OF_SEVERAL), &2);
+    same(rt, &twins.met.count(COMPARED_GROUP), &2);
     Ok(())
 }
 

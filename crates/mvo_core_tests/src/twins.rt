@@ -2,6 +2,7 @@
 //! other.
 
 use crate::draws::Draws;
+use crate::equal::{holds, same};
 use crate::events::{Event, Events};
 use crate::met::{
     COMPARED_GROUP, GROUP, GROUP_BELOW_COMMITS, GROUP_BESIDE_PREPARING, GROUP_OF_SEVERAL, Met,
@@ -26,7 +27,6 @@ const MOST_AT_ONCE: u64 = 8;
 const MARK: u8 = 7;
 
 /// A core and the model.
-#[derive(Drop)]
 pub struct Twins {
     session: Session,
     pub plain: Plain,
@@ -73,6 +73,10 @@ fn due(plain: &mut Plain, id: u64, event: &Event) -> Result<Reply, AllocError> {
     }
 }
 
+fn compare_replies(rt: &impl Abort, told: &Reply, due: &Reply) {
+    assert!(rt; is_same_reply(told, due), "{told}, and not {due}");
+}
+
 /// The model over the opening rows, with this mark.
 fn plain_at(alloc: Global, mark: u64) -> Result<Plain, Fail> {
     let rows = opening_rows(alloc)?.into_rows(alloc)?;
@@ -88,6 +92,18 @@ fn young_session(alloc: Global) -> Result<Session, Fail> {
 fn old_session(alloc: Global, left: u8) -> Result<Session, Fail> {
     let rows = opening_rows(alloc)?;
     Ok(Session::late(alloc, rows, left)?)
+}
+
+impl Drop for Twins {
+    fn drop(self) {
+        let Twins {
+            session: _,
+            plain: _,
+            events: _,
+            waiting: _,
+            met: _,
+        } = self;
+    }
 }
 
 impl Twins {
@@ -148,8 +164,8 @@ impl Twins {
     pub fn ask(&mut self, rt: &impl Abort, id: u64, event: Event) -> Result<(), Fail> {
         let due = due(&mut self.plain, id, &event)?;
         let told = told(&mut self.session, id, event);
-        assert!(rt; is_same_reply(&told, &due), "{told}, and not {due}");
-        assert_eq!(rt; self.session.clock().0, self.plain.clock);
+        compare_replies(rt, &told, &due);
+        same(rt, &self.session.clock().0, &self.plain.clock);
         self.met.note(kind_of(&told));
         self.note_many();
         Ok(())
@@ -173,24 +189,21 @@ impl Twins {
         if self.events.draws.below(2) == 0 {
             self.take(rt)?;
         }
-        let due = self.plain.close(self.waiting.len() >= FEW_GROUPS);
         let told = self.session.close();
-        match (told, due) {
-            (Ok(closed), Ok(group)) => self.compare_closed(rt, closed, group),
-            (Err(refusal), Err(due)) => self.compare_refusals(rt, refusal, due),
-            (Ok(_), Err(due)) => Ok(assert!(rt; false, "a group, and not {due}")),
-            (Err(refusal), Ok(_)) => Ok(assert!(rt; false, "{refusal}, and not a group")),
+        match self.plain.close(self.waiting.len() >= FEW_GROUPS) {
+            Ok(group) => self.compare_closed(rt, told, group),
+            Err(due) => self.compare_refusals(rt, told, due),
         }
     }
 
     fn compare_refusals(
         &mut self,
         rt: &impl Abort,
-        told: Refusal,
+        told: Result<Closed, Refusal>,
         due: Refusal,
     ) -> Result<(), Fail> {
-        assert_eq!(rt; told, due);
-        self.met.note(kind_of_refusal(told));
+        same(rt, &told, &Err(due));
+        self.met.note(kind_of_refusal(due));
         Ok(())
     }
 
@@ -198,10 +211,10 @@ impl Twins {
     fn compare_closed(
         &mut self,
         rt: &impl Abort,
-        told: Closed,
+        told: Result<Closed, Refusal>,
         due: PlainGroup,
     ) -> Result<(), Fail> {
-        assert_eq!(rt; told, due.closed);
+        same(rt, &told, &Ok(due.closed));
         self.note_group(&due);
         self.waiting.push_back(due)?;
         Ok(())
@@ -222,11 +235,22 @@ impl Twins {
 
     /// Takes the oldest group, if there is one, and compares it.
     pub fn take(&mut self, rt: &impl Abort) -> Result<(), Fail> {
-        match (self.session.take(), self.waiting.pop_front()) {
-            (Some(group), Some(due)) => self.compare_groups(rt, &group, &due),
-            (None, None) => Ok(()),
-            (Some(_), None) => Ok(assert!(rt; false, "a group, and none is due")),
-            (None, Some(_)) => Ok(assert!(rt; false, "no group, and one is due")),
+        match self.session.take() {
+            Some(group) => self.compare_taken(rt, &group),
+            None => self.compare_none(rt),
+        }
+    }
+
+    /// No group is due.
+    fn compare_none(&mut self, rt: &impl Abort) -> Result<(), Fail> {
+        holds(rt, self.waiting.is_empty());
+        Ok(())
+    }
+
+    fn compare_taken(&mut self, rt: &impl Abort, group: &Group) -> Result<(), Fail> {
+        match self.waiting.pop_front() {
+            Some(due) => self.compare_groups(rt, group, &due),
+            None => Err(Fail::from("no group, as none is due")),
         }
     }
 
@@ -236,9 +260,9 @@ impl Twins {
         group: &Group,
         due: &PlainGroup,
     ) -> Result<(), Fail> {
-        assert_eq!(rt; group.prev(), due.closed.prev);
-        assert_eq!(rt; group.mark(), due.closed.mark);
-        assert!(rt; are_same_records(group.records(), &due.records));
+        same(rt, &group.prev(), &due.closed.prev);
+        same(rt, &group.mark(), &due.closed.mark);
+        holds(rt, are_same_records(group.records(), &due.records));
         self.met.note(COMPARED_GROUP);
         Ok(())
     }

@@ -1,3 +1,5 @@
+use crate::changes::changed;
+use crate::equal::{holds, same};
 use mvo_group::{Group, Record, Write};
 use mvo_types::{Row, RowKey, Stamp};
 use std::alloc::Global;
@@ -39,8 +41,8 @@ fn of_put(alloc: Global) -> Result<Group, Fail> {
 
 /// The group is encoded as these bytes.
 fn is_encoded(rt: &impl Abort, group: &Group, bytes: &[u8]) -> Result<(), Fail> {
-    assert_eq!(rt; group.encode()?.as_slice(), bytes);
-    assert_eq!(rt; group.encoded_len(), bytes.len());
+    same(rt, &group.encode()?.as_slice(), &bytes);
+    same(rt, &group.encoded_len(), &bytes.len());
     Ok(())
 }
 
@@ -48,16 +50,16 @@ fn is_encoded(rt: &impl Abort, group: &Group, bytes: &[u8]) -> Result<(), Fail> 
 fn both_are_long(rt: &impl Abort, first: &Group, second: &Group, len: usize) -> Result<(), Fail> {
     let mut both = first.encode()?;
     second.encode_into(&mut both)?;
-    assert_eq!(rt; both.len(), len);
+    same(rt, &both.len(), &len);
     Ok(())
 }
 
 fn are_written(rt: &impl Abort, empty: &Group, put: &Group, delete: &Group) -> Result<(), Fail> {
     is_encoded(rt, empty, &EMPTY)?;
     is_encoded(rt, put, &ONE_PUT)?;
-    assert_eq!(rt; put.encoded_len(), 49);
+    same(rt, &put.encoded_len(), &49);
     is_encoded(rt, delete, &ONE_DELETE)?;
-    assert_eq!(rt; delete.encoded_len(), 38);
+    same(rt, &delete.encoded_len(), &38);
     both_are_long(rt, put, delete, 87)
 }
 
@@ -75,16 +77,16 @@ fn read(alloc: Global, vector: &[u8]) -> Result<Group, Fail> {
 }
 
 fn is_empty(rt: &impl Abort, group: &Group) {
-    assert_eq!(rt; (group.prev(), group.mark()), (Stamp(0), Stamp(1)));
-    assert_eq!(rt; group.records().len(), 0);
+    same(rt, &(group.prev(), group.mark()), &(Stamp(0), Stamp(1)));
+    same(rt, &group.records().len(), &0);
 }
 
 fn is_of_put(rt: &impl Abort, group: &Group) -> Result<(), Fail> {
-    assert_eq!(rt; (group.prev(), group.mark()), (Stamp(0), Stamp(2)));
+    same(rt, &(group.prev(), group.mark()), &(Stamp(0), Stamp(2)));
     let first = group.records().first().ok_or("a record")?;
-    assert_eq!(rt; first.end, Stamp(2));
+    same(rt, &first.end, &Stamp(2));
     let write = first.writes.first().ok_or("a write")?;
-    assert_eq!(rt; write.key(), RowKey { table: 0, key: 5 });
+    same(rt, &write.key(), &RowKey { table: 0, key: 5 });
     Ok(())
 }
 
@@ -94,17 +96,8 @@ fn the_vectors_are_read(rt: HostRuntime) -> Result<(), Fail> {
     is_empty(&rt, &read(alloc, &EMPTY)?);
     is_of_put(&rt, &read(alloc, &ONE_PUT)?)?;
     let records = read(alloc, &ONE_DELETE)?.into_records();
-    assert_eq!(rt; records.len(), 1);
+    same(&rt, &records.len(), &1);
     Ok(())
-}
-
-/// The vector with a change of the byte at a place.
-fn changed(alloc: Global, vector: &[u8], at: usize, change: u8) -> Result<Vec<u8>, Fail> {
-    let mut bytes = vector.to_vec(alloc)?;
-    if let Some(byte) = bytes.get_mut(at) {
-        *byte ^= change;
-    }
-    Ok(bytes)
 }
 
 /// Whether the bytes are a group, which must be encoded as exactly these.
@@ -112,7 +105,7 @@ fn is_group(rt: &impl Abort, alloc: Global, bytes: &[u8]) -> Result<bool, Fail> 
     let Some(group) = Group::decode(alloc, bytes)? else {
         return Ok(false);
     };
-    assert_eq!(rt; group.encode()?.as_slice(), bytes);
+    same(rt, &group.encode()?.as_slice(), &bytes);
     Ok(true)
 }
 
@@ -136,7 +129,7 @@ fn is_one_spelling(
     groups: usize,
 ) -> Result<(), Fail> {
     for len in 0..vector.len() {
-        assert!(rt; Group::decode(alloc, &vector[..len])?.is_none());
+        holds(rt, Group::decode(alloc, &vector[..len])?.is_none());
     }
     let mut found = 0usize;
     for i in 0..vector.len() {
@@ -146,7 +139,7 @@ fn is_one_spelling(
             }
         }
     }
-    assert_eq!(rt; found, groups);
+    same(rt, &found, &groups);
     Ok(())
 }
 

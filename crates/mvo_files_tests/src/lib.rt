@@ -4,9 +4,13 @@
 #[cfg(test)]
 mod bodies;
 #[cfg(test)]
+mod changes;
+#[cfg(test)]
 mod ckpt;
 #[cfg(test)]
 mod disk;
+#[cfg(test)]
+mod equal;
 #[cfg(test)]
 mod frame;
 #[cfg(test)]

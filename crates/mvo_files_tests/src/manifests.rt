@@ -1,7 +1,9 @@
+use crate::changes::changed;
+use crate::equal::{holds, same};
 use mvo_disk::{Disk, MemDisk};
 use mvo_format::VERSION;
 use mvo_manifest::{Manifest, Pair, close_slot, open_slot, pick, read_slot, write_slot};
-use mvo_types::Stamp;
+use mvo_types::{Refusal, Stamp};
 use std::alloc::Global;
 use std::process::Abort;
 use std::test::Fail;
@@ -41,39 +43,44 @@ fn of_pair(alloc: Global) -> Result<Manifest, Fail> {
     Ok(Manifest::new(2, Stamp(2), pairs, segments)?.ok_or("a manifest")?)
 }
 
-// What is found of slot 0, as a line: the generation of its manifest.
-fn found(alloc: Global, bytes: &[u8]) -> Result<String, Fail> {
-    match read_slot(alloc, VERSION, 0, bytes) {
+// The generation of a manifest, that a slot is closed, or a refusal, as a line.
+fn line_of(alloc: Global, found: Result<Option<u64>, Refusal>) -> Result<String, Fail> {
+    match found {
         Ok(None) => Ok(format!(in alloc; "closed")?),
-        Ok(Some(manifest)) => {
-            let generation = manifest.generation();
-            Ok(format!(in alloc; "{generation}")?)
-        }
+        Ok(Some(generation)) => Ok(format!(in alloc; "{generation}")?),
         Err(refusal) => Ok(format!(in alloc; "{refusal}")?),
     }
 }
 
+// What is found of slot 0, as such a line.
+fn found(alloc: Global, bytes: &[u8]) -> Result<String, Fail> {
+    let found = match read_slot(alloc, VERSION, 0, bytes) {
+        Ok(None) => Ok(None),
+        Ok(Some(manifest)) => Ok(Some(manifest.generation())),
+        Err(refusal) => Err(refusal),
+    };
+    line_of(alloc, found)
+}
+
 // What is found of slot 0 is this line.
 fn finds(rt: &impl Abort, alloc: Global, bytes: &[u8], line: &str) -> Result<(), Fail> {
-    assert_eq!(rt; found(alloc, bytes)?.as_str(), line);
+    same(rt, &found(alloc, bytes)?.as_str(), &line);
     Ok(())
 }
 
 // What is found of both slots, as such a line.
 fn chosen(alloc: Global, first: &[u8], second: &[u8]) -> Result<String, Fail> {
-    match pick(alloc, VERSION, first, second) {
-        Ok(manifest) => {
-            let generation = manifest.generation();
-            Ok(format!(in alloc; "{generation}")?)
-        }
-        Err(refusal) => Ok(format!(in alloc; "{refusal}")?),
-    }
+    let found = match pick(alloc, VERSION, first, second) {
+        Ok(manifest) => Ok(Some(manifest.generation())),
+        Err(refusal) => Err(refusal),
+    };
+    line_of(alloc, found)
 }
 
 // The manifest is encoded as what stands behind the gate of PAIR.
 fn is_encoded(rt: &impl Abort, alloc: Global, manifest: &Manifest) -> Result<(), Fail> {
     let bytes = manifest.encode(alloc, VERSION)?;
-    assert_eq!(rt; Some(bytes.as_slice()), PAIR.get(1..));
+    same(rt, &Some(bytes.as_slice()), &PAIR.get(1..));
     Ok(())
 }
 
@@ -94,19 +101,24 @@ fn chooses(
     second: &[u8],
     line: &str,
 ) -> Result<(), Fail> {
-    assert_eq!(rt; chosen(alloc, first, second)?.as_str(), line);
+    same(rt, &chosen(alloc, first, second)?.as_str(), &line);
     Ok(())
 }
 
 #[test]
 fn both_slots_are_looked_at(rt: HostRuntime) -> Result<(), Fail> {
-    let alloc = rt.alloc();
-    chooses(&rt, alloc, &[], &[0], "refused 53")?;
-    chooses(&rt, alloc, &FRESH, &[], "0")?;
-    chooses(&rt, alloc, &FRESH, &ROTATED, "1")?;
-    chooses(&rt, alloc, &PAIR, &ROTATED, "2")?;
-    chooses(&rt, alloc, &FRESH[..34], &ROTATED, "refused 54 0")?;
-    chooses(&rt, alloc, &PAIR, &ROTATED[..36], "refused 54 1")
+    let cases: [(&[u8], &[u8], &str); 6] = [
+        (&[], &[0], "refused 53"),
+        (&FRESH, &[], "0"),
+        (&FRESH, &ROTATED, "1"),
+        (&PAIR, &ROTATED, "2"),
+        (&FRESH[..34], &ROTATED, "refused 54 0"),
+        (&PAIR, &ROTATED[..36], "refused 54 1"),
+    ];
+    for (first, second, line) in cases {
+        chooses(&rt, rt.alloc(), first, second, line)?;
+    }
+    Ok(())
 }
 
 #[test]
@@ -114,18 +126,18 @@ fn a_manifest_is_installed(rt: HostRuntime) -> Result<(), Fail> {
     let alloc = rt.alloc();
     let mut disk = MemDisk::new(alloc)?;
     let count = disk.faults();
-    assert_eq!(rt; count, 0);
+    same(&rt, &count, &0);
     let manifest = of_pair(alloc)?;
     let slot = manifest.slot();
     if slot != 0 || manifest.generation() != 2 {
         return Err(Fail::from("slot 0"));
     }
     close_slot(&mut disk, 0)?;
-    assert_eq!(rt; disk.bytes(0), [0].as_slice());
+    same(&rt, &disk.bytes(0), &[0].as_slice());
     write_slot(alloc, &mut disk, VERSION, &manifest)?;
-    assert_eq!(rt; disk.bytes(0).get(1..), PAIR.get(1..));
+    same(&rt, &disk.bytes(0).get(1..), &PAIR.get(1..));
     open_slot(&mut disk, 0)?;
-    assert_eq!(rt; disk.bytes(0), PAIR.as_slice());
+    same(&rt, &disk.bytes(0), &PAIR.as_slice());
     Ok(())
 }
 
@@ -162,15 +174,6 @@ fn is_plain(bytes: &[u8]) -> bool {
     are_files && are_different && rises && records <= 4_194_304 && two(bytes, 59) == 1
 }
 
-// PAIR with a change of the byte at a place.
-fn changed(alloc: Global, at: usize, change: u8) -> Result<Vec<u8>, Fail> {
-    let mut bytes = PAIR.to_vec(alloc)?;
-    if let Some(byte) = bytes.get_mut(at) {
-        *byte ^= change;
-    }
-    Ok(bytes)
-}
-
 // What is found of these bytes goes by the rules of the fields from the pair on.
 fn is_found_by_rules(rt: &impl Abort, alloc: Global, bytes: &[u8]) -> Result<(), Fail> {
     let expected = if is_plain(bytes) { "2" } else { "refused 54 0" };
@@ -182,7 +185,7 @@ fn each_change_behind_is_found(rt: HostRuntime) -> Result<(), Fail> {
     let alloc = rt.alloc();
     for i in 31..PAIR.len() {
         for change in 1..=255u8 {
-            is_found_by_rules(&rt, alloc, &changed(alloc, i, change)?)?;
+            is_found_by_rules(&rt, alloc, &changed(alloc, &PAIR, i, change)?)?;
         }
     }
     Ok(())
@@ -190,9 +193,12 @@ fn each_change_behind_is_found(rt: HostRuntime) -> Result<(), Fail> {
 
 // What is found of PAIR with such a change goes by the place.
 fn is_found_by_place(rt: &impl Abort, alloc: Global, at: usize, change: u8) -> Result<(), Fail> {
-    let line = found(alloc, &changed(alloc, at, change)?)?;
+    let line = found(alloc, &changed(alloc, &PAIR, at, change)?)?;
     let expected = plain(at, change);
-    assert!(rt; line.as_str() == expected || expected == "another" && !line.starts_with("r"));
+    holds(
+        rt,
+        line.as_str() == expected || expected == "another" && !line.starts_with("r"),
+    );
     Ok(())
 }
 

@@ -1,9 +1,12 @@
 //! Images of a disk, as bytes in hexadecimal digits, and what is found out of them.
+use crate::equal::same;
+use mvo_ckpt::Places;
 use mvo_disk::{Disk, FILE_COUNT, MemDisk, rewrite_synced};
 use mvo_format::FIRST_FORMAT;
 use mvo_load::{Loaded, load};
-use mvo_types::RowKey;
+use mvo_types::{Refusal, Row, RowKey, Rows};
 use std::alloc::Global;
+use std::process::Abort;
 use std::test::Fail;
 use std::thread::Threads;
 
@@ -46,28 +49,39 @@ pub fn put(disk: &mut MemDisk, file: u16, bytes: &[u8]) -> Result<(), Fail> {
     Ok(())
 }
 
+/// Gives files the bytes of these digits.
+pub fn put_all(alloc: Global, disk: &mut MemDisk, files: &[(u16, &str)]) -> Result<(), Fail> {
+    for (file, text) in files {
+        put(disk, *file, &bytes(alloc, text)?)?;
+    }
+    Ok(())
+}
+
 /// A disk with these files.
 pub fn disk_of(alloc: Global, files: &[(u16, &str)]) -> Result<MemDisk, Fail> {
     let mut disk = MemDisk::new(alloc)?;
-    for (file, text) in files {
-        put(&mut disk, *file, &bytes(alloc, text)?)?;
-    }
+    put_all(alloc, &mut disk, files)?;
     Ok(disk)
 }
 
-/// The row of table 0 at key 5, as its sort and its data.
-fn row(alloc: Global, loaded: &Loaded) -> Result<String, Fail> {
-    let Some(row) = loaded.rows.get(RowKey { table: 0, key: 5 })? else {
-        return Ok(format!(in alloc; "none")?);
-    };
+/// A row as its sort and its data.
+fn row_line(alloc: Global, row: &Row) -> Result<String, Fail> {
     let data = hex::encode(alloc, row.bytes())?;
     let sort = row.sort;
     Ok(format!(in alloc; "{sort} {data}")?)
 }
 
+/// The row of table 0 at key 5, as such a line.
+fn row(alloc: Global, rows: &Rows) -> Result<String, Fail> {
+    match rows.get(RowKey { table: 0, key: 5 })? {
+        Some(row) => row_line(alloc, &row),
+        None => Ok(format!(in alloc; "none")?),
+    }
+}
+
 /// Where the live record of table 0 at key 5 lies: its data file and its number.
-fn place(alloc: Global, loaded: &Loaded) -> Result<String, Fail> {
-    let Some(place) = loaded.places.get(RowKey { table: 0, key: 5 }) else {
+fn place(alloc: Global, places: &Places) -> Result<String, Fail> {
+    let Some(place) = places.get(RowKey { table: 0, key: 5 }) else {
         return Ok(format!(in alloc; "nowhere")?);
     };
     let file = place.data_file;
@@ -75,25 +89,12 @@ fn place(alloc: Global, loaded: &Loaded) -> Result<String, Fail> {
     Ok(format!(in alloc; "{file} {number}")?)
 }
 
-/// The place of table 0 at key 5 on a disk with these files.
-pub fn placed(
-    rt: &(impl Threads + Sync),
-    alloc: Global,
-    files: &[(u16, &str)],
-) -> Result<String, Fail> {
-    let mut disk = disk_of(alloc, files)?;
-    if disk.faults() > 0 {
-        return Err(Fail::from("a fault"));
-    }
-    match load(rt, alloc, &mut disk, FIRST_FORMAT, 7) {
-        Ok(loaded) => place(alloc, &loaded),
-        Err(refusal) => Ok(format!(in alloc; "{refusal}")?),
-    }
+fn refused(alloc: Global, refusal: Refusal) -> Result<String, Fail> {
+    Ok(format!(in alloc; "{refusal}")?)
 }
 
-/// What is found out of a disk, as a line: generation, mark, gate, how many rows, and the row of
-/// table 0 at key 5; or the refusal.
-pub fn found_on(
+/// The place of table 0 at key 5 on a disk.
+fn placed_on(
     rt: &(impl Threads + Sync),
     alloc: Global,
     disk: &mut MemDisk,
@@ -102,23 +103,79 @@ pub fn found_on(
         return Err(Fail::from("a fault"));
     }
     match load(rt, alloc, disk, FIRST_FORMAT, 7) {
-        Ok(loaded) => {
-            let row = row(alloc, &loaded)?;
-            let generation = loaded.manifest.generation();
-            let mark = loaded.mark.0;
-            let gate = loaded.gate;
-            let count = loaded.rows.len();
-            Ok(format!(in alloc; "{generation}, {mark}, {gate}, {count}: {row}")?)
-        }
-        Err(refusal) => Ok(format!(in alloc; "{refusal}")?),
+        Ok(loaded) => place(alloc, &loaded.places),
+        Err(refusal) => refused(alloc, refusal),
     }
 }
 
-/// The same, of a disk with these files.
-pub fn found(
-    rt: &(impl Threads + Sync),
+/// Generation, mark, gate, how many rows, and the row of table 0 at key 5.
+fn line_of(alloc: Global, loaded: &Loaded) -> Result<String, Fail> {
+    let row = row(alloc, &loaded.rows)?;
+    let generation = loaded.manifest.generation();
+    let mark = loaded.mark.0;
+    let gate = loaded.gate;
+    let count = loaded.rows.len();
+    Ok(format!(in alloc; "{generation}, {mark}, {gate}, {count}: {row}")?)
+}
+
+/// What is found out of a disk, as such a line; or the refusal.
+fn found_on(rt: &(impl Threads + Sync), alloc: Global, disk: &mut MemDisk) -> Result<String, Fail> {
+    if disk.faults() > 0 {
+        return Err(Fail::from("a fault"));
+    }
+    match load(rt, alloc, disk, FIRST_FORMAT, 7) {
+        Ok(loaded) => line_of(alloc, &loaded),
+        Err(refusal) => refused(alloc, refusal),
+    }
+}
+
+/// What is found out of a disk is this line.
+pub fn finds(
+    rt: &(impl Abort + Threads + Sync),
     alloc: Global,
-    files: &[(u16, &str)],
-) -> Result<String, Fail> {
-    found_on(rt, alloc, &mut disk_of(alloc, files)?)
+    disk: &mut MemDisk,
+    line: &str,
+) -> Result<(), Fail> {
+    same(rt, &found_on(rt, alloc, disk)?.as_str(), &line);
+    Ok(())
+}
+
+/// The files of a disk, and a line.
+pub type Case = (&'static [(u16, &'static str)], &'static str);
+
+/// What is found out of each disk is its line.
+pub fn find_all(
+    rt: &(impl Abort + Threads + Sync),
+    alloc: Global,
+    cases: &[Case],
+) -> Result<(), Fail> {
+    for case in cases {
+        let mut disk = disk_of(alloc, case.0)?;
+        finds(rt, alloc, &mut disk, case.1)?;
+    }
+    Ok(())
+}
+
+/// The place on a disk is this line.
+fn places(
+    rt: &(impl Abort + Threads + Sync),
+    alloc: Global,
+    disk: &mut MemDisk,
+    line: &str,
+) -> Result<(), Fail> {
+    same(rt, &placed_on(rt, alloc, disk)?.as_str(), &line);
+    Ok(())
+}
+
+/// The place on each disk is its line.
+pub fn place_all(
+    rt: &(impl Abort + Threads + Sync),
+    alloc: Global,
+    cases: &[Case],
+) -> Result<(), Fail> {
+    for case in cases {
+        let mut disk = disk_of(alloc, case.0)?;
+        places(rt, alloc, &mut disk, case.1)?;
+    }
+    Ok(())
 }

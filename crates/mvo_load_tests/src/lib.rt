@@ -4,6 +4,8 @@
 #[cfg(test)]
 mod broken;
 #[cfg(test)]
+mod equal;
+#[cfg(test)]
 mod image;
 #[cfg(test)]
 mod vectors;

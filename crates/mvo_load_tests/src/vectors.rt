@@ -1,8 +1,10 @@
 //! The vectors of the formats, as the images that a store leaves.
+use crate::equal::holds;
 use crate::image::{
-    DATA, DELTA, FRESH, INSERTED, LATER_DATA, NAMED, disk_of, found, found_on, placed,
+    Case, DATA, DELTA, FRESH, INSERTED, LATER_DATA, NAMED, disk_of, find_all, finds, place_all,
 };
-use mvo_disk::Work;
+use mvo_disk::{Call, Work};
+use std::process::Abort;
 use std::test::Fail;
 
 /// Slot 0 as it is formatted: generation 0, segment 2.
@@ -21,59 +23,72 @@ pub const CHECKPOINTED: &str = "a5 3a000000 4d564f4d 01000000 0200000000000000 0
 pub const MERGED: &str = "a5 3a000000 4d564f4d 01000000 0500000000000000 0400000000000000 \
     0100 0300 0800 0000000000000000 0400000000000000 01000000 00000000 0100 0200";
 
+const NO_ROWS: [Case; 1] = [(&[(0, FORMATTED), (2, FRESH)], "0, 0, 8, 0: none")];
+
 #[test]
 fn a_formatted_disk_has_no_rows(rt: HostRuntime) -> Result<(), Fail> {
-    let found = found(&rt, rt.alloc(), &[(0, FORMATTED), (2, FRESH)])?;
-    assert_eq!(rt; found.as_str(), "0, 0, 8, 0: none");
-    Ok(())
+    find_all(&rt, rt.alloc(), &NO_ROWS)
 }
+
+const GROUPS: [Case; 1] = [(
+    &[(0, FORMATTED), (1, "00"), (2, INSERTED)],
+    "0, 2, 62, 1: 50 61",
+)];
 
 #[test]
 fn groups_of_a_segment_are_put_on_the_rows(rt: HostRuntime) -> Result<(), Fail> {
-    let found = found(&rt, rt.alloc(), &[(0, FORMATTED), (1, "00"), (2, INSERTED)])?;
-    assert_eq!(rt; found.as_str(), "0, 2, 62, 1: 50 61");
-    Ok(())
+    find_all(&rt, rt.alloc(), &GROUPS)
 }
+
+/// A delete of the row in the group (2, 5].
+const DELETED: &str = "4d564f4c 01000000 a5 26000000 0200000000000000 0500000000000000 \
+    0100 0500000000000000 0100 02 00 0500000000000000 00";
+
+const SEGMENTS: [Case; 4] = [
+    (
+        &[(0, FORMATTED), (1, ROTATED), (2, INSERTED), (3, FRESH)],
+        "1, 2, 8, 1: 50 61",
+    ),
+    (
+        &[(1, ROTATED), (2, INSERTED), (3, DELETED)],
+        "1, 5, 51, 0: none",
+    ),
+    // Behind the first segment stands mark 2.
+    (
+        &[(1, ROTATED), (2, INSERTED), (3, INSERTED)],
+        "refused 54 3",
+    ),
+    // A sealed segment has frames.
+    (
+        &[(0, FORMATTED), (1, ROTATED), (2, FRESH), (3, FRESH)],
+        "refused 54 2",
+    ),
+];
 
 #[test]
 fn the_mark_goes_on_through_the_segments(rt: HostRuntime) -> Result<(), Fail> {
-    let alloc = rt.alloc();
-    let rotated = [(0, FORMATTED), (1, ROTATED), (2, INSERTED), (3, FRESH)];
-    assert_eq!(rt; found(&rt, alloc, &rotated)?.as_str(), "1, 2, 8, 1: 50 61");
-    // A delete of the row in the group (2, 5].
-    let deleted = "4d564f4c 01000000 a5 26000000 0200000000000000 0500000000000000 \
-        0100 0500000000000000 0100 02 00 0500000000000000 00";
-    let files = [(1, ROTATED), (2, INSERTED), (3, deleted)];
-    assert_eq!(rt; found(&rt, alloc, &files)?.as_str(), "1, 5, 51, 0: none");
-    // Behind the first segment stands mark 2.
-    let files = [(1, ROTATED), (2, INSERTED), (3, INSERTED)];
-    assert_eq!(rt; found(&rt, alloc, &files)?.as_str(), "refused 54 3");
-    // A sealed segment has frames.
-    let files = [(0, FORMATTED), (1, ROTATED), (2, FRESH), (3, FRESH)];
-    assert_eq!(rt; found(&rt, alloc, &files)?.as_str(), "refused 54 2");
-    Ok(())
+    find_all(&rt, rt.alloc(), &SEGMENTS)
 }
 
-#[test]
-fn a_checkpoint_has_the_rows(rt: HostRuntime) -> Result<(), Fail> {
-    let files = [
+const CHECKPOINT: [Case; 1] = [(
+    &[
         (0, CHECKPOINTED),
         (1, ROTATED),
         (2, INSERTED),
         (3, FRESH),
         (4, DATA),
         (5, DELTA),
-    ];
-    assert_eq!(rt;
-        found(&rt, rt.alloc(), &files)?.as_str(),
-        "2, 2, 8, 1: 50 61"
-    );
-    Ok(())
-}
+    ],
+    "2, 2, 8, 1: 50 61",
+)];
 
 #[test]
-fn a_merged_pair_has_the_rows(rt: HostRuntime) -> Result<(), Fail> {
-    let files = [
+fn a_checkpoint_has_the_rows(rt: HostRuntime) -> Result<(), Fail> {
+    find_all(&rt, rt.alloc(), &CHECKPOINT)
+}
+
+const MERGED_PAIR: [Case; 1] = [(
+    &[
         (0, CHECKPOINTED),
         (1, MERGED),
         (2, FRESH),
@@ -81,39 +96,61 @@ fn a_merged_pair_has_the_rows(rt: HostRuntime) -> Result<(), Fail> {
         (4, DATA),
         (5, NAMED),
         (8, DELTA),
-    ];
-    assert_eq!(rt;
-        found(&rt, rt.alloc(), &files)?.as_str(),
-        "5, 4, 8, 1: 50 62"
-    );
-    Ok(())
+    ],
+    "5, 4, 8, 1: 50 62",
+)];
+
+#[test]
+fn a_merged_pair_has_the_rows(rt: HostRuntime) -> Result<(), Fail> {
+    find_all(&rt, rt.alloc(), &MERGED_PAIR)
 }
+
+const PLACES: [Case; 3] = [
+    // The row of the segment has no place.
+    (&[(0, FORMATTED), (2, INSERTED)], "nowhere"),
+    (
+        &[(0, CHECKPOINTED), (3, FRESH), (4, DATA), (5, DELTA)],
+        "4 0",
+    ),
+    (
+        &[(1, MERGED), (2, FRESH), (3, LATER_DATA), (8, DELTA)],
+        "3 0",
+    ),
+];
 
 #[test]
 fn live_records_have_places(rt: HostRuntime) -> Result<(), Fail> {
-    let alloc = rt.alloc();
-    // The row of the segment has no place.
-    assert_eq!(rt;
-        placed(&rt, alloc, &[(0, FORMATTED), (2, INSERTED)])?.as_str(),
-        "nowhere"
-    );
-    let files = [(0, CHECKPOINTED), (3, FRESH), (4, DATA), (5, DELTA)];
-    assert_eq!(rt; placed(&rt, alloc, &files)?.as_str(), "4 0");
-    let files = [(1, MERGED), (2, FRESH), (3, LATER_DATA), (8, DELTA)];
-    assert_eq!(rt; placed(&rt, alloc, &files)?.as_str(), "3 0");
-    Ok(())
+    place_all(&rt, rt.alloc(), &PLACES)
 }
+
+const NOT_COUNTED: [Case; 2] = [
+    (
+        &[
+            (0, FORMATTED),
+            (1, "01 4d564f4d"),
+            (2, "4d564f4c 01000000 00 a5ffffffff"),
+        ],
+        "0, 0, 8, 0: none",
+    ),
+    // A number that the manifest doesn't count.
+    (
+        &[(0, CHECKPOINTED), (3, FRESH), (4, DATA), (5, NAMED)],
+        "2, 2, 8, 1: 50 61",
+    ),
+];
 
 #[test]
 fn bytes_that_do_not_count_are_not_looked_at(rt: HostRuntime) -> Result<(), Fail> {
-    let alloc = rt.alloc();
-    let behind = "4d564f4c 01000000 00 a5ffffffff";
-    let files = [(0, FORMATTED), (1, "01 4d564f4d"), (2, behind)];
-    assert_eq!(rt; found(&rt, alloc, &files)?.as_str(), "0, 0, 8, 0: none");
-    // A number that the manifest doesn't count.
-    let files = [(0, CHECKPOINTED), (3, FRESH), (4, DATA), (5, NAMED)];
-    assert_eq!(rt; found(&rt, alloc, &files)?.as_str(), "2, 2, 8, 1: 50 61");
-    Ok(())
+    find_all(&rt, rt.alloc(), &NOT_COUNTED)
+}
+
+/// There are more calls than these, and the later ones only read.
+fn only_read(rt: &impl Abort, calls: &[Call], before: usize) {
+    holds(rt, calls.len() > before);
+    for call in &calls[before..] {
+        let reads = matches!(call.work, Work::Length | Work::Read { .. });
+        holds(rt, reads);
+    }
 }
 
 #[test]
@@ -122,12 +159,7 @@ fn loading_only_reads(rt: HostRuntime) -> Result<(), Fail> {
     let files = [(0, CHECKPOINTED), (3, INSERTED), (4, DATA), (5, DELTA)];
     let mut disk = disk_of(alloc, &files)?;
     let before = disk.calls().len();
-    assert_eq!(rt; found_on(&rt, alloc, &mut disk)?.as_str(), "refused 54 3");
-    let calls = disk.calls();
-    assert!(rt; calls.len() > before);
-    for call in &calls[before..] {
-        let reads = matches!(call.work, Work::Length | Work::Read { .. });
-        assert!(rt; reads);
-    }
+    finds(&rt, alloc, &mut disk, "refused 54 3")?;
+    only_read(&rt, disk.calls(), before);
     Ok(())
 }

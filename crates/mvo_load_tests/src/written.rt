@@ -1,5 +1,5 @@
 //! Images that the writers of manifests, pairs and segments wrote.
-use crate::image::{DATA, DELTA, INSERTED, LATER_DATA, NAMED, bytes, found_on, put};
+use crate::image::{DATA, DELTA, INSERTED, LATER_DATA, NAMED, bytes, finds, put, put_all};
 use mvo_disk::{Disk, MemDisk};
 use mvo_format::VERSION;
 use mvo_frame::Segment;
@@ -7,22 +7,27 @@ use mvo_group::Group;
 use mvo_manifest::{Manifest, Pair};
 use mvo_types::Stamp;
 use std::alloc::Global;
+use std::process::Abort;
 use std::test::Fail;
+use std::thread::Threads;
 
-/// Writes the manifest of generation 0 with these pairs, and segment 2, to slot 0.
-fn install(alloc: Global, disk: &mut MemDisk, pairs: &[Pair]) -> Result<(), Fail> {
-    let mut list = Vec::new(alloc);
-    let mut mark = Stamp(0);
-    for pair in pairs {
-        list.push(*pair)?;
-        mark = pair.hi;
-    }
-    let mut segments = Vec::new(alloc);
-    segments.push(2)?;
-    let manifest = Manifest::new(0, mark, list, segments)?.ok_or("a manifest")?;
-    let mut slot = Vec::new(alloc);
-    slot.push(0xa5)?;
+/// The manifest of generation 0 with these pairs, and segment 2.
+fn manifest_of(alloc: Global, pairs: &[Pair]) -> Result<Manifest, Fail> {
+    let mark = pairs.last().map_or(Stamp(0), |pair| pair.hi);
+    let segments = vec![in alloc; 2]?;
+    Ok(Manifest::new(0, mark, pairs.to_vec(alloc)?, segments)?.ok_or("a manifest")?)
+}
+
+/// The bytes of its slot.
+fn slot_of(alloc: Global, manifest: &Manifest) -> Result<Vec<u8>, Fail> {
+    let mut slot = vec![in alloc; 0xa5]?;
     slot.extend_from_slice(&manifest.encode(alloc, VERSION)?)?;
+    Ok(slot)
+}
+
+/// Writes that manifest to slot 0.
+fn install(alloc: Global, disk: &mut MemDisk, pairs: &[Pair]) -> Result<(), Fail> {
+    let slot = slot_of(alloc, &manifest_of(alloc, pairs)?)?;
     put(disk, 0, &slot)
 }
 
@@ -50,89 +55,130 @@ fn later() -> Pair {
     }
 }
 
-/// A disk with the files of both pairs, and a segment without frames.
-fn disk_of_pairs(alloc: Global) -> Result<MemDisk, Fail> {
-    let mut disk = MemDisk::new(alloc)?;
-    put(&mut disk, 4, &bytes(alloc, DATA)?)?;
-    put(&mut disk, 5, &bytes(alloc, NAMED)?)?;
-    put(&mut disk, 6, &bytes(alloc, LATER_DATA)?)?;
-    put(&mut disk, 7, &bytes(alloc, DELTA)?)?;
+const FILES: [(u16, &str); 4] = [(4, DATA), (5, NAMED), (6, LATER_DATA), (7, DELTA)];
+
+/// The files of both pairs, and a segment without frames.
+fn put_pairs(alloc: Global, disk: &mut MemDisk) -> Result<(), Fail> {
+    put_all(alloc, disk, &FILES)?;
     if disk.faults() > 0 {
         return Err(Fail::from("a fault"));
     }
-    let _segment = Segment::fresh(&mut disk, VERSION, 2)?;
+    let _segment = Segment::fresh(disk, VERSION, 2)?;
+    Ok(())
+}
+
+/// A disk with them.
+fn disk_of_pairs(alloc: Global) -> Result<MemDisk, Fail> {
+    let mut disk = MemDisk::new(alloc)?;
+    put_pairs(alloc, &mut disk)?;
     Ok(disk)
+}
+
+/// Once the manifest has these pairs and these files are emptied, what is found is the line.
+fn installed_finds(
+    rt: &(impl Abort + Threads + Sync),
+    alloc: Global,
+    disk: &mut MemDisk,
+    pairs: &[Pair],
+    emptied: &[u16],
+    line: &str,
+) -> Result<(), Fail> {
+    install(alloc, disk, pairs)?;
+    for file in emptied {
+        put(disk, *file, &[])?;
+    }
+    finds(rt, alloc, disk, line)
+}
+
+fn stands_once(
+    rt: &(impl Abort + Threads + Sync),
+    alloc: Global,
+    disk: &mut MemDisk,
+) -> Result<(), Fail> {
+    let cases: [(&[Pair], &[u16], &str); 4] = [
+        // The record of the earlier pair is named, so that only the later one is live.
+        (&[earlier(1), later()], &[], "0, 4, 8, 1: 50 62"),
+        // Both are live: the file of the second one is named.
+        (&[earlier(0), later()], &[], "refused 54 6"),
+        // Which is looked at before the next file.
+        (&[earlier(0), later()], &[2], "refused 54 6"),
+        (&[earlier(0)], &[6], "refused 54 2"),
+    ];
+    for (pairs, emptied, line) in cases {
+        installed_finds(rt, alloc, disk, pairs, emptied, line)?;
+    }
+    Ok(())
 }
 
 #[test]
 fn a_live_key_stands_once(rt: HostRuntime) -> Result<(), Fail> {
-    let alloc = rt.alloc();
-    let mut disk = disk_of_pairs(alloc)?;
-    // The record of the earlier pair is named, so that only the later one is live.
-    install(alloc, &mut disk, &[earlier(1), later()])?;
-    assert_eq!(rt;
-        found_on(&rt, alloc, &mut disk)?.as_str(),
-        "0, 4, 8, 1: 50 62"
-    );
-    // Both are live: the file of the second one is named.
-    install(alloc, &mut disk, &[earlier(0), later()])?;
-    assert_eq!(rt; found_on(&rt, alloc, &mut disk)?.as_str(), "refused 54 6");
-    // Which is looked at before the next file.
-    install(alloc, &mut disk, &[earlier(0), later()])?;
-    put(&mut disk, 2, &[])?;
-    assert_eq!(rt; found_on(&rt, alloc, &mut disk)?.as_str(), "refused 54 6");
-    install(alloc, &mut disk, &[earlier(0)])?;
-    put(&mut disk, 6, &[])?;
-    assert_eq!(rt; found_on(&rt, alloc, &mut disk)?.as_str(), "refused 54 2");
+    let mut disk = disk_of_pairs(rt.alloc())?;
+    stands_once(&rt, rt.alloc(), &mut disk)
+}
+
+/// A data file with two records of one key, at 2 and at 4.
+fn both_records(alloc: Global) -> Result<Vec<u8>, Fail> {
+    let second = bytes(alloc, LATER_DATA)?;
+    let mut data = bytes(alloc, DATA)?;
+    data.extend_from_slice(second.get(8..).ok_or("a record")?)?;
+    Ok(data)
+}
+
+fn stands_once_within(
+    rt: &(impl Abort + Threads + Sync),
+    alloc: Global,
+    disk: &mut MemDisk,
+) -> Result<(), Fail> {
+    put(disk, 4, &both_records(alloc)?)?;
+    let cases = [(0, DELTA, "refused 54 4"), (1, NAMED, "0, 4, 8, 1: 50 62")];
+    for (entries, delta, line) in cases {
+        put_all(alloc, disk, &[(5, delta)])?;
+        let pair = Pair {
+            hi: Stamp(4),
+            records: 2,
+            ..earlier(entries)
+        };
+        installed_finds(rt, alloc, disk, &[pair], &[], line)?;
+    }
     Ok(())
 }
 
 #[test]
 fn a_key_stands_once_within_a_pair(rt: HostRuntime) -> Result<(), Fail> {
-    let alloc = rt.alloc();
-    let mut disk = disk_of_pairs(alloc)?;
-    // Two records of one key, at 2 and at 4.
-    let mut data = bytes(alloc, DATA)?;
-    let second = bytes(alloc, LATER_DATA)?;
-    data.extend_from_slice(second.get(8..).ok_or("a record")?)?;
-    put(&mut disk, 4, &data)?;
-    put(&mut disk, 5, &bytes(alloc, DELTA)?)?;
-    let pair = Pair {
-        hi: Stamp(4),
-        records: 2,
-        ..earlier(0)
-    };
-    install(alloc, &mut disk, &[pair])?;
-    assert_eq!(rt; found_on(&rt, alloc, &mut disk)?.as_str(), "refused 54 4");
-    put(&mut disk, 5, &bytes(alloc, NAMED)?)?;
-    install(alloc, &mut disk, &[Pair { entries: 1, ..pair }])?;
-    assert_eq!(rt;
-        found_on(&rt, alloc, &mut disk)?.as_str(),
-        "0, 4, 8, 1: 50 62"
-    );
+    let mut disk = disk_of_pairs(rt.alloc())?;
+    stands_once_within(&rt, rt.alloc(), &mut disk)
+}
+
+/// The group of the segment.
+fn inserted(alloc: Global) -> Result<Group, Fail> {
+    let segment = bytes(alloc, INSERTED)?;
+    let body = segment.get(13..62).ok_or("a body")?;
+    Ok(Group::decode(alloc, body)?.ok_or("a group")?)
+}
+
+/// Appends the group to a fresh segment.
+fn append(alloc: Global, disk: &mut MemDisk, group: &Group) -> Result<(), Fail> {
+    if disk.faults() > 0 || group.prev().0 != 0 {
+        return Err(Fail::from("a fault, or another group"));
+    }
+    let mut segment = Segment::fresh(disk, VERSION, 2)?;
+    segment.write_body(alloc, disk, group)?;
+    segment.open_gate(disk)?;
     Ok(())
+}
+
+fn are_found(
+    rt: &(impl Abort + Threads + Sync),
+    alloc: Global,
+    disk: &mut MemDisk,
+) -> Result<(), Fail> {
+    install(alloc, disk, &[])?;
+    append(alloc, disk, &inserted(alloc)?)?;
+    finds(rt, alloc, disk, "0, 2, 62, 1: 50 61")
 }
 
 #[test]
 fn appended_groups_are_found(rt: HostRuntime) -> Result<(), Fail> {
-    let alloc = rt.alloc();
-    let mut disk = MemDisk::new(alloc)?;
-    install(alloc, &mut disk, &[])?;
-    if disk.faults() > 0 {
-        return Err(Fail::from("a fault"));
-    }
-    let mut segment = Segment::fresh(&mut disk, VERSION, 2)?;
-    let inserted = bytes(alloc, INSERTED)?;
-    let body = inserted.get(13..62).ok_or("a body")?;
-    let group = Group::decode(alloc, body)?.ok_or("a group")?;
-    if group.prev().0 != 0 {
-        return Err(Fail::from("another group"));
-    }
-    segment.write_body(alloc, &mut disk, &group)?;
-    segment.open_gate(&mut disk)?;
-    assert_eq!(rt;
-        found_on(&rt, alloc, &mut disk)?.as_str(),
-        "0, 2, 62, 1: 50 61"
-    );
-    Ok(())
+    let mut disk = MemDisk::new(rt.alloc())?;
+    are_found(&rt, rt.alloc(), &mut disk)
 }

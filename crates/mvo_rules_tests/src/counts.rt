@@ -1,5 +1,5 @@
 /// How often the cases of interest were met.
-#[derive(Debug, Drop)]
+#[derive(Drop)]
 pub struct Counts {
     pub speculative: u64,
     pub own: u64,

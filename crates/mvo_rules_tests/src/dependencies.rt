@@ -1,3 +1,4 @@
+use crate::equal::same;
 use mvo_deps::{
     Dependencies, Node, register, register_all, report_abort, report_commit, waiting_for,
 };
@@ -84,11 +85,11 @@ fn compare(rt: &impl Abort, table: &Table, plain: &Plain) {
             });
         }
     }
-    assert_eq!(rt; waiting_for(table, plain.id), least);
+    same(rt, &waiting_for(table, plain.id), &least);
     if let Some(seat) = table.get(plain.id) {
-        assert_eq!(rt; seat.kept.own, 7);
-        assert_eq!(rt; seat.kept.dependencies.unsettled(), unsettled);
-        assert_eq!(rt; seat.kept.dependencies.aborted(), plain.aborted);
+        same(rt, &seat.kept.own, &7);
+        same(rt, &seat.kept.dependencies.unsettled(), &unsettled);
+        same(rt, &seat.kept.dependencies.aborted(), &plain.aborted);
     }
 }
 
@@ -113,39 +114,83 @@ fn note_abort(list: &mut Vec<Plain>, id: TxId) {
     }
 }
 
-fn walk(rt: &impl Abort, alloc: Global, seed: u64) -> Result<(), Fail> {
-    let mut draws = Draws(seed);
-    let mut table = TxnTable::new(alloc, Stamp(0))?;
-    let mut list: Vec<Plain> = Vec::new(alloc);
+/// Begins one in both.
+fn begin_both(table: &mut Table, list: &mut Vec<Plain>, alloc: Global) -> Result<(), Refusal> {
+    let id = begin(table, alloc)?;
+    list.push(Plain {
+        id,
+        on: Vec::new(alloc),
+        aborted: None,
+    })?;
+    Ok(())
+}
+
+/// Begins 40 in both, of which the first 20 are Preparing then.
+fn begin_all(table: &mut Table, list: &mut Vec<Plain>, alloc: Global) -> Result<(), Refusal> {
     for _ in 0..40 {
-        let id = begin(&mut table, alloc)?;
-        list.push(Plain {
-            id,
-            on: Vec::new(alloc),
-            aborted: None,
-        })?;
+        begin_both(table, list, alloc)?;
     }
     for id in 1..=20 {
-        prepare(&mut table, TxId(id))?;
+        prepare(table, TxId(id))?;
     }
+    Ok(())
+}
+
+/// Settles one in both, which may abort it.
+fn settle_both(table: &mut Table, list: &mut Vec<Plain>, on: TxId, aborts: bool) {
+    if aborts && is_preparing(table, on) {
+        note_abort(list, on);
+    }
+    settle(table, on, aborts);
+}
+
+/// A step on both.
+fn step_on_both(
+    table: &mut Table,
+    list: &mut Vec<Plain>,
+    draws: &mut Draws,
+) -> Result<(), AllocError> {
+    let on = TxId(draws.below(20).wrapping_add(1));
+    if draws.below(8) == 0 {
+        settle_both(table, list, on, draws.below(2) == 0);
+    }
+    let place = draws.below(40) as usize;
+    match list.get_mut(place) {
+        Some(plain) => depend(table, plain, on),
+        None => Ok(()),
+    }
+}
+
+fn walk_both(
+    rt: &impl Abort,
+    table: &mut Table,
+    list: &mut Vec<Plain>,
+    seed: u64,
+) -> Result<(), Fail> {
+    let mut draws = Draws(seed);
     for _ in 0..400 {
-        let on = TxId(draws.below(20).wrapping_add(1));
-        if draws.below(8) == 0 {
-            let aborts = draws.below(2) == 0;
-            if aborts && is_preparing(&table, on) {
-                note_abort(&mut list, on);
-            }
-            settle(&mut table, on, aborts);
-        }
-        let place = draws.below(40) as usize;
-        if let Some(plain) = list.get_mut(place) {
-            depend(&mut table, plain, on)?;
-        }
-        for plain in &list {
-            compare(rt, &table, plain);
+        step_on_both(table, list, &mut draws)?;
+        for plain in &*list {
+            compare(rt, table, plain);
         }
     }
     Ok(())
+}
+
+fn begin_and_walk(
+    rt: &impl Abort,
+    alloc: Global,
+    table: &mut Table,
+    seed: u64,
+) -> Result<(), Fail> {
+    let mut list: Vec<Plain> = Vec::new(alloc);
+    begin_all(table, &mut list, alloc)?;
+    walk_both(rt, table, &mut list, seed)
+}
+
+fn walk(rt: &impl Abort, alloc: Global, seed: u64) -> Result<(), Fail> {
+    let mut table = TxnTable::new(alloc, Stamp(0))?;
+    begin_and_walk(rt, alloc, &mut table, seed)
 }
 
 #[test]
@@ -180,22 +225,27 @@ fn depend_on_three(table: &mut Table, alloc: Global) -> Result<(), Fail> {
 fn wait_for_three(rt: &impl Abort, table: &mut Table) {
     let on = [TxId(2), TxId(3), TxId(4)];
     for (settled, id) in on.iter().enumerate() {
-        assert_eq!(rt; waiting_for(table, TxId(5)), Some(*id));
+        same(rt, &waiting_for(table, TxId(5)), &Some(*id));
         if let Some(seat) = table.get(TxId(5)) {
-            assert_eq!(rt;
-                seat.kept.dependencies.unsettled(),
-                3usize.saturating_sub(settled)
+            same(
+                rt,
+                &seat.kept.dependencies.unsettled(),
+                &3usize.saturating_sub(settled),
             );
         }
         settle(table, *id, false);
     }
-    assert_eq!(rt; waiting_for(table, TxId(5)), None);
+    same(rt, &waiting_for(table, TxId(5)), &None);
+}
+
+fn depend_and_wait(rt: &impl Abort, alloc: Global, table: &mut Table) -> Result<(), Fail> {
+    depend_on_three(table, alloc)?;
+    wait_for_three(rt, table);
+    Ok(())
 }
 
 #[test]
 fn registers_several(rt: HostRuntime) -> Result<(), Fail> {
     let mut table = TxnTable::new(rt.alloc(), Stamp(0))?;
-    depend_on_three(&mut table, rt.alloc())?;
-    wait_for_three(&rt, &mut table);
-    Ok(())
+    depend_and_wait(&rt, rt.alloc(), &mut table)
 }

@@ -20,7 +20,6 @@ pub const SORTS: u64 = 5;
 const MOST_AT_ONCE: u64 = 6;
 
 /// A small engine, of which a step is drawn at a time.
-#[derive(Drop)]
 pub struct Engine {
     alloc: Global,
     pub chains: Chains,
@@ -29,6 +28,20 @@ pub struct Engine {
     pub table: TxnTable<u8>,
     pub open: Vec<Open>,
     pub counts: Counts,
+}
+
+impl Drop for Engine {
+    fn drop(self) {
+        let Engine {
+            alloc: _,
+            chains: _,
+            index: _,
+            ranges: _,
+            table: _,
+            open: _,
+            counts: _,
+        } = self;
+    }
 }
 
 impl Engine {

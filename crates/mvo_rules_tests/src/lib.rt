@@ -10,6 +10,8 @@ mod draws;
 #[cfg(test)]
 mod engine;
 #[cfg(test)]
+mod equal;
+#[cfg(test)]
 mod hash;
 #[cfg(test)]
 mod numbers;

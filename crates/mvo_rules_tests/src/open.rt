@@ -5,14 +5,13 @@ use mvo_visible::Shown;
 use std::alloc::{AllocError, Global};
 
 /// A word that a transaction wrote.
-#[derive(Clone, Copy, Debug)]
+#[derive(Clone, Copy)]
 pub enum Written {
     Begin(VersionNo),
     End(VersionNo),
 }
 
 /// An unfinished transaction.
-#[derive(Drop)]
 pub struct Open {
     pub id: TxId,
     /// One that it depends on is Aborted.
@@ -27,6 +26,21 @@ pub struct Open {
     /// The keys that it inserted.
     pub inserted: Vec<RowKey>,
     pub depends_on: Vec<TxId>,
+}
+
+impl Drop for Open {
+    fn drop(self) {
+        let Open {
+            id: _,
+            flagged: _,
+            entries: _,
+            checked: _,
+            words: _,
+            writes: _,
+            inserted: _,
+            depends_on: _,
+        } = self;
+    }
 }
 
 impl Open {

@@ -1,4 +1,5 @@
-use mvo_range::{Place, RangeIndex};
+use crate::equal::{holds, same};
+use mvo_range::{Place, RangeIndex, Walk};
 use mvo_types::RowKey;
 use std::alloc::{AllocError, Global};
 use std::process::Abort;
@@ -76,8 +77,24 @@ fn change_both(
         }
         None => index.remove(place),
     };
-    assert_eq!(rt; was, want);
-    assert_eq!(rt; index.len(), list.len());
+    same(rt, &was, &want);
+    same(rt, &index.len(), &list.len());
+    Ok(())
+}
+
+// Both have the same entries from the place on, or behind it.
+fn compare_walk(
+    rt: &impl Abort,
+    list: &Vec<(Place, u32)>,
+    walk: Walk,
+    first: Place,
+    is_behind: bool,
+    hi: u64,
+) -> Result<(), Fail> {
+    let alloc = *list.allocator();
+    let walked: Vec<(Place, u32)> = walk.collect(alloc)?;
+    let want = listed(alloc, list.as_slice(), first, is_behind, hi)?;
+    same(rt, &walked.as_slice(), &want.as_slice());
     Ok(())
 }
 
@@ -89,14 +106,9 @@ fn compare(
     first: Place,
     hi: u64,
 ) -> Result<(), Fail> {
-    let alloc = *list.allocator();
-    let walked: Vec<(Place, u32)> = index.between(first.table, first.sort, hi).collect(alloc)?;
-    let want = listed(alloc, list.as_slice(), first, false, hi)?;
-    assert_eq!(rt; walked.as_slice(), want.as_slice());
-    let walked: Vec<(Place, u32)> = index.after(first, hi).collect(alloc)?;
-    let want = listed(alloc, list.as_slice(), first, true, hi)?;
-    assert_eq!(rt; walked.as_slice(), want.as_slice());
-    Ok(())
+    let walk = index.between(first.table, first.sort, hi);
+    compare_walk(rt, list, walk, first, false, hi)?;
+    compare_walk(rt, list, index.after(first, hi), first, true, hi)
 }
 
 // One step on both.
@@ -118,60 +130,110 @@ fn step_on_both(
     compare(rt, index, list, first, numbers.below(6))
 }
 
-#[test]
-fn agrees_with_a_plain_list(rt: HostRuntime) -> Result<(), Fail> {
+// Many steps on both.
+fn agree(
+    rt: &impl Abort,
+    index: &mut RangeIndex,
+    list: &mut Vec<(Place, u32)>,
+) -> Result<(), Fail> {
     let mut numbers = Numbers {
         state: 88172645463325252,
     };
-    let mut index = RangeIndex::new(rt.alloc());
-    let mut list: Vec<(Place, u32)> = Vec::new(rt.alloc());
     for step in 0u32..4000 {
-        step_on_both(&rt, &mut numbers, &mut index, &mut list, step)?;
+        step_on_both(rt, &mut numbers, index, list, step)?;
     }
     Ok(())
 }
 
 #[test]
-fn builds_in_one_go(rt: HostRuntime) -> Result<(), Fail> {
-    let alloc = rt.alloc();
+fn agrees_with_a_plain_list(rt: HostRuntime) -> Result<(), Fail> {
+    let mut index = RangeIndex::new(rt.alloc());
+    agree(&rt, &mut index, &mut Vec::new(rt.alloc()))
+}
+
+// The entries are added one after another, and kept.
+fn add_all(added: &mut RangeIndex, entries: &mut Vec<(Place, u32)>) -> Result<(), AllocError> {
     let mut numbers = Numbers { state: 2463534242 };
-    let mut added = RangeIndex::new(alloc);
-    let mut entries: Vec<(Place, u32)> = Vec::new(alloc);
     for number in 0u32..500 {
         let place = numbers.place();
         added.add(place, number)?;
         entries.push((place, number))?;
     }
-    let built = RangeIndex::from_entries(alloc, entries)?;
-    assert_eq!(rt; built.len(), added.len());
+    Ok(())
+}
+
+// Both have the same entries of the table.
+fn compare_table(
+    rt: &impl Abort,
+    alloc: Global,
+    built: &RangeIndex,
+    added: &RangeIndex,
+    table: u8,
+) -> Result<(), Fail> {
+    let left: Vec<(Place, u32)> = built.between(table, 0, u64::MAX).collect(alloc)?;
+    let right: Vec<(Place, u32)> = added.between(table, 0, u64::MAX).collect(alloc)?;
+    same(rt, &left.as_slice(), &right.as_slice());
+    Ok(())
+}
+
+fn compare_tables(
+    rt: &impl Abort,
+    alloc: Global,
+    built: &RangeIndex,
+    added: &RangeIndex,
+) -> Result<(), Fail> {
+    same(rt, &built.len(), &added.len());
     for table in 0..2 {
-        let left: Vec<(Place, u32)> = built.between(table, 0, u64::MAX).collect(alloc)?;
-        let right: Vec<(Place, u32)> = added.between(table, 0, u64::MAX).collect(alloc)?;
-        assert_eq!(rt; left.as_slice(), right.as_slice());
+        compare_table(rt, alloc, built, added, table)?;
     }
+    Ok(())
+}
+
+// What is built of the entries in one go is what they were added to.
+fn builds(rt: &impl Abort, alloc: Global, added: &mut RangeIndex) -> Result<(), Fail> {
+    let mut entries: Vec<(Place, u32)> = Vec::new(alloc);
+    add_all(added, &mut entries)?;
+    let built = RangeIndex::from_entries(alloc, entries)?;
+    compare_tables(rt, alloc, &built, added)
+}
+
+#[test]
+fn builds_in_one_go(rt: HostRuntime) -> Result<(), Fail> {
+    let mut added = RangeIndex::new(rt.alloc());
+    builds(&rt, rt.alloc(), &mut added)
+}
+
+// The first entry is this one.
+fn begins_with(rt: &impl Abort, walk: Walk, wanted: Option<(Place, u32)>) {
+    let mut walk = walk;
+    same(rt, &walk.next(), &wanted);
+}
+
+fn takes_last(rt: &impl Abort, index: &mut RangeIndex) -> Result<(), Fail> {
+    let key = RowKey {
+        table: 255,
+        key: u64::MAX,
+    };
+    let last = Place::new(key, u64::MAX);
+    same(rt, &index.add(last, u32::MAX)?, &None);
+    same(rt, &index.get(last), &Some(u32::MAX));
+    same(rt, &last.row_key().key, &u64::MAX);
+    let walk = index.between(255, 0, u64::MAX);
+    begins_with(rt, walk, Some((last, u32::MAX)));
+    begins_with(rt, index.between(255, u64::MAX, 0), None);
+    begins_with(rt, index.after(last, u64::MAX), None);
+    Ok(())
+}
+
+fn stands_at_the_ends(rt: &impl Abort, index: &mut RangeIndex) -> Result<(), Fail> {
+    holds(rt, index.is_empty());
+    takes_last(rt, index)?;
+    holds(rt, !index.is_empty());
     Ok(())
 }
 
 #[test]
 fn stands_at_the_ends_of_the_numbers(rt: HostRuntime) -> Result<(), Fail> {
     let mut index = RangeIndex::new(rt.alloc());
-    assert!(rt; index.is_empty());
-    let last = Place::new(
-        RowKey {
-            table: 255,
-            key: u64::MAX,
-        },
-        u64::MAX,
-    );
-    assert_eq!(rt; index.add(last, u32::MAX)?, None);
-    assert_eq!(rt; index.get(last), Some(u32::MAX));
-    assert_eq!(rt; last.row_key().key, u64::MAX);
-    assert_eq!(rt;
-        index.between(255, 0, u64::MAX).next(),
-        Some((last, u32::MAX))
-    );
-    assert_eq!(rt; index.between(255, u64::MAX, 0).next(), None);
-    assert_eq!(rt; index.after(last, u64::MAX).next(), None);
-    assert!(rt; !index.is_empty());
-    Ok(())
+    stands_at_the_ends(&rt, &mut index)
 }

@@ -1,3 +1,4 @@
+use crate::equal::{holds, same};
 use mvo_model::Serial;
 use mvo_types::{Answer, Op, Row, RowKey, Rows};
 use std::alloc::{AllocError, Global};
@@ -29,9 +30,9 @@ fn two_rows(alloc: Global) -> Result<Serial, AllocError> {
 }
 
 fn assert_row(rt: &impl Abort, row: &Row, (key, sort, byte): Plain) {
-    assert_eq!(rt; row.key, key_of(key));
-    assert_eq!(rt; row.sort, sort);
-    assert_eq!(rt; row.bytes(), [byte].as_slice());
+    same(rt, &row.key, &key_of(key));
+    same(rt, &row.sort, &sort);
+    same(rt, &row.bytes(), &[byte].as_slice());
 }
 
 /// The answer is these rows, in this order.
@@ -39,7 +40,7 @@ fn assert_rows(rt: &impl Abort, answer: &Answer, wanted: &[Plain]) {
     let Answer::Rows(found) = answer else {
         panic!(rt; "no rows");
     };
-    assert_eq!(rt; found.len(), wanted.len());
+    same(rt, &found.len(), &wanted.len());
     for (row, plain) in found.iter().zip(wanted) {
         assert_row(rt, row, *plain);
     }
@@ -66,7 +67,7 @@ fn a_scan_gives_the_rows_of_its_range(rt: HostRuntime) -> Result<(), Fail> {
 
 fn inserts(rt: &impl Abort, alloc: Global, store: &mut Serial, plain: Plain) -> Result<(), Fail> {
     let added = store.apply(&Op::Insert(row(alloc, plain)?))?;
-    assert!(rt; matches!(added, Answer::Inserted));
+    holds(rt, matches!(added, Answer::Inserted));
     Ok(())
 }
 
@@ -97,25 +98,26 @@ fn writes(alloc: Global) -> Result<Vec<Op>, AllocError> {
 
 /// What the writes are told.
 fn assert_told(rt: &impl Abort, told: &[Answer]) {
-    assert_eq!(rt; told.len(), 6);
-    assert!(rt; matches!(&told[0], Answer::Exists));
-    assert!(rt; matches!(&told[1], Answer::Absent));
-    assert!(rt; matches!(&told[2], Answer::Updated));
-    assert!(rt; matches!(&told[3], Answer::Deleted));
-    assert!(rt; matches!(&told[4], Answer::Found(None)));
-    assert!(rt; matches!(&told[5], Answer::Absent));
+    same(rt, &told.len(), &6);
+    holds(rt, matches!(told.get(0), Some(Answer::Exists)));
+    holds(rt, matches!(told.get(1), Some(Answer::Absent)));
+    holds(rt, matches!(told.get(2), Some(Answer::Updated)));
+    holds(rt, matches!(told.get(3), Some(Answer::Deleted)));
+    holds(rt, matches!(told.get(4), Some(Answer::Found(None))));
+    holds(rt, matches!(told.get(5), Some(Answer::Absent)));
 }
 
 fn tells(rt: &impl Abort, alloc: Global, store: &mut Serial) -> Result<(), Fail> {
     let told = store.run(&vec![in alloc; writes(alloc)?]?)?;
-    assert_eq!(rt; told.len(), 1);
-    assert_told(rt, &told[0]);
+    same(rt, &told.len(), &1);
+    let first = told.first().ok_or("what one is told")?;
+    assert_told(rt, first.as_slice());
     Ok(())
 }
 
 /// What the writes leave.
 fn assert_left(rt: &impl Abort, rows: &Rows) -> Result<(), Fail> {
-    assert_eq!(rt; rows.len(), 1);
+    same(rt, &rows.len(), &1);
     assert_row(rt, &rows.get(key_of(2))?.ok_or("a row")?, (2, 30, 0x63));
     Ok(())
 }

@@ -2,6 +2,7 @@
 
 use crate::draws::key_of;
 use crate::engine::Engine;
+use crate::equal::same;
 use crate::plain::shown_of_others;
 use crate::step::Step::{self, Begin, Delete, Finish, Insert, Precommit, Settle, Withdraw};
 use crate::story::Story;
@@ -15,14 +16,14 @@ use std::test::Fail;
 fn shown_now(rt: &impl Abort, engine: &Engine) -> Shown {
     let id = engine.table.clock().0.saturating_add(1);
     let shown = engine.shown_to(TxId(id), key_of(1));
-    assert_eq!(rt; shown, shown_of_others(engine, Stamp(id), key_of(1)));
+    same(rt, &shown, &shown_of_others(engine, Stamp(id), key_of(1)));
     shown
 }
 
 /// After these steps too, so much is shown, and nothing strange was met.
 fn shows(rt: &impl Abort, story: &Story, wanted: Shown) {
-    assert_eq!(rt; shown_now(rt, &story.engine), wanted);
-    assert_eq!(rt; story.engine.counts.strange, 0);
+    same(rt, &shown_now(rt, &story.engine), &wanted);
+    same(rt, &story.engine.counts.strange, &0);
 }
 
 /// X, Y and T.

@@ -7,10 +7,15 @@ use std::alloc::{AllocError, Global};
 use std::test::Fail;
 
 /// The engine doesn't have the transactions of a story among its open ones.
-#[derive(Drop)]
 pub struct Story {
     pub engine: Engine,
     told: Vec<Open>,
+}
+
+impl Drop for Story {
+    fn drop(self) {
+        let Story { engine: _, told: _ } = self;
+    }
 }
 
 impl Story {

@@ -1,3 +1,4 @@
+use crate::equal::{holds, same};
 use mvo_txn::{TxState, TxnTable};
 use mvo_types::{MAX_STAMP, MAX_UNFINISHED, Refusal, Stamp, TxId};
 use std::process::Abort;
@@ -57,15 +58,16 @@ fn plain_low_water(list: &Vec<Plain>, clock: u64) -> u64 {
 
 /// Both tell the same of the table, and of the transaction.
 fn compare(rt: &impl Abort, table: &TxnTable<u64>, list: &Vec<Plain>, clock: u64, plain: Plain) {
-    assert_eq!(rt; table.clock(), Stamp(clock));
-    assert_eq!(rt; table.len(), list.len());
-    assert_eq!(rt; table.oldest_begin(), Stamp(plain_oldest(list, clock)));
-    assert_eq!(rt; table.low_water(), Stamp(plain_low_water(list, clock)));
-    assert_eq!(rt; table.state(plain.id), Some(plain.state));
-    assert!(rt;
+    same(rt, &table.clock(), &Stamp(clock));
+    same(rt, &table.len(), &list.len());
+    same(rt, &table.oldest_begin(), &Stamp(plain_oldest(list, clock)));
+    same(rt, &table.low_water(), &Stamp(plain_low_water(list, clock)));
+    same(rt, &table.state(plain.id), &Some(plain.state));
+    holds(
+        rt,
         table
             .get(plain.id)
-            .is_some_and(|seat| seat.kept == plain.kept)
+            .is_some_and(|seat| seat.kept == plain.kept),
     );
 }
 
@@ -93,7 +95,7 @@ fn step(
         }
         Some(TxState::Active) => {
             let end = table.prepare(id)?;
-            assert_eq!(rt; end, table.clock());
+            same(rt, &end, &table.clock());
             Ok(standing(id, TxState::Preparing(end), kept))
         }
         Some(TxState::Preparing(_)) if draw % 4 == 0 => {
@@ -102,69 +104,114 @@ fn step(
         }
         Some(TxState::Preparing(_)) => {
             let end = table.commit(id);
-            assert_eq!(rt; state, TxState::Preparing(end));
+            same(rt, &state, &TxState::Preparing(end));
             Ok(standing(id, TxState::Committed(end), kept))
         }
         Some(TxState::Committed(_)) | Some(TxState::Aborted) => {
-            assert_eq!(rt; table.terminate(id), kept);
-            assert_eq!(rt; table.state(id), None);
+            same(rt, &table.terminate(id), &kept);
+            same(rt, &table.state(id), &None);
             Ok(None)
         }
         None => Ok(None),
     }
 }
 
+/// Begins one in both.
+fn begin_both(table: &mut TxnTable<u64>, list: &mut Vec<Plain>, draw: u64) -> Result<(), Refusal> {
+    let id = table.begin(draw)?;
+    list.push(Plain {
+        id,
+        state: TxState::Active,
+        kept: draw,
+    })?;
+    Ok(())
+}
+
+/// Takes the one at the place on in both, and compares them.
+fn step_both(
+    rt: &impl Abort,
+    table: &mut TxnTable<u64>,
+    list: &mut Vec<Plain>,
+    place: usize,
+    draw: u64,
+) -> Result<(), Refusal> {
+    if place >= list.len() {
+        return Ok(());
+    }
+    let plain = list.remove(place);
+    if let Some(after) = step(rt, table, plain, draw)? {
+        list.push(after)?;
+        compare(rt, table, list, table.clock().0, after);
+    }
+    Ok(())
+}
+
+/// One round.
+fn go(
+    rt: &impl Abort,
+    table: &mut TxnTable<u64>,
+    list: &mut Vec<Plain>,
+    draws: &mut Draws,
+) -> Result<(), Refusal> {
+    let draw = draws.next();
+    if draw % 7 < 2 || list.is_empty() {
+        return begin_both(table, list, draw);
+    }
+    let place = draws.place(list.len());
+    step_both(rt, table, list, place, draw)
+}
+
+fn go_all(
+    rt: &impl Abort,
+    table: &mut TxnTable<u64>,
+    list: &mut Vec<Plain>,
+) -> Result<(), Refusal> {
+    let mut draws = Draws(1);
+    for round in 0..20_000u64 {
+        go(rt, table, list, &mut draws)?;
+        holds(rt, table.clock().0 <= 7 + 2 * (round + 1));
+    }
+    Ok(())
+}
+
 #[test]
 fn is_as_a_plain_list(rt: HostRuntime) -> Result<(), Fail> {
     let mut table = TxnTable::new(rt.alloc(), Stamp(7))?;
-    let mut list: Vec<Plain> = Vec::new(rt.alloc());
-    let mut draws = Draws(1);
-    for round in 0..20_000u64 {
-        let draw = draws.next();
-        if draw % 7 < 2 || list.is_empty() {
-            let id = table.begin(draw)?;
-            list.push(Plain {
-                id,
-                state: TxState::Active,
-                kept: draw,
-            })?;
-            continue;
-        }
-        let place = draws.place(list.len());
-        if place >= list.len() {
-            continue;
-        }
-        let plain = list.remove(place);
-        if let Some(after) = step(&rt, &mut table, plain, draw)? {
-            list.push(after)?;
-            compare(&rt, &table, &list, table.clock().0, after);
-        }
-        assert!(rt; table.clock().0 <= 7 + 2 * (round + 1));
+    go_all(&rt, &mut table, &mut Vec::new(rt.alloc()))?;
+    Ok(())
+}
+
+fn begin_all(rt: &impl Abort, table: &mut TxnTable<()>) -> Result<(), Refusal> {
+    holds(rt, table.is_empty());
+    for begun in 1..=MAX_UNFINISHED {
+        same(rt, &table.begin(())?, &TxId(begun as u64));
     }
+    same(rt, &table.begin(()).err(), &Some(Refusal::TableFull));
+    same(rt, &table.oldest_begin(), &Stamp(1));
     Ok(())
 }
 
 #[test]
 fn begins_until_it_is_full(rt: HostRuntime) -> Result<(), Fail> {
     let mut table = TxnTable::new(rt.alloc(), Stamp(0))?;
-    assert!(rt; table.is_empty());
-    for begun in 1..=MAX_UNFINISHED {
-        assert_eq!(rt; table.begin(())?, TxId(begun as u64));
+    begin_all(&rt, &mut table)?;
+    Ok(())
+}
+
+fn draw_last(rt: &impl Abort, table: &mut TxnTable<()>) -> Result<(), Refusal> {
+    let id = table.begin(())?;
+    same(rt, &id, &TxId(MAX_STAMP));
+    same(rt, &table.begin(()).err(), &Some(Refusal::ClockSpent));
+    if let Some(TxState::Active) = table.state(id) {
+        same(rt, &table.prepare(id).err(), &Some(Refusal::ClockSpent));
     }
-    assert_eq!(rt; table.begin(()).err(), Some(Refusal::TableFull));
-    assert_eq!(rt; table.oldest_begin(), Stamp(1));
+    same(rt, &table.low_water(), &Stamp(MAX_STAMP));
     Ok(())
 }
 
 #[test]
 fn draws_until_the_clock_is_spent(rt: HostRuntime) -> Result<(), Fail> {
     let mut table = TxnTable::new(rt.alloc(), Stamp(MAX_STAMP - 1))?;
-    let id = table.begin(())?;
-    assert_eq!(rt; id, TxId(MAX_STAMP));
-    assert_eq!(rt; table.begin(()).err(), Some(Refusal::ClockSpent));
-    if let Some(TxState::Active) = table.state(id) {
-        assert_eq!(rt; table.prepare(id).err(), Some(Refusal::ClockSpent));
-    }
-    assert_eq!(rt; table.low_water(), Stamp(MAX_STAMP));
+    draw_last(&rt, &mut table)?;
     Ok(())
 }

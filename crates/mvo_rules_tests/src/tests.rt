@@ -1,6 +1,7 @@
 use crate::counts::{Counts, count};
 use crate::draws::{Draws, key_of};
 use crate::engine::{Engine, SORTS};
+use crate::equal::{above, holds, same, same_at};
 use crate::open::Open;
 use crate::plain::{checked, shown_of_others};
 use mvo_txn::TxState;
@@ -47,7 +48,7 @@ fn compare_shown(rt: &impl Abort, engine: &Engine, at: Stamp, key: RowKey, count
         if engine.table.state(tx.id) == Some(TxState::Active) {
             let shown = engine.shown_to(tx.id, key);
             let want = wanted(engine, tx, key, counts);
-            assert_eq!(rt; shown, want, "{:?} {key:?}", tx.id);
+            same_at(rt, &shown, &want, tx.id.0);
             if shown.depends_on.is_some() {
                 count(&mut counts.speculative);
             }
@@ -56,7 +57,7 @@ fn compare_shown(rt: &impl Abort, engine: &Engine, at: Stamp, key: RowKey, count
     let id = TxId(at.0);
     if engine.table.state(id).is_none() {
         let want = shown_of_others(engine, at, key);
-        assert_eq!(rt; engine.shown_to(id, key), want, "{id:?} {key:?}");
+        same_at(rt, &engine.shown_to(id, key), &want, id.0);
     }
 }
 
@@ -66,7 +67,7 @@ fn compare_checks(rt: &impl Abort, engine: &Engine, entry: Entry, counts: &mut C
         if let Some(TxState::Preparing(end)) = engine.table.state(tx.id) {
             let check = engine.check(tx.id, end, entry);
             let want = checked(engine, Stamp(tx.id.0), end, entry);
-            assert_eq!(rt; check, want, "{:?} {entry:?}", tx.id);
+            same_at(rt, &check, &want, tx.id.0);
             if let Check::Differs(stamp) = check {
                 note_difference(engine, stamp, entry, counts);
             }
@@ -128,36 +129,46 @@ fn compare(rt: &impl Abort, engine: &Engine, draws: &mut Draws, counts: &mut Cou
 
 /// Each case of interest is met often enough.
 fn assert_met(rt: &impl Abort, counts: &Counts) {
-    for met in [
-        counts.speculative,
-        counts.own,
-        counts.own_deleted,
-        counts.by_preparing,
-    ] {
-        assert!(rt; met > 1_500, "{counts:?}");
-    }
-    for met in [counts.crowded, counts.doomed] {
-        assert!(rt; met > 150, "{counts:?}");
-    }
-    for met in [counts.inserted_twice, counts.ranges] {
-        assert!(rt; met > 50, "{counts:?}");
-    }
+    let floors = [
+        (counts.speculative, 1_500),
+        (counts.own, 1_500),
+        (counts.own_deleted, 1_500),
+        (counts.by_preparing, 1_500),
+        (counts.crowded, 150),
+        (counts.doomed, 150),
+        (counts.inserted_twice, 50),
+        (counts.ranges, 50),
+    ];
+    above(rt, &floors);
 }
 
 fn assert_run(rt: &impl Abort, counts: &Counts) {
-    assert_eq!(rt; counts.strange, 0);
-    for met in [
-        counts.conflicts,
-        counts.failed,
-        counts.committed,
-        counts.moved,
-    ] {
-        assert!(rt; met > 60, "{counts:?}");
+    same(rt, &counts.strange, &0);
+    let floors = [
+        (counts.conflicts, 60),
+        (counts.failed, 60),
+        (counts.committed, 60),
+        (counts.moved, 60),
+        (counts.waits, 20),
+        (counts.flagged, 20),
+        (counts.ended_unput, 0),
+    ];
+    above(rt, &floors);
+}
+
+/// The steps with draws from one seed.
+fn take_steps(
+    rt: &impl Abort,
+    engine: &mut Engine,
+    seed: u64,
+    counts: &mut Counts,
+) -> Result<(), Fail> {
+    let mut draws = Draws(seed);
+    for _step in 0..STEPS {
+        engine.advance(&mut draws)?;
+        compare(rt, engine, &mut draws, counts);
     }
-    for met in [counts.waits, counts.flagged] {
-        assert!(rt; met > 20, "{counts:?}");
-    }
-    assert!(rt; counts.ended_unput > 0, "{counts:?}");
+    Ok(())
 }
 
 /// The steps of one seed. What they met is added.
@@ -168,15 +179,11 @@ fn agree(
     counts: &mut Counts,
     run: &mut Counts,
 ) -> Result<(), Fail> {
-    let mut draws = Draws(seed);
     let mut engine = Engine::new(alloc, seed)?;
     swap(&mut engine.counts, run);
-    for _step in 0..STEPS {
-        engine.advance(&mut draws)?;
-        compare(rt, &engine, &mut draws, counts);
-    }
+    let taken = take_steps(rt, &mut engine, seed, counts);
     swap(&mut engine.counts, run);
-    Ok(())
+    taken
 }
 
 #[test]
@@ -206,30 +213,34 @@ const CALLS: [(Entry, bool); 5] = [
     (KEY, false),
 ];
 
-fn noted(rt: &impl Abort, alloc: Global) -> Result<Entries, Fail> {
-    let mut entries = Entries::new(alloc);
-    assert_eq!(rt; entries.at(0), None);
-    for (entry, is_new) in CALLS {
+fn note_all(rt: &impl Abort, entries: &mut Entries) -> Result<(), Fail> {
+    same(rt, &entries.at(0), &None);
+    for (place, (entry, is_new)) in CALLS.iter().enumerate() {
         entries.make_room()?;
-        assert_eq!(rt; entries.note(entry), is_new, "{entry:?}");
+        same_at(rt, &entries.note(*entry), is_new, place as u64);
     }
-    Ok(entries)
+    Ok(())
 }
 
 const IN_ORDER: [Option<Entry>; 4] = [Some(RANGE), Some(KEY), Some(EMPTY), None];
 
 fn stand_in_order(rt: &impl Abort, entries: &Entries) {
-    assert_eq!(rt; entries.len(), 3);
+    same(rt, &entries.len(), &3);
     for (place, entry) in IN_ORDER.iter().enumerate() {
-        assert_eq!(rt; entries.at(place), *entry, "at {place}");
+        same_at(rt, &entries.at(place), entry, place as u64);
     }
+}
+
+fn check_entries(rt: &impl Abort, entries: &mut Entries) -> Result<(), Fail> {
+    note_all(rt, entries)?;
+    stand_in_order(rt, entries);
+    holds(rt, entries.contains(EMPTY));
+    holds(rt, !entries.contains(Entry::Key(key_of(9))));
+    Ok(())
 }
 
 #[test]
 fn entries_stand_in_the_order_of_their_first_use(rt: HostRuntime) -> Result<(), Fail> {
-    let entries = noted(&rt, rt.alloc())?;
-    stand_in_order(&rt, &entries);
-    assert!(rt; entries.contains(EMPTY));
-    assert!(rt; !entries.contains(Entry::Key(key_of(9))));
-    Ok(())
+    let mut entries = Entries::new(rt.alloc());
+    check_entries(&rt, &mut entries)
 }

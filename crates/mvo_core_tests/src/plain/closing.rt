@@ -9,10 +9,18 @@ use std::alloc::AllocError;
 use std::mem;
 
 /// A group with its records.
-#[derive(Drop)]
 pub struct PlainGroup {
     pub closed: Closed,
     pub records: Vec<Record>,
+}
+
+impl Drop for PlainGroup {
+    fn drop(self) {
+        let PlainGroup {
+            closed: _,
+            records: _,
+        } = self;
+    }
 }
 
 impl Plain {

@@ -7,7 +7,6 @@ use mvo_group::Record;
 use mvo_types::{MAX_STAMP, MAX_UNFINISHED, Refusal, Row, TxId};
 use std::alloc::{AllocError, Global};
 
-#[derive(Drop)]
 pub struct Plain {
     pub alloc: Global,
     pub clock: u64,
@@ -20,17 +19,23 @@ pub struct Plain {
     pub commits: Vec<Record>,
 }
 
+impl Drop for Plain {
+    fn drop(self) {
+        let Plain {
+            alloc: _,
+            clock: _,
+            closed: _,
+            versions: _,
+            table: _,
+            commits: _,
+        } = self;
+    }
+}
+
 impl Plain {
     /// Over these rows.
     pub fn over(alloc: Global, rows: Vec<Row>, mark: u64) -> Result<Plain, AllocError> {
-        let mut versions = Vec::new(alloc);
-        for row in rows {
-            versions.push(Version {
-                row,
-                begin: Word::At(mark),
-                end: Word::Infinity,
-            })?;
-        }
+        let versions = versions_of(alloc, rows, mark)?;
         Ok(Plain {
             alloc,
             clock: mark,
@@ -120,4 +125,17 @@ impl Plain {
         self.table.push(PlainTx::new(self.alloc, id))?;
         Ok(Reply::Began(TxId(id)))
     }
+}
+
+/// Versions of the rows, which stand since the mark.
+fn versions_of(alloc: Global, rows: Vec<Row>, mark: u64) -> Result<Vec<Version>, AllocError> {
+    let mut versions = Vec::new(alloc);
+    for row in rows {
+        versions.push(Version {
+            row,
+            begin: Word::At(mark),
+            end: Word::Infinity,
+        })?;
+    }
+    Ok(versions)
 }

@@ -87,16 +87,30 @@ impl Plain {
             Some(tx) => self.considered(tx, range)?,
             None => Vec::new(self.alloc),
         };
+        Ok(Answer::Rows(self.rows_of(id, range, &keys)?))
+    }
+
+    /// Of the rows at the keys those in the range.
+    fn rows_of(&mut self, id: u64, range: Entry, keys: &[RowKey]) -> Result<Vec<Row>, AllocError> {
         let mut rows = Vec::new(self.alloc);
         for key in keys {
-            let place = self.look(id, key)?;
-            if let Some(row) = self.row_at(place)? {
-                if range.covers(row.key, row.sort) {
-                    put_in_order(&mut rows, row)?;
-                }
-            }
+            self.look_in(id, range, *key, &mut rows)?;
         }
-        Ok(Answer::Rows(rows))
+        Ok(rows)
+    }
+
+    fn look_in(
+        &mut self,
+        id: u64,
+        range: Entry,
+        key: RowKey,
+        rows: &mut Vec<Row>,
+    ) -> Result<(), AllocError> {
+        let place = self.look(id, key)?;
+        match self.row_at(place)? {
+            Some(row) if range.covers(row.key, row.sort) => put_in_order(rows, row),
+            _ => Ok(()),
+        }
     }
 
     fn insert(&mut self, id: u64, row: &Row) -> Result<Answer, AllocError> {

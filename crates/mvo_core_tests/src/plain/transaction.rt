@@ -20,7 +20,6 @@ pub enum WordPlace {
     End(usize),
 }
 
-#[derive(Drop)]
 pub struct PlainTx {
     /// Its begin timestamp.
     pub id: u64,
@@ -38,6 +37,22 @@ pub struct PlainTx {
     pub keys: Vec<RowKey>,
     /// The words that it wrote, in the order of writing.
     pub words: Vec<WordPlace>,
+}
+
+impl Drop for PlainTx {
+    fn drop(self) {
+        let PlainTx {
+            id: _,
+            state: _,
+            entries: _,
+            checked: _,
+            is_valid: _,
+            depends_on: _,
+            aborted_dependency: _,
+            keys: _,
+            words: _,
+        } = self;
+    }
 }
 
 impl PlainTx {

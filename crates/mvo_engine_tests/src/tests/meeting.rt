@@ -3,6 +3,7 @@ ghost use Rattle.mvo_engine.specs.Opened.{IsNamedBy};
 
 use super::rows::{put, row};
 use super::{SEED, formatted};
+use crate::equal::holds;
 use mvo_disk::Disk;
 use mvo_engine::{Engine, Fresh, Gate, OpenGate, Run, Session};
 use mvo_types::{Cause, Refusal, TxId};
@@ -130,6 +131,6 @@ fn meet<L: Run, D: Disk, G: Gate + Drop, R: Wait>(
 fn two_sessions_meet(rt: HostRuntime) -> Result<(), Fail> {
     let alloc = rt.alloc();
     let (met, _) = meeting(&rt, alloc, formatted(alloc)?)?;
-    assert!(rt; met);
+    holds(&rt, met);
     Ok(())
 }

@@ -4,6 +4,7 @@ ghost use Rattle.mvo_engine.specs.Opened.{IsNamedBy};
 use super::held_disk::{HeldDisk, Hold};
 use super::rows::{found, put};
 use super::{SEED, formatted};
+use crate::equal::same;
 use mvo_disk::Disk;
 use mvo_engine::{Engine, Fresh, Gate, OpenGate, Run, Session};
 use mvo_types::Refusal;
@@ -101,8 +102,8 @@ fn disk_wait_leaves_reads_free(rt: HostRuntime) -> Result<(), Fail> {
         hold: &hold,
     };
     let (byte, _) = freeing(&rt, alloc, disk, &hold)?;
-    assert_eq!(rt; byte, Some(0x61));
-    assert_eq!(rt; hold.held.load(Ordering::SeqCst), 1);
-    assert_eq!(rt; hold.late.load(Ordering::SeqCst), 0);
+    same(&rt, &byte, &Some(0x61));
+    same(&rt, &hold.held.load(Ordering::SeqCst), &1);
+    same(&rt, &hold.late.load(Ordering::SeqCst), &0);
     Ok(())
 }

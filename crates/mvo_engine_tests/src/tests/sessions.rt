@@ -3,6 +3,7 @@ ghost use Rattle.mvo_engine.specs.Opened.{IsNamedBy};
 
 use super::rows::{KEY, byte_in, put, row};
 use super::{SEED, formatted};
+use crate::equal::same;
 use mvo_disk::Disk;
 use mvo_engine::{Engine, Fresh, Gate, OpenGate, Run, Session};
 use mvo_types::{Answer, Refusal, Stamp};
@@ -151,6 +152,6 @@ fn sessions_are_told(rt: HostRuntime) -> Result<(), Fail> {
     for (place, right) in told.iter().enumerate() {
         assert!(rt; *right, "answer {place}");
     }
-    assert_eq!(rt; told.len(), 23);
+    same(&rt, &told.len(), &23);
     Ok(())
 }

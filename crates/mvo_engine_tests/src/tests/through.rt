@@ -3,6 +3,7 @@ ghost use Rattle.mvo_engine.specs.Opened.{IsNamedBy};
 
 use super::rows::{found, put};
 use super::{SEED, formatted};
+use crate::equal::{holds, same};
 use mvo_disk::Disk;
 use mvo_engine::{Engine, Fresh, OpenGate, Run, Session};
 use mvo_types::{Refusal, Stamp};
@@ -158,14 +159,14 @@ fn run_polling<L: Run + Send + Sync, D: Disk + Drop + Send, R: Threads + Wait + 
 fn a_row_goes_through(rt: HostRuntime) -> Result<(), Fail> {
     let alloc = rt.alloc();
     let (told, disk) = through(&rt, alloc, formatted(alloc)?)?;
-    assert_eq!(rt; told.end, Stamp(2));
-    assert_eq!(rt; told.begin, 3);
-    assert_eq!(rt; told.byte, Some(0x61));
-    assert!(rt; !told.too_early);
-    assert!(rt; told.durable);
-    assert!(rt; told.mark >= Stamp(2));
+    same(&rt, &told.end, &Stamp(2));
+    same(&rt, &told.begin, &3);
+    same(&rt, &told.byte, &Some(0x61));
+    holds(&rt, !told.too_early);
+    holds(&rt, told.durable);
+    holds(&rt, told.mark >= Stamp(2));
     let (byte, _) = finding(&rt, alloc, disk)?;
-    assert_eq!(rt; byte, Some(0x61));
+    same(&rt, &byte, &Some(0x61));
     Ok(())
 }
 
@@ -173,6 +174,6 @@ fn a_row_goes_through(rt: HostRuntime) -> Result<(), Fail> {
 fn fresh_seat_polls(rt: HostRuntime) -> Result<(), Fail> {
     let alloc = rt.alloc();
     let (polled, _) = polling(&rt, alloc, formatted(alloc)?)?;
-    assert_eq!(rt; polled, (true, false));
+    same(&rt, &polled, &(true, false));
     Ok(())
 }

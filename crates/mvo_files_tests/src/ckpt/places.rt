@@ -1,5 +1,6 @@
 //! Places by key.
 use crate::ckpt::making::row;
+use crate::equal::{holds, same};
 use mvo_ckpt::{Place, Places};
 use mvo_pair::{Entry, Live};
 use mvo_types::{RowKey, Stamp};
@@ -22,17 +23,17 @@ fn puts_and_removes(rt: &impl Abort, places: &mut Places) -> Result<(), Fail> {
         data_file: 2,
         number: 0,
     };
-    assert_eq!(rt; places.get(key), None);
+    same(rt, &places.get(key), &None);
     places.reserve(2)?;
     places.put(key, LAST)?;
     places.put(other, first)?;
-    assert_eq!(rt; places.get(key), Some(LAST));
-    assert_eq!(rt; places.get(other), Some(first));
+    same(rt, &places.get(key), &Some(LAST));
+    same(rt, &places.get(other), &Some(first));
     places.put(key, first)?;
-    assert_eq!(rt; places.get(key), Some(first));
+    same(rt, &places.get(key), &Some(first));
     places.remove(key);
-    assert_eq!(rt; places.get(key), None);
-    assert_eq!(rt; places.get(other), Some(first));
+    same(rt, &places.get(key), &None);
+    same(rt, &places.get(other), &Some(first));
     Ok(())
 }
 
@@ -64,22 +65,23 @@ fn forty_live(alloc: Global) -> Result<Vec<Live>, AllocError> {
 
 /// The places get those of these records, and have each one then.
 fn gains_forty(rt: &impl Abort, places: &mut Places, live: &[Live]) -> Result<(), Fail> {
-    assert!(rt; live.iter().all(|l| l.number < 4_194_304));
+    holds(rt, live.iter().all(|l| l.number < 4_194_304));
     places.add_pair(6, live)?;
     for number in 0u32..40 {
         let key = RowKey {
             table: 0,
             key: u64::from(number) + 100,
         };
-        assert_eq!(rt;
-            places.get(key),
-            Some(Place {
+        same(
+            rt,
+            &places.get(key),
+            &Some(Place {
                 data_file: 6,
-                number: number * 3
-            })
+                number: number * 3,
+            }),
         );
     }
-    assert_eq!(rt; places.get(RowKey { table: 0, key: 99 }), None);
+    same(rt, &places.get(RowKey { table: 0, key: 99 }), &None);
     Ok(())
 }
 
@@ -114,15 +116,15 @@ fn two_records(alloc: Global) -> Result<Vec<Entry>, AllocError> {
 
 fn takes_over(rt: &impl Abort, places: &mut Places, records: &[Entry]) -> Result<(), Fail> {
     put_three(places)?;
-    assert!(rt; records.len() < 3);
+    holds(rt, records.len() < 3);
     places.reserve(records.len())?;
     places.take_over(6, records, &[key_of(0), key_of(7)]);
     let at = |data_file, number| Some(Place { data_file, number });
-    assert_eq!(rt; places.get(key_of(0)), None);
-    assert_eq!(rt; places.get(key_of(1)), at(6, 0));
-    assert_eq!(rt; places.get(key_of(2)), at(2, 2));
-    assert_eq!(rt; places.get(key_of(7)), None);
-    assert_eq!(rt; places.get(key_of(9)), at(6, 1));
+    same(rt, &places.get(key_of(0)), &None);
+    same(rt, &places.get(key_of(1)), &at(6, 0));
+    same(rt, &places.get(key_of(2)), &at(2, 2));
+    same(rt, &places.get(key_of(7)), &None);
+    same(rt, &places.get(key_of(9)), &at(6, 1));
     Ok(())
 }
 

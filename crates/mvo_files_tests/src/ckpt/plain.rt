@@ -1,5 +1,6 @@
 //! A plain slow checkpoint, for what building one is compared with.
 use crate::ckpt::making::{group, pair, row, table_of};
+use crate::equal::{holds, holds_at, same_at};
 use crate::numbers::Numbers;
 use mvo_ckpt::{Checkpoint, Place, build};
 use mvo_group::{Group, Record, Write};
@@ -159,7 +160,7 @@ fn checkpoint_of(
 fn has_numbers(
     rt: &impl Abort,
     alloc: Global,
-    round: u32,
+    round: usize,
     made: &Checkpoint,
     lines: &[Line],
     list: &[(RowKey, Place)],
@@ -172,15 +173,11 @@ fn has_numbers(
             continue;
         }
         let delta = deltas.next().ok_or("a delta")?;
-        assert_eq!(rt; delta.data_file, data_file, "round {round}");
-        assert_eq!(rt;
-            delta.numbers.as_slice(),
-            wanted.as_slice(),
-            "round {round}"
-        );
+        same_at(rt, round, &delta.data_file, &data_file);
+        same_at(rt, round, &delta.numbers.as_slice(), &wanted.as_slice());
         gained = gained.saturating_add(wanted.len());
     }
-    assert!(rt; deltas.next().is_none(), "round {round}");
+    holds_at(rt, round, deltas.next().is_none());
     Ok(gained)
 }
 
@@ -188,19 +185,19 @@ fn has_numbers(
 fn agrees(
     rt: &impl Abort,
     alloc: Global,
-    round: u32,
+    round: usize,
     lines: &[Line],
     list: &[(RowKey, Place)],
 ) -> Result<usize, Fail> {
     let made = checkpoint_of(alloc, lines, list)?;
-    assert!(rt; has_last(&made, lines), "round {round}");
+    holds_at(rt, round, has_last(&made, lines));
     has_numbers(rt, alloc, round, &made, lines, list)
 }
 
 fn some_agree(
     rt: &impl Abort,
     alloc: Global,
-    round: u32,
+    round: usize,
     numbers: &mut Numbers,
 ) -> Result<usize, Fail> {
     let lines = some_lines(alloc, numbers)?;
@@ -212,10 +209,10 @@ fn some_agree(
 fn agrees_with_a_plain_checkpoint(rt: HostRuntime) -> Result<(), Fail> {
     let mut numbers = Numbers::new();
     let mut gained = 0usize;
-    for round in 0u32..40 {
+    for round in 0usize..40 {
         let named = some_agree(&rt, rt.alloc(), round, &mut numbers)?;
         gained = gained.saturating_add(named);
     }
-    assert!(rt; gained > 100);
+    holds(&rt, gained > 100);
     Ok(())
 }

@@ -1,3 +1,4 @@
+use crate::equal::{holds, same};
 use mvo_disk::{Disk, DiskFault, MemDisk};
 use std::process::Abort;
 use std::test::Fail;
@@ -25,9 +26,9 @@ fn calls_until_a_fault(disk: &mut MemDisk) -> Result<u64, DiskFault> {
 
 fn fails_call(rt: &impl Abort, disk: &mut MemDisk, number: u64) -> Result<(), Fail> {
     disk.fail_at(number);
-    assert_eq!(rt; calls_until_a_fault(disk)?, number);
-    assert_eq!(rt; disk.faults(), 1);
-    assert_eq!(rt; disk.calls().len() as u64, number);
+    same(rt, &calls_until_a_fault(disk)?, &number);
+    same(rt, &disk.faults(), &1);
+    same(rt, &(disk.calls().len() as u64), &number);
     Ok(())
 }
 
@@ -41,21 +42,20 @@ fn fails_the_call_that_was_named(rt: HostRuntime) -> Result<(), Fail> {
 }
 
 fn fails_without_a_change(rt: &impl Abort, disk: &mut MemDisk) -> Result<(), Fail> {
-    let count = disk.faults();
-    assert_eq!(rt; count, 0);
+    holds(rt, disk.faults() == 0);
     disk.write_at(3, 0, b"ab")?;
     disk.sync(3)?;
     disk.fail_at(1);
-    assert_eq!(rt; disk.len(3), Ok(2));
-    assert_eq!(rt; disk.write_at(3, 1, b"cd"), Err(DiskFault));
-    assert_eq!(rt; disk.bytes(3), b"ab".as_slice());
-    assert_eq!(rt; disk.len(3), Ok(2));
+    same(rt, &disk.len(3), &Ok(2));
+    same(rt, &disk.write_at(3, 1, b"cd"), &Err(DiskFault));
+    same(rt, &disk.bytes(3), &b"ab".as_slice());
+    same(rt, &disk.len(3), &Ok(2));
     // A stop takes the counter back, and a fault that is still to come.
     disk.fail_at(0);
     disk.stop(&[])?;
-    assert_eq!(rt; disk.faults(), 0);
-    assert_eq!(rt; disk.cut(3, 1), Ok(()));
-    assert_eq!(rt; disk.bytes(3), b"a".as_slice());
+    same(rt, &disk.faults(), &0);
+    same(rt, &disk.cut(3, 1), &Ok(()));
+    same(rt, &disk.bytes(3), &b"a".as_slice());
     Ok(())
 }
 

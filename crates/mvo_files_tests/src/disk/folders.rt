@@ -1,5 +1,6 @@
 //! A disk in a folder of the operating system.
 use crate::disk::guarded::{cut, len, put, read, read_two, sync, write};
+use crate::equal::{holds, same};
 use mvo_disk::{DirDisk, Disk, DiskFault, FolderRefusal, Progress, Silent, make_folder};
 use std::alloc::Global;
 use std::fs::{self, File};
@@ -15,6 +16,13 @@ fn path_of(rt: &HostRuntime, name: &str) -> Result<String, Fail> {
     let (folder, id) = (env::temp_dir(rt)?, process::id(rt.process()));
     let folder = folder.as_str();
     Ok(format!(in rt.alloc(); "{folder}/ravundi-disk-{name}-{id}")?)
+}
+
+/// A folder with such a path.
+fn folder_of(rt: &HostRuntime, name: &str) -> Result<String, Fail> {
+    let path = path_of(rt, name)?;
+    make_folder(rt, rt.alloc(), &path)?;
+    Ok(path)
 }
 
 fn open(rt: &HostRuntime, path: &str) -> Result<HostDisk, FolderRefusal> {
@@ -50,7 +58,7 @@ fn file_holds(
     bytes: &[u8],
 ) -> Result<(), Fail> {
     let file = format!(in alloc; "{path}/{name}")?;
-    assert_eq!(rt; fs::read(rt, file.as_str())?.as_slice(), bytes);
+    same(rt, &fs::read(rt, file.as_str())?.as_slice(), &bytes);
     Ok(())
 }
 
@@ -63,7 +71,7 @@ fn file_is_long(
     len: u64,
 ) -> Result<(), Fail> {
     let file = format!(in alloc; "{path}/{name}")?;
-    assert_eq!(rt; fs::metadata(rt, file.as_str())?.len(), len);
+    same(rt, &fs::metadata(rt, file.as_str())?.len(), &len);
     Ok(())
 }
 
@@ -74,76 +82,100 @@ fn fills_its_files(
     disk: &mut HostDisk,
 ) -> Result<(), Fail> {
     fill(disk)?;
-    assert_eq!(rt; len(disk, 3), Ok(5));
-    assert_eq!(rt; len(disk, 4), Ok(0));
+    same(rt, &len(disk, 3), &Ok(5));
+    same(rt, &len(disk, 4), &Ok(0));
     file_holds(rt, alloc, path, "0003", b"axydz")?;
     file_is_long(rt, alloc, path, "1023", 0)
 }
 
 fn has_what_was_filled(rt: &impl Abort, alloc: Global, disk: &mut HostDisk) -> Result<(), Fail> {
-    assert_eq!(rt; read(alloc, disk, 3)?.as_slice(), b"axydz".as_slice());
-    assert_eq!(rt; read_two(disk, 3, 3)?, *b"dz");
-    assert_eq!(rt; disk.faults(), 0);
+    same(rt, &read(alloc, disk, 3)?.as_slice(), &b"axydz".as_slice());
+    same(rt, &read_two(disk, 3, 3)?, &(*b"dz"));
+    same(rt, &disk.faults(), &0);
+    Ok(())
+}
+
+fn fills(rt: &(impl Abort + Alloc + Files), host: &HostRuntime, path: &str) -> Result<(), Fail> {
+    let mut disk = open(host, path)?;
+    fills_its_files(rt, host.alloc(), path, &mut disk)
+}
+
+fn is_filled(rt: &impl Abort, host: &HostRuntime, path: &str) -> Result<(), Fail> {
+    let mut told = Told(0, 0);
+    let mut disk = DirDisk::open(host.clone()?, host.alloc(), path, &mut told)?;
+    same(rt, &(told.0, told.1), &(5, 5));
+    has_what_was_filled(rt, host.alloc(), &mut disk)
+}
+
+fn keeps(rt: &(impl Abort + Alloc + Files), host: &HostRuntime, path: &str) -> Result<(), Fail> {
+    fills(rt, host, path)?;
+    is_filled(rt, host, path)?;
+    fs::remove_dir_all(host, path)?;
     Ok(())
 }
 
 #[test]
 fn keeps_its_files(rt: HostRuntime) -> Result<(), Fail> {
-    let alloc = rt.alloc();
-    let path = path_of(&rt, "keeps")?;
-    make_folder(&rt, alloc, &path)?;
-    let mut disk = open(&rt, &path)?;
-    fills_its_files(&rt, alloc, &path, &mut disk)?;
-    drop(disk);
-    let mut told = Told(0, 0);
-    let mut disk = DirDisk::open(rt.clone()?, alloc, &path, &mut told)?;
-    assert_eq!(rt; (told.0, told.1), (5, 5));
-    has_what_was_filled(&rt, alloc, &mut disk)?;
-    drop(disk);
-    fs::remove_dir_all(&rt, path.as_str())?;
+    let path = folder_of(&rt, "keeps")?;
+    keeps(&rt, &rt, path.as_str())
+}
+
+/// How opening the folder ends. The system may refuse to open it as a folder of files.
+fn opening(host: &HostRuntime, path: &str) -> &'static str {
+    match open(host, path) {
+        Ok(_) => "open",
+        Err(FolderRefusal::InUse) => "in use",
+        Err(FolderRefusal::Missing) => "missing",
+        Err(FolderRefusal::Io(_)) => "io",
+        Err(FolderRefusal::Memory) => "memory",
+    }
+}
+
+/// How opening the folder ends while it is used.
+fn opening_again(host: &HostRuntime, path: &str) -> Result<&'static str, FolderRefusal> {
+    let _disk = open(host, path)?;
+    Ok(opening(host, path))
+}
+
+fn is_used_alone(rt: &impl Abort, host: &HostRuntime, path: &str) -> Result<(), Fail> {
+    same(rt, &opening_again(host, path)?, &"in use");
+    same(rt, &opening(host, path), &"open");
+    fs::remove_dir_all(host, path)?;
     Ok(())
 }
 
 #[test]
 fn is_used_by_one_at_a_time(rt: HostRuntime) -> Result<(), Fail> {
-    let path = path_of(&rt, "one")?;
-    make_folder(&rt, rt.alloc(), &path)?;
-    let disk = open(&rt, &path)?;
-    assert!(rt; matches!(open(&rt, &path), Err(FolderRefusal::InUse)));
-    drop(disk);
-    assert!(rt; open(&rt, &path).is_ok());
-    fs::remove_dir_all(&rt, path.as_str())?;
+    let path = folder_of(&rt, "one")?;
+    is_used_alone(&rt, &rt, path.as_str())
+}
+
+/// Neither the folder nor the inner one is there at first.
+fn refuses(rt: &impl Abort, host: &HostRuntime, path: &str, inner: &str) -> Result<(), Fail> {
+    let alloc = host.alloc();
+    same(rt, &opening(host, path), &"missing");
+    holds(
+        rt,
+        matches!(make_folder(host, alloc, inner), Err(FolderRefusal::Missing)),
+    );
+    make_folder(host, alloc, path)?;
+    make_folder(host, alloc, path)?;
+    // A folder where a file should be.
+    make_folder(host, alloc, inner)?;
+    same(rt, &opening(host, path), &"io");
+    fs::remove_dir_all(host, path)?;
+    // A file where the folder should be.
+    fs::write(host, path, "text")?;
+    same(rt, &opening(host, path), &"io");
+    fs::remove_file(host, path)?;
     Ok(())
-}
-
-/// Whether there is no folder to be opened.
-fn is_missing(rt: &HostRuntime, path: &str) -> bool {
-    matches!(open(rt, path), Err(FolderRefusal::Missing))
-}
-
-/// Whether the system refuses to open it as a folder of files.
-fn is_no_folder(rt: &HostRuntime, path: &str) -> bool {
-    matches!(open(rt, path), Err(FolderRefusal::Io(_)))
 }
 
 #[test]
 fn refuses_what_is_no_folder(rt: HostRuntime) -> Result<(), Fail> {
-    let alloc = rt.alloc();
     let path = path_of(&rt, "refuses")?;
-    assert!(rt; is_missing(&rt, &path));
-    let inner = format!(in alloc; "{path}/0007")?;
-    assert!(rt; matches!(make_folder(&rt, alloc, &inner), Err(FolderRefusal::Missing)));
-    make_folder(&rt, alloc, &path)?;
-    make_folder(&rt, alloc, &path)?;
-    // A folder where a file should be.
-    make_folder(&rt, alloc, &inner)?;
-    assert!(rt; is_no_folder(&rt, &path));
-    fs::remove_dir_all(&rt, path.as_str())?;
-    // A file where the folder should be.
-    fs::write(&rt, path.as_str(), "text")?;
-    assert!(rt; is_no_folder(&rt, &path));
-    fs::remove_file(&rt, path.as_str())?;
-    Ok(())
+    let inner = format!(in rt.alloc(); "{path}/0007")?;
+    refuses(&rt, &rt, path.as_str(), inner.as_str())
 }
 
 /// A disk whose folder is removed takes nothing more, and still gives what it has.
@@ -156,19 +188,18 @@ fn outlives_its_folder(
     put(disk, 2, 0, b"ab")?;
     fs::remove_dir_all(rt, path)?;
     // The file can't be made.
-    assert_eq!(rt; write(disk, 9, 0, b"c"), Err(DiskFault));
-    assert_eq!(rt; write(disk, 2, 0, b"c"), Err(DiskFault));
-    assert_eq!(rt; cut(disk, 2, 0), Err(DiskFault));
-    assert_eq!(rt; sync(disk, 2), Err(DiskFault));
-    assert_eq!(rt; disk.faults(), 4);
-    assert_eq!(rt; read(alloc, disk, 2)?.as_slice(), b"ab".as_slice());
+    same(rt, &write(disk, 9, 0, b"c"), &Err(DiskFault));
+    same(rt, &write(disk, 2, 0, b"c"), &Err(DiskFault));
+    same(rt, &cut(disk, 2, 0), &Err(DiskFault));
+    same(rt, &sync(disk, 2), &Err(DiskFault));
+    same(rt, &disk.faults(), &4);
+    same(rt, &read(alloc, disk, 2)?.as_slice(), &b"ab".as_slice());
     Ok(())
 }
 
 #[test]
 fn takes_nothing_after_a_fault(rt: HostRuntime) -> Result<(), Fail> {
-    let path = path_of(&rt, "fault")?;
-    make_folder(&rt, rt.alloc(), &path)?;
+    let path = folder_of(&rt, "fault")?;
     let mut disk = open(&rt, &path)?;
     outlives_its_folder(&rt, rt.alloc(), &path, &mut disk)
 }

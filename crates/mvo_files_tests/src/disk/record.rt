@@ -1,5 +1,6 @@
+use crate::equal::{holds, same};
 use mvo_disk::{Call, Disk, MemDisk, Work, read_whole, rewrite_synced, write_synced};
-use std::alloc::Global;
+use std::alloc::{AllocError, Global};
 use std::process::Abort;
 use std::test::Fail;
 
@@ -13,13 +14,12 @@ fn call(file: u16, work: Work) -> Call {
 
 /// Writes file 7 anew, beside file 2 with the bytes `abc`.
 fn rewrites_beside(rt: &impl Abort, alloc: Global, disk: &mut MemDisk) -> Result<(), Fail> {
-    let count = disk.faults();
-    assert_eq!(rt; count, 0);
+    holds(rt, disk.faults() == 0);
     rewrite_synced(disk, 7, b"de")?;
     let read = read_whole(alloc, disk, 2)?;
-    assert_eq!(rt; read.as_slice(), b"abc".as_slice());
-    assert_eq!(rt; disk.bytes(7), b"de".as_slice());
-    assert_eq!(rt; disk.faults(), 0);
+    same(rt, &read.as_slice(), &b"abc".as_slice());
+    same(rt, &disk.bytes(7), &b"de".as_slice());
+    same(rt, &disk.faults(), &0);
     Ok(())
 }
 
@@ -50,13 +50,20 @@ fn calls_with(first: Vec<u8>, second: Vec<u8>) -> [Call; 7] {
     ]
 }
 
+fn made_calls(alloc: Global) -> Result<[Call; 7], AllocError> {
+    let first = b"abc".to_vec(alloc)?;
+    Ok(calls_with(first, b"de".to_vec(alloc)?))
+}
+
+fn are_recorded(rt: &impl Abort, alloc: Global, disk: &mut MemDisk) -> Result<(), Fail> {
+    rewrites_beside(rt, alloc, disk)?;
+    same(rt, &disk.calls(), &made_calls(alloc)?.as_slice());
+    Ok(())
+}
+
 #[test]
 fn keeps_a_record_of_its_calls(rt: HostRuntime) -> Result<(), Fail> {
-    let alloc = rt.alloc();
-    let mut disk = MemDisk::new(alloc)?;
+    let mut disk = MemDisk::new(rt.alloc())?;
     write_synced(&mut disk, 2, 0, b"abc")?;
-    rewrites_beside(&rt, alloc, &mut disk)?;
-    let calls = calls_with(b"abc".to_vec(alloc)?, b"de".to_vec(alloc)?);
-    assert!(rt; disk.calls() == calls.as_slice(), "{:?}", disk.calls());
-    Ok(())
+    are_recorded(&rt, rt.alloc(), &mut disk)
 }

@@ -1,3 +1,4 @@
+use crate::equal::same;
 use mvo_disk::{Disk, DiskFault, FileImage, MemDisk, StopRefusal};
 use std::alloc::{AllocError, Global};
 use std::process::Abort;
@@ -113,7 +114,7 @@ fn images_of(alloc: Global, steps: &[Step]) -> Result<String, Fail> {
 #[test]
 fn leaves_the_images_of_the_model(rt: HostRuntime) -> Result<(), Fail> {
     for (steps, texts) in CASES {
-        assert_eq!(rt; images_of(rt.alloc(), steps)?.as_str(), texts);
+        same(&rt, &images_of(rt.alloc(), steps)?.as_str(), &texts);
     }
     Ok(())
 }
@@ -132,17 +133,17 @@ fn write_two_files(disk: &mut MemDisk) -> Result<(), DiskFault> {
 // File 5 was not written.
 fn refuses_file_5(rt: &impl Abort, alloc: Global, disk: &mut MemDisk) -> Result<(), Fail> {
     let images = [image(alloc, 3, "bb")?, image(alloc, 5, "a")?];
-    assert_eq!(rt; disk.stop(&images), Err(StopRefusal::NotAnImage));
-    assert_eq!(rt; disk.calls().len(), 4);
+    same(rt, &disk.stop(&images), &Err(StopRefusal::NotAnImage));
+    same(rt, &disk.calls().len(), &4);
     Ok(())
 }
 
 // File 4 isn't named, and keeps its content.
 fn leaves_file_4(rt: &impl Abort, alloc: Global, disk: &mut MemDisk) -> Result<(), Fail> {
     stop_with(alloc, disk, 3, "abz")??;
-    assert_eq!(rt; disk.bytes(3), b"abz".as_slice());
-    assert_eq!(rt; disk.bytes(4), b"x".as_slice());
-    assert_eq!(rt; disk.calls().len(), 0);
+    same(rt, &disk.bytes(3), &b"abz".as_slice());
+    same(rt, &disk.bytes(4), &b"x".as_slice());
+    same(rt, &disk.calls().len(), &0);
     Ok(())
 }
 
@@ -152,7 +153,7 @@ fn stops_one_by_one(rt: &impl Abort, alloc: Global, disk: &mut MemDisk) -> Resul
     leaves_file_4(rt, alloc, disk)?;
     // What a stop leaves counts as synced.
     let refused = stop_with(alloc, disk, 4, "")?;
-    assert_eq!(rt; refused, Err(StopRefusal::NotAnImage));
+    same(rt, &refused, &Err(StopRefusal::NotAnImage));
     Ok(())
 }
 

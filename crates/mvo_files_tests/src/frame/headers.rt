@@ -1,3 +1,4 @@
+use crate::equal::{holds, same};
 use mvo_format::{VERSION, behind_header, u16_at, u64_at};
 use mvo_types::Refusal;
 use std::test::Fail;
@@ -9,19 +10,26 @@ const BYTES: [u8; 9] = [0x4d, 0x56, 0x4f, 0x4c, 1, 0, 0, 0, 7];
 
 #[test]
 fn the_magic_is_looked_at_first(rt: HostRuntime) -> Result<(), Fail> {
-    assert_eq!(rt; behind_header(2, MAGIC, VERSION, &BYTES)?, [7].as_slice());
-    assert_eq!(rt;
-        behind_header(2, MAGIC, 2, &BYTES).err(),
-        Some(Refusal::BadVersion)
+    same(
+        &rt,
+        &behind_header(2, MAGIC, VERSION, &BYTES)?,
+        &[7].as_slice(),
     );
-    assert_eq!(rt;
-        behind_header(2, 0, 2, &BYTES).err(),
-        Some(Refusal::Corrupt(2))
+    same(
+        &rt,
+        &behind_header(2, MAGIC, 2, &BYTES).err(),
+        &Some(Refusal::BadVersion),
+    );
+    same(
+        &rt,
+        &behind_header(2, 0, 2, &BYTES).err(),
+        &Some(Refusal::Corrupt(2)),
     );
     for len in 0..8usize {
-        assert_eq!(rt;
-            behind_header(3, MAGIC, 2, &BYTES[..len]).err(),
-            Some(Refusal::Corrupt(3))
+        same(
+            &rt,
+            &behind_header(3, MAGIC, 2, &BYTES[..len]).err(),
+            &Some(Refusal::Corrupt(3)),
         );
     }
     Ok(())
@@ -30,11 +38,11 @@ fn the_magic_is_looked_at_first(rt: HostRuntime) -> Result<(), Fail> {
 #[test]
 fn numbers_begin_with_their_lowest_byte(rt: HostRuntime) -> Result<(), Fail> {
     let (number, rest) = u16_at(&BYTES).ok_or("two bytes")?;
-    assert_eq!(rt; number, 0x564d);
-    assert_eq!(rt; rest.len(), 7);
+    same(&rt, &number, &0x564d);
+    same(&rt, &rest.len(), &7);
     let (number, rest) = u64_at(&BYTES).ok_or("eight bytes")?;
-    assert_eq!(rt; number, 0x0000_0001_4c4f_564d);
-    assert_eq!(rt; rest.len(), 1);
-    assert!(rt; u64_at(rest).is_none());
+    same(&rt, &number, &0x0000_0001_4c4f_564d);
+    same(&rt, &rest.len(), &1);
+    holds(&rt, u64_at(rest).is_none());
     Ok(())
 }

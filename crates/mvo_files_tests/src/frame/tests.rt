@@ -1,8 +1,10 @@
+use crate::changes::changed;
+use crate::equal::{holds, same};
 use mvo_disk::{Disk, MemDisk};
 use mvo_format::{FIRST_FORMAT, Format, VERSION};
 use mvo_frame::{Kind, Segment, read_all};
 use mvo_group::Group;
-use mvo_types::Stamp;
+use mvo_types::{Refusal, Stamp};
 use std::alloc::Global;
 use std::process::Abort;
 use std::test::Fail;
@@ -14,16 +16,21 @@ const SEGMENT: [u8; 63] = [
     0, 0, 1, 0, 0x61, 0,
 ];
 
-// What is found of a segment, as a line: how many groups and where its closed gate stands.
-fn found(alloc: Global, format: Format, kind: Kind, bytes: &[u8]) -> Result<String, Fail> {
-    match read_all(alloc, format, 3, Stamp(0), kind, bytes) {
-        Ok(contents) => {
-            let groups = contents.groups.len();
-            let gate = contents.gate;
-            Ok(format!(in alloc; "{groups} at {gate}")?)
-        }
+// How many groups are found and where the closed gate stands, or a refusal, as a line.
+fn line_of(alloc: Global, found: Result<(usize, usize), Refusal>) -> Result<String, Fail> {
+    match found {
+        Ok((groups, gate)) => Ok(format!(in alloc; "{groups} at {gate}")?),
         Err(refusal) => Ok(format!(in alloc; "{refusal}")?),
     }
+}
+
+// What is found of a segment, as such a line.
+fn found(alloc: Global, format: Format, kind: Kind, bytes: &[u8]) -> Result<String, Fail> {
+    let found = match read_all(alloc, format, 3, Stamp(0), kind, bytes) {
+        Ok(contents) => Ok((contents.groups.len(), contents.gate)),
+        Err(refusal) => Err(refusal),
+    };
+    line_of(alloc, found)
 }
 
 // The group of one frame behind an open gate, and what stands behind it, by a plain reading.
@@ -53,49 +60,60 @@ fn plain_gate(alloc: Global, rest: &[u8]) -> Result<Option<usize>, Fail> {
     Ok(Some(len.saturating_add(9)))
 }
 
-fn corrupt(alloc: Global) -> Result<String, Fail> {
-    Ok(format!(in alloc; "refused 54 3")?)
+// What stands behind an open gate, or what the segment is found to be without one.
+fn behind_gate(bytes: &[u8]) -> Result<&[u8], &'static str> {
+    if bytes.len() < 8 || !bytes.starts_with(b"MVOL") {
+        return Err("refused 54 3");
+    }
+    if !bytes[4..].starts_with(&[1, 0, 0, 0]) {
+        return Err("refused 55");
+    }
+    match bytes[8..].split_first() {
+        Some((0xa5, rest)) => Ok(rest),
+        Some(_) => Err("0 at 8"),
+        None => Err("refused 54 3"),
+    }
 }
 
 // The same as `found`, by a plain reading of at most one frame.
 fn plain(alloc: Global, bytes: &[u8]) -> Result<String, Fail> {
-    if bytes.len() < 8 || !bytes.starts_with(b"MVOL") {
-        return corrupt(alloc);
-    }
-    if !bytes[4..].starts_with(&[1, 0, 0, 0]) {
-        return Ok(format!(in alloc; "refused 55")?);
-    }
-    let Some((gate, rest)) = bytes[8..].split_first() else {
-        return corrupt(alloc);
+    let line = match behind_gate(bytes) {
+        Ok(rest) => match plain_gate(alloc, rest)? {
+            Some(place) => return Ok(format!(in alloc; "1 at {place}")?),
+            None => "refused 54 3",
+        },
+        Err(line) => line,
     };
-    if *gate != 0xa5 {
-        return Ok(format!(in alloc; "0 at 8")?);
+    Ok(line.to_string(alloc)?)
+}
+
+// The group is appended to a fresh segment.
+fn is_appended(
+    rt: &impl Abort,
+    alloc: Global,
+    disk: &mut MemDisk,
+    group: &Group,
+) -> Result<(), Fail> {
+    holds(rt, disk.faults() == 0);
+    let mut segment = Segment::fresh(disk, VERSION, 3)?;
+    same(rt, &disk.bytes(3), &b"MVOL\x01\0\0\0\0".as_slice());
+    if segment.file != 3 || group.prev().0 != 0 {
+        return Err(Fail::from("another group"));
     }
-    match plain_gate(alloc, rest)? {
-        Some(place) => Ok(format!(in alloc; "1 at {place}")?),
-        None => corrupt(alloc),
-    }
+    segment.write_body(alloc, disk, group)?;
+    same(rt, &disk.bytes(3).get(8), &Some(&0));
+    same(rt, &disk.bytes(3).get(9..), &SEGMENT.get(9..));
+    segment.open_gate(disk)?;
+    same(rt, &disk.bytes(3), &SEGMENT.as_slice());
+    same(rt, &segment.gate, &62);
+    Ok(())
 }
 
 #[test]
 fn a_group_is_appended(rt: HostRuntime) -> Result<(), Fail> {
-    let alloc = rt.alloc();
-    let mut disk = MemDisk::new(alloc)?;
-    let count = disk.faults();
-    assert_eq!(rt; count, 0);
-    let mut segment = Segment::fresh(&mut disk, VERSION, 3)?;
-    assert_eq!(rt; disk.bytes(3), b"MVOL\x01\0\0\0\0".as_slice());
-    let group = Group::decode(alloc, &SEGMENT[13..62])?.ok_or("a group")?;
-    if segment.file != 3 || group.prev().0 != 0 {
-        return Err(Fail::from("another group"));
-    }
-    segment.write_body(alloc, &mut disk, &group)?;
-    assert_eq!(rt; disk.bytes(3).get(8), Some(&0));
-    assert_eq!(rt; disk.bytes(3).get(9..), SEGMENT.get(9..));
-    segment.open_gate(&mut disk)?;
-    assert_eq!(rt; disk.bytes(3), SEGMENT.as_slice());
-    assert_eq!(rt; segment.gate, 62);
-    Ok(())
+    let group = Group::decode(rt.alloc(), &SEGMENT[13..62])?.ok_or("a group")?;
+    let mut disk = MemDisk::new(rt.alloc())?;
+    is_appended(&rt, rt.alloc(), &mut disk, &group)
 }
 
 // What is found of a segment is this line.
@@ -107,7 +125,7 @@ fn finds(
     bytes: &[u8],
     line: &str,
 ) -> Result<(), Fail> {
-    assert_eq!(rt; found(alloc, format, kind, bytes)?.as_str(), line);
+    same(rt, &found(alloc, format, kind, bytes)?.as_str(), &line);
     Ok(())
 }
 
@@ -134,15 +152,6 @@ fn agrees(rt: &impl Abort, alloc: Global, bytes: &[u8]) -> Result<(), Fail> {
     finds(rt, alloc, FIRST_FORMAT, Kind::Last, bytes, &line)
 }
 
-// SEGMENT with a change of the byte at a place.
-fn changed(alloc: Global, at: usize, change: u8) -> Result<Vec<u8>, Fail> {
-    let mut bytes = SEGMENT.to_vec(alloc)?;
-    if let Some(byte) = bytes.get_mut(at) {
-        *byte ^= change;
-    }
-    Ok(bytes)
-}
-
 // Cut at each length, and with each other value at each byte.
 #[test]
 fn each_change_is_found(rt: HostRuntime) -> Result<(), Fail> {
@@ -152,7 +161,7 @@ fn each_change_is_found(rt: HostRuntime) -> Result<(), Fail> {
     }
     for i in 0..SEGMENT.len() {
         for change in 1..=255 {
-            agrees(&rt, alloc, &changed(alloc, i, change)?)?;
+            agrees(&rt, alloc, &changed(alloc, &SEGMENT, i, change)?)?;
         }
     }
     Ok(())

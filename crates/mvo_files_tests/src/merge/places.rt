@@ -1,4 +1,5 @@
 //! Places after a merge.
+use crate::equal::same_at;
 use crate::merge::calls::{moved, place_of, put};
 use crate::merge::vectors::two_and_two;
 use mvo_ckpt::Places;
@@ -27,8 +28,8 @@ fn before(alloc: Global) -> Result<Places, Fail> {
 }
 
 fn have(rt: &impl Abort, places: &Places, wanted: &[(u64, Option<(u16, usize)>)]) {
-    for (key, place) in wanted {
-        assert_eq!(rt; place_of(places, *key), *place, "key {key}");
+    for (at, (key, place)) in wanted.iter().enumerate() {
+        same_at(rt, at, &place_of(places, *key), place);
     }
 }
 

@@ -1,4 +1,5 @@
 //! A plain slow merge, for what building one is compared with.
+use crate::equal::holds;
 use crate::merge::calls::{built, moved, place_of, put, renumbered};
 use crate::merge::making::live;
 use crate::numbers::Numbers;
@@ -114,7 +115,7 @@ fn has_places(places: &Places, all: &[Line]) -> bool {
 /// The merge of the two pairs' live records, which must be those of the lines.
 fn merge(rt: &impl Abort, alloc: Global, left: &[Line], right: &[Line]) -> Result<Merged, Fail> {
     let merged = built(alloc, lives_of(alloc, left, 2)?, lives_of(alloc, right, 4)?)?;
-    assert!(rt; has_records(&merged, &both(alloc, left, right)?));
+    holds(rt, has_records(&merged, &both(alloc, left, right)?));
     Ok(merged)
 }
 
@@ -138,7 +139,7 @@ fn late_numbers(
     right: &[Line],
 ) -> Result<usize, Fail> {
     let entries = late_entries(alloc, merged, left, right)?;
-    assert!(rt; names_others(&entries, &both(alloc, left, right)?));
+    holds(rt, names_others(&entries, &both(alloc, left, right)?));
     Ok(entries.len())
 }
 
@@ -152,7 +153,7 @@ fn places_stand(
 ) -> Result<(), Fail> {
     let mut places = places_of(alloc, left, right)?;
     moved(&mut places, 8, &merged.records)?;
-    assert!(rt; has_places(&places, &both(alloc, left, right)?));
+    holds(rt, has_places(&places, &both(alloc, left, right)?));
     Ok(())
 }
 
@@ -176,6 +177,6 @@ fn agrees_with_a_plain_merge(rt: HostRuntime) -> Result<(), Fail> {
     for _ in 0u32..40 {
         named = named.saturating_add(some_agree(&rt, rt.alloc(), &mut numbers)?);
     }
-    assert!(rt; named > 100);
+    holds(&rt, named > 100);
     Ok(())
 }

@@ -1,4 +1,5 @@
 //! Merges of a few records.
+use crate::equal::same;
 use crate::merge::calls::{built, renumbered};
 use crate::merge::making::lives;
 use mvo_merge::Merged;
@@ -8,9 +9,9 @@ use std::test::Fail;
 
 /// The merged records have these begins and keys.
 fn has(rt: &impl Abort, merged: &Merged, wanted: &[(u64, u64)]) {
-    assert_eq!(rt; merged.records.len(), wanted.len());
+    same(rt, &merged.records.len(), &wanted.len());
     for (entry, wanted) in merged.records.iter().zip(wanted) {
-        assert_eq!(rt; (entry.begin.0, entry.row.key.key), *wanted);
+        same(rt, &(entry.begin.0, entry.row.key.key), wanted);
     }
 }
 
@@ -37,9 +38,9 @@ fn records_stand_pair_by_pair(rt: HostRuntime) -> Result<(), Fail> {
 
 fn has_ranks(rt: &impl Abort, alloc: Global, merged: &Merged) -> Result<(), Fail> {
     let late = renumbered(alloc, merged, &[4], &[5, 0])?;
-    assert_eq!(rt; late.as_slice(), [1, 3, 2].as_slice());
+    same(rt, &late.as_slice(), &[1, 3, 2].as_slice());
     let none = renumbered(alloc, merged, &[], &[])?;
-    assert_eq!(rt; none.len(), 0);
+    same(rt, &none.len(), &0);
     Ok(())
 }
 

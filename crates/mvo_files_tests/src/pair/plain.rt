@@ -1,10 +1,10 @@
 //! A plain reader of a pair's files, for what loading is compared with.
+use crate::equal::holds_at;
 use crate::pair::vectors::{DATA, NAMED, pair};
-use mvo_pair::{FIRST_FORMAT, Live, Pair, load_pair};
+use mvo_pair::{FIRST_FORMAT, Live, load_pair};
 use mvo_types::Refusal;
-use std::alloc::{AllocError, Global};
+use std::alloc::Global;
 use std::process::Abort;
-use std::test::Fail;
 
 /// The number in the bytes from a place on.
 fn number(bytes: &[u8], at: usize, len: usize) -> Option<u64> {
@@ -26,8 +26,11 @@ fn header(bytes: &[u8], magic: &str, file: u16) -> Result<(), Refusal> {
     Ok(())
 }
 
-/// Begin, table, key, sort and data of the only record of the pair (0, 2], if it keeps the rules.
-fn record(bytes: &[u8]) -> Option<(u64, u64, u64, u64, &[u8])> {
+/// Begin, table, key, sort and data of a record.
+type Plain<'a> = (u64, u64, u64, u64, &'a [u8]);
+
+/// The only record of the pair (0, 2], if it keeps the rules.
+fn record(bytes: &[u8]) -> Option<Plain<'_>> {
     let begin = number(bytes, 8, 8)?;
     let table = number(bytes, 16, 1)?;
     let key = number(bytes, 17, 8)?;
@@ -40,8 +43,21 @@ fn record(bytes: &[u8]) -> Option<(u64, u64, u64, u64, &[u8])> {
     Some((begin, table, key, sort, data))
 }
 
+/// The record of the data file, where one number of the delta file may be counted, or the refusal.
+fn read_plainly<'a>(entries: u32, data: &'a [u8], delta: &[u8]) -> Result<Plain<'a>, Refusal> {
+    header(data, "MVOD", 4)?;
+    let Some(plain) = record(data) else {
+        return Err(Refusal::Corrupt(4));
+    };
+    header(delta, "MVOE", 5)?;
+    if entries == 1 && number(delta, 8, 4) != Some(0) {
+        return Err(Refusal::Corrupt(5));
+    }
+    Ok(plain)
+}
+
 /// Whether the loaded one is the record that was read plainly.
-fn is_record(live: &Live, plain: (u64, u64, u64, u64, &[u8])) -> bool {
+fn is_record(live: &Live, plain: Plain<'_>) -> bool {
     let row = &live.entry.row;
     live.number == 0
         && live.entry.begin.0 == plain.0
@@ -51,65 +67,51 @@ fn is_record(live: &Live, plain: (u64, u64, u64, u64, &[u8])) -> bool {
         && row.bytes() == plain.4
 }
 
+/// Whether that record alone is live, or none where a number was counted.
+fn are_live(live: &[Live], entries: u32, plain: Plain<'_>) -> bool {
+    match live {
+        [] => entries == 1,
+        [only] => entries != 1 && is_record(only, plain),
+        _ => false,
+    }
+}
+
 /// Whether loading one record and one number answers what reading them plainly does.
-fn agrees(alloc: Global, entries: u32, data: &[u8], delta: &[u8]) -> Result<bool, AllocError> {
-    let pair = pair(1, entries);
-    let loaded = load_pair(alloc, FIRST_FORMAT, pair, data, delta);
-    if let Err(refused) = header(data, "MVOD", 4) {
-        return Ok(loaded.is_err_and(|e| e == refused));
-    }
-    let Some(plain) = record(data) else {
-        return Ok(loaded.is_err_and(|e| e == Refusal::Corrupt(4)));
-    };
-    if let Err(refused) = header(delta, "MVOE", 5) {
-        return Ok(loaded.is_err_and(|e| e == refused));
-    }
-    if entries == 1 && number(delta, 8, 4) != Some(0) {
-        return Ok(loaded.is_err_and(|e| e == Refusal::Corrupt(5)));
-    }
-    match loaded {
-        Ok(live) => Ok(
-            live.len() == if entries == 1 { 0 } else { 1 }
-                && live.iter().all(|l| is_record(l, plain)),
-        ),
-        Err(_) => Ok(false),
+fn agrees(alloc: Global, entries: u32, data: &[u8], delta: &[u8]) -> bool {
+    let loaded = load_pair(alloc, FIRST_FORMAT, pair(1, entries), data, delta);
+    match (&loaded, read_plainly(entries, data, delta)) {
+        (Ok(live), Ok(plain)) => are_live(live, entries, plain),
+        (Err(found), Err(wanted)) => *found == wanted,
+        _ => false,
     }
 }
 
 /// Compares the two readers at each length of the files and at each value of each byte.
-fn agrees_throughout(rt: &impl Abort, alloc: Global, entries: u32) -> Result<(), Fail> {
+fn agrees_throughout(rt: &impl Abort, alloc: Global, entries: u32) {
     for len in 0..DATA.len() {
-        assert!(rt;
-            agrees(alloc, entries, &DATA[..len], &NAMED)?,
-            "cut to {len}"
-        );
+        holds_at(rt, len, agrees(alloc, entries, &DATA[..len], &NAMED));
     }
     for len in 0..NAMED.len() {
-        assert!(rt;
-            agrees(alloc, entries, &DATA, &NAMED[..len])?,
-            "cut to {len}"
-        );
+        holds_at(rt, len, agrees(alloc, entries, &DATA, &NAMED[..len]));
     }
     for at in 0..DATA.len() {
         for value in 0..=255 {
             let mut data = DATA;
             data[at] = value;
-            assert!(rt; agrees(alloc, entries, &data, &NAMED)?, "{value} at {at}");
+            holds_at(rt, at, agrees(alloc, entries, &data, &NAMED));
         }
     }
     for at in 0..NAMED.len() {
         for value in 0..=255 {
             let mut delta = NAMED;
             delta[at] = value;
-            assert!(rt; agrees(alloc, entries, &DATA, &delta)?, "{value} at {at}");
+            holds_at(rt, at, agrees(alloc, entries, &DATA, &delta));
         }
     }
-    Ok(())
 }
 
 #[test]
-fn agrees_with_a_plain_reader(rt: HostRuntime) -> Result<(), Fail> {
-    agrees_throughout(&rt, rt.alloc(), 0)?;
-    agrees_throughout(&rt, rt.alloc(), 1)?;
-    Ok(())
+fn agrees_with_a_plain_reader(rt: HostRuntime) {
+    agrees_throughout(&rt, rt.alloc(), 0);
+    agrees_throughout(&rt, rt.alloc(), 1);
 }

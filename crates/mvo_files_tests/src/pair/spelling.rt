@@ -1,5 +1,6 @@
 //! Rules of several records, and of several numbers.
-use crate::pair::vectors::{count, pair};
+use crate::equal::same_at;
+use crate::pair::vectors::{DELTA, count, pair};
 use mvo_pair::Pair;
 use mvo_types::{Refusal, Stamp};
 use std::alloc::{AllocError, Global};
@@ -55,62 +56,54 @@ fn delta_of(alloc: Global, numbers: &[u64]) -> Result<Vec<u8>, AllocError> {
     Ok(out)
 }
 
-/// Two records are those of a pair, or aren't.
-fn are_read(
-    rt: &impl Abort,
-    alloc: Global,
-    records: [Line; 2],
-    delta: &[u8],
-    is_good: bool,
-) -> Result<(), Fail> {
-    let data = data_of(alloc, &records)?;
-    let found = count(alloc, above_two(2, 0), &data, delta);
-    let wanted = if is_good {
-        Ok(2)
-    } else {
-        Err(Refusal::Corrupt(4))
-    };
-    assert!(rt; found == wanted, "{records:?}");
-    Ok(())
-}
+const BROKEN_DATA: Result<usize, Refusal> = Err(Refusal::Corrupt(4));
+
+/// Two records, and whether they are those of a pair.
+const RECORDS: [([Line; 2], Result<usize, Refusal>); 12] = [
+    ([(3, 0, 5, 0), (3, 0, 6, 0)], Ok(2)),
+    ([(3, 0, 5, 0), (3, 1, 0, 0)], Ok(2)),
+    ([(3, 9, 9, 0), (9, 0, 0, 0)], Ok(2)),
+    ([(3, 15, 0, 1_024), (4, 0, 0, 0)], Ok(2)),
+    // Equal, by key, by table, by begin.
+    ([(3, 0, 5, 0), (3, 0, 5, 0)], BROKEN_DATA),
+    ([(3, 0, 5, 0), (3, 0, 4, 0)], BROKEN_DATA),
+    ([(3, 1, 5, 0), (3, 0, 9, 0)], BROKEN_DATA),
+    ([(4, 0, 5, 0), (3, 1, 9, 0)], BROKEN_DATA),
+    // At lo, past hi, no table, too long.
+    ([(2, 0, 5, 0), (3, 0, 0, 0)], BROKEN_DATA),
+    ([(3, 0, 5, 0), (10, 0, 0, 0)], BROKEN_DATA),
+    ([(3, 16, 5, 0), (4, 0, 0, 0)], BROKEN_DATA),
+    ([(3, 0, 5, 1_025), (4, 0, 0, 0)], BROKEN_DATA),
+];
 
 #[test]
 fn records_rise_within_the_limits(rt: HostRuntime) -> Result<(), Fail> {
-    let alloc = rt.alloc();
-    let delta = delta_of(alloc, &[])?;
-    let cases = [
-        ([(3, 0, 5, 0), (3, 0, 6, 0)], true),
-        ([(3, 0, 5, 0), (3, 1, 0, 0)], true),
-        ([(3, 9, 9, 0), (9, 0, 0, 0)], true),
-        ([(3, 15, 0, 1_024), (4, 0, 0, 0)], true),
-        // Equal, by key, by table, by begin.
-        ([(3, 0, 5, 0), (3, 0, 5, 0)], false),
-        ([(3, 0, 5, 0), (3, 0, 4, 0)], false),
-        ([(3, 1, 5, 0), (3, 0, 9, 0)], false),
-        ([(4, 0, 5, 0), (3, 1, 9, 0)], false),
-        // At lo, past hi, no table, too long.
-        ([(2, 0, 5, 0), (3, 0, 0, 0)], false),
-        ([(3, 0, 5, 0), (10, 0, 0, 0)], false),
-        ([(3, 16, 5, 0), (4, 0, 0, 0)], false),
-        ([(3, 0, 5, 1_025), (4, 0, 0, 0)], false),
-    ];
-    for (records, is_good) in cases {
-        are_read(&rt, alloc, records, &delta, is_good)?;
+    for (at, (records, wanted)) in RECORDS.iter().enumerate() {
+        let data = data_of(rt.alloc(), records)?;
+        let found = count(rt.alloc(), above_two(2, 0), &data, &DELTA);
+        same_at(&rt, at, &found, wanted);
     }
     Ok(())
 }
 
-/// Two numbers beside three records are answered so.
-fn are_counted(
-    rt: &impl Abort,
-    alloc: Global,
-    data: &[u8],
-    numbers: [u64; 2],
-    wanted: Result<usize, Refusal>,
-) -> Result<(), Fail> {
-    let delta = delta_of(alloc, &numbers)?;
-    let found = count(alloc, above_two(3, 2), data, &delta);
-    assert!(rt; found == wanted, "{numbers:?}");
+const BROKEN_DELTA: Result<usize, Refusal> = Err(Refusal::Corrupt(5));
+
+/// Two numbers beside three records, and how many of them are live.
+const NUMBERS: [([u64; 2], Result<usize, Refusal>); 6] = [
+    ([0, 1], Ok(1)),
+    ([2, 0], Ok(1)),
+    ([1, 1], BROKEN_DELTA),
+    ([0, 3], BROKEN_DELTA),
+    ([3, 0], BROKEN_DELTA),
+    ([0xffff_ffff, 0], BROKEN_DELTA),
+];
+
+fn are_counted(rt: &impl Abort, alloc: Global, data: &[u8]) -> Result<(), Fail> {
+    for (at, (numbers, wanted)) in NUMBERS.iter().enumerate() {
+        let delta = delta_of(alloc, numbers)?;
+        let found = count(alloc, above_two(3, 2), data, &delta);
+        same_at(rt, at, &found, wanted);
+    }
     Ok(())
 }
 
@@ -118,17 +111,5 @@ fn are_counted(
 fn numbers_are_below_the_count_and_not_repeated(rt: HostRuntime) -> Result<(), Fail> {
     let alloc = rt.alloc();
     let data = data_of(alloc, &[(3, 0, 5, 0), (4, 0, 5, 0), (5, 0, 5, 0)])?;
-    let broken = Err(Refusal::Corrupt(5));
-    let cases = [
-        ([0, 1], Ok(1)),
-        ([2, 0], Ok(1)),
-        ([1, 1], broken),
-        ([0, 3], broken),
-        ([3, 0], broken),
-        ([0xffff_ffff, 0], broken),
-    ];
-    for (numbers, wanted) in cases {
-        are_counted(&rt, alloc, &data, numbers, wanted)?;
-    }
-    Ok(())
+    are_counted(&rt, alloc, &data)
 }

@@ -1,7 +1,9 @@
 //! The vectors of the format, and what a pair with them is.
+use crate::equal::{holds, same, same_at};
 use mvo_pair::{FIRST_FORMAT, Live, Pair, load_pair};
 use mvo_types::{Refusal, RowKey, Stamp};
 use std::alloc::Global;
+use std::process::Abort;
 use std::test::Fail;
 
 /// A data file of one record: begin 2, table 0, key 5, sort 50, data 61.
@@ -34,48 +36,74 @@ pub fn count(alloc: Global, pair: Pair, data: &[u8], delta: &[u8]) -> Result<usi
     Ok(live.len())
 }
 
-#[test]
-fn a_record_is_live_until_it_is_named(rt: HostRuntime) -> Result<(), Fail> {
-    let alloc = rt.alloc();
-    let live = load_pair(alloc, FIRST_FORMAT, pair(1, 0), &DATA, &DELTA)?;
-    assert_eq!(rt; live.len(), 1);
-    let Live { number, entry } = &live[0];
-    assert_eq!(rt; (*number, entry.begin), (0, Stamp(2)));
-    assert_eq!(rt; entry.row.key, RowKey { table: 0, key: 5 });
-    assert_eq!(rt; entry.row.sort, 50);
-    assert_eq!(rt; entry.row.bytes(), b"a".as_slice());
-    assert_eq!(rt; count(alloc, pair(1, 1), &DATA, &NAMED), Ok(0));
+/// Records and entries of the pair, its files, and how many records are live, or the refusal.
+type Case = (
+    u32,
+    u32,
+    &'static [u8],
+    &'static [u8],
+    Result<usize, Refusal>,
+);
+
+/// Each pair is counted so.
+fn are_counted(rt: &impl Abort, alloc: Global, cases: &[Case]) {
+    for (at, case) in cases.iter().enumerate() {
+        let found = count(alloc, pair(case.0, case.1), case.2, case.3);
+        same_at(rt, at, &found, &case.4);
+    }
+}
+
+const LIVE: [Case; 3] = [
+    (1, 1, &DATA, &NAMED, Ok(0)),
     // A number that isn't counted isn't read, nor is a record.
-    assert_eq!(rt; count(alloc, pair(1, 0), &DATA, &NAMED), Ok(1));
-    assert_eq!(rt; count(alloc, pair(0, 0), &DATA, &NAMED), Ok(0));
-    Ok(())
+    (1, 0, &DATA, &NAMED, Ok(1)),
+    (0, 0, &DATA, &NAMED, Ok(0)),
+];
+
+/// It is the record of the data file.
+fn is_the_record(rt: &impl Abort, live: &Live) {
+    let Live { number, entry } = live;
+    same(rt, &(*number, entry.begin), &(0, Stamp(2)));
+    same(rt, &entry.row.key, &RowKey { table: 0, key: 5 });
+    same(rt, &entry.row.sort, &50);
+    same(rt, &entry.row.bytes(), &b"a".as_slice());
 }
 
 #[test]
-fn the_first_broken_rule_decides(rt: HostRuntime) -> Result<(), Fail> {
-    let alloc = rt.alloc();
-    let broken_data = Err(Refusal::Corrupt(4));
-    let broken_delta = Err(Refusal::Corrupt(5));
-    // Counts for which the files have no room.
-    assert_eq!(rt; count(alloc, pair(2, 0), &DATA, &DELTA), broken_data);
-    assert_eq!(rt; count(alloc, pair(u32::MAX, 0), &DATA, &DELTA), broken_data);
-    assert_eq!(rt;
-        count(alloc, pair(1, u32::MAX), &DATA, &DELTA),
-        broken_delta
-    );
-    // The number of a record that isn't there.
-    assert_eq!(rt; count(alloc, pair(0, 1), &DATA, &NAMED), broken_delta);
-    // An empty file, and another file's bytes.
-    assert_eq!(rt; count(alloc, pair(0, 0), &[], &DELTA), broken_data);
-    assert_eq!(rt; count(alloc, pair(1, 0), &DATA, &[]), broken_delta);
-    assert_eq!(rt; count(alloc, pair(1, 0), &DATA, &DATA), broken_delta);
-    // The data file stands before the delta file.
-    let mut old = NAMED;
-    old[4] = 0;
-    assert_eq!(rt;
-        count(alloc, pair(1, 1), &DATA, &old),
-        Err(Refusal::BadVersion)
-    );
-    assert_eq!(rt; count(alloc, pair(2, 1), &DATA, &old), broken_data);
+fn a_record_is_live_until_it_is_named(rt: HostRuntime) -> Result<(), Fail> {
+    let live = load_pair(rt.alloc(), FIRST_FORMAT, pair(1, 0), &DATA, &DELTA)?;
+    match live.as_slice() {
+        [only] => is_the_record(&rt, only),
+        _ => holds(&rt, false),
+    }
+    are_counted(&rt, rt.alloc(), &LIVE);
     Ok(())
+}
+
+const BROKEN_DATA: Result<usize, Refusal> = Err(Refusal::Corrupt(4));
+
+const BROKEN_DELTA: Result<usize, Refusal> = Err(Refusal::Corrupt(5));
+
+/// The delta file with the number 0, of an old version.
+const OLD: [u8; 12] = [0x4d, 0x56, 0x4f, 0x45, 0, 0, 0, 0, 0, 0, 0, 0];
+
+const BROKEN: [Case; 9] = [
+    // Counts for which the files have no room.
+    (2, 0, &DATA, &DELTA, BROKEN_DATA),
+    (u32::MAX, 0, &DATA, &DELTA, BROKEN_DATA),
+    (1, u32::MAX, &DATA, &DELTA, BROKEN_DELTA),
+    // The number of a record that isn't there.
+    (0, 1, &DATA, &NAMED, BROKEN_DELTA),
+    // An empty file, and another file's bytes.
+    (0, 0, &[], &DELTA, BROKEN_DATA),
+    (1, 0, &DATA, &[], BROKEN_DELTA),
+    (1, 0, &DATA, &DATA, BROKEN_DELTA),
+    // The data file stands before the delta file.
+    (1, 1, &DATA, &OLD, Err(Refusal::BadVersion)),
+    (2, 1, &DATA, &OLD, BROKEN_DATA),
+];
+
+#[test]
+fn the_first_broken_rule_decides(rt: HostRuntime) {
+    are_counted(&rt, rt.alloc(), &BROKEN);
 }

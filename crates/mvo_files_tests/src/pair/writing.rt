@@ -1,4 +1,5 @@
 //! The files on a disk.
+use crate::equal::same;
 use crate::pair::vectors::{DATA, DELTA, NAMED, count, pair};
 use mvo_disk::{Disk, MemDisk};
 use mvo_pair::{Entry, FIRST_FORMAT, Pair, append_delta, are_entries, write_data, write_delta};
@@ -58,8 +59,8 @@ fn written(alloc: Global, pair: Pair, begin: u64, byte: u8) -> Result<MemDisk, F
 
 fn writes_data(rt: &impl Abort, alloc: Global) -> Result<(), Fail> {
     let disk = written(alloc, pair(1, 0), 2, 0x61)?;
-    assert_eq!(rt; disk.bytes(4), DATA.as_slice());
-    assert_eq!(rt; disk.bytes(5), DELTA.as_slice());
+    same(rt, &disk.bytes(4), &DATA.as_slice());
+    same(rt, &disk.bytes(5), &DELTA.as_slice());
     Ok(())
 }
 
@@ -74,8 +75,8 @@ fn writes_merged_data(rt: &impl Abort, alloc: Global) -> Result<(), Fail> {
     let mut data = DATA;
     data[8] = 4;
     data[35] = 0x62;
-    assert_eq!(rt; disk.bytes(3), data.as_slice());
-    assert_eq!(rt; disk.bytes(8), DELTA.as_slice());
+    same(rt, &disk.bytes(3), &data.as_slice());
+    same(rt, &disk.bytes(8), &DELTA.as_slice());
     Ok(())
 }
 
@@ -96,13 +97,17 @@ fn may_be(alloc: Global, begins: &[u64]) -> Result<bool, AllocError> {
 
 #[test]
 fn records_are_those_of_the_pair(rt: HostRuntime) -> Result<(), Fail> {
-    let alloc = rt.alloc();
-    assert!(rt; may_be(alloc, &[])?);
-    assert!(rt; may_be(alloc, &[1, 2])?);
-    assert!(rt; !may_be(alloc, &[0])?);
-    assert!(rt; !may_be(alloc, &[3])?);
-    assert!(rt; !may_be(alloc, &[2, 2])?);
-    assert!(rt; !may_be(alloc, &[2, 1])?);
+    let cases: [(&[u64], bool); 6] = [
+        (&[], true),
+        (&[1, 2], true),
+        (&[0], false),
+        (&[3], false),
+        (&[2, 2], false),
+        (&[2, 1], false),
+    ];
+    for (begins, may) in cases {
+        same(&rt, &may_be(rt.alloc(), begins)?, &may);
+    }
     Ok(())
 }
 
@@ -148,7 +153,7 @@ fn becomes(
 ) -> Result<(), Fail> {
     let mut disk = MemDisk::new(alloc)?;
     append_numbers(alloc, &mut disk, bytes, counted, numbers)?;
-    assert_eq!(rt; disk.bytes(5), wanted);
+    same(rt, &disk.bytes(5), &wanted);
     Ok(())
 }
 
@@ -172,12 +177,12 @@ fn is_read(
     pair: Pair,
     wanted: Result<usize, Refusal>,
 ) -> Result<(), Fail> {
-    assert_eq!(rt; count(alloc, pair, &DATA, &DELTA), wanted);
+    same(rt, &count(alloc, pair, &DATA, &DELTA), &wanted);
     if pair.data_file >= 1024 || pair.delta_file >= 1024 {
         return Err(Fail::from("files"));
     }
     let (data, delta) = (disk.bytes(pair.data_file), disk.bytes(pair.delta_file));
-    assert_eq!(rt; count(alloc, pair, data, delta), wanted);
+    same(rt, &count(alloc, pair, data, delta), &wanted);
     Ok(())
 }
 

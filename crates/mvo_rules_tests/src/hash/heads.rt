@@ -1,3 +1,4 @@
+use crate::equal::{holds, same, same_at};
 use crate::numbers::Numbers;
 use mvo_hash::Heads;
 use mvo_types::RowKey;
@@ -63,92 +64,103 @@ fn step_on_both(
     let key = some_key(numbers);
     let call = numbers.below(5);
     let (answer, wanted) = done_to_both(heads, list, call, key, step)?;
-    assert_eq!(rt; answer, wanted, "at step {step}");
+    same_at(rt, &answer, &wanted, u64::from(step));
     for shown in [key, some_key(numbers)] {
-        assert_eq!(rt;
-            heads.get(shown),
-            listed(list.as_slice(), shown),
-            "at step {step}"
-        );
+        let wanted = listed(list.as_slice(), shown);
+        same_at(rt, &heads.get(shown), &wanted, u64::from(step));
     }
     Ok(())
 }
 
-/// Many steps on both.
+/// Many steps on both. By seed 3 room is reserved first.
 fn agree(
     rt: &impl Abort,
-    numbers: &mut Numbers,
     heads: &mut Heads,
     list: &mut Vec<(RowKey, u32)>,
+    seed: u64,
 ) -> Result<(), Fail> {
+    let mut numbers = Numbers::new();
+    if seed == 3 {
+        heads.reserve(600)?;
+    }
     for step in 0u32..6000 {
-        step_on_both(rt, numbers, heads, list, step)?;
+        step_on_both(rt, &mut numbers, heads, list, step)?;
     }
     for entry in &*list {
-        assert_eq!(rt; heads.get(entry.0), Some(entry.1));
+        same(rt, &heads.get(entry.0), &Some(entry.1));
     }
     Ok(())
 }
 
 #[test]
 fn agrees_with_a_plain_list(rt: HostRuntime) -> Result<(), Fail> {
-    let alloc = rt.alloc();
     for seed in 0u64..4 {
-        let mut heads = Heads::new(alloc, seed);
-        let mut list: Vec<(RowKey, u32)> = Vec::new(alloc);
-        if seed == 3 {
-            heads.reserve(600)?;
-        }
-        agree(&rt, &mut Numbers::new(), &mut heads, &mut list)?;
+        let mut list: Vec<(RowKey, u32)> = Vec::new(rt.alloc());
+        agree(&rt, &mut Heads::new(rt.alloc(), seed), &mut list, seed)?;
     }
+    Ok(())
+}
+
+fn key_of_pattern(table: u8, step: u32) -> RowKey {
+    let key = u64::from(step) << 40;
+    RowKey { table, key }
+}
+
+fn puts(rt: &impl Abort, heads: &mut Heads, key: RowKey, number: u32) -> Result<(), Fail> {
+    same(rt, &heads.put(key, number)?, &None);
+    Ok(())
+}
+
+fn has_pattern(rt: &impl Abort, heads: &Heads, step: u32) {
+    same(rt, &heads.get(key_of_pattern(1, step)), &Some(step));
+    same(rt, &heads.get(key_of_pattern(2, step)), &None);
+}
+
+const LAST: RowKey = RowKey {
+    table: 255,
+    key: u64::MAX,
+};
+
+fn keeps_pattern(rt: &impl Abort, heads: &mut Heads) -> Result<(), Fail> {
+    for step in 0u32..3000 {
+        puts(rt, heads, key_of_pattern(1, step), step)?;
+    }
+    for step in 0u32..3000 {
+        has_pattern(rt, heads, step);
+    }
+    puts(rt, heads, LAST, u32::MAX)?;
+    same(rt, &heads.get(LAST), &Some(u32::MAX));
     Ok(())
 }
 
 #[test]
 fn keys_of_one_pattern_stay_apart(rt: HostRuntime) -> Result<(), Fail> {
     let mut heads = Heads::new(rt.alloc(), 7);
-    for step in 0u32..3000 {
-        let key = RowKey {
-            table: 1,
-            key: (step as u64) << 40,
-        };
-        assert_eq!(rt; heads.put(key, step)?, None);
-    }
-    for step in 0u32..3000 {
-        let key = RowKey {
-            table: 1,
-            key: (step as u64) << 40,
-        };
-        assert_eq!(rt; heads.get(key), Some(step));
-        assert_eq!(rt;
-            heads.get(RowKey {
-                table: 2,
-                key: key.key
-            }),
-            None
-        );
-    }
-    let last = RowKey {
-        table: 255,
-        key: u64::MAX,
-    };
-    assert_eq!(rt; heads.put(last, u32::MAX)?, None);
-    assert_eq!(rt; heads.get(last), Some(u32::MAX));
+    keeps_pattern(&rt, &mut heads)
+}
+
+/// Room is reserved, and no more where that is refused. It answers the room.
+fn reserves(rt: &impl Abort, heads: &mut Heads) -> Result<usize, Fail> {
+    same(rt, &heads.room(), &0);
+    heads.reserve(2560)?;
+    let room = heads.room();
+    holds(rt, room >= 10);
+    same(rt, &heads.reserve(usize::MAX), &Err(AllocError));
+    same(rt, &heads.room(), &room);
+    Ok(room)
+}
+
+fn takes_room_for_one(rt: &impl Abort, heads: &mut Heads) -> Result<(), Fail> {
+    let room = reserves(rt, heads)?;
+    let key = RowKey { table: 1, key: 5 };
+    puts(rt, heads, key, 6)?;
+    holds(rt, heads.room() >= room.saturating_sub(1));
+    same(rt, &heads.get(key), &Some(6));
     Ok(())
 }
 
 #[test]
 fn room_is_reserved_for_a_share_in_each_table(rt: HostRuntime) -> Result<(), Fail> {
     let mut heads = Heads::new(rt.alloc(), 11);
-    assert_eq!(rt; heads.room(), 0);
-    heads.reserve(2560)?;
-    let room = heads.room();
-    assert!(rt; room >= 10);
-    assert_eq!(rt; heads.reserve(usize::MAX), Err(AllocError));
-    assert_eq!(rt; heads.room(), room);
-    let key = RowKey { table: 1, key: 5 };
-    assert_eq!(rt; heads.put(key, 6)?, None);
-    assert!(rt; heads.room() >= room.saturating_sub(1));
-    assert_eq!(rt; heads.get(key), Some(6));
-    Ok(())
+    takes_room_for_one(&rt, &mut heads)
 }

@@ -2,6 +2,7 @@ ghost use Rattle.std.specs.Prelude.{◌≡◌, ◌==◌, IfOk};
 ghost use Rattle.std.specs.List.{list_any};
 ghost use Rattle.mvo_hash.specs.Lists.{numbers_of, is_among};
 
+use crate::equal::{holds, same, same_at};
 use crate::numbers::Numbers;
 use mvo_chain::{Version, VersionNo};
 use mvo_hash::HashIndex;
@@ -36,7 +37,7 @@ fn listed(
     Ok(versions)
 }
 
-fn holds(versions: &[VersionNo], version: VersionNo) -> bool
+fn is_among(versions: &[VersionNo], version: VersionNo) -> bool
     ensures { result ≡ list_any (λ v. version.0 == v.0) versions.now }
 {
     versions.iter().any(|v| version.0 == v.0)
@@ -52,7 +53,7 @@ fn has(
     ensures { IfOk result (λ b. b ≡ is_among version.0 (numbers_of index.now.versions key)) }
 {
     let versions = index.versions_of(alloc, key)?;
-    Ok(holds(versions.as_slice(), version))
+    Ok(is_among(versions.as_slice(), version))
 }
 
 // Removes the version from both where some key has it, and else adds it to both. Answers whether
@@ -127,9 +128,9 @@ fn assert_versions(
     key: RowKey,
     wanted: &[VersionNo],
 ) -> Result<(), Fail> {
-    assert_eq!(rt; index.versions_of(alloc, key)?.as_slice(), wanted);
-    assert_eq!(rt; index.newest(key), wanted.first().copied());
-    assert!(rt; walks_over(index, wanted));
+    same(rt, &index.versions_of(alloc, key)?.as_slice(), &wanted);
+    same(rt, &index.newest(key), &wanted.first().copied());
+    holds(rt, walks_over(index, wanted));
     Ok(())
 }
 
@@ -148,10 +149,10 @@ fn step_on_both(
         toggled_in_both(index, list, key, number)?
     } else {
         let knew = fronted_in_both(index, list, number)?;
-        assert_eq!(rt; index.room(), room, "at step {step}");
+        same_at(rt, &index.room(), &room, u64::from(step));
         knew
     };
-    assert!(rt; knew, "at step {step}");
+    same_at(rt, &knew, &true, u64::from(step));
     Ok(key)
 }
 
@@ -190,7 +191,7 @@ fn add_in_turn(rt: &impl Abort, index: &mut HashIndex) -> Result<(), Fail> {
         let number = VersionNo(number);
         let key = KEYS[(number.0 & 1) as usize];
         let held = index.is_held(number);
-        assert!(rt; !held);
+        holds(rt, !held);
         index.add(key, number)?;
     }
     Ok(())
@@ -206,7 +207,7 @@ fn bring_to_front(
 ) -> Result<(), Fail> {
     let number = VersionNo(number);
     let there = has(alloc, index, KEYS[0], number)?;
-    assert!(rt; there);
+    holds(rt, there);
     index.bring_to_front(KEYS[0], number);
     assert_versions(rt, alloc, index, KEYS[0], &wanted.map(|n| VersionNo(n)))?;
     assert_versions(
@@ -238,11 +239,11 @@ fn takes(
     number: VersionNo,
 ) -> Result<(), Fail> {
     let held = index.is_held(number);
-    assert!(rt; !held);
-    assert_eq!(rt; index.add(key, number), Ok(()));
-    assert_eq!(rt; index.newest(key), Some(number));
+    holds(rt, !held);
+    same(rt, &index.add(key, number), &Ok(()));
+    same(rt, &index.newest(key), &Some(number));
     let there = has(alloc, index, key, number)?;
-    assert!(rt; there);
+    holds(rt, there);
     index.remove(key, number);
     assert_versions(rt, alloc, index, key, &[])
 }
@@ -250,9 +251,9 @@ fn takes(
 // The index has no place for the version.
 fn refuses(rt: &impl Abort, index: &mut HashIndex, key: RowKey, number: VersionNo) {
     let held = index.is_held(number);
-    assert!(rt; !held);
-    assert_eq!(rt; index.add(key, number), Err(AllocError));
-    assert_eq!(rt; index.newest(key), None);
+    holds(rt, !held);
+    same(rt, &index.add(key, number), &Err(AllocError));
+    same(rt, &index.newest(key), &None);
 }
 
 #[test]
@@ -268,17 +269,17 @@ fn the_last_two_numbers_are_refused(rt: HostRuntime) -> Result<(), Fail> {
 fn a_version_with_its_links_takes_at_most_96_bytes(rt: HostRuntime) {
     // The links of a version are 8 bytes, as is proved where they are declared.
     let slot = size_of::<Option<Version>>() + size_of::<VersionNo>();
-    assert!(rt; slot + 8 <= 96);
+    holds(&rt, slot + 8 <= 96);
 }
 
 // Room is reserved, and no more where that is refused.
 fn reserves(rt: &impl Abort, index: &mut HashIndex) -> Result<(), Fail> {
-    assert_eq!(rt; index.room(), 0);
+    same(rt, &index.room(), &0);
     index.reserve(2560)?;
     let reserved = index.room();
-    assert!(rt; reserved >= 10);
-    assert_eq!(rt; index.reserve(usize::MAX), Err(AllocError));
-    assert_eq!(rt; index.room(), reserved);
+    holds(rt, reserved >= 10);
+    same(rt, &index.reserve(usize::MAX), &Err(AllocError));
+    same(rt, &index.room(), &reserved);
     Ok(())
 }
 
@@ -290,11 +291,11 @@ fn takes_room_for_one(rt: &impl Abort, index: &mut HashIndex, step: u32) -> Resu
     };
     let number = VersionNo(step);
     let held = index.is_held(number);
-    assert!(rt; !held);
+    holds(rt, !held);
     let room = index.room();
     index.add(key, number)?;
-    assert!(rt; index.room() >= room.saturating_sub(1));
-    assert_eq!(rt; index.newest(key), Some(number));
+    holds(rt, index.room() >= room.saturating_sub(1));
+    same(rt, &index.newest(key), &Some(number));
     Ok(())
 }
 
@@ -303,10 +304,10 @@ fn gives_no_room_back(rt: &impl Abort, alloc: Global, index: &mut HashIndex) -> 
     let room = index.room();
     let key = RowKey { table: 1, key: 7 };
     let there = has(alloc, index, key, VersionNo(14))?;
-    assert!(rt; there);
+    holds(rt, there);
     index.remove(key, VersionNo(14));
-    assert_eq!(rt; index.room(), room);
-    assert_eq!(rt; index.newest(key), Some(VersionNo(15)));
+    same(rt, &index.room(), &room);
+    same(rt, &index.newest(key), &Some(VersionNo(15)));
     Ok(())
 }
 

@@ -1,3 +1,4 @@
+use crate::equal::{holds, same};
 use mvo_hash::OpenTable;
 use mvo_types::RowKey;
 use std::alloc::AllocError;
@@ -12,19 +13,19 @@ fn takes_room_for_one(
     number: u32,
 ) -> Result<(), Fail> {
     let room = table.room();
-    assert_eq!(rt; table.put(key, number)?, None);
-    assert_eq!(rt; table.room().checked_add(1), Some(room));
+    same(rt, &table.put(key, number)?, &None);
+    same(rt, &table.room().checked_add(1), &Some(room));
     let later = number.saturating_add(1);
-    assert_eq!(rt; table.put(key, later)?, Some(number));
-    assert_eq!(rt; table.get(key), Some(later));
-    assert_eq!(rt; table.room().checked_add(1), Some(room));
+    same(rt, &table.put(key, later)?, &Some(number));
+    same(rt, &table.get(key), &Some(later));
+    same(rt, &table.room().checked_add(1), &Some(room));
     Ok(())
 }
 
 /// Room for 500 keys lasts for them, whose keys begin there.
 fn lasts_for_500(rt: &impl Abort, table: &mut OpenTable, first: u64) -> Result<(), Fail> {
     table.reserve(500)?;
-    assert!(rt; table.room() >= 500);
+    holds(rt, table.room() >= 500);
     for step in 0u32..500 {
         let key = first.saturating_add(step as u64);
         takes_room_for_one(rt, table, RowKey { table: 1, key }, step)?;
@@ -35,13 +36,47 @@ fn lasts_for_500(rt: &impl Abort, table: &mut OpenTable, first: u64) -> Result<(
 #[test]
 fn reserved_room_lasts_for_so_many_keys(rt: HostRuntime) -> Result<(), Fail> {
     let mut table = OpenTable::new(rt.alloc(), 11);
-    assert_eq!(rt; table.room(), 0);
+    lasts(&rt, &mut table)
+}
+
+fn lasts(rt: &impl Abort, table: &mut OpenTable) -> Result<(), Fail> {
+    same(rt, &table.room(), &0);
     for first in [0, 1000, 2000] {
-        lasts_for_500(&rt, &mut table, first)?;
+        lasts_for_500(rt, table, first)?;
     }
-    for key in [0, 499, 1000, 2499] {
-        let number = (key % 1000) as u32 + 1;
-        assert_eq!(rt; table.get(RowKey { table: 1, key }), Some(number));
+    for (key, number) in [(0, 1), (499, 500), (1000, 1), (2499, 500)] {
+        same(rt, &table.get(RowKey { table: 1, key }), &Some(number));
+    }
+    Ok(())
+}
+
+const KEY: RowKey = RowKey { table: 2, key: 3 };
+
+/// Puts the key, and answers the room that is left.
+fn room_behind_one(table: &mut OpenTable) -> Result<usize, AllocError> {
+    table.put(KEY, 4)?;
+    Ok(table.room())
+}
+
+/// The key leaves and comes back, and there is as much room as before.
+fn comes_back(
+    rt: &impl Abort,
+    table: &mut OpenTable,
+    room: usize,
+    number: u32,
+) -> Result<(), Fail> {
+    holds(rt, table.remove(KEY).is_some());
+    same(rt, &table.room(), &room);
+    same(rt, &table.put(KEY, number)?, &None);
+    same(rt, &table.room(), &room);
+    same(rt, &table.get(KEY), &Some(number));
+    Ok(())
+}
+
+fn comes_and_goes(rt: &impl Abort, table: &mut OpenTable) -> Result<(), Fail> {
+    let room = room_behind_one(table)?;
+    for number in 0u32..100 {
+        comes_back(rt, table, room, number)?;
     }
     Ok(())
 }
@@ -49,15 +84,15 @@ fn reserved_room_lasts_for_so_many_keys(rt: HostRuntime) -> Result<(), Fail> {
 #[test]
 fn a_slot_that_a_key_left_takes_no_room_again(rt: HostRuntime) -> Result<(), Fail> {
     let mut table = OpenTable::new(rt.alloc(), 12);
-    let key = RowKey { table: 2, key: 3 };
-    table.put(key, 4)?;
-    let room = table.room();
-    for number in 0u32..100 {
-        assert!(rt; table.remove(key).is_some());
-        assert_eq!(rt; table.room(), room);
-        assert_eq!(rt; table.put(key, number)?, None);
-        assert_eq!(rt; table.room(), room);
-        assert_eq!(rt; table.get(key), Some(number));
+    comes_and_goes(&rt, &mut table)
+}
+
+fn refuses_room(rt: &impl Abort, table: &mut OpenTable) -> Result<(), Fail> {
+    let room = room_behind_one(table)?;
+    for keys in [usize::MAX, usize::MAX / 2, usize::MAX / 4, usize::MAX / 32] {
+        same(rt, &table.reserve(keys), &Err(AllocError));
+        same(rt, &table.room(), &room);
+        same(rt, &table.get(KEY), &Some(4));
     }
     Ok(())
 }
@@ -65,13 +100,23 @@ fn a_slot_that_a_key_left_takes_no_room_again(rt: HostRuntime) -> Result<(), Fai
 #[test]
 fn room_beyond_memory_is_refused(rt: HostRuntime) -> Result<(), Fail> {
     let mut table = OpenTable::new(rt.alloc(), 13);
-    let key = RowKey { table: 2, key: 3 };
-    table.put(key, 4)?;
-    let room = table.room();
-    for keys in [usize::MAX, usize::MAX / 2, usize::MAX / 4, usize::MAX / 32] {
-        assert_eq!(rt; table.reserve(keys), Err(AllocError));
-        assert_eq!(rt; table.room(), room);
-        assert_eq!(rt; table.get(key), Some(4));
+    refuses_room(&rt, &mut table)
+}
+
+/// A key comes, and the one four steps before it goes.
+fn take_turns(rt: &impl Abort, table: &mut OpenTable, step: u32) -> Result<(), Fail> {
+    let key = u64::from(step);
+    same(rt, &table.put(RowKey { table: 2, key }, step)?, &None);
+    holds(rt, table.room() <= 64);
+    let key = key.saturating_sub(4);
+    let old = table.remove(RowKey { table: 2, key });
+    holds(rt, old.is_some() || step < 5);
+    Ok(())
+}
+
+fn take_all_turns(rt: &impl Abort, table: &mut OpenTable) -> Result<(), Fail> {
+    for step in 0u32..20_000 {
+        take_turns(rt, table, step)?;
     }
     Ok(())
 }
@@ -79,18 +124,5 @@ fn room_beyond_memory_is_refused(rt: HostRuntime) -> Result<(), Fail> {
 #[test]
 fn keys_that_come_and_go_take_no_more_memory(rt: HostRuntime) -> Result<(), Fail> {
     let mut table = OpenTable::new(rt.alloc(), 14);
-    for step in 0u32..20_000 {
-        let key = RowKey {
-            table: 2,
-            key: step as u64,
-        };
-        assert_eq!(rt; table.put(key, step)?, None);
-        assert!(rt; table.room() <= 64);
-        let old = RowKey {
-            table: 2,
-            key: (step as u64).saturating_sub(4),
-        };
-        assert!(rt; table.remove(old).is_some() || step < 5);
-    }
-    Ok(())
+    take_all_turns(&rt, &mut table)
 }

@@ -1,11 +1,13 @@
 //! Groups that are cut: at 1,024 records, and at a body of 4,194,304 bytes.
 
+use crate::equal::{holds, same};
 use crate::tale::checked::{next_group, open_at, settle_at};
 use crate::tale::entries::entry_of;
 use mvo_group::Group;
 use mvo_tale::{NextRecords, Tale};
 use mvo_types::{Answer, Op, Row, RowKey, Stamp, TxId};
 use std::alloc::{AllocError, Global};
+use std::process::Abort;
 use std::test::Fail;
 
 /// Inserts of so many rows, of which the last has so many bytes of data and the others 1,024.
@@ -42,43 +44,83 @@ fn figures(prev: u64, next: NextRecords) -> Option<(usize, u64, usize)> {
     Some((count, next.mark.0, group.encoded_len()))
 }
 
+/// Stores a commit of so many inserts.
+fn store_inserts(
+    alloc: Global,
+    tale: &mut Tale,
+    end: u64,
+    rows: u64,
+    last: usize,
+) -> Result<bool, AllocError> {
+    let operations = inserts(alloc, rows, last)?;
+    store(alloc, tale, end, operations)
+}
+
+/// The next group from the place on: where the one after it begins, and its figures.
+fn group_from(
+    alloc: Global,
+    tale: &Tale,
+    from: usize,
+    prev: u64,
+    low_water: u64,
+) -> Result<(usize, Option<(usize, u64, usize)>), Fail> {
+    match next_group(tale, alloc, from, Stamp(prev), Stamp(low_water))? {
+        Some(group) => Ok((group.next, figures(prev, group))),
+        None => Err(Fail::from("a group")),
+    }
+}
+
+fn cut_records(rt: &impl Abort, alloc: Global, tale: &mut Tale) -> Result<(), Fail> {
+    for end in 1..=1_030u64 {
+        let is_stored = store_inserts(alloc, tale, end, 1, 0)?;
+        holds(rt, is_stored);
+    }
+    // each record has 10 bytes, and 20 for its row
+    let first = Some((1_024, 1_024, 18 + 1_024 * 30));
+    same(rt, &group_from(alloc, tale, 0, 0, 2_000)?, &(1_024, first));
+    let (_, second) = group_from(alloc, tale, 1_024, 1_024, 2_000)?;
+    same(rt, &second, &Some((6, 2_000, 18 + 6 * 30)));
+    Ok(())
+}
+
 #[test]
 fn a_group_has_1024_records(rt: HostRuntime) -> Result<(), Fail> {
-    let alloc = rt.alloc();
-    let mut tale = Tale::new(alloc);
-    for end in 1..=1_030u64 {
-        assert!(rt; store(alloc, &mut tale, end, inserts(alloc, 1, 0)?)?);
-    }
-    let first = next_group(&tale, alloc, 0, Stamp(0), Stamp(2_000))?.ok_or("a group")?;
-    let next = first.next;
-    // each record has 10 bytes, and 20 for its row
-    assert_eq!(rt; figures(0, first), Some((1_024, 1_024, 18 + 1_024 * 30)));
-    assert_eq!(rt; next, 1_024);
-    let second = next_group(&tale, alloc, next, Stamp(1_024), Stamp(2_000))?.ok_or("a group")?;
-    assert_eq!(rt; figures(1_024, second), Some((6, 2_000, 18 + 6 * 30)));
-    Ok(())
+    let mut tale = Tale::new(rt.alloc());
+    cut_records(&rt, rt.alloc(), &mut tale)
 }
 
 /// The first group of 250 commits of 16,714 bytes each, and one of 15,690 bytes and the data of its
 /// last row: with 96 bytes of that the body has as many bytes as it may have.
-fn last_with(alloc: Global, last: usize) -> Result<Option<(usize, u64, usize)>, Fail> {
-    let mut tale = Tale::new(alloc);
+fn group_with(
+    rt: &impl Abort,
+    alloc: Global,
+    tale: &mut Tale,
+    last: usize,
+) -> Result<Option<(usize, u64, usize)>, Fail> {
     for end in 1..=250u64 {
-        if !store(alloc, &mut tale, end, inserts(alloc, 16, 1024)?)? {
-            return Ok(None);
-        }
+        let is_stored = store_inserts(alloc, tale, end, 16, 1024)?;
+        holds(rt, is_stored);
     }
-    if !store(alloc, &mut tale, 251, inserts(alloc, 16, last)?)? {
-        return Ok(None);
-    }
-    let first = next_group(&tale, alloc, 0, Stamp(0), Stamp(400))?.ok_or("a group")?;
-    Ok(figures(0, first))
+    let is_stored = store_inserts(alloc, tale, 251, 16, last)?;
+    holds(rt, is_stored);
+    let (_, first) = group_from(alloc, tale, 0, 0, 400)?;
+    Ok(first)
+}
+
+/// Its figures are these.
+fn ends_with(
+    rt: &impl Abort,
+    alloc: Global,
+    last: usize,
+    wanted: (usize, u64, usize),
+) -> Result<(), Fail> {
+    let mut tale = Tale::new(alloc);
+    same(rt, &group_with(rt, alloc, &mut tale, last)?, &Some(wanted));
+    Ok(())
 }
 
 #[test]
 fn a_body_has_4194304_bytes(rt: HostRuntime) -> Result<(), Fail> {
-    let alloc = rt.alloc();
-    assert_eq!(rt; last_with(alloc, 96)?, Some((251, 400, 4_194_304)));
-    assert_eq!(rt; last_with(alloc, 97)?, Some((250, 250, 18 + 250 * 16_714)));
-    Ok(())
+    ends_with(&rt, rt.alloc(), 96, (251, 400, 4_194_304))?;
+    ends_with(&rt, rt.alloc(), 97, (250, 250, 18 + 250 * 16_714))
 }

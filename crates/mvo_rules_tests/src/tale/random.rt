@@ -1,5 +1,6 @@
 //! Random ends, commits and groups, against a plain list.
 
+use crate::equal::{above, same_at};
 use crate::numbers::Numbers;
 use crate::tale::checked::{leave_at, next_group, open_at, settle_at};
 use crate::tale::entries::entry_of;
@@ -7,6 +8,7 @@ use crate::tale::plain::{Place, State, is_record, some_operations};
 use mvo_tale::{NextRecords, Tale};
 use mvo_types::{Stamp, TxId};
 use std::alloc::Global;
+use std::process::Abort;
 use std::test::Fail;
 
 const STEPS: u64 = 3_000;
@@ -23,7 +25,6 @@ struct Counts {
     empty_groups: u64,
 }
 
-#[derive(Drop)]
 struct Course {
     alloc: Global,
     tale: Tale,
@@ -37,6 +38,21 @@ struct Course {
 
 fn count(number: &mut u64, more: u64) {
     *number = number.saturating_add(more);
+}
+
+impl Drop for Course {
+    fn drop(self) {
+        let Course {
+            alloc: _,
+            tale: _,
+            list: _,
+            numbers: _,
+            clock: _,
+            closed: _,
+            from: _,
+            counts: _,
+        } = self;
+    }
 }
 
 impl Course {
@@ -196,18 +212,34 @@ impl Course {
     }
 }
 
+fn go(rt: &impl Abort, course: &mut Course) -> Result<(), Fail> {
+    for step in 0..STEPS {
+        same_at(rt, &course.advance()?, &true, step);
+        same_at(rt, &course.is_shown(), &true, step);
+    }
+    Ok(())
+}
+
+fn check_counts(rt: &impl Abort, counts: &Counts) {
+    let floors = [
+        (counts.settled, 500),
+        (counts.left, 100),
+        (counts.shortened, 10),
+        (counts.groups, 100),
+        (counts.records, 300),
+        (counts.empty_groups, 5),
+    ];
+    above(rt, &floors);
+}
+
+fn check(rt: &impl Abort, course: &mut Course) -> Result<(), Fail> {
+    go(rt, course)?;
+    check_counts(rt, &course.counts);
+    Ok(())
+}
+
 #[test]
 fn agrees_with_a_plain_list(rt: HostRuntime) -> Result<(), Fail> {
     let mut course = Course::new(rt.alloc());
-    for step in 0..STEPS {
-        assert!(rt; course.advance()?, "at step {step}");
-        assert!(rt; course.is_shown(), "at step {step}");
-    }
-    assert!(rt; course.counts.settled > 500);
-    assert!(rt; course.counts.left > 100);
-    assert!(rt; course.counts.shortened > 10);
-    assert!(rt; course.counts.groups > 100);
-    assert!(rt; course.counts.records > 300);
-    assert!(rt; course.counts.empty_groups > 5);
-    Ok(())
+    check(&rt, &mut course)
 }

@@ -6,7 +6,6 @@ use mvo_work::WordPlace;
 use std::alloc::{AllocError, Global};
 
 /// An operation with all that is to be kept of it.
-#[derive(Drop)]
 pub struct Asked {
     pub op: Op,
     pub answer: Answer,
@@ -15,14 +14,50 @@ pub struct Asked {
     pub words: Vec<WordPlace>,
 }
 
+impl Drop for Asked {
+    fn drop(self) {
+        let Asked {
+            op: _,
+            answer: _,
+            entry: _,
+            written: _,
+            words: _,
+        } = self;
+    }
+}
+
+impl Asked {
+    /// The operation, its answer and the words.
+    pub fn into_parts(self) -> (Op, Answer, Vec<WordPlace>) {
+        let Asked {
+            op,
+            answer,
+            entry: _,
+            written: _,
+            words,
+        } = self;
+        (op, answer, words)
+    }
+}
+
 /// What a transaction has done, in plain lists.
-#[derive(Drop)]
 pub struct Plain {
     /// What each operation looked at.
     pub looks: Vec<Entry>,
     pub entries: Vec<Entry>,
     pub written: Vec<RowKey>,
     pub words: Vec<WordPlace>,
+}
+
+impl Drop for Plain {
+    fn drop(self) {
+        let Plain {
+            looks: _,
+            entries: _,
+            written: _,
+            words: _,
+        } = self;
+    }
 }
 
 impl Plain {

@@ -1,3 +1,4 @@
+use crate::equal::{holds, same, same_at};
 use crate::numbers::Numbers;
 use crate::work::plain::{Asked, Plain, some_key, some_operation};
 use crate::work::telling::told;
@@ -16,37 +17,36 @@ fn tell_both(
     asked: Asked,
 ) -> Result<(), AllocError> {
     plain.tell(&asked)?;
-    let Asked {
-        op,
-        answer,
-        words,
-        ..
-    } = asked;
+    let (op, answer, words) = asked.into_parts();
     let is_told = told(work, op, answer, words.as_slice())?;
-    assert!(rt; is_told);
+    holds(rt, is_told);
     Ok(())
 }
 
 /// Both have the same entries, and the same words.
 fn assert_same(rt: &impl Abort, work: &Work, plain: &Plain, key: RowKey) {
-    assert_eq!(rt; work.entry_count(), plain.entries.len());
+    same(rt, &work.entry_count(), &plain.entries.len());
     for place in 0..plain.entries.len() + 1 {
         let entry = plain.entries.get(place).copied();
-        assert_eq!(rt; work.entry_at(place), entry, "at {place}");
+        same_at(rt, &work.entry_at(place), &entry, place as u64);
     }
-    assert_eq!(rt; work.has_writes(), !plain.written.is_empty());
-    assert_eq!(rt; work.has_written(key), plain.has_written(key));
-    assert_eq!(rt; work.word_count(), plain.words.len());
-    assert_eq!(rt; work.next_word(), plain.words.first().copied());
-    assert!(rt; !work.is_entry_too_many(Entry::Key(key)));
-    assert!(rt; !work.is_write_too_many(key));
+    same(rt, &work.has_writes(), &(!plain.written.is_empty()));
+    same(rt, &work.has_written(key), &plain.has_written(key));
+    same(rt, &work.word_count(), &plain.words.len());
+    same(rt, &work.next_word(), &plain.words.first().copied());
+    holds(rt, !work.is_entry_too_many(Entry::Key(key)));
+    holds(rt, !work.is_write_too_many(key));
 }
 
 fn assert_operations(rt: &impl Abort, operations: &Operations, plain: &Plain) {
-    assert_eq!(rt; operations.written.as_slice(), plain.written.as_slice());
-    assert_eq!(rt; operations.told.len(), plain.looks.len());
+    same(
+        rt,
+        &operations.written.as_slice(),
+        &plain.written.as_slice(),
+    );
+    same(rt, &operations.told.len(), &plain.looks.len());
     for (told, look) in operations.told.iter().zip(plain.looks.iter()) {
-        assert_eq!(rt; entry_of(&told.0), *look);
+        same(rt, &entry_of(&told.0), look);
     }
 }
 
@@ -84,12 +84,12 @@ fn step_on_both(
 /// Operations and words are taken, and nothing is left of them.
 fn take_all(rt: &impl Abort, alloc: Global, work: &mut Work, plain: &Plain) -> Result<(), Fail> {
     assert_operations(rt, &work.take_operations(), plain);
-    assert_eq!(rt; work.entry_count(), 0);
-    assert!(rt; !work.has_writes());
-    assert!(rt; work.take_operations().told.is_empty());
+    same(rt, &work.entry_count(), &0);
+    holds(rt, !work.has_writes());
+    holds(rt, work.take_operations().told.is_empty());
     let words = words_of(alloc, work)?;
-    assert_eq!(rt; words.as_slice(), plain.words.as_slice());
-    assert_eq!(rt; work.next_word(), None);
+    same(rt, &words.as_slice(), &plain.words.as_slice());
+    same(rt, &work.next_word(), &None);
     Ok(())
 }
 

@@ -10,7 +10,7 @@ among_map n (v ∷ vs) = ap (λ b. eqb n v.0 || b) (among_map n vs)
 
 pub returns : goal.returns
 returns c =
-    c.holds.ensures
+    c.is_among.ensures
     ∙ ap (λ (vs : List VersionNo). list_any (λ v. eqb c.args.version.0 v.0) vs) c.as_slice.ensures.value
     ∙ among_map c.args.version.0 c.in_ok-versions.versions.items
     ∙ ap (is_among c.args.version.0) c.in_ok-versions.ensures
