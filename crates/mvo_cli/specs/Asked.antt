@@ -20,6 +20,10 @@ table_rule = record (new_rule (codes "TABLE")) {
 abbrev pub with_folder : Text → Bool → App
 with_folder name required = with_rule (new_app name) (folder_rule required)
 
+-- the command that prints the rows of a table
+abbrev pub rows_command : App
+rows_command = with_rule (with_folder (codes "rows") true) table_rule
+
 -- the program with no command yet, one of which must be there
 abbrev pub no_command : App
 no_command = record {
@@ -32,8 +36,7 @@ abbrev pub commands : App
 commands =
     let formats = with_subcommand no_command (with_folder (codes "format") true).top in
     let runs = with_subcommand formats (with_folder (codes "run") false).top in
-    let rows = with_rule (with_folder (codes "rows") true) table_rule in
-    with_subcommand (with_subcommand runs rows.top) (with_folder (codes "check") true).top
+    with_subcommand (with_subcommand runs rows_command.top) (with_folder (codes "check") true).top
 
 -- the words ask for the task
 abbrev pub AsksFor : List Text → Task → Type 0

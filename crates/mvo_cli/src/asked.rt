@@ -1,12 +1,14 @@
-ghost use Rattle.std.specs.Prelude.{◌≡◌, ◌∷◌, [], List, ℕ, false, IfOk, IfErr, codes, map};
-ghost use Rattle.clap.specs.Words.{Text, app_of, kind_of, rule_of};
+ghost use Rattle.std.specs.Prelude.{◌≡◌, ◌∷◌, [], List, ℕ, Some, false, IfErr, IfOk, IfSome, IsSome, IsSomeAnd};
+ghost use Rattle.std.specs.Prelude.{codes, map, option_map};
+ghost use Rattle.clap.specs.Words.{Text, app_of, kind_of, rule_of, subcommand_rows_of, with_subcommand};
 ghost use Rattle.clap.specs.declared.Command.TheViews.{out-Command};
-ghost use Rattle.mvo_cli.specs.Asked.{AsksFor, commands, folder_rule, table_rule, with_folder};
+ghost use Rattle.mvo_cli.specs.Asked.{AsksFor, commands, folder_rule, no_command, rows_command, table_rule, with_folder};
+ghost use Rattle.mvo_cli.specs.Tasks.{IsTask};
 
 use crate::task::{FOLDER, TABLE, Task, task_of};
 use clap::builder::ValueParser;
 use clap::error::ErrorKind;
-use clap::{Arg, Command, Error};
+use clap::{Arg, ArgMatches, Command, Error};
 use std::alloc::{AllocError, Global};
 
 /// The task that the words ask for, the program's own name first. An error is help that was asked
@@ -17,14 +19,35 @@ pub fn command<'a>(alloc: Global, words: &'a [&'a str]) -> Result<Task<'a>, Erro
         IfErr result (λ e. kind_of e ≡ ErrorKind.OutOfMemory) }
 {
     let mut mvo = command_line(alloc)?;
-    let matches = mvo.try_get_matches_from_mut(words)?;
-    let task = match matches.subcommand() {
-        Some((name, found)) => task_of(name, found),
-        None => None,
-    };
+    task_by(&mut mvo, words)
+}
+
+/// The task that the words ask for, by the program's commands.
+fn task_by<'a>(mvo: &mut Command<'a>, words: &'a [&'a str]) -> Result<Task<'a>, Error>
+    ensures asked { app_of mvo.old ≡ commands →
+        IfOk result (λ t. AsksFor (map (λ w. w.now) words.entry.now) t) }
+    ensures run { app_of mvo.old ≡ commands → (name : Text) →
+        map (λ w. w.now) words.entry.now ≡ name ∷ codes "run" ∷ [] →
+        IfErr result (λ e. kind_of e ≡ ErrorKind.OutOfMemory) }
+{
+    // What was matched is let go of here, before the ways part.
+    let task = task_among(&mvo.try_get_matches_from_mut(words)?);
     match task {
         Some(task) => Ok(task),
         None => Err(mvo.error(ErrorKind::InvalidSubcommand, "no such command")?),
+    }
+}
+
+/// The task that was matched, if one was.
+fn task_among<'a>(matches: &ArgMatches<'a>) -> Option<Task<'a>>
+    ensures task { IfSome result (λ t.
+        IsSomeAnd (subcommand_rows_of matches.now) (λ p. IsTask p.0 p.1 t)) }
+    ensures run { option_map (λ p. p.0) (subcommand_rows_of matches.now) ≡ Some (codes "run") →
+        IsSome result }
+{
+    match matches.subcommand() {
+        Some((name, found)) => task_of(name, found),
+        None => None,
     }
 }
 
@@ -60,33 +83,77 @@ fn with_folder<'a>(
     ensures local { IfOk result (λ c. (out-Command c).has_globals ≡ false) }
 {
     let folder = folder_arg(alloc, is_required);
-    let command = Command::new(alloc, name).about(about).arg(folder)?;
-    Ok(command)
+    Command::new(alloc, name).about(about).arg(folder)
+}
+
+/// Adds a command with the path of a folder.
+fn add_command<'a>(
+    mvo: Command<'a>,
+    alloc: Global,
+    name: &'a str,
+    about: &'a str,
+    is_required: bool,
+) -> Result<Command<'a>, AllocError>
+    ensures { IfOk result (λ c. app_of c
+        ≡ with_subcommand (app_of mvo.entry) (with_folder name.entry.now is_required).top) }
+{
+    match with_folder(alloc, name, about, is_required) {
+        Ok(command) => mvo.subcommand(command),
+        Err(error) => Err(error),
+    }
+}
+
+/// Adds the command that prints the rows of a table.
+fn add_rows<'a>(mvo: Command<'a>, alloc: Global) -> Result<Command<'a>, AllocError>
+    ensures { IfOk result (λ c. app_of c ≡ with_subcommand (app_of mvo.entry) rows_command.top) }
+{
+    mvo.subcommand(rows_command(alloc)?)
+}
+
+/// The command that prints the rows of a table.
+fn rows_command<'a>(alloc: Global) -> Result<Command<'a>, AllocError>
+    ensures app { IfOk result (λ c. app_of c ≡ rows_command) }
+    ensures local { IfOk result (λ c. (out-Command c).has_globals ≡ false) }
+{
+    let rows = with_folder(alloc, "rows", "Prints the rows of a table", true)?;
+    rows.arg(table_arg(alloc))
+}
+
+/// The program with no command yet.
+fn no_command<'a>(alloc: Global) -> Command<'a>
+    ensures { app_of result ≡ no_command }
+{
+    Command::new(alloc, "mvo")
+        .about("A main-memory multiversion row store with serializable transactions")
+        .subcommand_required(true)
 }
 
 /// The program's commands with their help.
 fn command_line<'a>(alloc: Global) -> Result<Command<'a>, AllocError>
     ensures { IfOk result (λ c. app_of c ≡ commands) }
 {
-    let format = with_folder(alloc, "format", "Makes a new store in a folder", true)?;
-    let run = with_folder(
+    // Each is added by a call that takes the program, so that no way out of here lets go of it.
+    let mvo = add_command(
+        no_command(alloc),
+        alloc,
+        "format",
+        "Makes a new store in a folder",
+        true,
+    )?;
+    let mvo = add_command(
+        mvo,
         alloc,
         "run",
         "Runs a script from standard input, one reply a line, over a fresh store in memory or \
          over the store in a folder",
         false,
     )?;
-    let rows = with_folder(alloc, "rows", "Prints the rows of a table", true)?;
-    let rows = rows.arg(table_arg(alloc))?;
-    let check = with_folder(
+    let mvo = add_rows(mvo, alloc)?;
+    add_command(
+        mvo,
         alloc,
         "check",
         "Opens the store in a folder and counts",
         true,
-    )?;
-    let mvo = Command::new(alloc, "mvo")
-        .about("A main-memory multiversion row store with serializable transactions")
-        .subcommand_required(true);
-    let mvo = mvo.subcommand(format)?.subcommand(run)?;
-    mvo.subcommand(rows)?.subcommand(check)
+    )
 }

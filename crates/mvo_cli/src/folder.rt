@@ -1,10 +1,11 @@
 use crate::fault::Fault;
 use crate::seed::draw_seed;
 use crate::shown::Shown;
-use mvo_disk::{DirDisk, FolderRefusal, make_folder};
+use mvo_disk::{DirDisk, Disk, FolderRefusal, make_folder};
 use mvo_store::{Store, format};
 use mvo_types::{Refusal, Rows, Stamp};
 use mvo_world::World;
+use std::alloc::Global;
 use std::fs::{File, Files};
 use std::random::RandomSource;
 use std::thread::Threads;
@@ -47,8 +48,15 @@ pub fn format_folder<R: AllocGlobal + Eprint + Files<File = File> + Clone + Drop
         Err(FolderRefusal::Missing) => return Err(Fault::Refused(Refusal::DiskFault)),
         Err(refusal) => return Err(fault_of(refusal)),
     }
-    let disk = open_disk(rt, folder, is_terminal)?;
-    match format(rt.alloc(), disk) {
+    match open_disk(rt, folder, is_terminal) {
+        Ok(disk) => format_disk(rt.alloc(), disk),
+        Err(fault) => Err(fault),
+    }
+}
+
+/// Makes a new store on a disk.
+fn format_disk<D: Disk + Drop>(alloc: Global, disk: D) -> Result<(), Fault> {
+    match format(alloc, disk) {
         Ok(_) => Ok(()),
         Err((refusal, _)) => Err(Fault::Refused(refusal)),
     }
@@ -59,16 +67,26 @@ pub fn open_world<R>(rt: &R, folder: &str, is_terminal: bool) -> Result<World<Di
 where
     R: AllocGlobal + Eprint + Files<File = File> + RandomSource + Threads + Sync + Clone + Drop,
 {
-    let disk = open_disk(rt, folder, is_terminal)?;
+    match open_disk(rt, folder, is_terminal) {
+        Ok(disk) => world_over(rt, rt.alloc(), disk),
+        Err(fault) => Err(fault),
+    }
+}
+
+/// The world over the store on a disk.
+fn world_over<D: Disk + Drop>(
+    rt: &(impl RandomSource + Threads + Sync),
+    alloc: Global,
+    disk: D,
+) -> Result<World<D>, Fault> {
     let seed = draw_seed(rt)?;
-    match World::open(rt, rt.alloc(), seed, disk) {
+    match World::open(rt, alloc, seed, disk) {
         Ok(world) => Ok(world),
         Err((refusal, _)) => Err(Fault::Refused(refusal)),
     }
 }
 
 /// What a store holds.
-#[derive(Drop)]
 pub struct Held {
     pub rows: Rows,
     pub mark: Stamp,
@@ -76,22 +94,48 @@ pub struct Held {
     pub segments: usize,
 }
 
+impl Drop for Held {
+    fn drop(self) {
+        let Held {
+            rows: _,
+            mark: _,
+            pairs: _,
+            segments: _,
+        } = self;
+    }
+}
+
 /// What the store in a folder holds. The folder isn't used any longer then.
 pub fn open_held<R>(rt: &R, folder: &str, is_terminal: bool) -> Result<Held, Fault>
 where
     R: AllocGlobal + Eprint + Files<File = File> + Threads + Sync + Clone + Drop,
 {
-    let disk = open_disk(rt, folder, is_terminal)?;
-    let (store, rows, mark) = match Store::open(rt, rt.alloc(), disk) {
-        Ok(opened) => opened,
-        Err((refusal, _)) => return Err(Fault::Refused(refusal)),
-    };
+    match open_disk(rt, folder, is_terminal) {
+        Ok(disk) => held_on(rt, rt.alloc(), disk),
+        Err(fault) => Err(fault),
+    }
+}
+
+/// What the store on a disk holds.
+fn held_on<D: Disk + Drop>(
+    rt: &(impl Threads + Sync),
+    alloc: Global,
+    disk: D,
+) -> Result<Held, Fault> {
+    match Store::open(rt, alloc, disk) {
+        Ok((store, rows, mark)) => Ok(held_of(&store, rows, mark)),
+        Err((refusal, _)) => Err(Fault::Refused(refusal)),
+    }
+}
+
+/// What a store holds, with its rows and its mark.
+fn held_of<D: Disk>(store: &Store<D>, rows: Rows, mark: Stamp) -> Held {
     let manifest = store.manifest();
     let (pairs, segments) = (manifest.pairs().len(), manifest.segments().len());
-    Ok(Held {
+    Held {
         rows,
         mark,
         pairs,
         segments,
-    })
+    }
 }

@@ -1,7 +1,7 @@
 use crate::fault::Fault;
 use crate::folder::Held;
 use mvo_types::{Row, RowKey};
-use std::alloc::Global;
+use std::alloc::{AllocError, Global};
 use std::io::{self, BufWriter, Write};
 
 /// Writes the mark, and then each row of a table by sort and key, `KEY SORT DATA`. Of the rows it
@@ -12,18 +12,41 @@ pub fn write_rows<W: Write + Drop>(
     table: u8,
     writer: W,
 ) -> Result<(), Fault> {
+    let places = places_of(alloc, held, table)?;
+    let mut writer = BufWriter::new(alloc, writer).map_err(|_| Fault::OutOfMemory)?;
+    write_places(alloc, held, table, &places, &mut writer)
+}
+
+/// The sorts and keys of a table's rows, in order.
+fn places_of(alloc: Global, held: &Held, table: u8) -> Result<Vec<(u64, u64)>, AllocError> {
     let mut places = held.rows.places(alloc, table)?;
     places.sort_unstable();
-    let mut writer = BufWriter::new(alloc, writer).map_err(|_| Fault::OutOfMemory)?;
+    Ok(places)
+}
+
+/// Writes the mark, and then the rows at these places.
+fn write_places(
+    alloc: Global,
+    held: &Held,
+    table: u8,
+    places: &[(u64, u64)],
+    writer: &mut impl Write,
+) -> Result<(), Fault> {
     let mark = held.mark;
     writeln!(writer, "mark {mark}").map_err(Fault::Print)?;
-    for place in &places {
+    for place in places {
         let (_, key) = *place;
-        if let Some(row) = held.rows.get(RowKey { table, key })? {
-            write_row(alloc, &row, &mut writer)?;
-        }
+        write_at(alloc, held, RowKey { table, key }, writer)?;
     }
     writer.flush().map_err(Fault::Print)
+}
+
+/// Writes the row at a key, where there is one.
+fn write_at(alloc: Global, held: &Held, key: RowKey, writer: &mut impl Write) -> Result<(), Fault> {
+    match held.rows.get(key)? {
+        Some(row) => write_row(alloc, &row, writer),
+        None => Ok(()),
+    }
 }
 
 /// Writes one row. Its data is in lower-case hexadecimal digits, and `-` where it has none.

@@ -4,7 +4,9 @@ use crate::folder::{format_folder, open_held, open_world};
 use crate::listing::{write_counts, write_rows};
 use crate::seed::draw_seed;
 use crate::task::Task;
+use mvo_disk::Disk;
 use mvo_script::{run_over, run_script};
+use mvo_world::World;
 use std::fs::{File, Files};
 use std::io::Write;
 use std::process::ExitCode;
@@ -12,9 +14,6 @@ use std::random::RandomSource;
 use std::rt::Env;
 use std::thread::Threads;
 use std::{env, io};
-
-/// The exit status where writing failed.
-const WRITING_FAILED: u8 = 3;
 
 /// Runs the program on its words, standard input and standard output. Its exit status is 0 where
 /// all was done, refused lines and help included, 1 where a store wasn't made or opened, 2 for a
@@ -56,25 +55,23 @@ where
         + Clone
         + Drop,
 {
-    let alloc = rt.alloc();
-    let owned: Vec<String> = match env::args(rt) {
-        Ok(words) => words.collect(alloc)?,
-        Err(error) if error.kind() == io::ErrorKind::OutOfMemory => return Err(Fault::OutOfMemory),
-        Err(error) => return Err(Fault::Words(error)),
-    };
-    let words: Vec<&str> = owned.iter().map(|word| word.as_str()).collect(alloc)?;
-    run_task(
-        rt,
-        command(alloc, &words).map_err(Fault::CommandLine)?,
-        is_terminal,
-    )
+    let words = words_of(rt)?;
+    run_given(rt, &words, is_terminal)
 }
 
-/// Does what the program is asked to do.
-fn run_task<R>(rt: &R, task: Task<'_>, is_terminal: bool) -> Result<(), Fault>
+/// The program's words.
+fn words_of(rt: &(impl AllocGlobal + Env)) -> Result<Vec<String>, Fault> {
+    match env::args(rt) {
+        Ok(words) => Ok(words.collect(rt.alloc())?),
+        Err(error) if error.kind() == io::ErrorKind::OutOfMemory => Err(Fault::OutOfMemory),
+        Err(error) => Err(Fault::Words(error)),
+    }
+}
+
+/// Does the command that these words are.
+fn run_given<R>(rt: &R, words: &[String], is_terminal: bool) -> Result<(), Fault>
 where
     R: AllocGlobal
-        + Env
         + Input
         + Print
         + Eprint
@@ -86,37 +83,119 @@ where
         + Drop,
 {
     let alloc = rt.alloc();
-    let mut writer = io::writer(rt);
-    match task {
-        Task::Format(folder) => {
-            format_folder(rt, folder, is_terminal)?;
-            writeln!(writer, "formatted").map_err(Fault::Print)
-        }
-        Task::Run => {
-            let seed = draw_seed(rt)?;
-            run_script(rt, alloc, seed, rt.reader(), writer).map_err(Fault::Script)
-        }
-        Task::RunIn(folder) => {
-            let world = open_world(rt, folder, is_terminal)?;
-            run_over(alloc, world, rt.reader(), writer).map_err(Fault::Script)
-        }
-        Task::Rows(folder, table) => {
-            write_rows(alloc, &open_held(rt, folder, is_terminal)?, table, writer)
-        }
-        Task::Check(folder) => write_counts(&open_held(rt, folder, is_terminal)?, &mut writer),
+    let words: Vec<&str> = words.iter().map(|word| word.as_str()).collect(alloc)?;
+    match command(alloc, &words) {
+        Ok(task) => run_task(rt, task, is_terminal),
+        Err(error) => Err(Fault::CommandLine(error)),
     }
+}
+
+/// Does what the program is asked to do.
+fn run_task<R>(rt: &R, task: Task<'_>, is_terminal: bool) -> Result<(), Fault>
+where
+    R: AllocGlobal
+        + Input
+        + Print
+        + Eprint
+        + Files<File = File>
+        + RandomSource
+        + Threads
+        + Sync
+        + Clone
+        + Drop,
+{
+    match task {
+        Task::Format(folder) => format_in(rt, folder, is_terminal),
+        Task::Run => run_fresh(rt),
+        Task::RunIn(folder) => run_in(rt, folder, is_terminal),
+        Task::Rows(folder, table) => print_rows(rt, folder, table, is_terminal),
+        Task::Check(folder) => print_counts(rt, folder, is_terminal),
+    }
+}
+
+/// Makes a new store in a folder, and says so.
+fn format_in<R>(rt: &R, folder: &str, is_terminal: bool) -> Result<(), Fault>
+where
+    R: AllocGlobal + Print + Eprint + Files<File = File> + Clone + Drop,
+{
+    format_folder(rt, folder, is_terminal)?;
+    writeln!(io::writer(rt), "formatted").map_err(Fault::Print)
+}
+
+/// Runs the script of standard input over a fresh store in memory.
+fn run_fresh(
+    rt: &(impl AllocGlobal + Input + Print + RandomSource + Threads + Sync),
+) -> Result<(), Fault> {
+    let seed = draw_seed(rt)?;
+    match run_script(rt, rt.alloc(), seed, rt.reader(), io::writer(rt)) {
+        Ok(()) => Ok(()),
+        Err(error) => Err(Fault::Script(error)),
+    }
+}
+
+/// Runs the script of standard input over the store in a folder.
+fn run_in<R>(rt: &R, folder: &str, is_terminal: bool) -> Result<(), Fault>
+where
+    R: AllocGlobal
+        + Input
+        + Print
+        + Eprint
+        + Files<File = File>
+        + RandomSource
+        + Threads
+        + Sync
+        + Clone
+        + Drop,
+{
+    match open_world(rt, folder, is_terminal) {
+        Ok(world) => run_world(rt, world),
+        Err(fault) => Err(fault),
+    }
+}
+
+/// Runs the script of standard input over a world.
+fn run_world<D: Disk + Drop>(
+    rt: &(impl AllocGlobal + Input + Print),
+    world: World<D>,
+) -> Result<(), Fault> {
+    match run_over(rt.alloc(), world, rt.reader(), io::writer(rt)) {
+        Ok(()) => Ok(()),
+        Err(error) => Err(Fault::Script(error)),
+    }
+}
+
+/// Prints the rows of a table of the store in a folder.
+fn print_rows<R>(rt: &R, folder: &str, table: u8, is_terminal: bool) -> Result<(), Fault>
+where
+    R: AllocGlobal + Print + Eprint + Files<File = File> + Threads + Sync + Clone + Drop,
+{
+    let held = open_held(rt, folder, is_terminal)?;
+    write_rows(rt.alloc(), &held, table, io::writer(rt))
+}
+
+/// Prints what the store in a folder holds.
+fn print_counts<R>(rt: &R, folder: &str, is_terminal: bool) -> Result<(), Fault>
+where
+    R: AllocGlobal + Print + Eprint + Files<File = File> + Threads + Sync + Clone + Drop,
+{
+    let held = open_held(rt, folder, is_terminal)?;
+    write_counts(&held, &mut io::writer(rt))
 }
 
 /// Prints a fault, help to standard output and all else to standard error, and answers the
 /// program's exit status.
 fn tell(rt: &(impl Print + Eprint), fault: &Fault) -> u8 {
     if fault.is_help() {
-        match rt.print(fault) {
-            Ok(()) => fault.status(),
-            Err(_) => WRITING_FAILED,
+        if let Err(error) = rt.print(fault) {
+            return tell_error(rt, &Fault::Print(error));
         }
-    } else {
-        let _ = rt.eprint(fault);
-        fault.status()
+        return fault.status();
     }
+    tell_error(rt, fault)
+}
+
+/// Prints a fault to standard error, and answers the program's exit status.
+fn tell_error(rt: &impl Eprint, fault: &Fault) -> u8 {
+    let _ = rt.eprint(fault);
+    fault.status()
 }

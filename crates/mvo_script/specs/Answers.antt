@@ -183,3 +183,20 @@ module _ {D : Type 0} (IsStep : WorldData D → Event → Reply → WorldData D 
   IsAnswer d (line.Merge place) r d' =
       AreToRefusal IsStep (merge place) d.world r d'.world × (d'.names ≡ d.names)
   IsAnswer d line.Reclaim r d' = IsStepOf d event.Reclaim r d'
+
+  -- a line is answered, for the transaction that its name is bound to
+  abbrev pub IsAnswerBy : Driver D → Line → List ℕ → BoundTx → Reply → Driver D → Type 0
+  IsAnswerBy d (line.Read _ key) name b r d' = IsStepOf d (event.Read b.tx key) r d'
+  IsAnswerBy d (line.Scan _ range) name b r d' =
+      IsStepOf d (event.Scan b.tx range.table range.lo range.hi) r d'
+  IsAnswerBy d (line.Insert _ text) name b r d' = IsRowStep d (event.Insert b.tx) text r d'
+  IsAnswerBy d (line.Update _ text) name b r d' = IsRowStep d (event.Update b.tx) text r d'
+  IsAnswerBy d (line.Delete _ key) name b r d' = IsStepOf d (event.Delete b.tx key) r d'
+  IsAnswerBy d (line.Precommit _) name b r d' = IsStepOf d (event.Precommit b.tx) r d'
+  IsAnswerBy d (line.Validate _) name b r d' = IsStepOf d (event.Validate b.tx) r d'
+  IsAnswerBy d (line.Settle _) name b r d' = IsSettled d name b.tx r d'
+  IsAnswerBy d (line.Rollback _) name b r d' = IsStepOf d (event.Rollback b.tx) r d'
+  IsAnswerBy d (line.Finish _) name b r d' = IsStepOf d (event.Finish b.tx) r d'
+  IsAnswerBy d (line.Commit _) name b r d' = IsCommit d name b.tx r d'
+  IsAnswerBy d (line.Poll _) name b r d' = IsPolled d b r d'
+  IsAnswerBy d _ name b r d' = ⊥

@@ -9,4 +9,5 @@ pub mod Checkpointing
 pub mod Merging
 pub mod Room
 pub mod Flushing
+pub mod Events
 pub mod Answers

@@ -4,6 +4,7 @@ ghost use Rattle.mvo_script.specs.Fresh.{IsFreshWorld};
 
 use crate::bound::BoundTx;
 use crate::checkpoint::checkpoint;
+use crate::events::{event_by, event_of, name_in};
 use crate::flush::flush;
 use crate::line::{Line, RowText, SortRange};
 use crate::merge::merge;
@@ -19,11 +20,20 @@ use std::alloc::Global;
 use std::thread::Threads;
 
 /// Answers the lines of a script, one after another, by the steps of a world.
-#[derive(Drop)]
 pub struct Driver<D: Disk> {
     alloc: Global,
     world: World<D>,
     names: Names,
+}
+
+impl<D: Disk + Drop> Drop for Driver<D> {
+    fn drop(self) {
+        let Driver {
+            alloc: _,
+            world: _,
+            names: _,
+        } = self;
+    }
 }
 
 impl Driver<MemDisk> {
@@ -46,10 +56,11 @@ impl Driver<MemDisk> {
 }
 
 impl<D: Disk> Driver<D> {
-    ghost use Rattle.std.specs.Prelude.{◌≡◌, MatchOption};
-    ghost use Rattle.mvo_script.specs.Answers.{AreStepsOf, IsAnswer, IsBegun, IsCommit, IsOfNoName, IsRowStep};
+    ghost use Rattle.std.specs.Prelude.{◌≡◌, IsSome, IsSomeAnd, MatchOption, None, Some};
+    ghost use Rattle.mvo_script.specs.Answers.{AreStepsOf, IsAnswer, IsAnswerBy, IsBegun, IsCommit, IsOfNoName, IsRowStep};
     ghost use Rattle.mvo_script.specs.Answers.{IsSettled, IsStepOf};
     ghost use Rattle.mvo_script.specs.Bound.{bound_by, is_covered, BindsNone};
+    ghost use Rattle.mvo_script.specs.Events.{name_in};
     ghost use Rattle.mvo_script.specs.Forms.{HasForm};
     ghost use Rattle.mvo_script.specs.declared.line.Line.{Line};
     ghost use Rattle.mvo_world.specs.declared.reply.Reply.{Reply};
@@ -91,39 +102,51 @@ impl<D: Disk> Driver<D> {
             MatchOption result (IsOfNoName self.old.names line.entry × (self.new ≡ self.old))
             (λ r. IsAnswer step self.old line.entry r self.new) }
     {
+        match name_in(line) {
+            Some(name) => self.reply_for(line, name),
+            None => self.reply_without(line),
+        }
+    }
+
+    /// The reply to a line of the transaction with this name. None where it was never begun.
+    fn reply_for(&mut self, line: Line<'_>, name: &str) -> Option<Reply>
+        ensures { let step = IsReplyTo D.Disk in name_in line.entry ≡ Some name.now →
+            MatchOption result ((bound_by self.old.names name.now ≡ None) × (self.new ≡ self.old))
+            (λ r. IsAnswer step self.old line.entry r self.new) }
+    {
+        match self.bound(name) {
+            Some(bound) => self.reply_by(line, name, bound),
+            None => None,
+        }
+    }
+
+    /// The reply to a line of a transaction, which the name is bound to. None to another line.
+    fn reply_by(&mut self, line: Line<'_>, name: &str, bound: BoundTx) -> Option<Reply>
+        ensures { let step = IsReplyTo D.Disk in IsSome (name_in line.entry) →
+            IsSomeAnd result (λ r. IsAnswerBy step self.old line.entry name.now bound r self.new) }
+    {
+        match line {
+            Line::Insert(_, row) => Some(self.insert(bound.tx, row)),
+            Line::Update(_, row) => Some(self.update(bound.tx, row)),
+            Line::Settle(_) => Some(self.settle(name, bound.tx)),
+            Line::Commit(_) => Some(self.commit(name, bound.tx)),
+            Line::Poll(_) => Some(self.poll(bound)),
+            _ => self.ask_if(event_by(line, bound.tx)),
+        }
+    }
+
+    /// The reply to a line that asks nothing of a transaction by its name. None to another line.
+    fn reply_without(&mut self, line: Line<'_>) -> Option<Reply>
+        ensures { let step = IsReplyTo D.Disk in name_in line.entry ≡ None →
+            IsSomeAnd result (λ r. IsAnswer step self.old line.entry r self.new) }
+    {
         match line {
             Line::Begin(name) => Some(self.begin(name)),
-            Line::Read(name, key) => Some(self.ask(Event::Read(self.bound(name)?.tx, key))),
-            Line::Scan(name, range) => Some(self.scan(self.bound(name)?.tx, range)),
-            Line::Insert(name, row) => Some(self.insert(self.bound(name)?.tx, row)),
-            Line::Update(name, row) => Some(self.update(self.bound(name)?.tx, row)),
-            Line::Delete(name, key) => Some(self.ask(Event::Delete(self.bound(name)?.tx, key))),
-            Line::Precommit(name) => Some(self.ask(Event::Precommit(self.bound(name)?.tx))),
-            Line::Validate(name) => Some(self.ask(Event::Validate(self.bound(name)?.tx))),
-            Line::Rollback(name) => Some(self.ask(Event::Rollback(self.bound(name)?.tx))),
-            Line::Finish(name) => Some(self.ask(Event::Finish(self.bound(name)?.tx))),
-            Line::Settle(name) => Some(self.settle(name, self.bound(name)?.tx)),
-            Line::Commit(name) => Some(self.commit(name, self.bound(name)?.tx)),
-            Line::Poll(name) => Some(self.poll(self.bound(name)?)),
-            Line::Group => Some(self.ask(Event::CloseGroup)),
-            Line::Take => Some(self.ask(Event::TakeGroup)),
-            Line::Body => Some(self.ask(Event::AppendBody)),
-            Line::Open => Some(self.ask(Event::AppendOpen)),
             Line::Flush => Some(flush(&mut self.world)),
-            Line::RotateWrite => Some(self.ask(Event::RotateWrite)),
-            Line::CheckpointRead => Some(self.ask(Event::CheckpointRead)),
-            Line::CheckpointData => Some(self.ask(Event::CheckpointData)),
-            Line::CheckpointDelta => Some(self.ask(Event::CheckpointDelta)),
-            Line::MergeRead(place) => Some(self.ask(Event::MergeRead(place))),
-            Line::MergeData => Some(self.ask(Event::MergeData)),
-            Line::MergeDelta => Some(self.ask(Event::MergeDelta)),
-            Line::InstallClose => Some(self.ask(Event::InstallClose)),
-            Line::InstallBody => Some(self.ask(Event::InstallBody)),
-            Line::InstallOpen => Some(self.ask(Event::InstallOpen)),
             Line::Rotate => Some(rotate(&mut self.world)),
             Line::Checkpoint => Some(checkpoint(&mut self.world)),
             Line::Merge(place) => Some(merge(&mut self.world, place)),
-            Line::Reclaim => Some(self.ask(Event::Reclaim)),
+            _ => self.ask_if(event_of(line)),
         }
     }
 
@@ -132,6 +155,17 @@ impl<D: Disk> Driver<D> {
         ensures { result ≡ bound_by self.now.names name.now }
     {
         self.names.get(name)
+    }
+
+    /// One step of the world, if there is one to ask for.
+    fn ask_if(&mut self, event: Option<Event>) -> Option<Reply>
+        ensures { let step = IsReplyTo D.Disk in (e : Event) → event ≡ Some e →
+            IsSomeAnd result (λ r. IsStepOf step self.old e r self.new) }
+    {
+        match event {
+            Some(event) => Some(self.ask(event)),
+            None => None,
+        }
     }
 
     /// One step of the world.

@@ -4,6 +4,7 @@
 mod bound;
 mod checkpoint;
 mod driver;
+mod events;
 mod flush;
 mod line;
 mod merge;

@@ -9,7 +9,7 @@ use std::str;
 pub const MAX_LINE_LEN: usize = 4_096;
 
 /// A line of a script. Its first word says which.
-#[derive(Clone, Copy, Debug)]
+#[derive(Clone, Copy)]
 pub enum Line<'a> {
     /// `begin NAME`
     Begin(&'a str),
@@ -78,7 +78,7 @@ pub enum Line<'a> {
 }
 
 /// The rows of a table with a sort from `lo` to `hi`, both with.
-#[derive(Clone, Copy, Debug)]
+#[derive(Clone, Copy)]
 pub struct SortRange {
     pub table: u8,
     pub lo: u64,
@@ -86,7 +86,7 @@ pub struct SortRange {
 }
 
 /// A row as a line gives it.
-#[derive(Clone, Copy, Debug)]
+#[derive(Clone, Copy)]
 pub struct RowText<'a> {
     pub key: RowKey,
     pub sort: u64,

@@ -10,11 +10,16 @@ use std::alloc::{AllocError, Global};
 use std::collections::BTreeMap;
 
 /// The transactions that a script has begun, by their names.
-#[derive(Drop)]
 pub struct Names {
     alloc: Global,
     // None where a begin was refused, and none was accepted before.
     bound: BTreeMap<String, Option<BoundTx>>,
+}
+
+impl Drop for Names {
+    fn drop(self) {
+        let Names { alloc: _, bound: _ } = self;
+    }
 }
 
 impl Names {

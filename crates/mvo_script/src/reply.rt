@@ -5,7 +5,7 @@ use mvo_world::Reply;
 use std::fmt;
 
 /// What is answered to a line of a script. It is printed as the reply line, without a line feed.
-#[derive(Debug, Drop)]
+#[derive(Drop)]
 pub enum LineReply {
     /// The line isn't one of a script, or its name was never begun.
     BadLine,
@@ -28,27 +28,40 @@ fn write_reply<W: fmt::Write>(f: &mut fmt::Formatter<W>, reply: &Reply) -> fmt::
         Reply::Began(id) => write!(f, "began {id}"),
         Reply::Answered(answer) => write_answer(f, answer),
         Reply::Prepared(end) => write!(f, "preparing {end}"),
-        Reply::Validated(Validation::More) => write!(f, "more"),
-        Reply::Validated(Validation::Valid) => write!(f, "valid"),
         Reply::Settled(Settlement::Committed(end)) => write!(f, "committed {end}"),
         Reply::Settled(Settlement::Waiting(id)) => write!(f, "waiting {id}"),
-        Reply::RolledBack => write!(f, "rolled back"),
-        Reply::Finished(Finishing::More) => write!(f, "more"),
-        Reply::Finished(Finishing::Done) => write!(f, "done"),
         Reply::Closed(Closed { prev, mark }) => write!(f, "closed {prev} {mark}"),
-        Reply::Taken => write!(f, "taken"),
-        Reply::Written => write!(f, "written"),
         Reply::Durable(mark) => write!(f, "durable {mark}"),
-        Reply::Polled(true) => write!(f, "yes"),
-        Reply::Polled(false) => write!(f, "no"),
-        Reply::Ready => write!(f, "ready"),
-        Reply::Progress(Progress::More) => write!(f, "more"),
-        Reply::Progress(Progress::Ready) => write!(f, "ready"),
-        Reply::Shut => write!(f, "closed"),
         Reply::Installed(Generation(count)) => write!(f, "installed {count}"),
-        Reply::Reclaimed(Reclaimed::More) => write!(f, "more"),
-        Reply::Reclaimed(Reclaimed::Done) => write!(f, "done"),
         Reply::Refused(refusal) => write!(f, "{refusal}"),
+        _ => f.write_str(words_of(reply)),
+    }
+}
+
+/// The text of a reply that is words alone, and none for any other.
+fn words_of(reply: &Reply) -> &'static str {
+    match reply {
+        Reply::Validated(Validation::Valid) => "valid",
+        Reply::RolledBack => "rolled back",
+        Reply::Finished(Finishing::Done) | Reply::Reclaimed(Reclaimed::Done) => "done",
+        Reply::Taken => "taken",
+        Reply::Written => "written",
+        Reply::Polled(true) => "yes",
+        Reply::Polled(false) => "no",
+        Reply::Ready | Reply::Progress(Progress::Ready) => "ready",
+        Reply::Validated(Validation::More)
+        | Reply::Finished(Finishing::More)
+        | Reply::Progress(Progress::More)
+        | Reply::Reclaimed(Reclaimed::More) => "more",
+        Reply::Shut => "closed",
+        Reply::Began(_)
+        | Reply::Answered(_)
+        | Reply::Prepared(_)
+        | Reply::Settled(_)
+        | Reply::Closed(_)
+        | Reply::Durable(_)
+        | Reply::Installed(_)
+        | Reply::Refused(_) => "",
     }
 }
 
@@ -60,13 +73,13 @@ fn write_answer<W: fmt::Write>(f: &mut fmt::Formatter<W>, answer: &Answer) -> fm
             write!(f, "row {sort} ")?;
             write_data(f, row.bytes())
         }
-        Answer::Found(None) => write!(f, "none"),
+        Answer::Found(None) => f.write_str("none"),
         Answer::Rows(rows) => write_rows(f, rows),
-        Answer::Inserted => write!(f, "inserted"),
-        Answer::Exists => write!(f, "exists"),
-        Answer::Updated => write!(f, "updated"),
-        Answer::Deleted => write!(f, "deleted"),
-        Answer::Absent => write!(f, "absent"),
+        Answer::Inserted => f.write_str("inserted"),
+        Answer::Exists => f.write_str("exists"),
+        Answer::Updated => f.write_str("updated"),
+        Answer::Deleted => f.write_str("deleted"),
+        Answer::Absent => f.write_str("absent"),
     }
 }
 
@@ -85,7 +98,7 @@ fn write_rows<W: fmt::Write>(f: &mut fmt::Formatter<W>, rows: &[Row]) -> fmt::Re
 /// Writes bytes in lower-case hexadecimal digits, and `-` for none.
 fn write_data<W: fmt::Write>(f: &mut fmt::Formatter<W>, bytes: &[u8]) -> fmt::Result {
     if bytes.is_empty() {
-        return write!(f, "-");
+        return f.write_str("-");
     }
     for byte in bytes {
         write!(f, "{byte:02x}")?;

@@ -1,0 +1,57 @@
+use Rattle.std.proofs.Common.{rules, ap, ap₂, refl, subst, codes, true, false, map, List, Option, Some, None, [], ◌∷◌, ◌≡◌, ◌∙◌, sym, option_map}
+use Rattle.std.specs.Prelude.{IsSome, IfSome, IsSomeAnd}
+use Rattle.std.specs.Borrow.{Bor}
+use Rattle.clap.specs.Words.{App, HasMatchesOf, Row, Text, found_of, is_simple, rows_of, subcommand_of, subcommand_name_of, subcommand_rows_of, takes}
+use Rattle.clap.specs.declared.ArgMatches.{ArgMatches}
+use Rattle.clap.proofs.OnLiterals.{clap_on_literals}
+use Rattle.mvo_cli.specs.Asked.{commands, AsksFor}
+use Rattle.mvo_cli.specs.Tasks.{IsTask}
+use Rattle.mvo_cli.specs.declared.task.Task.{Task}
+use Rattle.mvo_cli.proofs.asked.task_by.Goals as goal
+
+option_map_twice : {A B C : Type 0} (g : B → C) (f : A → B) (o : Option A) → option_map g (option_map f o) ≡ option_map (λ x. g (f x)) o
+option_map_twice g f None = refl
+option_map_twice g f (Some x) = refl
+
+is_simple_app : is_simple commands ≡ true
+unfolding clap_on_literals
+is_simple_app = refl
+
+runs : (name : Text) → takes commands (name ∷ codes "run" ∷ []) ≡ true
+unfolding clap_on_literals
+runs name = refl
+
+first : Text × List Row → Text
+first p = p.0
+
+names_run : (name : Text) → option_map (λ p. p.0) (subcommand_of commands (name ∷ codes "run" ∷ [])) ≡ Some (codes "run")
+unfolding clap_on_literals
+names_run name = refl
+
+-- the subcommand that the matches have is the one that the words are read as
+same_rows : (m : ArgMatches) (a : App) (words : List Text) → a ≡ commands → HasMatchesOf a words m → subcommand_rows_of m ≡ subcommand_of commands words
+same_rows m a words e h = (h (ap is_simple e ∙ is_simple_app)).1 ∙ ap (λ x. subcommand_of x words) e
+
+asks : (words : List Text) (o : Option (Text × List Row)) (r : Option Task) (t : Task) → o ≡ subcommand_of commands words →
+    IfSome r (λ t. IsSomeAnd o (λ p. IsTask p.0 p.1 t)) → r ≡ Some t → AsksFor words t
+asks words o r t e some is =
+    subst (λ o. IsSomeAnd o (λ (p : Text × List Row). IsTask p.0 p.1 t)) e (subst (λ x. IfSome x (λ t. IsSomeAnd o (λ (p : Text × List Row). IsTask p.0 p.1 t))) is some)
+
+not_some : {A : Type 0} (o : Option A) → o ≡ None → IsSome o → ⊥
+not_some None e is = cc
+not_some (Some y) e is = cc
+
+-- the command that the words name, where they are a name and run
+run_of : (words : List Text) (name : Text) → words ≡ name ∷ codes "run" ∷ [] → option_map (λ p. p.0) (subcommand_of commands words) ≡ Some (codes "run")
+run_of words name e = ap (λ ws. option_map (λ (p : Text × List Row). p.0) (subcommand_of commands ws)) e ∙ names_run name
+
+pub returns-in_err-try_get_matches_from_mut-clause-run : goal.returns-in_err-try_get_matches_from_mut-clause-run
+returns-in_err-try_get_matches_from_mut-clause-run c = λ is name e.
+    let spent = c.in_err-try_get_matches_from_mut.ensures.passes (ap₂ takes is e ∙ runs name) in
+    search (rules, spent)
+
+pub returns-in_ok-error-in-None-clause-run : goal.returns-in_ok-error-in-None-clause-run
+returns-in_ok-error-in-None-clause-run c = λ is name e.
+    let rows = same_rows c.in_ok-try_get_matches_from_mut.field-0 _ _ is c.in_ok-try_get_matches_from_mut.ensures.ok.2 in
+    let run = ap (option_map (λ (p : Text × List Row). p.0)) rows ∙ run_of _ name e in
+    absurd (not_some c.task_among-task.result c.in-None.is (c.task_among-task.ensures.run run))
