@@ -16,10 +16,15 @@ use std::marker::Model;
 ///
 /// Each key has a slot of 16 bytes in an open table of which at most half is used: 32 bytes of
 /// touched memory a key or more, and 48 of reserved memory.
-#[derive(Drop)]
 pub struct Places {
     heads: OpenTable,
     seed: u64,
+}
+
+impl Drop for Places {
+    fn drop(self) {
+        let Places { heads: _, seed: _ } = self;
+    }
 }
 
 impl Model for Places {

@@ -12,7 +12,6 @@ use std::marker::Model;
 ///
 /// It stands for a state of the theory (`StandsFor`), whatever steps led there: each call's clauses
 /// say which one it stands for then.
-#[derive(Drop)]
 pub struct Core {
     pub(crate) alloc: Global,
     pub(crate) versions: Versions,
@@ -25,6 +24,21 @@ pub struct Core {
     /// The place in the tale from which the next group goes on.
     pub(crate) grouped: usize,
     pub(crate) spares: Spares,
+}
+
+impl Drop for Core {
+    fn drop(self) {
+        let Core {
+            alloc: _,
+            versions: _,
+            table: _,
+            tale: _,
+            opening: _,
+            closed: _,
+            grouped: _,
+            spares: _,
+        } = self;
+    }
 }
 
 impl Model for Core {

@@ -23,13 +23,23 @@ const PIECE_LEN: usize = 4_194_304;
 ///
 /// After a call that the system failed, each later write, cut and sync fails with no call of the
 /// system: the folder has to be opened again.
-#[derive(Drop)]
 pub struct DirDisk<R: Files<File = File> + Drop> {
     folder: Folder<R>,
     mirror: Mirror,
     // Whether the system failed a call.
     is_broken: bool,
     fault_count: u64,
+}
+
+impl<R: Files<File = File> + Drop> Drop for DirDisk<R> {
+    fn drop(self) {
+        let DirDisk {
+            folder: _,
+            mirror: _,
+            is_broken: _,
+            fault_count: _,
+        } = self;
+    }
 }
 
 // So many bytes, all 0. More than fit into memory are refused.

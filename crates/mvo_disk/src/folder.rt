@@ -58,7 +58,6 @@ pub fn make_folder<R: Files<File = File>>(
 }
 
 /// A folder that this process alone uses, and the handles of its files.
-#[derive(Drop)]
 pub struct Folder<R: Files<File = File> + Drop> {
     rt: R,
     alloc: Global,
@@ -70,6 +69,19 @@ pub struct Folder<R: Files<File = File> + Drop> {
     // Whether a stop may still take away a file that was made.
     has_new: bool,
     ghost full: { length handles.items ≡ FILE_COUNT },
+}
+
+impl<R: Files<File = File> + Drop> Drop for Folder<R> {
+    fn drop(self) {
+        let Folder {
+            rt: _,
+            alloc: _,
+            path: _,
+            entry: _,
+            handles: _,
+            has_new: _,
+        } = self;
+    }
 }
 
 // A handle whose number is none of the standard streams', so that nothing meant for a stream that

@@ -11,7 +11,6 @@ use crate::{Call, Disk, DiskFault, FILE_COUNT, FileImage, StopRefusal, Work};
 use std::alloc::{AllocError, Global};
 
 /// A disk in memory that can stop at any moment. It keeps a record of its calls.
-#[derive(Drop)]
 pub struct MemDisk {
     alloc: Global,
     // The files as they are, and as they were when the record began.
@@ -24,6 +23,19 @@ pub struct MemDisk {
     ghost full: { length files.items ≡ FILE_COUNT },
     ghost current: { (n : ℕ) → state_at files.items n ≡ (held_at start.items calls.items n).state },
     ghost sound: { (n : ℕ) → MayLeave start.items calls.items n (state_at files.items n).content },
+}
+
+impl Drop for MemDisk {
+    fn drop(self) {
+        let MemDisk {
+            alloc: _,
+            files: _,
+            start: _,
+            calls: _,
+            fault_count: _,
+            fails_after: _,
+        } = self;
+    }
 }
 
 // Room for one more call.

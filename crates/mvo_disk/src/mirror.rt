@@ -12,12 +12,20 @@ use crate::record::Record;
 use std::alloc::{AllocError, Global};
 
 /// What each file of a disk holds, with a record of what was done to it that no memory holds.
-#[derive(Drop)]
 pub struct Mirror {
     files: Vec<Vec<u8>>,
     history: Record,
     ghost full: { length files.items ≡ FILE_COUNT },
     ghost current: { (n : ℕ) → bytes_at files.items n ≡ content_after history.events n },
+}
+
+impl Drop for Mirror {
+    fn drop(self) {
+        let Mirror {
+            files: _,
+            history: _,
+        } = self;
+    }
 }
 
 // One of the files.

@@ -23,13 +23,23 @@ const TRIES: u32 = 256;
 ///
 /// No step under the lock of the core touches the disk, and asking what is durable takes no lock.
 /// The locks keep what `LockedCore` and `LockedStore` say. It is made of what `Fresh::open` gives.
-#[derive(Drop)]
 pub struct Engine<L: Run, D: Disk, G: Gate + Drop> {
     gate: G,
     marks: Marks,
     core: Mutex<LockedCore<L>>,
     store: Mutex<LockedStore<L, D>>,
     ghost named: { marks ≡ L.marks },
+}
+
+impl<L: Run, D: Disk + Drop, G: Gate + Drop> Drop for Engine<L, D, G> {
+    fn drop(self) {
+        let Engine {
+            gate: _,
+            marks: _,
+            core: _,
+            store: _,
+        } = self;
+    }
 }
 
 impl<L: Run, D: Disk, G: Gate + Drop> Engine<L, D, G> {
@@ -115,7 +125,12 @@ impl<L: Run, D: Disk, G: Gate + Drop> Engine<L, D, G> {
     pub fn into_disk(self) -> D
         ensures { HasSlots L.image → GivesSome L.image (D.content result) }
     {
-        let Engine { store, .. } = self;
+        let Engine {
+            gate: _,
+            marks: _,
+            core: _,
+            store,
+        } = self;
         store.into_inner().into_disk()
     }
 

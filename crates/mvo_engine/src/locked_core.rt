@@ -14,7 +14,6 @@ use std::marker::{Model, PhantomData};
 ///
 /// The core stands for a state of the theory over the rows that the run opened with, and the groups
 /// that were sent hold its commits up to the mark of the last one (`IsSoundCore`).
-#[derive(Drop)]
 pub struct LockedCore<L: Run> {
     core: Core,
     ring: Producer<Group, Global, Chain>,
@@ -22,6 +21,18 @@ pub struct LockedCore<L: Run> {
     /// How many sessions were made.
     made: u32,
     run: PhantomData<L>,
+}
+
+impl<L: Run> Drop for LockedCore<L> {
+    fn drop(self) {
+        let LockedCore {
+            core: _,
+            ring: _,
+            seat: _,
+            made: _,
+            run: _,
+        } = self;
+    }
 }
 
 impl<L: Run> Model for LockedCore<L> {

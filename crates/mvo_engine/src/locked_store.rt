@@ -17,12 +17,22 @@ use std::marker::{Model, PhantomData};
 ///
 /// Each image that a stop now may leave is well formed, and gives the rows that the run opened with
 /// followed by the groups that were received, up to a mark at least the store's (`IsSoundStore`).
-#[derive(Drop)]
 pub struct LockedStore<L: Run, D: Disk> {
     store: Store<D>,
     ring: Consumer<Group, Global, Chain>,
     publisher: Publisher,
     run: PhantomData<L>,
+}
+
+impl<L: Run, D: Disk + Drop> Drop for LockedStore<L, D> {
+    fn drop(self) {
+        let LockedStore {
+            store: _,
+            ring: _,
+            publisher: _,
+            run: _,
+        } = self;
+    }
 }
 
 impl<L: Run, D: Disk> Model for LockedStore<L, D> {
@@ -92,7 +102,12 @@ impl<L: Run, D: Disk> LockedStore<L, D> {
         ensures gives { HasSlots L.image →
             GivesReceived L.image self.received self.store.mark (D.content result) }
     {
-        let LockedStore { store, .. } = self;
+        let LockedStore {
+            store,
+            ring: _,
+            publisher: _,
+            run: _,
+        } = self;
         store.into_disk()
     }
 

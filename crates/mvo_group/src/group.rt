@@ -12,11 +12,21 @@ use std::marker::Model;
 /// Each group keeps the rules of `KeepsRules`: prev < mark <= 2^62; at most 1,024 records, whose
 /// ends rise strictly and lie in (prev, mark]; in each record 1 to 256 writes, whose (table, key)
 /// rise strictly; tables 0 to 15; data of at most 1,024 bytes; a body of at most 4,194,304 bytes.
-#[derive(Debug, Drop)]
+#[derive(Debug)]
 pub struct Group {
     prev: Stamp,
     mark: Stamp,
     records: Vec<Record>,
+}
+
+impl Drop for Group {
+    fn drop(self) {
+        let Group {
+            prev: _,
+            mark: _,
+            records: _,
+        } = self;
+    }
 }
 
 impl Model for Group {
@@ -81,8 +91,12 @@ impl Group {
         ensures value { result.items ≡ self.records }
         ensures group { IsGroup self }
     {
-        let Group { records, .. } = self;
-        records
+        let Group {
+            prev: _,
+            mark: _,
+            records: left,
+        } = self;
+        left
     }
 
     /// How many bytes its body has, at most 4,194,304. Nothing is encoded for it: each write is

@@ -12,7 +12,6 @@ use std::marker::Model;
 ///
 /// Each image that a stop now may leave is well formed, and gives the rows up to a mark at least
 /// the store's. After DiskFault every step answers Down, until the disk is opened again.
-#[derive(Drop)]
 pub struct Store<D: Disk> {
     pub(crate) alloc: Global,
     pub(crate) disk: D,
@@ -32,6 +31,23 @@ pub struct Store<D: Disk> {
     pub(crate) job: Option<Job>,
     /// Whether the disk met a fault.
     pub(crate) down: bool,
+}
+
+impl<D: Disk + Drop> Drop for Store<D> {
+    fn drop(self) {
+        let Store {
+            alloc: _,
+            disk: _,
+            manifest: _,
+            places: _,
+            segment: _,
+            mark: _,
+            pending: _,
+            written: _,
+            job: _,
+            down: _,
+        } = self;
+    }
 }
 
 impl<D: Disk> Model for Store<D> {
@@ -82,7 +98,18 @@ impl<D: Disk> Store<D> {
     pub fn into_disk(self) -> D
         ensures { result ≡ self.disk }
     {
-        let Store { disk, .. } = self;
+        let Store {
+            alloc: _,
+            disk,
+            manifest: _,
+            places: _,
+            segment: _,
+            mark: _,
+            pending: _,
+            written: _,
+            job: _,
+            down: _,
+        } = self;
         disk
     }
 

@@ -13,9 +13,14 @@ const BESIDE: usize = 112;
 /// Bytes whose copies share them. Up to 112 lie in one block with the count of their owners, so who
 /// counts as an owner has fetched them; more than that lie in a block of their own. Contracts see
 /// the list.
-#[derive(Drop)]
 pub(crate) struct SharedBytes {
     block: Arc<SmallVec<u8, BESIDE>>,
+}
+
+impl Drop for SharedBytes {
+    fn drop(self) {
+        let SharedBytes { block: _ } = self;
+    }
 }
 
 impl Model for SharedBytes {

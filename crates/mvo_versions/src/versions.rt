@@ -19,11 +19,20 @@ use std::marker::Model;
 ///
 /// Each version stands under its key once, and the places are just those of the versions: an entry
 /// of the ordered index is shared by all versions of a key that have one sort.
-#[derive(Drop)]
 pub struct Versions {
     pub(crate) chains: Chains,
     pub(crate) index: HashIndex,
     pub(crate) order: RangeIndex,
+}
+
+impl Drop for Versions {
+    fn drop(self) {
+        let Versions {
+            chains: _,
+            index: _,
+            order: _,
+        } = self;
+    }
 }
 
 impl Model for Versions {

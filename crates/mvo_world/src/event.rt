@@ -2,7 +2,7 @@ use mvo_types::{Row, RowKey, Stamp, TxId};
 use std::alloc::AllocError;
 
 /// A step that is asked for: of a transaction, of the log, or a poll.
-#[derive(Debug, Drop)]
+#[derive(Drop)]
 pub enum Event {
     /// A transaction is to begin.
     Begin,

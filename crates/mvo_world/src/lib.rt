@@ -1,4 +1,4 @@
-//! The world: the event core over a log segment that survives a stop at any moment.
+//! The world: the event core over a store of many files that survives a stop at any moment.
 #![tactic(auto)]
 
 mod event;

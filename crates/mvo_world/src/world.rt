@@ -18,12 +18,22 @@ use std::thread::Threads;
 /// A world that `open` gave stands after its past (`IsAfter`): the committed transactions' replies
 /// are serial, and each image that a stop may leave recovers a prefix of the commits with all that
 /// was acknowledged.
-#[derive(Drop)]
 pub struct World<D: Disk> {
     alloc: Global,
     core: Core,
     ring: Ring,
     store: Store<D>,
+}
+
+impl<D: Disk + Drop> Drop for World<D> {
+    fn drop(self) {
+        let World {
+            alloc: _,
+            core: _,
+            ring: _,
+            store: _,
+        } = self;
+    }
 }
 
 impl<D: Disk> Model for World<D> {
@@ -130,8 +140,13 @@ impl<D: Disk> World<D> {
         ensures prefix { (past : Past) → IsAfter D.Disk past self →
             RecoversPrefix past (D.content result) }
     {
-        let World { store, .. } = self;
-        store.into_disk()
+        let World {
+            alloc: _,
+            core: _,
+            ring: _,
+            store: left,
+        } = self;
+        left.into_disk()
     }
 
     /// The core, the ring of closed groups, and the store.
@@ -141,10 +156,10 @@ impl<D: Disk> World<D> {
         ensures store { result.2 ≡ self.store }
     {
         let World {
+            alloc: _,
             core,
             ring,
             store,
-            ..
         } = self;
         (core, ring, store)
     }
