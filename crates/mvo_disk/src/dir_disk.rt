@@ -52,7 +52,7 @@ fn zeros(alloc: Global, len: u64) -> Result<Vec<u8>, AllocError> {
 
 // Fills the bytes from a file that was found, piece by piece.
 fn read_pieces<R: Files<File = File> + Drop>(
-    folder: &Folder<R>,
+    folder: &mut Folder<R>,
     file: u16,
     bytes: &mut [u8],
     before: u64,
@@ -91,7 +91,7 @@ fn find_all<R: Files<File = File> + Drop>(
 // What the files of the folder hold.
 fn read_all<R: Files<File = File> + Drop>(
     alloc: Global,
-    folder: &Folder<R>,
+    folder: &mut Folder<R>,
     lens: &[u64],
     progress: &mut impl Progress,
 ) -> Result<Mirror, FolderRefusal>
@@ -128,7 +128,7 @@ impl<R: Files<File = File> + Drop> DirDisk<R> {
     {
         let mut folder = Folder::open(rt, alloc, path)?;
         let lens = find_all(alloc, &mut folder)?;
-        let mirror = read_all(alloc, &folder, &lens, progress)?;
+        let mirror = read_all(alloc, &mut folder, &lens, progress)?;
         Ok(DirDisk {
             folder,
             mirror,

@@ -7,10 +7,10 @@ ghost use Rattle.mvo_disk.specs.declared.limits.TheConstants.{FILE_COUNT};
 
 use crate::FILE_COUNT;
 use std::alloc::{AllocError, Global};
-use std::fs::{self, File, Files, OpenOptions, TryLockError};
+use std::fs::{self, File, Files, Metadata, OpenOptions, TryLockError};
 use std::io;
 use std::os::fd::AsRawFd;
-use std::os::unix::fs::FileExt;
+use std::os::unix::fs::{FileExt, MetadataExt};
 
 /// Why a folder isn't opened.
 #[derive(Debug, Drop)]
@@ -19,7 +19,8 @@ pub enum FolderRefusal {
     Missing,
     /// Another process has it open, or this one.
     InUse,
-    /// It is no folder, one of its files isn't a file, or the system failed a call.
+    /// It is no folder, one of its files is no file, is a link or has a second name, or the system
+    /// failed a call.
     Io(io::Error),
     Memory,
 }
@@ -58,27 +59,39 @@ pub fn make_folder<R: Files<File = File>>(
 }
 
 /// A folder that this process alone uses, and the handles of its files.
+///
+/// A handle is kept of each file of which something isn't durable, and of the one that was synced
+/// last. The others are opened anew as they are used, so few handles do for all files. A file is
+/// opened under its name alone: a link is never followed, and a file with a second name is refused.
 pub struct Folder<R: Files<File = File> + Drop> {
     rt: R,
-    alloc: Global,
     path: String,
+    // The path of the file that is being used. It keeps its room.
+    name: String,
     // The folder itself. It holds the lock.
     entry: File,
-    // The handle of each file that is there.
+    // Whether each file is there.
+    is_there: Vec<bool>,
+    // The handle of each file that was written or cut since its last sync.
     handles: Vec<Option<File>>,
+    // The file that was synced last, if it hasn't been written or cut since, and its handle.
+    synced: Option<(u16, File)>,
     // Whether a stop may still take away a file that was made.
     has_new: bool,
     ghost full: { length handles.items ≡ FILE_COUNT },
+    ghost known: { length is_there.items ≡ FILE_COUNT },
 }
 
 impl<R: Files<File = File> + Drop> Drop for Folder<R> {
     fn drop(self) {
         let Folder {
             rt: _,
-            alloc: _,
             path: _,
+            name: _,
             entry: _,
+            is_there: _,
             handles: _,
+            synced: _,
             has_new: _,
         } = self;
     }
@@ -108,6 +121,49 @@ fn open_locked<R: Files<File = File>>(rt: &R, path: &str) -> Result<File, Folder
     }
 }
 
+// What stands in the place of a file and is none of the folder's.
+fn stranger() -> io::Error {
+    io::Error::from(io::ErrorKind::Unsupported)
+}
+
+// Looks at what a path names itself, which has to be a file with no other name. A link isn't
+// followed.
+fn look<R: Files<File = File>>(rt: &R, path: &str) -> io::Result<Metadata> {
+    let seen = fs::symlink_metadata(rt, path)?;
+    if seen.is_file() && seen.nlink() <= 1 {
+        Ok(seen)
+    } else {
+        Err(stranger())
+    }
+}
+
+// Whether two looks were at one file.
+fn is_same(one: &Metadata, other: &Metadata) -> bool {
+    one.dev() == other.dev() && one.ino() == other.ino()
+}
+
+// Opens the file that a path names itself. The look before keeps pipes and devices from being
+// opened. The one behind is what counts: no other file has the number of one that is open, so the
+// file is the one that stands under the name, however the folder changed between the two.
+fn open_file<R: Files<File = File>>(rt: &R, path: &str) -> io::Result<File> {
+    look(rt, path)?;
+    let mut options = OpenOptions::new();
+    options.read(true).write(true);
+    let file = above_streams(options.open(rt, path)?)?;
+    if is_same(&look(rt, path)?, &file.metadata()?) {
+        Ok(file)
+    } else {
+        Err(stranger())
+    }
+}
+
+// No file is there.
+fn no_files(alloc: Global) -> Result<Vec<bool>, AllocError>
+    ensures { IfOk result (λ v. length v.items ≡ FILE_COUNT) }
+{
+    vec![in alloc; false; FILE_COUNT as usize]
+}
+
 // No handle for any file.
 fn no_handles(alloc: Global) -> Result<Vec<Option<File>>, AllocError>
     ensures { IfOk result (λ v. length v.items ≡ FILE_COUNT) }
@@ -127,42 +183,46 @@ impl<R: Files<File = File> + Drop> Folder<R> {
     pub fn open(rt: R, alloc: Global, path: &str) -> Result<Folder<R>, FolderRefusal> {
         let entry = open_locked(&rt, path)?;
         let path = String::from_str(alloc, path)?;
+        let is_there = no_files(alloc)?;
         let handles = no_handles(alloc)?;
         Ok(Folder {
             rt,
-            alloc,
             path,
+            name: String::new(alloc),
             entry,
+            is_there,
             handles,
+            synced: None,
             has_new: true,
         })
     }
 
-    // The path of a file: its number in four decimal digits.
-    fn path_of(&self, file: u16) -> Result<String, AllocError> {
+    // Writes the path of a file: its number in four decimal digits. The folder's own path has to
+    // lead to the folder that is locked still.
+    fn locate(&mut self, file: u16) -> io::Result<()> {
         let folder = self.path.as_str();
-        format!(in self.alloc; "{folder}/{file:04}")
+        if !is_same(&fs::metadata(&self.rt, folder)?, &self.entry.metadata()?) {
+            return Err(stranger());
+        }
+        self.name.clear();
+        write!(&mut self.name, "{folder}/{file:04}")?;
+        Ok(())
     }
 
     /// Looks for a file, and answers its length once it is durable. A missing one has 0 bytes.
     pub fn find(&mut self, file: u16) -> io::Result<u64>
         requires { file < FILE_COUNT }
     {
-        let path = self.path_of(file)?;
-        let mut options = OpenOptions::new();
-        options.read(true).write(true);
-        let found = match options.open(&self.rt, path.as_str()) {
-            Ok(found) => above_streams(found)?,
+        self.locate(file)?;
+        let found = match open_file(&self.rt, self.name.as_str()) {
+            Ok(found) => found,
             Err(error) if error.kind() == io::ErrorKind::NotFound => return Ok(0),
             Err(error) => return Err(error),
         };
-        let metadata = found.metadata()?;
-        if !metadata.is_file() {
-            return Err(io::Error::from(io::ErrorKind::Unsupported));
-        }
+        let len = found.metadata()?.len();
         found.sync_data()?;
-        self.handles[file as usize] = Some(found);
-        Ok(metadata.len())
+        self.is_there[file as usize] = true;
+        Ok(len)
     }
 
     /// Makes the names of the files durable.
@@ -175,58 +235,79 @@ impl<R: Files<File = File> + Drop> Folder<R> {
     }
 
     /// Fills the slice from the bytes of a file that was found, at an offset.
-    pub fn read(&self, file: u16, at: u64, into: &mut [u8]) -> io::Result<()>
-        requires { file < FILE_COUNT }
-    {
-        match &self.handles[file as usize] {
-            Some(handle) => handle.read_exact_at(into, at),
-            None => Err(io::Error::from(io::ErrorKind::NotFound)),
-        }
+    pub fn read(&mut self, file: u16, at: u64, into: &mut [u8]) -> io::Result<()> {
+        self.locate(file)?;
+        open_file(&self.rt, self.name.as_str())?.read_exact_at(into, at)
     }
 
-    // Makes a file that isn't there.
-    fn make(&mut self, file: u16) -> io::Result<()>
+    // Makes a file that isn't there. A link to nothing counts as there.
+    fn make(&mut self, file: u16) -> io::Result<File>
         requires { file < FILE_COUNT }
     {
-        if self.handles[file as usize].is_some() {
-            return Ok(());
-        }
-        let path = self.path_of(file)?;
+        self.locate(file)?;
         let mut options = OpenOptions::new();
         options.read(true).write(true).create_new(true);
-        let made = above_streams(options.open(&self.rt, path.as_str())?)?;
-        self.handles[file as usize] = Some(made);
+        let made = above_streams(options.open(&self.rt, self.name.as_str())?)?;
+        self.is_there[file as usize] = true;
         self.has_new = true;
-        Ok(())
+        Ok(made)
+    }
+
+    // The handle of a file that is there: the one that was kept, or a new one.
+    fn reopen(&mut self, file: u16) -> io::Result<File> {
+        match self.synced.take() {
+            Some((synced, handle)) if synced == file => Ok(handle),
+            kept => {
+                self.synced = kept;
+                self.locate(file)?;
+                open_file(&self.rt, self.name.as_str())
+            }
+        }
     }
 
     /// Writes the bytes at an offset of a file, which is made if it isn't there.
     pub fn write(&mut self, file: u16, at: u64, bytes: &[u8]) -> io::Result<()>
         requires { file < FILE_COUNT }
     {
-        self.make(file)?;
+        if self.handles[file as usize].is_none() {
+            let handle = if self.is_there[file as usize] {
+                self.reopen(file)?
+            } else {
+                self.make(file)?
+            };
+            self.handles[file as usize] = Some(handle);
+        }
         match &self.handles[file as usize] {
             Some(handle) => handle.write_all_at(bytes, at),
             None => Err(io::Error::from(io::ErrorKind::NotFound)),
         }
     }
 
-    /// Cuts a file to a length that is at most its own.
+    /// Cuts a file to a length that is at most its own. One that isn't there has 0 bytes already.
     pub fn cut(&mut self, file: u16, len: u64) -> io::Result<()>
         requires { file < FILE_COUNT }
     {
+        if self.handles[file as usize].is_none() {
+            if !self.is_there[file as usize] {
+                return Ok(());
+            }
+            let handle = self.reopen(file)?;
+            self.handles[file as usize] = Some(handle);
+        }
         match &self.handles[file as usize] {
             Some(handle) => handle.set_len(len),
-            None => Ok(()),
+            None => Err(io::Error::from(io::ErrorKind::NotFound)),
         }
     }
 
-    /// Makes a file durable, and the names of all files.
+    /// Makes a file durable, and the names of all files. One that was neither written nor cut since
+    /// its last sync is durable already.
     pub fn sync(&mut self, file: u16) -> io::Result<()>
         requires { file < FILE_COUNT }
     {
-        if let Some(handle) = &self.handles[file as usize] {
+        if let Some(handle) = self.handles[file as usize].take() {
             handle.sync_data()?;
+            self.synced = Some((file, handle));
         }
         self.sync_names()
     }
