@@ -14,10 +14,10 @@ use Rattle.mvo_core.specs.declared.answers.Closed.{Closed}
 use Rattle.mvo_core.specs.Standing.{StandsFor}
 use Rattle.mvo_core.specs.Steps.{IsStep}
 use Rattle.mvo_core.specs.Closing.{IsClosedNow, IsNotClosed}
-use Rattle.mvo_store.specs.Standing.{Keeps, IsKeeping, after_taken}
 use Rattle.mvo_store.specs.Causes.{why_not_take}
-use Rattle.mvo_store.specs.Steps.{IsMarkOf}
-use Rattle.mvo_engine.specs.States.{CoreState, StoreState, SessionState}
+use Rattle.mvo_store.specs.Calls.{StoreCall, IsStoreStep}
+use Rattle.mvo_store.specs.Calls.StoreCall.{Take, AppendOpen}
+use Rattle.mvo_engine.specs.States.{CoreState, StoreState}
 
 -- a step of the core that closes no group
 pub record IsCoreStep {A : Type 0} (old : CoreState) (call : Call) (result : Result A Refusal)
@@ -40,20 +40,19 @@ abbrev pub IsSending : CoreState → Result Closed Refusal → CoreState → Typ
 IsSending old result new = (rows : Map) (steps : List Step) (s : State)
     → StandsFor rows steps s old.core → HasSent rows steps s old result new
 
--- a step of the store that takes no group and makes none durable
-pub record IsStoreStep {D : Type 0} (d : Ghosts D) (old new : StoreState D) : Type 0 where
-  pub keeps : Keeps d old.store new.store
-  pub mark : new.store.mark ≡ old.store.mark
+-- a step of the store with which no group is received and no mark is published
+pub record IsQuietStep {D A : Type 0} (d : Ghosts D) (old : StoreState D) (call : StoreCall)
+    (result : Result A Refusal) (new : StoreState D) : Type 0 where
+  pub step : IsStoreStep d old.store call result new.store
   pub received : new.received ≡ old.received
   pub published : new.published ≡ old.published
 
 -- the next group, which begins at the store's mark, is being appended
-pub record HasTaken {D : Type 0} (old new : StoreState D) : Type 0 where
-  pub may : why_not_take old.store ≡ None
+pub record HasTaken {D : Type 0} (d : Ghosts D) (old new : StoreState D) : Type 0 where
   pub group : GroupData
   pub prev : group.prev ≡ old.store.mark
   pub received : new.received ≡ old.received ++ group ∷ []
-  pub store : new.store ≡ record old.store { pending = Some group }
+  pub step : IsStoreStep {A = Unit {0}} d old.store (Take group) (Ok tt) new.store
   pub published : new.published ≡ old.published
 
 -- what the store refuses for, and else that no group was seen in the ring
@@ -68,15 +67,17 @@ pub record IsNotTaken {D : Type 0} (old : StoreState D) (e : Refusal) (new : Sto
     pub received : new.received ≡ old.received
     pub published : new.published ≡ old.published
 
--- the group that was being appended is durable, and its mark is published
-pub record HasAppended {D : Type 0} (d : Ghosts D) (old : StoreState D) (durable : ℕ)
-    (new : StoreState D) : Type 0 where
-  pub group : IsMarkOf old.store.pending durable
-  pub mark : new.store.mark ≡ durable
-  pub pending : new.store.pending ≡ None
-  pub keeps : IsKeeping d (λ rows. after_taken rows old.store.pending) old.store new.store
+-- what is published once the mark is durable
+abbrev pub published_after : {A : Type 0} → ℕ → Result A Refusal → ℕ → ℕ
+published_after published (Ok a) mark = max published mark
+published_after published (Err e) mark = published
+
+-- the gate of the group that was being appended is opened, and its mark is published
+pub record IsAppendStep {D A : Type 0} (d : Ghosts D) (old : StoreState D)
+    (result : Result A Refusal) (new : StoreState D) : Type 0 where
+  pub step : IsStoreStep d old.store AppendOpen result new.store
   pub received : new.received ≡ old.received
-  pub published : new.published ≡ max old.published durable
+  pub published : new.published ≡ published_after old.published result new.store.mark
 
 -- ---- a session
 

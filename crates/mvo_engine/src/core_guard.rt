@@ -14,14 +14,12 @@ pub struct CoreGuard<'e, L: Run> {
 impl<'e, L: Run> Model for CoreGuard<'e, L> {
     ghost use Rattle.std.specs.Coded.{codes};
     ghost use Rattle.std.specs.Sync.Mutex.{mutex_guard_value};
-    ghost use Rattle.mvo_hash.specs.Lists.{coded_lists};
-    ghost use Rattle.mvo_range.specs.Place.{coded_map};
-    ghost use Rattle.mvo_txn.specs.Txns.{coded_txns};
+    ghost use Rattle.mvo_core.specs.contracts.engine.Core.{the_row as core_row};
     ghost use Rattle.mvo_engine.specs.States.{CoreState};
 
     ghost Value = { CoreState };
 
-    ghost coded = { Prim.hlevel (codes, coded_lists, coded_map, coded_txns) };
+    ghost coded = { Prim.hlevel (codes, core_row.coded) };
 
     ghost view = { λ g. mutex_guard_value g.held };
 }

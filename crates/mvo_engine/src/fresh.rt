@@ -27,16 +27,14 @@ pub struct Fresh<D: Disk> {
 impl<D: Disk> Model for Fresh<D> {
     ghost use Rattle.std.specs.Prelude.{◌≡◌};
     ghost use Rattle.std.specs.Coded.{codes};
-    ghost use Rattle.mvo_hash.specs.Lists.{coded_lists};
-    ghost use Rattle.mvo_range.specs.Place.{coded_map};
-    ghost use Rattle.mvo_txn.specs.Txns.{coded_txns};
+    ghost use Rattle.mvo_core.specs.contracts.engine.Core.{the_row as core_row};
     ghost use Rattle.mvo_ckpt.specs.Places.{coded_places};
     ghost use Rattle.mvo_engine.specs.Rings.{ring_of, ring_from};
     ghost use Rattle.mvo_engine.specs.Opened.{FreshData, HasOpened, AreFreshSeats, IsFreshRing};
 
     ghost Value = { FreshData D };
 
-    ghost coded = { Prim.hlevel (codes, coded_lists, coded_map, coded_txns, coded_places) };
+    ghost coded = { Prim.hlevel (codes, core_row.coded, coded_places) };
 
     ghost view = { λ f. record {
       core = f.core;

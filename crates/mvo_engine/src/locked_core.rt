@@ -38,9 +38,7 @@ impl<L: Run> Drop for LockedCore<L> {
 impl<L: Run> Model for LockedCore<L> {
     ghost use Rattle.std.specs.Prelude.{◌≡◌, ◌≤◌};
     ghost use Rattle.std.specs.Coded.{codes};
-    ghost use Rattle.mvo_hash.specs.Lists.{coded_lists};
-    ghost use Rattle.mvo_range.specs.Place.{coded_map};
-    ghost use Rattle.mvo_txn.specs.Txns.{coded_txns};
+    ghost use Rattle.mvo_core.specs.contracts.engine.Core.{the_row as core_row};
     ghost use Rattle.rtrb.specs.Ring.{sent};
     ghost use Rattle.mvo_engine.specs.Rings.{ring_of};
     ghost use Rattle.mvo_engine.specs.Sound.{IsSoundCore};
@@ -48,7 +46,7 @@ impl<L: Run> Model for LockedCore<L> {
 
     ghost Value = { CoreState };
 
-    ghost coded = { Prim.hlevel (codes, coded_lists, coded_map, coded_txns) };
+    ghost coded = { Prim.hlevel (codes, core_row.coded) };
 
     ghost view = { λ s. record { core = s.core; sent = sent s.ring; made = s.made } };
 

@@ -60,20 +60,17 @@ impl<L: Run, D: Disk> Model for LockedStore<L, D> {
 }
 
 impl<L: Run, D: Disk> LockedStore<L, D> {
-    ghost use Rattle.std.specs.Prelude.{◌≡◌, ◌≤◌, ◌++◌, ◌∷◌, [], None, Some, true, false};
-    ghost use Rattle.std.specs.Prelude.{OnOk, OnErr, IfOk, IfErr};
+    ghost use Rattle.std.specs.Prelude.{◌≡◌, ◌≤◌, Some};
+    ghost use Rattle.std.specs.Prelude.{OnOk, IfOk, IfErr};
     ghost use Rattle.rtrb.specs.Ring.{received};
-    ghost use Rattle.mvo_group.specs.Data.{GroupData};
-    ghost use Rattle.mvo_store.specs.declared.due.Due.TheVariants as Due;
     ghost use Rattle.mvo_store.specs.Standing.{HasSlots};
-    ghost use Rattle.mvo_store.specs.Causes.{why_not_take, why_not_append_body};
-    ghost use Rattle.mvo_store.specs.Causes.{why_not_append_open, why_not_rotate};
-    ghost use Rattle.mvo_store.specs.Causes.{why_not_install, why_not_install_open};
-    ghost use Rattle.mvo_store.specs.Steps.{RefusedFor, LeftBy, IsMarkOf, IsRotationOf};
-    ghost use Rattle.mvo_store.specs.Steps.{with_due, IsInstalledBy};
+    ghost use Rattle.mvo_store.specs.Causes.{why_not_take};
+    ghost use Rattle.mvo_store.specs.Calls.StoreCall.{AppendBody, RotateWrite};
+    ghost use Rattle.mvo_store.specs.Calls.StoreCall.{InstallClose, InstallBody, InstallOpen};
+    ghost use Rattle.mvo_store.specs.Calls.{AnswersMark, AnswersGeneration};
     ghost use Rattle.mvo_engine.specs.Rings.{ring_from};
     ghost use Rattle.mvo_engine.specs.Sound.{IsSoundStore, GivesReceived, LeavesReceived};
-    ghost use Rattle.mvo_engine.specs.Calls.{IsStoreStep, HasTaken, IsNotTaken, HasAppended};
+    ghost use Rattle.mvo_engine.specs.Calls.{IsQuietStep, IsAppendStep, HasTaken, IsNotTaken};
 
     /// A store with its end of the ring and the publishing seat.
     pub fn new(
@@ -149,7 +146,7 @@ impl<L: Run, D: Disk> LockedStore<L, D> {
     /// Takes the next group out of the ring, to append it. Refused: Down, Busy where a group is
     /// pending, NothingToDo where none was seen in the ring.
     pub fn take(&mut self) -> Result<(), Refusal>
-        ensures taken { OnOk result (HasTaken self.old self.new) }
+        ensures taken { OnOk result (HasTaken D.Disk self.old self.new) }
         ensures refused { IfErr result (λ e. IsNotTaken self.old e self.new) }
     {
         if let Some(refusal) = self.store.can_take() {
@@ -168,14 +165,7 @@ impl<L: Run, D: Disk> LockedStore<L, D> {
 
     /// As `Store::append_body`.
     pub fn append_body(&mut self) -> Result<(), Refusal>
-        ensures refused { RefusedFor (why_not_append_body self.old.store) result }
-        ensures ok { OnOk result (self.new.store ≡ record self.old.store {
-          disk = self.new.store.disk;
-          segment = record self.old.store.segment { next = self.new.store.segment.next };
-          written = true;
-        }) }
-        ensures err { IfErr result (λ e. LeftBy D.Disk e self.old.store self.new.store) }
-        ensures rest { IsStoreStep D.Disk self.old self.new }
+        ensures { IsQuietStep D.Disk self.old AppendBody result self.new }
     {
         self.store.append_body()
     }
@@ -183,10 +173,8 @@ impl<L: Run, D: Disk> LockedStore<L, D> {
     /// As `Store::append_open`, and publishes the mark that is durable then.
     pub fn append_open(&mut self, marks: &Marks) -> Result<Durable, Refusal>
         requires { marks.now ≡ L.marks }
-        ensures refused { RefusedFor (why_not_append_open self.old.store) result }
-        ensures ok { IfOk result (λ durable. HasAppended D.Disk self.old durable self.new) }
-        ensures err { IfErr result (λ e. LeftBy D.Disk e self.old.store self.new.store) }
-        ensures rest { OnErr result (IsStoreStep D.Disk self.old self.new) }
+        ensures step { IsAppendStep D.Disk self.old result self.new }
+        ensures mark { IfOk result (AnswersMark self.new.store) }
     {
         match self.store.append_open() {
             Ok(durable) => {
@@ -199,52 +187,29 @@ impl<L: Run, D: Disk> LockedStore<L, D> {
 
     /// As `Store::rotate_write`.
     pub fn rotate_write(&mut self) -> Result<(), Refusal>
-        ensures refused { RefusedFor (why_not_rotate self.old.store) result }
-        ensures ok { OnOk result (self.new.store ≡ record self.old.store {
-          disk = self.new.store.disk;
-          job = self.new.store.job;
-        }) }
-        ensures rotation { OnOk result
-            (IsRotationOf self.old.store.manifest self.new.store.job) }
-        ensures err { IfErr result (λ e. LeftBy D.Disk e self.old.store self.new.store) }
-        ensures rest { IsStoreStep D.Disk self.old self.new }
+        ensures { IsQuietStep D.Disk self.old RotateWrite result self.new }
     {
         self.store.rotate_write()
     }
 
     /// As `Store::install_close`.
     pub fn install_close(&mut self) -> Result<(), Refusal>
-        ensures refused { RefusedFor (why_not_install Due.Close self.old.store) result }
-        ensures ok { OnOk result (self.new.store ≡ record self.old.store {
-          disk = self.new.store.disk;
-          job = with_due Due.Body self.old.store.job;
-        }) }
-        ensures err { IfErr result (λ e. LeftBy D.Disk e self.old.store self.new.store) }
-        ensures rest { IsStoreStep D.Disk self.old self.new }
+        ensures { IsQuietStep D.Disk self.old InstallClose result self.new }
     {
         self.store.install_close()
     }
 
     /// As `Store::install_body`.
     pub fn install_body(&mut self) -> Result<(), Refusal>
-        ensures refused { RefusedFor (why_not_install Due.Body self.old.store) result }
-        ensures ok { OnOk result (self.new.store ≡ record self.old.store {
-          disk = self.new.store.disk;
-          job = with_due Due.Open self.old.store.job;
-        }) }
-        ensures err { IfErr result (λ e. LeftBy D.Disk e self.old.store self.new.store) }
-        ensures rest { IsStoreStep D.Disk self.old self.new }
+        ensures { IsQuietStep D.Disk self.old InstallBody result self.new }
     {
         self.store.install_body()
     }
 
     /// As `Store::install_open`.
     pub fn install_open(&mut self) -> Result<Generation, Refusal>
-        ensures refused { RefusedFor (why_not_install_open self.old.store) result }
-        ensures ok { OnOk result (IsInstalledBy self.old.store.job self.old.store
-            self.new.store) }
-        ensures err { IfErr result (λ e. LeftBy D.Disk e self.old.store self.new.store) }
-        ensures rest { IsStoreStep D.Disk self.old self.new }
+        ensures step { IsQuietStep D.Disk self.old InstallOpen result self.new }
+        ensures generation { IfOk result (λ g. AnswersGeneration self.new.store g.0) }
     {
         self.store.install_open()
     }

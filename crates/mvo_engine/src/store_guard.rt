@@ -34,15 +34,13 @@ impl<'e, L: Run, D: Disk> Model for StoreGuard<'e, L, D> {
 }
 
 impl<'e, L: Run, D: Disk> StoreGuard<'e, L, D> {
-    ghost use Rattle.std.specs.Prelude.{◌≡◌, ◌≤◌, true, OnOk, OnErr, IfOk, IfErr};
-    ghost use Rattle.mvo_store.specs.declared.due.Due.TheVariants as Due;
-    ghost use Rattle.mvo_store.specs.Causes.{why_not_take, why_not_append_body};
-    ghost use Rattle.mvo_store.specs.Causes.{why_not_append_open, why_not_rotate};
-    ghost use Rattle.mvo_store.specs.Causes.{why_not_install, why_not_install_open};
-    ghost use Rattle.mvo_store.specs.Steps.{RefusedFor, LeftBy, IsInstalledBy};
-    ghost use Rattle.mvo_store.specs.Steps.{IsRotationOf, with_due};
+    ghost use Rattle.std.specs.Prelude.{◌≡◌, ◌≤◌, OnOk, IfOk, IfErr};
+    ghost use Rattle.mvo_store.specs.Causes.{why_not_take};
+    ghost use Rattle.mvo_store.specs.Calls.StoreCall.{AppendBody, RotateWrite};
+    ghost use Rattle.mvo_store.specs.Calls.StoreCall.{InstallClose, InstallBody, InstallOpen};
+    ghost use Rattle.mvo_store.specs.Calls.{AnswersMark, AnswersGeneration};
     ghost use Rattle.mvo_engine.specs.Sound.{LeavesReceived};
-    ghost use Rattle.mvo_engine.specs.Calls.{IsStoreStep, HasTaken, IsNotTaken, HasAppended};
+    ghost use Rattle.mvo_engine.specs.Calls.{IsQuietStep, IsAppendStep, HasTaken, IsNotTaken};
 
     pub(crate) fn new(
         held: MutexGuard<'e, LockedStore<L, D>>,
@@ -89,7 +87,7 @@ impl<'e, L: Run, D: Disk> StoreGuard<'e, L, D> {
     /// Takes the next group out of the ring, to append it. Refused: Down, Busy where a group is
     /// pending, NothingToDo where none was seen in the ring.
     pub fn take(&mut self) -> Result<(), Refusal>
-        ensures taken { OnOk result (HasTaken self.old self.new) }
+        ensures taken { OnOk result (HasTaken D.Disk self.old self.new) }
         ensures refused { IfErr result (λ e. IsNotTaken self.old e self.new) }
     {
         self.held.take()
@@ -97,76 +95,44 @@ impl<'e, L: Run, D: Disk> StoreGuard<'e, L, D> {
 
     /// As `Store::append_body`.
     pub fn append_body(&mut self) -> Result<(), Refusal>
-        ensures refused { RefusedFor (why_not_append_body self.old.store) result }
-        ensures ok { OnOk result (self.new.store ≡ record self.old.store {
-          disk = self.new.store.disk;
-          segment = record self.old.store.segment { next = self.new.store.segment.next };
-          written = true;
-        }) }
-        ensures err { IfErr result (λ e. LeftBy D.Disk e self.old.store self.new.store) }
-        ensures rest { IsStoreStep D.Disk self.old self.new }
+        ensures { IsQuietStep D.Disk self.old AppendBody result self.new }
     {
         self.held.append_body()
     }
 
     /// As `Store::append_open`, and publishes the mark that is durable then.
     pub fn append_open(&mut self) -> Result<Durable, Refusal>
-        ensures refused { RefusedFor (why_not_append_open self.old.store) result }
-        ensures ok { IfOk result (λ durable. HasAppended D.Disk self.old durable self.new) }
-        ensures err { IfErr result (λ e. LeftBy D.Disk e self.old.store self.new.store) }
-        ensures rest { OnErr result (IsStoreStep D.Disk self.old self.new) }
+        ensures step { IsAppendStep D.Disk self.old result self.new }
+        ensures mark { IfOk result (AnswersMark self.new.store) }
     {
         self.held.append_open(self.marks)
     }
 
     /// As `Store::rotate_write`.
     pub fn rotate_write(&mut self) -> Result<(), Refusal>
-        ensures refused { RefusedFor (why_not_rotate self.old.store) result }
-        ensures ok { OnOk result (self.new.store ≡ record self.old.store {
-          disk = self.new.store.disk;
-          job = self.new.store.job;
-        }) }
-        ensures rotation { OnOk result
-            (IsRotationOf self.old.store.manifest self.new.store.job) }
-        ensures err { IfErr result (λ e. LeftBy D.Disk e self.old.store self.new.store) }
-        ensures rest { IsStoreStep D.Disk self.old self.new }
+        ensures { IsQuietStep D.Disk self.old RotateWrite result self.new }
     {
         self.held.rotate_write()
     }
 
     /// As `Store::install_close`.
     pub fn install_close(&mut self) -> Result<(), Refusal>
-        ensures refused { RefusedFor (why_not_install Due.Close self.old.store) result }
-        ensures ok { OnOk result (self.new.store ≡ record self.old.store {
-          disk = self.new.store.disk;
-          job = with_due Due.Body self.old.store.job;
-        }) }
-        ensures err { IfErr result (λ e. LeftBy D.Disk e self.old.store self.new.store) }
-        ensures rest { IsStoreStep D.Disk self.old self.new }
+        ensures { IsQuietStep D.Disk self.old InstallClose result self.new }
     {
         self.held.install_close()
     }
 
     /// As `Store::install_body`.
     pub fn install_body(&mut self) -> Result<(), Refusal>
-        ensures refused { RefusedFor (why_not_install Due.Body self.old.store) result }
-        ensures ok { OnOk result (self.new.store ≡ record self.old.store {
-          disk = self.new.store.disk;
-          job = with_due Due.Open self.old.store.job;
-        }) }
-        ensures err { IfErr result (λ e. LeftBy D.Disk e self.old.store self.new.store) }
-        ensures rest { IsStoreStep D.Disk self.old self.new }
+        ensures { IsQuietStep D.Disk self.old InstallBody result self.new }
     {
         self.held.install_body()
     }
 
     /// As `Store::install_open`.
     pub fn install_open(&mut self) -> Result<Generation, Refusal>
-        ensures refused { RefusedFor (why_not_install_open self.old.store) result }
-        ensures ok { OnOk result (IsInstalledBy self.old.store.job self.old.store
-            self.new.store) }
-        ensures err { IfErr result (λ e. LeftBy D.Disk e self.old.store self.new.store) }
-        ensures rest { IsStoreStep D.Disk self.old self.new }
+        ensures step { IsQuietStep D.Disk self.old InstallOpen result self.new }
+        ensures generation { IfOk result (λ g. AnswersGeneration self.new.store g.0) }
     {
         self.held.install_open()
     }

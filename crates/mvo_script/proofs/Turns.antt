@@ -1,20 +1,21 @@
 -- What stops a flush, and that each of its turns leaves fewer groups that wait.
-use Rattle.std.proofs.Common.{◌≡◌, ◌≢◌, ◌⊎◌, ◌<◌, ◌++◌, ℕ, zero, suc, Bool, true, false, List, [], ◌∷◌, length, Option, Some, None, refl, sym, subst, ◌∙◌, ap, ap₂, inl, inr, arith}
+use Rattle.std.proofs.Common.{Result, Ok, Err, ◌≡◌, ◌≢◌, ◌⊎◌, ◌<◌, ◌++◌, ℕ, zero, suc, Bool, true, false, List, [], ◌∷◌, length, Option, Some, None, refl, sym, subst, ◌∙◌, ap, ap₂, inl, inr, arith}
 use Rattle.std.specs.Option.{option_to_list}
 use Rattle.std.specs.Prelude.{is_some}
 use Rattle.mvo_types.specs.declared.ids.Stamp.{Stamp}
 use Rattle.mvo_types.specs.declared.refusal.Refusal.{Refusal}
-use Rattle.mvo_types.specs.declared.refusal.Refusal.TheVariants.{Busy, NothingToDo, RingFull, SegmentFull, DiskFault, Down}
+use Rattle.mvo_types.specs.declared.refusal.Refusal.TheVariants.{Busy, NothingToDo, RingFull, SegmentFull, Down}
 use Rattle.mvo_core.specs.declared.answers.Closed.{Closed as ClosedGroup}
 use Rattle.mvo_disk.specs.declared.disk.Disk.{Ghosts}
-use Rattle.mvo_store.specs.declared.job.Job.{Job}
 use Rattle.mvo_store.specs.declared.progress.Progress.TheVariants.{More, Ready as AllWritten}
 use Rattle.mvo_store.specs.Causes.{first_cause}
-use Rattle.mvo_store.specs.Steps.{IsInstalledBy}
+use Rattle.mvo_store.specs.Calls.{StoreCall}
+use Rattle.mvo_store.specs.Calls.StoreCall.{AppendBody as AppendBodyCall, RotateWrite as RotateWriteCall, CheckpointData as CheckpointDataCall, CheckpointDelta as CheckpointDeltaCall, MergeData as MergeDataCall, MergeDelta as MergeDeltaCall, InstallClose as InstallCloseCall, InstallBody as InstallBodyCall, InstallOpen as InstallOpenCall}
+use Rattle.mvo_store.proofs.Taken.{IsQuiet, quiet_taken}
 use Rattle.mvo_store.specs.StoreData.{StoreData}
 use Rattle.mvo_world.specs.WorldData.{WorldData, waiting}
 use Rattle.mvo_world.specs.Ring.{oldest}
-use Rattle.mvo_world.specs.Replies.{IsReplyTo, IsLeft, or_nothing}
+use Rattle.mvo_world.specs.Replies.{IsReplyTo, IsStored, or_nothing}
 use Rattle.mvo_world.specs.declared.event.Event.{Event}
 use Rattle.mvo_world.specs.declared.event.Event.TheVariants.{CloseGroup, TakeGroup, AppendBody, AppendOpen, RotateWrite, CheckpointData, CheckpointDelta, MergeData, MergeDelta, InstallClose, InstallBody, InstallOpen}
 use Rattle.mvo_world.specs.declared.reply.Reply.{Reply}
@@ -104,10 +105,6 @@ none_pending true pending next h = cc
 none_pending false (Some g) next h = cc
 none_pending false None next h = refl
 
-installed_pending : {D : Type 0} (o : Option Job) (old new : StoreData D) → IsInstalledBy o old new → new.pending ≡ old.pending
-installed_pending {D = D} None old new h = absurd h
-installed_pending {D = D} (Some j) old new h = ap (λ (s : StoreData D). s.pending) h
-
 -- the steps of a rotation, and those that are left of a checkpoint that is read
 abbrev IsOfJob : Event → Type 0
 IsOfJob RotateWrite = Unit {0}
@@ -125,40 +122,36 @@ AreOfJob [] = Unit {0}
 AreOfJob (e ∷ es) = IsOfJob e × AreOfJob es
 
 module _ {D : Type 0} (d : Ghosts D) where
-  left_keeps : (w v : WorldData D) (r : Refusal) → IsLeft d w r v → KeepsGroups w v
-  left_keeps w v DiskFault it = record {
+  stored_keeps : (call : StoreCall) (result : Result (Unit {0}) Refusal) → IsQuiet call → (w v : WorldData D) → IsStored d w call result v → KeepsGroups w v
+  stored_keeps call result quiet w v it = record {
     ring = ap (λ (x : WorldData D). x.ring) it.rest;
-    pending = let fault = it.store.fault refl in ap (λ (s : StoreData D). s.pending) fault.after;
-  }
-  left_keeps w v r it = record {
-    ring = ap (λ (x : WorldData D). x.ring) it.rest;
-    pending = ap (λ (s : StoreData D). s.pending) (it.store.other (λ e. cc));
+    pending = (quiet_taken d w.store call result v.store quiet it.comes).pending;
   }
 
   job_keeps : (e : Event) → IsOfJob e → (w v : WorldData D) (r : Reply) → IsReplyTo d w e r v → KeepsGroups w v
-  job_keeps RotateWrite h w v Ready it = record { ring = ap (λ (x : WorldData D). x.ring) it.1.after; pending = ap (λ (x : WorldData D). x.store.pending) it.1.after }
-  job_keeps RotateWrite h w v (Refused why) it = left_keeps w v why it.1
+  job_keeps RotateWrite h w v Ready it = stored_keeps RotateWriteCall (Ok tt) tt w v it
+  job_keeps RotateWrite h w v (Refused why) it = stored_keeps RotateWriteCall (Err why) tt w v it
   job_keeps RotateWrite h w v _ it = absurd it
-  job_keeps CheckpointData h w v (Progressed More) it = record { ring = ap (λ (x : WorldData D). x.ring) it.1; pending = ap (λ (x : WorldData D). x.store.pending) it.1 }
-  job_keeps CheckpointData h w v (Refused why) it = left_keeps w v why it.1
+  job_keeps CheckpointData h w v (Progressed More) it = stored_keeps CheckpointDataCall (Ok tt) tt w v it
+  job_keeps CheckpointData h w v (Refused why) it = stored_keeps CheckpointDataCall (Err why) tt w v it
   job_keeps CheckpointData h w v _ it = absurd it
-  job_keeps CheckpointDelta h w v (Progressed p) it = record { ring = ap (λ (x : WorldData D). x.ring) it.1.after; pending = ap (λ (x : WorldData D). x.store.pending) it.1.after }
-  job_keeps CheckpointDelta h w v (Refused why) it = left_keeps w v why it.1
+  job_keeps CheckpointDelta h w v (Progressed p) it = stored_keeps CheckpointDeltaCall (Ok tt) tt w v it.0
+  job_keeps CheckpointDelta h w v (Refused why) it = stored_keeps CheckpointDeltaCall (Err why) tt w v it
   job_keeps CheckpointDelta h w v _ it = absurd it
-  job_keeps MergeData h w v (Progressed More) it = record { ring = ap (λ (x : WorldData D). x.ring) it.1; pending = ap (λ (x : WorldData D). x.store.pending) it.1 }
-  job_keeps MergeData h w v (Refused why) it = left_keeps w v why it.1
+  job_keeps MergeData h w v (Progressed More) it = stored_keeps MergeDataCall (Ok tt) tt w v it
+  job_keeps MergeData h w v (Refused why) it = stored_keeps MergeDataCall (Err why) tt w v it
   job_keeps MergeData h w v _ it = absurd it
-  job_keeps MergeDelta h w v (Progressed AllWritten) it = record { ring = ap (λ (x : WorldData D). x.ring) it.1; pending = ap (λ (x : WorldData D). x.store.pending) it.1 }
-  job_keeps MergeDelta h w v (Refused why) it = left_keeps w v why it.1
+  job_keeps MergeDelta h w v (Progressed AllWritten) it = stored_keeps MergeDeltaCall (Ok tt) tt w v it
+  job_keeps MergeDelta h w v (Refused why) it = stored_keeps MergeDeltaCall (Err why) tt w v it
   job_keeps MergeDelta h w v _ it = absurd it
-  job_keeps InstallClose h w v Shut it = record { ring = ap (λ (x : WorldData D). x.ring) it.1; pending = ap (λ (x : WorldData D). x.store.pending) it.1 }
-  job_keeps InstallClose h w v (Refused why) it = left_keeps w v why it.1
+  job_keeps InstallClose h w v Shut it = stored_keeps InstallCloseCall (Ok tt) tt w v it
+  job_keeps InstallClose h w v (Refused why) it = stored_keeps InstallCloseCall (Err why) tt w v it
   job_keeps InstallClose h w v _ it = absurd it
-  job_keeps InstallBody h w v Written it = record { ring = ap (λ (x : WorldData D). x.ring) it.1; pending = ap (λ (x : WorldData D). x.store.pending) it.1 }
-  job_keeps InstallBody h w v (Refused why) it = left_keeps w v why it.1
+  job_keeps InstallBody h w v Written it = stored_keeps InstallBodyCall (Ok tt) tt w v it
+  job_keeps InstallBody h w v (Refused why) it = stored_keeps InstallBodyCall (Err why) tt w v it
   job_keeps InstallBody h w v _ it = absurd it
-  job_keeps InstallOpen h w v (Installed n) it = record { ring = ap (λ (x : WorldData D). x.ring) it.1.rest; pending = installed_pending w.store.job w.store v.store it.1.installed }
-  job_keeps InstallOpen h w v (Refused why) it = left_keeps w v why it.1
+  job_keeps InstallOpen h w v (Installed n) it = stored_keeps InstallOpenCall (Ok tt) tt w v it.0
+  job_keeps InstallOpen h w v (Refused why) it = stored_keeps InstallOpenCall (Err why) tt w v it
   job_keeps InstallOpen h w v _ it = absurd it
   job_keeps _ h w v r it = absurd h
 
@@ -203,8 +196,8 @@ module _ {D : Type 0} (d : Ghosts D) where
   room_keeps w v r (AtEnough u goes it again) = then_keeps w u v (behind_keeps w u r it) (rotation_keeps u v (Refused NothingToDo) again)
 
   body_keeps : (w v : WorldData D) (r : Reply) → IsReplyTo d w AppendBody r v → stops_flush AppendBody r ≡ false → KeepsGroups w v
-  body_keeps w v Written it h = record { ring = ap (λ (x : WorldData D). x.ring) it.1; pending = ap (λ (x : WorldData D). x.store.pending) it.1 }
-  body_keeps w v (Refused Busy) it h = left_keeps w v Busy it.1
+  body_keeps w v Written it h = stored_keeps AppendBodyCall (Ok tt) tt w v it
+  body_keeps w v (Refused Busy) it h = stored_keeps AppendBodyCall (Err Busy) tt w v it
   body_keeps w v (Refused _) it h = cc
   body_keeps w v _ it h = absurd it
 
@@ -212,7 +205,8 @@ module _ {D : Type 0} (d : Ghosts D) where
   taken_count w v Taken it h =
       let none = none_pending w.store.down w.store.pending (oldest w.ring) it.0 in
       let before : count w ≡ length (it.1.group ∷ v.ring) = same_length w.store.pending None w.ring (it.1.group ∷ v.ring) none it.1.there in
-      let after : count v ≡ length (it.1.group ∷ v.ring) = ap (λ (x : WorldData D). length (waiting x)) it.1.after in
+      let taken = ap (λ (s : StoreData D). s.pending) it.1.comes.made.makes in
+      let after : count v ≡ length (it.1.group ∷ v.ring) = same_length v.store.pending (Some it.1.group) v.ring v.ring taken refl in
       after ∙ sym before
   taken_count w v (Refused Busy) it h = ap (λ (x : WorldData D). length (waiting x)) it.1
   taken_count w v (Refused _) it h = cc
@@ -220,10 +214,11 @@ module _ {D : Type 0} (d : Ghosts D) where
 
   opened_count : (w v : WorldData D) (m : Stamp) → IsReplyTo d w AppendOpen (Durable m) v → count v < count w
   opened_count w v m it =
-      let pending : v.store.pending ≡ None = ap (λ (x : WorldData D). x.store.pending) it.1.after in
-      let ring : v.ring ≡ w.ring = ap (λ (x : WorldData D). x.ring) it.1.after in
+      let made = it.0.comes.made.makes in
+      let pending : v.store.pending ≡ None = ap (λ (s : StoreData D). s.pending) made.after in
+      let ring : v.ring ≡ w.ring = ap (λ (x : WorldData D). x.ring) it.0.rest in
       let after : count v ≡ length w.ring = same_length v.store.pending None v.ring w.ring pending ring in
-      let before : count w ≡ length (it.1.group ∷ w.ring) = same_length w.store.pending (Some it.1.group) w.ring w.ring it.1.there refl in
+      let before : count w ≡ length (made.group ∷ w.ring) = same_length w.store.pending (Some made.group) w.ring w.ring made.there refl in
       omega arith
 
   append_count : (w v : WorldData D) (m : Stamp) → AreToStop (IsReplyTo d) stops_flush append w (Durable m) v → count v < count w
@@ -247,7 +242,7 @@ module _ {D : Type 0} (d : Ghosts D) where
       let less = opened_count u v m (subst (λ (x : Reply). IsReplyTo d u AppendOpen x v) is rest) in
       omega arith
   appended_count w v r m is (AtFull u it rest) =
-      let same = kept_count w u (left_keeps w u SegmentFull it.1) in
+      let same = kept_count w u (stored_keeps AppendBodyCall (Err SegmentFull) tt w u it) in
       let less = rotated_count u v r m is rest in
       omega arith
 

@@ -1,6 +1,8 @@
 pub mod Named
 mod Slotted
 pub mod Keeping
+pub mod Stepping
+pub mod Taken
 pub mod Appended
 pub mod Gains
 pub mod Working

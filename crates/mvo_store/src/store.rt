@@ -88,11 +88,10 @@ impl<D: Disk> Model for Store<D> {
 }
 
 impl<D: Disk> Store<D> {
-    ghost use Rattle.std.specs.Prelude.{◌≡◌, None, Some, OnOk, OnErr};
-    ghost use Rattle.mvo_store.specs.StoreData.{StoreData};
-    ghost use Rattle.mvo_store.specs.Standing.{Keeps};
+    ghost use Rattle.std.specs.Prelude.{◌≡◌, None, IfErr};
     ghost use Rattle.mvo_store.specs.Causes.{has_group, why_not_take};
-    ghost use Rattle.mvo_store.specs.Steps.{GivenBackFor};
+    ghost use Rattle.mvo_store.specs.Calls.StoreCall.{Take};
+    ghost use Rattle.mvo_store.specs.Calls.{IsStoreStep, without_group};
 
     /// The disk, as it stands.
     pub fn into_disk(self) -> D
@@ -152,10 +151,9 @@ impl<D: Disk> Store<D> {
     /// Refused, the group comes back: Down, then Busy where a group is pending.
     pub fn take_group(&mut self, group: Group) -> Result<(), (Refusal, Group)>
         requires follows { why_not_take self.old ≡ None → group.prev ≡ self.old.mark }
-        ensures refused { GivenBackFor (why_not_take self.old) group result }
-        ensures ok { OnOk result (self.new ≡ record self.old { pending = Some group }) }
-        ensures err { OnErr result (self.new ≡ self.old) }
-        ensures keeps { Keeps D.Disk self.old self.new }
+        ensures step { IsStoreStep D.Disk self.old (Take group) (without_group result)
+            self.new }
+        ensures back { IfErr result (λ e. e.1 ≡ group) }
     {
         if let Some(refusal) = self.can_take() {
             return Err((refusal, group));

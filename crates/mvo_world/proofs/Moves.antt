@@ -1,12 +1,12 @@
 -- What each event makes of a world that stands after a past.
-use Rattle.std.proofs.Common.{◌≡◌, ◌≢◌, ◌⊎◌, inl, inr, ℕ, ◌≤◌, Bool, true, false, cond, List, [], ◌∷◌, ◌++◌, Option, None, Some, Result, Ok, Err, map, refl, sym, ap, ◌∙◌, subst, arith, append_assoc, append-nil}
+use Rattle.std.proofs.Common.{◌≡◌, ◌≢◌, ℕ, ◌≤◌, Bool, true, false, cond, List, [], ◌∷◌, ◌++◌, Option, None, Some, Result, Ok, Err, map, refl, sym, ap, ◌∙◌, subst, arith, append_assoc, append-nil}
 use Rattle.std.specs.Prelude.{is_some, IfSome, nat_le}
 use Rattle.std.specs.Option.{option_to_list}
 use Rattle.std.specs.List.{AllByRecursion}
 use Rattle.std.proofs.lemmas.Bool.{false≢true, leb-true}
 use Rattle.std.proofs.lemmas.List.{map-append}
 use Rattle.mvo_types.specs.declared.refusal.Refusal.{Refusal}
-use Rattle.mvo_types.specs.declared.refusal.Refusal.TheVariants.{RingFull, DiskFault, Down, Busy, NothingToDo, OutOfMemory}
+use Rattle.mvo_types.specs.declared.refusal.Refusal.TheVariants.{Down, Busy, OutOfMemory}
 use Rattle.mvo_types.specs.declared.ids.Stamp.{Stamp}
 use Rattle.mvo_types.specs.Keys.{Map}
 use Rattle.mvo_model.specs.Trace.{Step}
@@ -26,17 +26,17 @@ use Rattle.mvo_core.proofs.Begun.{still_closed}
 use Rattle.mvo_frame.specs.Frames.{mark_after}
 use Rattle.mvo_image.specs.Rows.{after_groups}
 use Rattle.mvo_recovery.proofs.Grown.{after_groups-append}
-use Rattle.mvo_store.specs.declared.job.Job.{Job}
 use Rattle.mvo_store.specs.StoreData.{StoreData, opening}
 use Rattle.mvo_store.specs.Standing.{MayBeLeft, KeepsRows, LeavesRows, after_taken, IsKeeping, Keeps}
 use Rattle.mvo_store.specs.Causes.{why_not_take}
-use Rattle.mvo_store.specs.Steps.{GivenBackFor, RefusedFor, LeftBy, LeftByRead, IsMarkOf, IsInstalledBy}
+use Rattle.mvo_store.specs.Calls.{StoreCall, ComesTo, IsStoreStep}
+use Rattle.mvo_store.proofs.Taken.{KeepsTaken, IsQuiet, left_taken, quiet_taken, quiet_rows, refused_rows, accepted_by, refused_by}
 use Rattle.mvo_store.proofs.Keeping.{OnlyNow, refused_keeps, same_keeps}
 use Rattle.mvo_world.specs.WorldData.{WorldData, waiting, Follow, IsLinked, HasBegun}
 use Rattle.mvo_world.specs.Past.{Past, happened, acknowledged_by, closed_by, with_event, opened_over}
 use Rattle.mvo_core.specs.Groups.{AreGroupsOf}
 use Rattle.mvo_world.specs.Standing.{IsAfter, RecoversPrefix, LeavesPrefix}
-use Rattle.mvo_world.specs.Replies.{IsReplyTo, IsAsked, HasComeTo, HasRow, IsBodyRefusal, IsGateRefusal}
+use Rattle.mvo_world.specs.Replies.{IsReplyTo, IsAsked, IsStored, HasComeTo, HasRow}
 use Rattle.mvo_world.specs.Steps.{IsStepBy, IsStep}
 use Rattle.mvo_world.specs.declared.event.Event.{Event}
 use Rattle.mvo_world.specs.declared.event.Event.TheVariants.{Begin, Read, Scan, Insert, Update, Delete, Precommit, Validate, Settle, Rollback, Finish, CloseGroup, TakeGroup, AppendBody, AppendOpen, Poll, RotateWrite, CheckpointRead, CheckpointData, CheckpointDelta, MergeRead, MergeData, MergeDelta, InstallClose, InstallBody, InstallOpen, Reclaim}
@@ -45,38 +45,6 @@ use Rattle.mvo_world.specs.declared.reply.Reply.TheVariants.{Closed, Durable, Po
 use Rattle.mvo_world.proofs.Chain.{groups_stay}
 use Rattle.mvo_world.proofs.Closed.{group_of_next}
 use Rattle.mvo_world.proofs.Standing.{mark_after-append, groups_front, groups_back, groups_push, marks_rise, follow_to, prefix_image}
-
--- ---- a refused step of the store keeps its mark and the group that it took
-fault_or_not : (e : Refusal) → (e ≡ DiskFault) ⊎ (e ≢ DiskFault)
-fault_or_not DiskFault = inl refl
-fault_or_not _ = inr (λ e. cc)
-
-pub record KeepsTaken {D : Type 0} (old new : StoreData D) : Type 0 where
-  pub mark : new.mark ≡ old.mark
-  pub pending : new.pending ≡ old.pending
-
-pub left_taken : {D : Type 0} (d : Ghosts D) (e : Refusal) (old new : StoreData D) → LeftBy d e old new → KeepsTaken old new
-left_taken {D} d e old new h = go (fault_or_not e)
-  where
-    go : (e ≡ DiskFault) ⊎ (e ≢ DiskFault) → KeepsTaken old new
-    go (inl is) = let after = (h.fault is).after in record { mark = ap (λ (s : StoreData D). s.mark) after; pending = ap (λ (s : StoreData D). s.pending) after }
-    go (inr ne) = let after = h.other ne in record { mark = ap (λ (s : StoreData D). s.mark) after; pending = ap (λ (s : StoreData D). s.pending) after }
-
--- so it does where it is refused behind a read
-memory_or_not : (e : Refusal) → (e ≡ OutOfMemory) ⊎ (e ≢ OutOfMemory)
-memory_or_not OutOfMemory = inl refl
-memory_or_not _ = inr (λ e. cc)
-
-pub left_taken_by_read : {D : Type 0} (d : Ghosts D) (e : Refusal) (old new : StoreData D) → LeftByRead d e old new → KeepsTaken old new
-left_taken_by_read {D} d e old new h = go (fault_or_not e) (memory_or_not e)
-  where
-    same : (x : StoreData D) → new ≡ x → x.mark ≡ old.mark → x.pending ≡ old.pending → KeepsTaken old new
-    same x is mark pending = record { mark = ap (λ (s : StoreData D). s.mark) is ∙ mark; pending = ap (λ (s : StoreData D). s.pending) is ∙ pending }
-
-    go : (e ≡ DiskFault) ⊎ (e ≢ DiskFault) → (e ≡ OutOfMemory) ⊎ (e ≢ OutOfMemory) → KeepsTaken old new
-    go (inl is) m = same (record old { disk = new.disk; down = true }) (h.fault is).after refl refl
-    go (inr ne) (inl is) = same (record old { disk = new.disk }) (h.memory is) refl refl
-    go (inr ne) (inr nm) = same old (h.other ne nm) refl refl
 
 -- ---- the groups that wait
 follow_push : (m last : ℕ) (gs : List GroupData) (g : GroupData) → Follow m gs last → g.prev ≡ last → Follow m (gs ++ g ∷ []) g.mark
@@ -95,23 +63,6 @@ pub group_there : (o : Option GroupData) (P : GroupData → Type 0) → is_some 
 group_there None P e h = absurd (false≢true e)
 group_there (Some g) P e h = (g, refl, h)
 
-pub taken_of : (p : Option GroupData) (d : ℕ) → IsMarkOf p d → (g : GroupData) × (p ≡ Some g) × (d ≡ g.mark)
-taken_of None d h = absurd h
-taken_of (Some g) d h = (g, refl, h)
-
-pub accepted : {T : Type 0} (why : Option Refusal) (x : T) → RefusedFor why (Ok x) → why ≡ None
-accepted None x h = refl
-accepted (Some cause) x h = let same : Ok x ≡ Err cause = h in absurd cc
-
-pub body_refusal : (T : Type 0) (why : Option Refusal) (e : Refusal) → RefusedFor {T = T} why (Err e) → IsBodyRefusal why e
-body_refusal T None e h = h
-body_refusal T (Some cause) e h = let same : ◌≡◌ {A = Result T Refusal} (Err e) (Err cause) = h in cc
-
-pub gate_refusal : (T : Type 0) (why : Option Refusal) (e : Refusal) → RefusedFor {T = T} why (Err e) → (e ≡ OutOfMemory → ⊥) → IsGateRefusal why e
-gate_refusal T None e (inl memory) free = absurd (free memory)
-gate_refusal T None e (inr fault) free = fault
-gate_refusal T (Some cause) e h free = let same : ◌≡◌ {A = Result T Refusal} (Err e) (Err cause) = h in cc
-
 pub nothing_taken : {D : Type 0} (s : StoreData D) → why_not_take s ≡ None → s.pending ≡ None
 nothing_taken {D} s e = go s.down s.pending e
   where
@@ -119,15 +70,6 @@ nothing_taken {D} s e = go s.down s.pending e
     go true o f = absurd cc
     go false None f = refl
     go false (Some g) f = absurd cc
-
--- what is taken where no cause stands isn't given back
-pub not_given_back : {T : Type 0} (o : Option Refusal) (g : GroupData) (e : Refusal × GroupData) (r : Result T (Refusal × GroupData)) → o ≡ None → r ≡ Err e → GivenBackFor o g r → ⊥
-not_given_back {T} o g e r none is h = subst (λ (q : Result T (Refusal × GroupData)). GivenBackFor None g q) is (subst (λ (p : Option Refusal). GivenBackFor p g r) none h)
-
--- a store whose manifest was installed keeps its mark and the group that it took
-pub installed_taken : {D : Type 0} (o : Option Job) (old new : StoreData D) → IsInstalledBy o old new → KeepsTaken old new
-installed_taken None old new h = absurd h
-installed_taken {D} (Some r) old new h = record { mark = ap (λ (s : StoreData D). s.mark) h; pending = ap (λ (s : StoreData D). s.pending) h }
 
 -- ---- a past with an event more
 past_is : (p : Past) (e : Event) (r : Reply) (steps : List Step) (acked closed : List ℕ) → p.steps ++ happened e r ≡ steps → p.acknowledged ++ acknowledged_by e r ≡ acked → p.closed ++ closed_by e r ≡ closed → record { rows = p.rows; mark = p.mark; steps = steps; acknowledged = acked; closed = closed } ≡ with_event p e r
@@ -237,6 +179,20 @@ module _ {D : Type 0} (d : Ghosts D) where
   pub store_moved : (w : WorldData D) (store : StoreData D) (e : Event) (r : Reply) → IsSilent e r → IsReplyTo d w e r (record w { store = store }) → KeepsTaken w.store store → Keeps d w.store store → IsStep d w e r (record w { store = store })
   store_moved w store e r silent reply taken keeps =
       moved (IsReplyTo d) w (record w { store = store }) e r silent reply refl (ap (λ (q : Option GroupData). option_to_list q ++ w.ring) taken.pending) taken.mark keeps
+
+  -- ---- a call of the store that takes no group and makes none durable
+  pub stored : {A : Type 0} (w : WorldData D) (store : StoreData D) (call : StoreCall) (a : A) → ComesTo d w.store call (Ok a) store → IsStored d w call (Ok tt) (record w { store = store })
+  stored w store call a h = record { comes = accepted_by d w.store call a store h; rest = refl }
+
+  pub done_step : {A : Type 0} (w : WorldData D) (store : StoreData D) (call : StoreCall) (a : A) (e : Event) (r : Reply) → IsSilent e r → IsQuiet call → IsReplyTo d w e r (record w { store = store }) → IsStoreStep d w.store call (Ok a) store → IsStep d w e r (record w { store = store })
+  done_step w store call a e r silent quiet reply h =
+      store_moved w store e r silent reply (quiet_taken d w.store call (Ok a) store quiet h.comes) (quiet_rows d w.store call (Ok a) store quiet h)
+
+  -- and one that is refused
+  pub refused_step : (A : Type 0) (w : WorldData D) (store : StoreData D) (call : StoreCall) (why : Refusal) (e : Event) → happened e (Refused why) ≡ [] → (IsStored d w call (Err why) (record w { store = store }) → IsReplyTo d w e (Refused why) (record w { store = store }))
+      → IsStoreStep {A = A} d w.store call (Err why) store → IsStep d w e (Refused why) (record w { store = store })
+  refused_step A w store call why e silent reply h =
+      store_moved w store e (Refused why) (silent_refused e why silent) (reply (record { comes = refused_by A d w.store call why store h.comes; rest = refl })) (left_taken d call why w.store store h.comes.left) (refused_rows A d w.store call why store h)
 
   -- ---- a group becomes durable
   pub durable : (w w' : WorldData D) (mark : Stamp) (g : GroupData) → IsReplyTo d w AppendOpen (Durable mark) w' → w'.core ≡ w.core → w'.ring ≡ w.ring → w.store.pending ≡ Some g → w'.store.pending ≡ None → w'.store.mark ≡ g.mark → mark.0 ≡ g.mark

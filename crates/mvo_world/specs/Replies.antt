@@ -1,7 +1,7 @@
 -- What each event of a world is answered, and what it leaves.
-use Rattle.std.specs.Prelude.{◌≡◌, ◌⊎◌, ◌+◌, ℕ, nat_le, true, false, List, ◌∷◌, Option, None, Some, Result, Ok, Err, ⊤}
+use Rattle.std.specs.Prelude.{◌≡◌, ◌⊎◌, ◌+◌, ℕ, nat_le, List, ◌∷◌, Option, None, Some, Result, Ok, Err, ⊤}
 use Rattle.mvo_types.specs.declared.refusal.Refusal.{Refusal}
-use Rattle.mvo_types.specs.declared.refusal.Refusal.TheVariants.{NothingToDo, DiskFault, OutOfMemory}
+use Rattle.mvo_types.specs.declared.refusal.Refusal.TheVariants.{NothingToDo, OutOfMemory}
 use Rattle.mvo_disk.specs.declared.disk.Disk.{Ghosts}
 use Rattle.mvo_group.specs.Data.{GroupData}
 use Rattle.mvo_types.specs.declared.answer.Answer.{Answer}
@@ -16,17 +16,10 @@ use Rattle.mvo_theory.specs.Calls.Result.{Accepted, Refused as RefusedCall}
 use Rattle.mvo_core.specs.declared.answers.Closed as closing
 use Rattle.mvo_core.specs.Standing.{StandsFor}
 use Rattle.mvo_core.specs.Steps.{LeadsOn, InEach, IsAnswered, IsValidation, IsSettlement, IsFinishing}
-use Rattle.mvo_store.specs.declared.due.Due.{Due}
-use Rattle.mvo_store.specs.declared.due.Due.TheVariants.{Data, Delta, MergeData as DataOfMerge}
-use Rattle.mvo_store.specs.declared.due.Due.TheVariants.{MergeDelta as DeltaOfMerge, Close, Body, Open}
-use Rattle.mvo_store.specs.declared.progress.Progress.{Progress}
 use Rattle.mvo_store.specs.declared.progress.Progress.TheVariants.{More, Ready as AllWritten}
-use Rattle.mvo_store.specs.declared.reclaimed.Reclaimed as reclaiming
-use Rattle.mvo_store.specs.Causes.{why_not_take, why_not_append_body, why_not_append_open}
-use Rattle.mvo_store.specs.Causes.{why_not_rotate, why_not_checkpoint, why_not_merge, why_not_install}
-use Rattle.mvo_store.specs.Causes.{why_not_install_open, why_not_reclaim}
-use Rattle.mvo_store.specs.Steps.{LeftBy, LeftByRead, IsRotationOf, IsCheckpointOf, IsMergeOf, with_due}
-use Rattle.mvo_store.specs.Steps.{progress_of, with_delta, IsInstalledBy}
+use Rattle.mvo_store.specs.Causes.{why_not_take}
+use Rattle.mvo_store.specs.Calls.{StoreCall, ComesTo, AnswersMark, AnswersProgress, AnswersGeneration}
+use Rattle.mvo_store.specs.Calls.StoreCall.{Take, AppendBody as AppendBodyCall, AppendOpen as AppendOpenCall, RotateWrite as RotateWriteCall, CheckpointRead as CheckpointReadCall, CheckpointData as CheckpointDataCall, CheckpointDelta as CheckpointDeltaCall, MergeRead as MergeReadCall, MergeData as MergeDataCall, MergeDelta as MergeDeltaCall, InstallClose as InstallCloseCall, InstallBody as InstallBodyCall, InstallOpen as InstallOpenCall, Reclaim as ReclaimCall}
 use Rattle.mvo_store.specs.Reclaiming.{HasReclaimed}
 use Rattle.mvo_world.specs.Ring.{oldest, IsClosingInto}
 use Rattle.mvo_world.specs.WorldData.{WorldData}
@@ -45,16 +38,6 @@ or_nothing None (Some g) = None
 -- that of the store, and then that no group is closed
 abbrev pub why_not_taken : {D : Type 0} → WorldData D → Option Refusal
 why_not_taken w = or_nothing (why_not_take w.store) (oldest w.ring)
-
--- writing a body takes memory and may meet a fault
-abbrev pub IsBodyRefusal : Option Refusal → Refusal → Type 0
-IsBodyRefusal (Some why) r = r ≡ why
-IsBodyRefusal None r = (r ≡ OutOfMemory) ⊎ (r ≡ DiskFault)
-
--- writing a gate takes none, and may meet a fault
-abbrev pub IsGateRefusal : Option Refusal → Refusal → Type 0
-IsGateRefusal (Some why) r = r ≡ why
-IsGateRefusal None r = r ≡ DiskFault
 
 -- ---- what an accepted event makes of a world
 
@@ -81,108 +64,18 @@ pub record HasComeTo {D : Type 0} (w : WorldData D) (result : Result closing.Clo
   pub closing : IsClosingInto w.core w.ring result w'.core w'.ring
   pub store : w'.store ≡ w.store
 
+-- the store's call came to this, whatever it answers, and the rest stays
+pub record IsStored {D : Type 0} (d : Ghosts D) (w : WorldData D) (call : StoreCall)
+    (result : Result (Unit {0}) Refusal) (w' : WorldData D) : Type 0 where
+  pub comes : ComesTo d w.store call result w'.store
+  pub rest : w' ≡ record w { store = w'.store }
+
 -- the store has the oldest group of the ring
-pub record IsTaken {D : Type 0} (w w' : WorldData D) : Type 0 where
+pub record IsTaken {D : Type 0} (d : Ghosts D) (w w' : WorldData D) : Type 0 where
   pub group : GroupData
   pub there : w.ring ≡ group ∷ w'.ring
-  pub after : w' ≡ record w {
-    ring = w'.ring;
-    store = record w.store { pending = Some group };
-  }
-
--- no call of the device failed
-abbrev pub HasNoFault : {D : Type 0} → Ghosts D → WorldData D → WorldData D → Type 0
-HasNoFault d w w' = d.fault_count w'.store.disk ≡ d.fault_count w.store.disk
-
--- the body of the pending group is written
-abbrev pub IsWritten : {D : Type 0} → WorldData D → WorldData D → Type 0
-IsWritten w w' = w' ≡ record w {
-  store = record w.store {
-    disk = w'.store.disk;
-    segment = record w.store.segment { next = w'.store.segment.next };
-    written = true;
-  };
-}
-
--- the pending group is durable
-pub record IsDurable {D : Type 0} (w : WorldData D) (mark : ℕ) (w' : WorldData D) : Type 0 where
-  pub group : GroupData
-  pub there : w.store.pending ≡ Some group
-  pub mark_is : group.mark ≡ mark
-  pub after : w' ≡ record w {
-    store = record w.store {
-      disk = w'.store.disk;
-      segment = record w.store.segment { gate = w.store.segment.next };
-      mark = mark;
-      pending = None;
-      written = false;
-    };
-  }
-
--- a rotation runs, and nothing of it is installed yet
-pub record IsReady {D : Type 0} (w w' : WorldData D) : Type 0 where
-  pub rotation : IsRotationOf w.store.manifest w'.store.job
-  pub after : w' ≡ record w {
-    store = record w.store { disk = w'.store.disk; job = w'.store.job };
-  }
-
--- a checkpoint of the oldest sealed segment runs, and nothing of it is written yet
-pub record IsRead {D : Type 0} (d : Ghosts D) (w w' : WorldData D) : Type 0 where
-  pub checkpoint : IsCheckpointOf (d.content w.store.disk) w.store.manifest w'.store.job
-  pub after : w' ≡ record w {
-    store = record w.store {
-      disk = w'.store.disk;
-      places = record w.store.places { room = w'.store.places.room };
-      job = w'.store.job;
-    };
-  }
-
--- a merge of the pair at a place and the one behind it runs, and nothing of it is written yet
-pub record IsReadToMerge {D : Type 0} (d : Ghosts D) (w : WorldData D) (place : ℕ)
-    (w' : WorldData D) : Type 0 where
-  pub merge : IsMergeOf (d.content w.store.disk) w.store.manifest place w'.store.job
-  pub after : w' ≡ record w {
-    store = record w.store { disk = w'.store.disk; job = w'.store.job };
-  }
-
--- one delta file more of the checkpoint is written
-pub record HasDelta {D : Type 0} (w : WorldData D) (progress : Progress) (w' : WorldData D) : Type 0
-  where
-    pub progress_is : progress ≡ progress_of w.store.job
-    pub after : w' ≡ record w {
-      store = record w.store { disk = w'.store.disk; job = with_delta w.store.job };
-    }
-
--- this step of the job is due next
-abbrev pub MakesDue : {D : Type 0} → Due → WorldData D → WorldData D → Type 0
-MakesDue step w w' = w' ≡ record w {
-  store = record w.store { disk = w'.store.disk; job = with_due step w.store.job };
-}
-
--- the manifest of the job is installed
-pub record IsInstalled {D : Type 0} (w : WorldData D) (generation : ℕ) (w' : WorldData D) : Type 0
-  where
-    pub rest : w' ≡ record w { store = w'.store }
-    pub installed : IsInstalledBy w.store.job w.store w'.store
-    pub generation_is : generation ≡ w'.store.manifest.generation
-
--- the least dead file is emptied, or none is dead
-pub record IsReclaimed {D : Type 0} (d : Ghosts D) (w : WorldData D) (answer : reclaiming.Reclaimed)
-    (w' : WorldData D) : Type 0 where
-  pub after : w' ≡ record w { store = record w.store { disk = w'.store.disk } }
-  pub reclaimed : HasReclaimed d w.store answer w'.store
-
--- a refusal of the store leaves the rest alone
-pub record IsLeft {D : Type 0} (d : Ghosts D) (w : WorldData D) (r : Refusal) (w' : WorldData D) :
-    Type 0 where
-  pub rest : w' ≡ record w { store = w'.store }
-  pub store : LeftBy d r w.store w'.store
-
--- so does one behind a read, but for the time that has passed on the disk
-pub record IsLeftByRead {D : Type 0} (d : Ghosts D) (w : WorldData D) (r : Refusal)
-    (w' : WorldData D) : Type 0 where
-  pub rest : w' ≡ record w { store = w'.store }
-  pub store : LeftByRead d r w.store w'.store
+  pub comes : ComesTo {A = Unit {0}} d w.store (Take group) (Ok tt) w'.store
+  pub core : w'.core ≡ w.core
 
 -- ---- the reply
 
@@ -222,62 +115,39 @@ IsReplyTo d w (Finish t) (Finished a) w' =
 IsReplyTo d w (Finish t) (Refused r) w' = IsAsked w (FinishCall t.0) (RefusedCall r) w'
 IsReplyTo d w CloseGroup (Closed c) w' = HasComeTo w (Ok c) w'
 IsReplyTo d w CloseGroup (Refused r) w' = HasComeTo w (Err r) w'
-IsReplyTo d w TakeGroup Taken w' = (why_not_taken w ≡ None) × IsTaken w w'
+IsReplyTo d w TakeGroup Taken w' = (why_not_taken w ≡ None) × IsTaken d w w'
 IsReplyTo d w TakeGroup (Refused r) w' = (why_not_taken w ≡ Some r) × (w' ≡ w)
-IsReplyTo d w AppendBody Written w' =
-    (why_not_append_body w.store ≡ None) × IsWritten w w' × HasNoFault d w w'
-IsReplyTo d w AppendBody (Refused r) w' =
-    IsBodyRefusal (why_not_append_body w.store) r × IsLeft d w r w'
-IsReplyTo d w AppendOpen (Durable m) w' =
-    (why_not_append_open w.store ≡ None) × IsDurable w m.0 w' × HasNoFault d w w'
-IsReplyTo d w AppendOpen (Refused r) w' =
-    IsGateRefusal (why_not_append_open w.store) r × IsLeft d w r w'
 IsReplyTo d w (Poll stamp) (Polled answer) w' = (answer ≡ nat_le stamp.0 w.store.mark) × (w' ≡ w)
-IsReplyTo d w RotateWrite Ready w' =
-    (why_not_rotate w.store ≡ None) × IsReady w w' × HasNoFault d w w'
-IsReplyTo d w RotateWrite (Refused r) w' =
-    IsBodyRefusal (why_not_rotate w.store) r × IsLeft d w r w'
-IsReplyTo d w CheckpointRead (Progressed More) w' =
-    (why_not_checkpoint w.store ≡ None) × IsRead d w w' × HasNoFault d w w'
-IsReplyTo d w CheckpointRead (Refused r) w' =
-    IsBodyRefusal (why_not_checkpoint w.store) r × IsLeftByRead d w r w'
-IsReplyTo d w CheckpointData (Progressed More) w' =
-    (why_not_install Data w.store ≡ None) × MakesDue Delta w w' × HasNoFault d w w'
-IsReplyTo d w CheckpointData (Refused r) w' =
-    IsBodyRefusal (why_not_install Data w.store) r × IsLeft d w r w'
+IsReplyTo d w AppendBody Written w' = IsStored d w AppendBodyCall (Ok tt) w'
+IsReplyTo d w AppendBody (Refused r) w' = IsStored d w AppendBodyCall (Err r) w'
+IsReplyTo d w AppendOpen (Durable m) w' =
+    IsStored d w AppendOpenCall (Ok tt) w' × AnswersMark w'.store m.0
+IsReplyTo d w AppendOpen (Refused r) w' = IsStored d w AppendOpenCall (Err r) w'
+IsReplyTo d w RotateWrite Ready w' = IsStored d w RotateWriteCall (Ok tt) w'
+IsReplyTo d w RotateWrite (Refused r) w' = IsStored d w RotateWriteCall (Err r) w'
+IsReplyTo d w CheckpointRead (Progressed More) w' = IsStored d w CheckpointReadCall (Ok tt) w'
+IsReplyTo d w CheckpointRead (Refused r) w' = IsStored d w CheckpointReadCall (Err r) w'
+IsReplyTo d w CheckpointData (Progressed More) w' = IsStored d w CheckpointDataCall (Ok tt) w'
+IsReplyTo d w CheckpointData (Refused r) w' = IsStored d w CheckpointDataCall (Err r) w'
 IsReplyTo d w CheckpointDelta (Progressed progress) w' =
-    (why_not_install Delta w.store ≡ None) × HasDelta w progress w' × HasNoFault d w w'
-IsReplyTo d w CheckpointDelta (Refused r) w' =
-    IsBodyRefusal (why_not_install Delta w.store) r × IsLeft d w r w'
-IsReplyTo d w (MergeRead place) (Progressed More) w' =
-    (why_not_merge place w.store ≡ None) × IsReadToMerge d w place w' × HasNoFault d w w'
-IsReplyTo d w (MergeRead place) (Refused r) w' =
-    IsBodyRefusal (why_not_merge place w.store) r × IsLeftByRead d w r w'
-IsReplyTo d w MergeData (Progressed More) w' =
-    (why_not_install DataOfMerge w.store ≡ None)
-    × MakesDue DeltaOfMerge w w' × HasNoFault d w w'
-IsReplyTo d w MergeData (Refused r) w' =
-    IsBodyRefusal (why_not_install DataOfMerge w.store) r × IsLeft d w r w'
-IsReplyTo d w MergeDelta (Progressed AllWritten) w' =
-    (why_not_install DeltaOfMerge w.store ≡ None) × MakesDue Close w w' × HasNoFault d w w'
-IsReplyTo d w MergeDelta (Refused r) w' =
-    IsBodyRefusal (why_not_install DeltaOfMerge w.store) r × IsLeft d w r w'
-IsReplyTo d w InstallClose Shut w' =
-    (why_not_install Close w.store ≡ None) × MakesDue Body w w' × HasNoFault d w w'
-IsReplyTo d w InstallClose (Refused r) w' =
-    IsGateRefusal (why_not_install Close w.store) r × IsLeft d w r w'
-IsReplyTo d w InstallBody Written w' =
-    (why_not_install Body w.store ≡ None) × MakesDue Open w w' × HasNoFault d w w'
-IsReplyTo d w InstallBody (Refused r) w' =
-    IsBodyRefusal (why_not_install Body w.store) r × IsLeft d w r w'
+    IsStored d w CheckpointDeltaCall (Ok tt) w' × AnswersProgress w.store progress
+IsReplyTo d w CheckpointDelta (Refused r) w' = IsStored d w CheckpointDeltaCall (Err r) w'
+IsReplyTo d w (MergeRead place) (Progressed More) w' = IsStored d w (MergeReadCall place) (Ok tt) w'
+IsReplyTo d w (MergeRead place) (Refused r) w' = IsStored d w (MergeReadCall place) (Err r) w'
+IsReplyTo d w MergeData (Progressed More) w' = IsStored d w MergeDataCall (Ok tt) w'
+IsReplyTo d w MergeData (Refused r) w' = IsStored d w MergeDataCall (Err r) w'
+IsReplyTo d w MergeDelta (Progressed AllWritten) w' = IsStored d w MergeDeltaCall (Ok tt) w'
+IsReplyTo d w MergeDelta (Refused r) w' = IsStored d w MergeDeltaCall (Err r) w'
+IsReplyTo d w InstallClose Shut w' = IsStored d w InstallCloseCall (Ok tt) w'
+IsReplyTo d w InstallClose (Refused r) w' = IsStored d w InstallCloseCall (Err r) w'
+IsReplyTo d w InstallBody Written w' = IsStored d w InstallBodyCall (Ok tt) w'
+IsReplyTo d w InstallBody (Refused r) w' = IsStored d w InstallBodyCall (Err r) w'
 IsReplyTo d w InstallOpen (Installed g) w' =
-    (why_not_install_open w.store ≡ None) × IsInstalled w g.0 w' × HasNoFault d w w'
-IsReplyTo d w InstallOpen (Refused r) w' =
-    IsGateRefusal (why_not_install_open w.store) r × IsLeft d w r w'
+    IsStored d w InstallOpenCall (Ok tt) w' × AnswersGeneration w'.store g.0
+IsReplyTo d w InstallOpen (Refused r) w' = IsStored d w InstallOpenCall (Err r) w'
 IsReplyTo d w Reclaim (Reclaimed a) w' =
-    (why_not_reclaim w.store ≡ None) × IsReclaimed d w a w' × HasNoFault d w w'
-IsReplyTo d w Reclaim (Refused r) w' =
-    IsGateRefusal (why_not_reclaim w.store) r × IsLeft d w r w'
+    IsStored d w ReclaimCall (Ok tt) w' × HasReclaimed d w.store a w'.store
+IsReplyTo d w Reclaim (Refused r) w' = IsStored d w ReclaimCall (Err r) w'
 IsReplyTo d w e r w' = ⊥
 
 -- a copy of the event takes memory: it has a row

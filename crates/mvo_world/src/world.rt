@@ -38,9 +38,7 @@ impl<D: Disk + Drop> Drop for World<D> {
 
 impl<D: Disk> Model for World<D> {
     ghost use Rattle.std.specs.Coded.{codes};
-    ghost use Rattle.mvo_hash.specs.Lists.{coded_lists};
-    ghost use Rattle.mvo_range.specs.Place.{coded_map};
-    ghost use Rattle.mvo_txn.specs.Txns.{coded_txns};
+    ghost use Rattle.mvo_core.specs.contracts.engine.Core.{the_row as core_row};
     ghost use Rattle.mvo_types.specs.Keys.{coded_map as coded_rows};
     ghost use Rattle.mvo_ckpt.specs.Places.{coded_places};
     ghost use Rattle.mvo_world.specs.WorldData.{WorldData, IsSound};
@@ -49,9 +47,7 @@ impl<D: Disk> Model for World<D> {
 
     ghost coded = { Prim.hlevel (
       codes,
-      coded_lists,
-      coded_map,
-      coded_txns,
+      core_row.coded,
       coded_rows,
       coded_places,
     ) };

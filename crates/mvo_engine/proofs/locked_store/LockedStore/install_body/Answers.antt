@@ -1,16 +1,14 @@
-use Rattle.std.proofs.Common.{refl, arith}
-use Rattle.mvo_store.specs.declared.due.Due.TheVariants.{Open}
-use Rattle.mvo_store.specs.Steps.{with_due}
-use Rattle.mvo_engine.proofs.StoreSound.{kept, taken_by, accepted_as}
+use Rattle.std.proofs.Common.{arith}
+use Rattle.mvo_store.specs.Calls.StoreCall.{InstallBody}
+use Rattle.mvo_store.proofs.Taken.{quiet_taken}
+use Rattle.mvo_engine.proofs.StoreSound.{kept_by}
 use Rattle.mvo_engine.proofs.locked_store.LockedStore.install_body.Goals as goal
 
 pub invariant_of-self : goal.invariant_of-self
 invariant_of-self g c =
     let i = c.self.invariant in
-    let s = c.self.inside.store in
     let t = c.install_body.new.self in
     let e = c.install_body.ensures in
-    let k = taken_by g.D.Disk c.install_body.result s t (accepted_as c.install_body.result s t (record s { disk = t.disk; job = with_due Open s.job }) e.ok (record { mark = refl; pending = refl })) e.err in
-    let m = k.mark in
+    let m = (quiet_taken g.D.Disk c.self.inside.store InstallBody c.install_body.result t tt e.comes).mark in
     let p = i.2 in
-    (kept g.D.Disk i.0 t k e.keeps, i.1, omega (arith, m, p), i.3)
+    (kept_by g.D.Disk i.0 InstallBody c.install_body.result t tt e, i.1, omega (arith, m, p), i.3)

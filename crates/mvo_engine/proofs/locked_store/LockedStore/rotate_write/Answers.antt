@@ -1,14 +1,14 @@
-use Rattle.std.proofs.Common.{refl, arith}
-use Rattle.mvo_engine.proofs.StoreSound.{kept, taken_by, accepted_as}
+use Rattle.std.proofs.Common.{arith}
+use Rattle.mvo_store.specs.Calls.StoreCall.{RotateWrite}
+use Rattle.mvo_store.proofs.Taken.{quiet_taken}
+use Rattle.mvo_engine.proofs.StoreSound.{kept_by}
 use Rattle.mvo_engine.proofs.locked_store.LockedStore.rotate_write.Goals as goal
 
 pub invariant_of-self : goal.invariant_of-self
 invariant_of-self g c =
     let i = c.self.invariant in
-    let s = c.self.inside.store in
     let t = c.rotate_write.new.self in
     let e = c.rotate_write.ensures in
-    let k = taken_by g.D.Disk c.rotate_write.result s t (accepted_as c.rotate_write.result s t (record s { disk = t.disk; job = t.job }) e.ok (record { mark = refl; pending = refl })) e.err in
-    let m = k.mark in
+    let m = (quiet_taken g.D.Disk c.self.inside.store RotateWrite c.rotate_write.result t tt e.comes).mark in
     let p = i.2 in
-    (kept g.D.Disk i.0 t k e.keeps, i.1, omega (arith, m, p), i.3)
+    (kept_by g.D.Disk i.0 RotateWrite c.rotate_write.result t tt e, i.1, omega (arith, m, p), i.3)

@@ -1,9 +1,10 @@
-use Rattle.std.proofs.Common.{◌≡◌, None, Some, refl, sym, ap, ◌∙◌, arith}
+use Rattle.std.proofs.Common.{◌≡◌, None, sym, ap, ◌∙◌, refl, arith}
 use Rattle.mvo_store.specs.StoreData.{StoreData}
 use Rattle.mvo_store.specs.Causes.{why_not_take}
+use Rattle.mvo_store.proofs.Taken.{is_taken}
 use Rattle.mvo_world.proofs.Moves.{nothing_taken}
 use Rattle.mvo_engine.proofs.Rings.{same_from}
-use Rattle.mvo_engine.proofs.StoreSound.{given, on_ok, taken_in, next_follows}
+use Rattle.mvo_engine.proofs.StoreSound.{on_ok, taken_in, next_follows}
 use Rattle.mvo_engine.proofs.locked_store.LockedStore.take.Goals as goal
 
 pub invariant_of-self-2 : goal.invariant_of-self-2
@@ -15,12 +16,12 @@ invariant_of-self-2 g c =
     let x = c.in-Ok.group in
     let why : why_not_take s ≡ None = sym c.can_take.ensures ∙ c.in_default.is in
     let none = nothing_taken s why in
-    let e = c.take_group.ensures in
-    let ok = given (why_not_take s) x c.take_group.result (t ≡ record s { pending = Some x }) why e.refused e.ok in
-    let mark = ap (λ (y : StoreData _). y.mark) ok in
+    let step = is_taken g.D.Disk s x c.take_group.result t why c.take_group.ensures.step in
+    let made = step.comes.made.makes in
+    let mark = ap (λ (y : StoreData _). y.mark) made in
     let p = i.2 in
     let got = c.in-Ok.ensures.ok in (
-      taken_in g.D.Disk i.0 t _ x c.mark.ensures.group none got.0 (ap (λ (y : StoreData _). y.pending) ok) mark (next_follows g.D.Disk i.0 none x got.2) e.keeps,
+      taken_in g.D.Disk i.0 t _ x c.mark.ensures.group none got.0 (ap (λ (y : StoreData _). y.pending) made) mark (next_follows g.D.Disk i.0 none x got.2) step.keeps,
       i.1,
       omega (arith, p, mark),
       same_from f.ring c.pop.new.self c.in-Ok.ensures.ring ∙ i.3,
@@ -34,14 +35,11 @@ returns-clause-taken g c =
     let x = c.in-Ok.group in
     let why : why_not_take s ≡ None = sym c.can_take.ensures ∙ c.in_default.is in
     let none = nothing_taken s why in
-    let e = c.take_group.ensures in
-    let ok = given (why_not_take s) x c.take_group.result (t ≡ record s { pending = Some x }) why e.refused e.ok in
     let got = c.in-Ok.ensures.ok in
     on_ok c.match-take_group.result _ (rw (← c.self.view_is) (record {
-      may = why;
       group = x;
       prev = next_follows g.D.Disk i.0 none x got.2;
       received = got.0;
-      store = ok;
+      step = is_taken g.D.Disk s x c.take_group.result t why c.take_group.ensures.step;
       published = refl;
     }))

@@ -1,9 +1,11 @@
-use Rattle.std.proofs.Common.{refl, Some, ◌≡◌, None, sym, subst, ◌∙◌}
+use Rattle.std.proofs.Common.{rules, refl, Some, ◌≡◌, None, sym, subst, ◌∙◌}
 use Rattle.mvo_store.specs.StoreData.{StoreData}
 use Rattle.mvo_store.specs.Causes.{why_not_take}
 use Rattle.mvo_store.proofs.Allowed.{may_take}
 use Rattle.mvo_store.proofs.Appended.{taken_up}
-use Rattle.mvo_store.proofs.Keeping.{refused_keeps, unmoved_keeps}
+use Rattle.mvo_store.proofs.Keeping.{unmoved_keeps}
+use Rattle.mvo_store.proofs.Stepping.{refused_step, done_step}
+use Rattle.mvo_store.specs.Calls.StoreCall.{Take}
 use Rattle.mvo_store.proofs.store.Store.take_group.Goals as goal
 
 pub invariant_of-self : goal.invariant_of-self
@@ -17,15 +19,15 @@ invariant_of-self g c =
     let up = c.self.invariant may.up in
     λ _. (up.0, taken_up d old up.0 up.1 c.args.group may.free follows c.mark.ensures.group)
 
-pub returns-in-Some-clause-keeps : goal.returns-in-Some-clause-keeps
-returns-in-Some-clause-keeps g c = rw (← c.self.view_is) (refused_keeps g.D.Disk g.met.D.Disk.only_now _)
+pub returns-in-Some-clause-step : goal.returns-in-Some-clause-step
+returns-in-Some-clause-step g c = rw (← c.self.view_is) (refused_step g.D.Disk g.met.D.Disk.only_now _ (Take c.args.group) _ (search rules) (search rules))
 
-pub returns-clause-keeps : goal.returns-clause-keeps
-returns-clause-keeps g c =
+pub returns-clause-step : goal.returns-clause-step
+returns-clause-step g c =
     let d = g.D.Disk in
     let old : StoreData _ = record { disk = c.self.inside.disk; manifest = c.self.inside.manifest; places = c.self.inside.places; segment = c.self.inside.segment; mark = c.self.inside.mark.0; pending = c.self.inside.pending; written = c.self.inside.written; job = c.self.inside.job; down = c.self.inside.down } in
     let no_refusal = sym c.can_take.ensures ∙ c.in_default.is in
     let no_refusal_old = subst (λ (s : StoreData _). why_not_take s ≡ None) (sym c.self.view_is) no_refusal in
     let may = may_take old no_refusal_old in
     let follows = subst (λ (s : StoreData _). c.args.group.prev ≡ s.mark) (sym c.self.view_is) (c.requires.follows no_refusal) in
-    rw (← c.self.view_is) (unmoved_keeps d g.met.D.Disk.only_now old (record old { pending = Some c.args.group }) may.up refl (λ rows up. taken_up d old rows up c.args.group may.free follows c.mark.ensures.group))
+    rw (← c.self.view_is) (done_step d _ old (record old { pending = Some c.args.group }) (Take c.args.group) (search rules) refl refl (unmoved_keeps d g.met.D.Disk.only_now old (record old { pending = Some c.args.group }) may.up refl (λ rows up. taken_up d old rows up c.args.group may.free follows c.mark.ensures.group)))

@@ -1,29 +1,22 @@
-use Rattle.std.proofs.Common.{refl, ap}
-use Rattle.mvo_store.specs.StoreData.{StoreData}
-use Rattle.mvo_store.specs.Causes.{why_not_merge}
+use Rattle.std.proofs.Common.{refl}
 use Rattle.mvo_store.specs.declared.progress.Progress.TheVariants.{More}
+use Rattle.mvo_store.specs.Calls.StoreCall.{MergeRead as MergeReadCall}
 use Rattle.mvo_world.specs.WorldData.{WorldData}
 use Rattle.mvo_world.specs.declared.event.Event.TheVariants.{MergeRead}
-use Rattle.mvo_world.specs.declared.reply.Reply.TheVariants.{Progress, Refused}
-use Rattle.mvo_world.proofs.Moves.{left_taken_by_read, accepted, body_refusal, silent_refused, store_moved}
+use Rattle.mvo_world.specs.declared.reply.Reply.TheVariants.{Progress}
+use Rattle.mvo_world.proofs.Moves.{stored, done_step, refused_step}
 use Rattle.mvo_world.proofs.world.World.merge_read.Goals.{in-Ok, in-Err}
 use Rattle.mvo_world.proofs.world.World.merge_read.Goals as goal
 
 pub returns : goal.returns
 returns g c =
     let d = g.D.Disk in
-    let old = c.self.inside.store in
     let new = c.merge_read.new.self in
     let before : WorldData _ = record { core = c.self.inside.core; ring = c.self.inside.ring; store = c.self.inside.store } in
-    let e = c.merge_read.ensures in
     elim c.match-merge_read.branch [
       | in-Ok w ↦ rw (w.result-is, ← c.self.view_is) (
-          let ok = w.in-Ok.ensures.ok in
-          store_moved d before new (MergeRead c.args.place) (Progress More) (record { steps = refl; acknowledged = refl; closed = refl })
-          (accepted (why_not_merge c.args.place old) _ w.in-Ok.ensures.refused, record { merge = w.in-Ok.ensures.merge; after = ap (λ (s : StoreData _). record before { store = s }) ok }, w.in-Ok.ensures.count)
-          (record { mark = ap (λ (s : StoreData _). s.mark) ok; pending = ap (λ (s : StoreData _). s.pending) ok }) e.keeps)
+          done_step d before new (MergeReadCall c.args.place) tt (MergeRead c.args.place) (Progress More) (record { steps = refl; acknowledged = refl; closed = refl }) tt
+          (stored d before new (MergeReadCall c.args.place) tt w.in-Ok.ensures.comes) w.in-Ok.ensures)
       | in-Err w ↦ rw (w.result-is, ← c.self.view_is) (
-          store_moved d before new (MergeRead c.args.place) (Refused w.in-Err.refusal) (silent_refused (MergeRead c.args.place) w.in-Err.refusal refl)
-          (body_refusal _ (why_not_merge c.args.place old) w.in-Err.refusal w.in-Err.ensures.refused, record { rest = refl; store = w.in-Err.ensures.err })
-          (left_taken_by_read d w.in-Err.refusal old new w.in-Err.ensures.err) e.keeps)
+          refused_step d _ before new (MergeReadCall c.args.place) w.in-Err.refusal (MergeRead c.args.place) refl (λ h. h) w.in-Err.ensures)
     ]

@@ -9,7 +9,8 @@ use Rattle.mvo_world.specs.WorldData.{WorldData}
 use Rattle.mvo_world.specs.Replies.{IsReplyTo, or_nothing}
 use Rattle.mvo_world.specs.declared.event.Event.TheVariants.{TakeGroup}
 use Rattle.mvo_world.specs.declared.reply.Reply.TheVariants.{Taken, Refused}
-use Rattle.mvo_world.proofs.Moves.{nothing_taken, not_given_back, silent_refused, still, moved}
+use Rattle.mvo_world.proofs.Moves.{nothing_taken, silent_refused, still, moved}
+use Rattle.mvo_store.proofs.Taken.{never_back}
 use Rattle.mvo_world.proofs.world.World.take_group.Goals.{in-Ok, in-Err}
 use Rattle.mvo_world.proofs.world.World.take_group.Goals as goal
 
@@ -41,11 +42,12 @@ returns g c =
     let there = c.in-Some-take.ensures in
     elim c.match-take_group.branch [
       | in-Ok w ↦
-          let ok = w.in-Ok.ensures.ok in
+          let step = w.in-Ok.ensures.step in
+          let ok = step.comes.made.makes in
           rw (w.result-is, ← c.self.view_is) (moved d (IsReplyTo d) before after TakeGroup Taken (record { steps = refl; acknowledged = refl; closed = refl })
-          (ap (λ r. or_nothing r (oldest c.self.inside.ring)) why ∙ ap (λ (gs : List GroupData). or_nothing None (oldest gs)) there, record { group = group; there = there; after = ap (λ (s : StoreData _). record { core = c.self.inside.core; ring = c.take.new.self; store = s }) ok })
+          (ap (λ r. or_nothing r (oldest c.self.inside.ring)) why ∙ ap (λ (gs : List GroupData). or_nothing None (oldest gs)) there, record { group = group; there = there; comes = step.comes; core = refl })
           refl
           (ap (λ (s : StoreData _). option_to_list s.pending ++ c.take.new.self) ok ∙ sym there ∙ sym (ap (λ p. option_to_list p ++ c.self.inside.ring) none))
-          (ap (λ (s : StoreData _). s.mark) ok) w.in-Ok.ensures.keeps)
-      | in-Err w ↦ absurd (not_given_back (why_not_take old) group _ c.take_group.result why w.in-Err.is c.take_group.ensures.refused)
+          (ap (λ (s : StoreData _). s.mark) ok) step.keeps)
+      | in-Err w ↦ absurd (never_back (Unit {0}) old group _ why w.in-Err.ensures.step.comes.refused)
     ]

@@ -1,0 +1,214 @@
+-- The calls of a store: when each is refused, what it makes of the store, and what becomes of its
+-- rows.
+use Rattle.std.specs.Prelude.{◌≡◌, ◌≢◌, ◌⊎◌, ℕ, ◌+◌, true, false, Option, Some, None, Result, Ok, Err, OnOk, IfErr}
+use Rattle.mvo_types.specs.declared.refusal.Refusal.{Refusal}
+use Rattle.mvo_types.specs.declared.refusal.Refusal.TheVariants.{DiskFault, OutOfMemory}
+use Rattle.mvo_types.specs.Keys.{Map}
+use Rattle.mvo_disk.specs.declared.disk.Disk.{Ghosts}
+use Rattle.mvo_group.specs.Data.{GroupData}
+use Rattle.mvo_store.specs.declared.due.Due.TheVariants.{Data, Delta, Close, Body, Open}
+use Rattle.mvo_store.specs.declared.due.Due.TheVariants.{MergeData as DataOfMerge}
+use Rattle.mvo_store.specs.declared.due.Due.TheVariants.{MergeDelta as DeltaOfMerge}
+use Rattle.mvo_store.specs.declared.progress.Progress.{Progress}
+use Rattle.mvo_store.specs.StoreData.{StoreData}
+use Rattle.mvo_store.specs.Standing.{IsKeeping, after_taken}
+use Rattle.mvo_store.specs.Causes.{why_not_take, why_not_append_body, why_not_append_open}
+use Rattle.mvo_store.specs.Causes.{why_not_rotate, why_not_checkpoint, why_not_merge}
+use Rattle.mvo_store.specs.Causes.{why_not_install, why_not_install_open, why_not_reclaim}
+use Rattle.mvo_store.specs.Steps.{IsRotationOf, IsCheckpointOf, IsMergeOf, IsInstalledBy}
+use Rattle.mvo_store.specs.Steps.{with_due, with_delta, progress_of}
+
+pub data StoreCall : Type 0 where
+  Take : GroupData → StoreCall
+  AppendBody : StoreCall
+  AppendOpen : StoreCall
+  RotateWrite : StoreCall
+  CheckpointRead : StoreCall
+  CheckpointData : StoreCall
+  CheckpointDelta : StoreCall
+  MergeRead : (place : ℕ) → StoreCall
+  MergeData : StoreCall
+  MergeDelta : StoreCall
+  InstallClose : StoreCall
+  InstallBody : StoreCall
+  InstallOpen : StoreCall
+  Reclaim : StoreCall
+
+-- ---- when it is refused
+
+-- the first refusal of the call's list whose test is true
+abbrev pub why_not : {D : Type 0} → StoreData D → StoreCall → Option Refusal
+why_not s (Take g) = why_not_take s
+why_not s AppendBody = why_not_append_body s
+why_not s AppendOpen = why_not_append_open s
+why_not s RotateWrite = why_not_rotate s
+why_not s CheckpointRead = why_not_checkpoint s
+why_not s CheckpointData = why_not_install Data s
+why_not s CheckpointDelta = why_not_install Delta s
+why_not s (MergeRead place) = why_not_merge place s
+why_not s MergeData = why_not_install DataOfMerge s
+why_not s MergeDelta = why_not_install DeltaOfMerge s
+why_not s InstallClose = why_not_install Close s
+why_not s InstallBody = why_not_install Body s
+why_not s InstallOpen = why_not_install_open s
+why_not s Reclaim = why_not_reclaim s
+
+-- What may refuse it where no cause stands: want of memory and a fault of the disk. Opening or
+-- closing a gate and emptying a file take no memory, and taking a group asks for neither.
+abbrev pub MayMeet : StoreCall → Refusal → Type 0
+MayMeet (Take g) e = ⊥
+MayMeet AppendOpen e = e ≡ DiskFault
+MayMeet InstallClose e = e ≡ DiskFault
+MayMeet InstallOpen e = e ≡ DiskFault
+MayMeet Reclaim e = e ≡ DiskFault
+MayMeet call e = (e ≡ OutOfMemory) ⊎ (e ≡ DiskFault)
+
+-- the first cause that stands is the refusal
+abbrev pub IsRefused : {A : Type 0} → StoreCall → Option Refusal → Result A Refusal → Type 0
+IsRefused call (Some cause) result = result ≡ Err cause
+IsRefused call None (Ok a) = Unit {0}
+IsRefused call None (Err e) = MayMeet call e
+
+-- what taking a group came to, but for the group, which comes back
+abbrev pub without_group : {A : Type 0} → Result A (Refusal × GroupData) → Result A Refusal
+without_group (Ok a) = Ok a
+without_group (Err e) = Err e.0
+
+-- ---- what it makes of the store
+
+-- no call of the device failed
+abbrev pub HasNoFault : {D : Type 0} → Ghosts D → StoreData D → StoreData D → Type 0
+HasNoFault d old new = d.fault_count new.disk ≡ d.fault_count old.disk
+
+-- the body of the pending group is written
+abbrev pub IsBodyWritten : {D : Type 0} → StoreData D → StoreData D → Type 0
+IsBodyWritten old new = new ≡ record old {
+  disk = new.disk;
+  segment = record old.segment { next = new.segment.next };
+  written = true;
+}
+
+-- the pending group is durable
+pub record IsDurable {D : Type 0} (old new : StoreData D) : Type 0 where
+  pub group : GroupData
+  pub there : old.pending ≡ Some group
+  pub after : new ≡ record old {
+    disk = new.disk;
+    segment = record old.segment { gate = old.segment.next };
+    mark = group.mark;
+    pending = None;
+    written = false;
+  }
+
+-- nothing but the job and the disk is another
+abbrev pub HasNewJob : {D : Type 0} → StoreData D → StoreData D → Type 0
+HasNewJob old new = new ≡ record old { disk = new.disk; job = new.job }
+
+-- a rotation runs, and nothing of it is installed yet
+pub record IsRotated {D : Type 0} (old new : StoreData D) : Type 0 where
+  pub rotation : IsRotationOf old.manifest new.job
+  pub after : HasNewJob old new
+
+-- a checkpoint of the oldest sealed segment runs, and nothing of it is written yet
+pub record IsReadToCheckpoint {D : Type 0} (d : Ghosts D) (old new : StoreData D) : Type 0 where
+  pub checkpoint : IsCheckpointOf (d.content old.disk) old.manifest new.job
+  pub after : new ≡ record old {
+    disk = new.disk;
+    places = record old.places { room = new.places.room };
+    job = new.job;
+  }
+
+-- a merge of the pair at a place and the one behind it runs, and nothing of it is written yet
+pub record IsReadToMerge {D : Type 0} (d : Ghosts D) (place : ℕ) (old new : StoreData D) : Type 0
+  where
+    pub merge : IsMergeOf (d.content old.disk) old.manifest place new.job
+    pub after : HasNewJob old new
+
+-- what an accepted call makes of the store
+abbrev pub Makes : {D : Type 0} → Ghosts D → StoreCall → StoreData D → StoreData D → Type 0
+Makes d (Take g) old new = new ≡ record old { pending = Some g }
+Makes d AppendBody old new = IsBodyWritten old new
+Makes d AppendOpen old new = IsDurable old new
+Makes d RotateWrite old new = IsRotated old new
+Makes d CheckpointRead old new = IsReadToCheckpoint d old new
+Makes d CheckpointData old new =
+    new ≡ record old { disk = new.disk; job = with_due Delta old.job }
+Makes d CheckpointDelta old new =
+    new ≡ record old { disk = new.disk; job = with_delta old.job }
+Makes d (MergeRead place) old new = IsReadToMerge d place old new
+Makes d MergeData old new =
+    new ≡ record old { disk = new.disk; job = with_due DeltaOfMerge old.job }
+Makes d MergeDelta old new =
+    new ≡ record old { disk = new.disk; job = with_due Close old.job }
+Makes d InstallClose old new =
+    new ≡ record old { disk = new.disk; job = with_due Body old.job }
+Makes d InstallBody old new =
+    new ≡ record old { disk = new.disk; job = with_due Open old.job }
+Makes d InstallOpen old new = IsInstalledBy old.job old new
+Makes d Reclaim old new = new ≡ record old { disk = new.disk }
+
+-- so it does, and no call of the device failed
+pub record IsMade {D : Type 0} (d : Ghosts D) (call : StoreCall) (old new : StoreData D) : Type 0
+  where
+    pub makes : Makes d call old new
+    pub no_fault : HasNoFault d old new
+
+-- ---- what it answers
+
+-- the mark of the last group that is durable
+abbrev pub AnswersMark : {D : Type 0} → StoreData D → ℕ → Type 0
+AnswersMark new mark = mark ≡ new.mark
+
+-- whether the delta file that was due is the last
+abbrev pub AnswersProgress : {D : Type 0} → StoreData D → Progress → Type 0
+AnswersProgress old progress = progress ≡ progress_of old.job
+
+-- the generation of the installed manifest
+abbrev pub AnswersGeneration : {D : Type 0} → StoreData D → ℕ → Type 0
+AnswersGeneration new generation = generation ≡ new.manifest.generation
+
+-- ---- what a refusal leaves
+
+-- the store met a fault: it is down, and nothing else of it has changed
+pub record IsFault {D : Type 0} (d : Ghosts D) (old new : StoreData D) : Type 0 where
+  pub after : new ≡ record old { disk = new.disk; down = true }
+  pub count : d.fault_count new.disk ≡ d.fault_count old.disk + 1
+
+-- time has passed on the disk, and nothing else has changed
+pub record HasLooked {D : Type 0} (d : Ghosts D) (old new : StoreData D) : Type 0 where
+  pub after : new ≡ record old { disk = new.disk }
+  pub no_fault : HasNoFault d old new
+
+-- a call that reads files first has looked at the disk before memory is refused
+abbrev pub LeftByMemory : {D : Type 0} → Ghosts D → StoreCall → StoreData D → StoreData D → Type 0
+LeftByMemory d CheckpointRead old new = HasLooked d old new
+LeftByMemory d (MergeRead place) old new = HasLooked d old new
+LeftByMemory d call old new = new ≡ old
+
+-- nothing changes, but after a fault
+pub record LeftBy {D : Type 0} (d : Ghosts D) (call : StoreCall) (e : Refusal)
+    (old new : StoreData D) : Type 0 where
+  pub fault : e ≡ DiskFault → IsFault d old new
+  pub memory : e ≡ OutOfMemory → LeftByMemory d call old new
+  pub other : e ≢ DiskFault → e ≢ OutOfMemory → new ≡ old
+
+-- ---- what it comes to
+
+-- It is refused by the first cause that stands, and else by what it may meet; accepted, it makes
+-- of the store what it is for, and refused it leaves it.
+pub record ComesTo {D A : Type 0} (d : Ghosts D) (old : StoreData D) (call : StoreCall)
+    (result : Result A Refusal) (new : StoreData D) : Type 0 where
+  pub refused : IsRefused call (why_not old call) result
+  pub made : OnOk result (IsMade d call old new)
+  pub left : IfErr result (λ e. LeftBy d call e old new)
+
+-- the rows behind it: a group that became durable is among them
+abbrev pub rows_after : {D A : Type 0} → StoreData D → StoreCall → Result A Refusal → Map → Map
+rows_after s AppendOpen (Ok a) rows = after_taken rows s.pending
+rows_after s call result rows = rows
+
+-- so it is, and a stop at any moment leaves the rows
+pub record IsStoreStep {D A : Type 0} (d : Ghosts D) (old : StoreData D) (call : StoreCall)
+    (result : Result A Refusal) (new : StoreData D) : Type 0 where
+  pub comes : ComesTo d old call result new
+  pub keeps : IsKeeping d (rows_after old call result) old new
