@@ -1,5 +1,5 @@
 -- What stops a flush, and that each of its turns leaves fewer groups that wait.
-use Rattle.std.proofs.Common.{Result, Ok, Err, ◌≡◌, ◌≢◌, ◌⊎◌, ◌<◌, ◌++◌, ℕ, zero, suc, Bool, true, false, List, [], ◌∷◌, length, Option, Some, None, refl, sym, subst, ◌∙◌, ap, ap₂, inl, inr, arith}
+use Rattle.std.proofs.Common.{Result, Ok, Err, ◌≡◌, ◌≢◌, ◌<◌, ◌++◌, ℕ, Bool, true, false, List, [], ◌∷◌, length, Option, Some, None, refl, sym, subst, ◌∙◌, ap, ap₂, inl, inr, arith}
 use Rattle.std.specs.Option.{option_to_list}
 use Rattle.std.specs.Prelude.{is_some}
 use Rattle.mvo_types.specs.declared.ids.Stamp.{Stamp}
@@ -7,28 +7,23 @@ use Rattle.mvo_types.specs.declared.refusal.Refusal.{Refusal}
 use Rattle.mvo_types.specs.declared.refusal.Refusal.TheVariants.{Busy, NothingToDo, RingFull, SegmentFull, Down}
 use Rattle.mvo_core.specs.declared.answers.Closed.{Closed as ClosedGroup}
 use Rattle.mvo_disk.specs.declared.disk.Disk.{Ghosts}
-use Rattle.mvo_store.specs.declared.progress.Progress.TheVariants.{More, Ready as AllWritten}
 use Rattle.mvo_store.specs.Causes.{first_cause}
 use Rattle.mvo_store.specs.Calls.{StoreCall}
-use Rattle.mvo_store.specs.Calls.StoreCall.{AppendBody as AppendBodyCall, RotateWrite as RotateWriteCall, CheckpointData as CheckpointDataCall, CheckpointDelta as CheckpointDeltaCall, MergeData as MergeDataCall, MergeDelta as MergeDeltaCall, InstallClose as InstallCloseCall, InstallBody as InstallBodyCall, InstallOpen as InstallOpenCall}
+use Rattle.mvo_store.specs.Calls.StoreCall.{AppendBody as AppendBodyCall, RotateWrite as RotateWriteCall, InstallClose as InstallCloseCall, InstallBody as InstallBodyCall, InstallOpen as InstallOpenCall}
 use Rattle.mvo_store.proofs.Taken.{IsQuiet, quiet_taken}
 use Rattle.mvo_store.specs.StoreData.{StoreData}
 use Rattle.mvo_world.specs.WorldData.{WorldData, waiting}
 use Rattle.mvo_world.specs.Ring.{oldest}
 use Rattle.mvo_world.specs.Replies.{IsReplyTo, IsStored, or_nothing}
 use Rattle.mvo_world.specs.declared.event.Event.{Event}
-use Rattle.mvo_world.specs.declared.event.Event.TheVariants.{CloseGroup, TakeGroup, AppendBody, AppendOpen, RotateWrite, CheckpointData, CheckpointDelta, MergeData, MergeDelta, InstallClose, InstallBody, InstallOpen}
+use Rattle.mvo_world.specs.declared.event.Event.TheVariants.{CloseGroup, TakeGroup, AppendBody, AppendOpen, RotateWrite, InstallClose, InstallBody, InstallOpen}
 use Rattle.mvo_world.specs.declared.reply.Reply.{Reply}
-use Rattle.mvo_world.specs.declared.reply.Reply.TheVariants.{Closed, Taken, Written, Durable, Ready, Progress as Progressed, Shut, Installed, Refused}
+use Rattle.mvo_world.specs.declared.reply.Reply.TheVariants.{Closed, Taken, Written, Durable, Ready, Shut, Installed, Refused}
 use Rattle.mvo_script.specs.Stopping.{AreToStop, is_refused}
-use Rattle.mvo_script.specs.Merging.{behind_read}
 use Rattle.mvo_script.specs.Rotating.{rotation}
-use Rattle.mvo_script.specs.Checkpointing.{AreDeltas, AreMore}
-use Rattle.mvo_script.specs.Room.{IsJobEnded, IsRoomMade, EndsJob, stops_job}
-use Rattle.mvo_script.specs.Room.IsRoomMade.{AtOnce, AtJob, AtAgain, AtEnough}
 use Rattle.mvo_script.specs.Flushing.{IsAppend, IsAppended, IsFlush, IsFlushed, IsRotatedAppend, append, stops_flush}
 use Rattle.mvo_script.specs.Flushing.IsAppend.{AtBody, AtOpen, AtFull}
-use Rattle.mvo_script.specs.Flushing.IsRotatedAppend.{AtRoom, AtAppend}
+use Rattle.mvo_script.specs.Flushing.IsRotatedAppend.{AtRotation, AtAppend}
 
 -- ---- what stops a flush
 
@@ -105,21 +100,17 @@ none_pending true pending next h = cc
 none_pending false (Some g) next h = cc
 none_pending false None next h = refl
 
--- the steps of a rotation, and those that are left of a checkpoint that is read
-abbrev IsOfJob : Event → Type 0
-IsOfJob RotateWrite = Unit {0}
-IsOfJob CheckpointData = Unit {0}
-IsOfJob CheckpointDelta = Unit {0}
-IsOfJob MergeData = Unit {0}
-IsOfJob MergeDelta = Unit {0}
-IsOfJob InstallClose = Unit {0}
-IsOfJob InstallBody = Unit {0}
-IsOfJob InstallOpen = Unit {0}
-IsOfJob e = ⊥
+-- the steps of a rotation
+abbrev IsOfRotation : Event → Type 0
+IsOfRotation RotateWrite = Unit {0}
+IsOfRotation InstallClose = Unit {0}
+IsOfRotation InstallBody = Unit {0}
+IsOfRotation InstallOpen = Unit {0}
+IsOfRotation e = ⊥
 
-abbrev AreOfJob : List Event → Type 0
-AreOfJob [] = Unit {0}
-AreOfJob (e ∷ es) = IsOfJob e × AreOfJob es
+abbrev AreOfRotation : List Event → Type 0
+AreOfRotation [] = Unit {0}
+AreOfRotation (e ∷ es) = IsOfRotation e × AreOfRotation es
 
 module _ {D : Type 0} (d : Ghosts D) where
   stored_keeps : (call : StoreCall) (result : Result (Unit {0}) Refusal) → IsQuiet call → (w v : WorldData D) → IsStored d w call result v → KeepsGroups w v
@@ -128,72 +119,29 @@ module _ {D : Type 0} (d : Ghosts D) where
     pending = (quiet_taken d w.store call result v.store quiet it.comes).pending;
   }
 
-  job_keeps : (e : Event) → IsOfJob e → (w v : WorldData D) (r : Reply) → IsReplyTo d w e r v → KeepsGroups w v
-  job_keeps RotateWrite h w v Ready it = stored_keeps RotateWriteCall (Ok tt) tt w v it
-  job_keeps RotateWrite h w v (Refused why) it = stored_keeps RotateWriteCall (Err why) tt w v it
-  job_keeps RotateWrite h w v _ it = absurd it
-  job_keeps CheckpointData h w v (Progressed More) it = stored_keeps CheckpointDataCall (Ok tt) tt w v it
-  job_keeps CheckpointData h w v (Refused why) it = stored_keeps CheckpointDataCall (Err why) tt w v it
-  job_keeps CheckpointData h w v _ it = absurd it
-  job_keeps CheckpointDelta h w v (Progressed p) it = stored_keeps CheckpointDeltaCall (Ok tt) tt w v it.0
-  job_keeps CheckpointDelta h w v (Refused why) it = stored_keeps CheckpointDeltaCall (Err why) tt w v it
-  job_keeps CheckpointDelta h w v _ it = absurd it
-  job_keeps MergeData h w v (Progressed More) it = stored_keeps MergeDataCall (Ok tt) tt w v it
-  job_keeps MergeData h w v (Refused why) it = stored_keeps MergeDataCall (Err why) tt w v it
-  job_keeps MergeData h w v _ it = absurd it
-  job_keeps MergeDelta h w v (Progressed AllWritten) it = stored_keeps MergeDeltaCall (Ok tt) tt w v it
-  job_keeps MergeDelta h w v (Refused why) it = stored_keeps MergeDeltaCall (Err why) tt w v it
-  job_keeps MergeDelta h w v _ it = absurd it
-  job_keeps InstallClose h w v Shut it = stored_keeps InstallCloseCall (Ok tt) tt w v it
-  job_keeps InstallClose h w v (Refused why) it = stored_keeps InstallCloseCall (Err why) tt w v it
-  job_keeps InstallClose h w v _ it = absurd it
-  job_keeps InstallBody h w v Written it = stored_keeps InstallBodyCall (Ok tt) tt w v it
-  job_keeps InstallBody h w v (Refused why) it = stored_keeps InstallBodyCall (Err why) tt w v it
-  job_keeps InstallBody h w v _ it = absurd it
-  job_keeps InstallOpen h w v (Installed n) it = stored_keeps InstallOpenCall (Ok tt) tt w v it.0
-  job_keeps InstallOpen h w v (Refused why) it = stored_keeps InstallOpenCall (Err why) tt w v it
-  job_keeps InstallOpen h w v _ it = absurd it
-  job_keeps _ h w v r it = absurd h
+  step_keeps : (e : Event) → IsOfRotation e → (w v : WorldData D) (r : Reply) → IsReplyTo d w e r v → KeepsGroups w v
+  step_keeps RotateWrite h w v Ready it = stored_keeps RotateWriteCall (Ok tt) tt w v it
+  step_keeps RotateWrite h w v (Refused why) it = stored_keeps RotateWriteCall (Err why) tt w v it
+  step_keeps RotateWrite h w v _ it = absurd it
+  step_keeps InstallClose h w v Shut it = stored_keeps InstallCloseCall (Ok tt) tt w v it
+  step_keeps InstallClose h w v (Refused why) it = stored_keeps InstallCloseCall (Err why) tt w v it
+  step_keeps InstallClose h w v _ it = absurd it
+  step_keeps InstallBody h w v Written it = stored_keeps InstallBodyCall (Ok tt) tt w v it
+  step_keeps InstallBody h w v (Refused why) it = stored_keeps InstallBodyCall (Err why) tt w v it
+  step_keeps InstallBody h w v _ it = absurd it
+  step_keeps InstallOpen h w v (Installed n) it = stored_keeps InstallOpenCall (Ok tt) tt w v it.0
+  step_keeps InstallOpen h w v (Refused why) it = stored_keeps InstallOpenCall (Err why) tt w v it
+  step_keeps InstallOpen h w v _ it = absurd it
+  step_keeps _ h w v r it = absurd h
 
-  jobs_keep : (stops : Event → Reply → Bool) (es : List Event) → AreOfJob es → (w v : WorldData D) (r : Reply) → AreToStop (IsReplyTo d) stops es w r v → KeepsGroups w v
-  jobs_keep stops [] h w v r it = absurd it
-  jobs_keep stops (e ∷ []) h w v r it = job_keeps e h.0 w v r it
-  jobs_keep stops (e ∷ next ∷ es) h w v r (inl a) = job_keeps e h.0 w v r a.0
-  jobs_keep stops (e ∷ next ∷ es) h w v r (inr a) = then_keeps w a.1 v (job_keeps e h.0 w a.1 a.0 a.2) (jobs_keep stops (next ∷ es) h.1 a.1 v r a.4)
-
-  stays : (w v : WorldData D) → v ≡ w → KeepsGroups w v
-  stays w v same = record { ring = ap (λ (x : WorldData D). x.ring) same; pending = ap (λ (x : WorldData D). x.store.pending) same }
-
-  more_keeps : (n : ℕ) (w v : WorldData D) → AreMore (IsReplyTo d) n w v → KeepsGroups w v
-  more_keeps zero w v it = stays w v it
-  more_keeps (suc n) w v it = then_keeps w it.0 v (more_keeps n w it.0 it.1) (job_keeps CheckpointDelta tt it.0 v (Progressed More) it.2)
-
-  last_keeps : (w v : WorldData D) (r : Reply) → IsReplyTo d w CheckpointDelta r v ⊎ ((r ≡ Progressed More) × (v ≡ w)) → KeepsGroups w v
-  last_keeps w v r (inl it) = job_keeps CheckpointDelta tt w v r it
-  last_keeps w v r (inr it) = stays w v it.1
-
-  deltas_keep : (w v : WorldData D) (r : Reply) → AreDeltas (IsReplyTo d) w r v → KeepsGroups w v
-  deltas_keep w v r it = then_keeps w it.before v (more_keeps it.count w it.before it.more) (last_keeps it.before v r it.last)
-
-  ended_keeps : (w v : WorldData D) (r : Reply) → IsJobEnded (IsReplyTo d) w r v → KeepsGroups w v
-  ended_keeps w v r (inl a) = job_keeps CheckpointData tt w v r a.0
-  ended_keeps w v r (inr a) = then_keeps w a.1 v (job_keeps CheckpointData tt w a.1 a.0 a.2) (rest a.1 a.4)
-    where
-      rest : (x : WorldData D) → ((AreDeltas (IsReplyTo d) x r v × (stops_job r ≡ true)) ⊎ ((q : Reply) × (u : WorldData D) × AreDeltas (IsReplyTo d) x q u × (stops_job q ≡ false) × AreToStop (IsReplyTo d) (λ e r. stops_job r) behind_read u r v)) → KeepsGroups x v
-      rest x (inl b) = deltas_keep x v r b.0
-      rest x (inr b) = then_keeps x b.1 v (deltas_keep x b.1 b.0 b.2) (jobs_keep (λ e r. stops_job r) behind_read (tt, (tt, (tt, (tt, (tt, tt))))) b.1 v r b.4)
+  steps_keep : (stops : Event → Reply → Bool) (es : List Event) → AreOfRotation es → (w v : WorldData D) (r : Reply) → AreToStop (IsReplyTo d) stops es w r v → KeepsGroups w v
+  steps_keep stops [] h w v r it = absurd it
+  steps_keep stops (e ∷ []) h w v r it = step_keeps e h.0 w v r it
+  steps_keep stops (e ∷ next ∷ es) h w v r (inl a) = step_keeps e h.0 w v r a.0
+  steps_keep stops (e ∷ next ∷ es) h w v r (inr a) = then_keeps w a.1 v (step_keeps e h.0 w a.1 a.0 a.2) (steps_keep stops (next ∷ es) h.1 a.1 v r a.4)
 
   rotation_keeps : (w v : WorldData D) (r : Reply) → AreToStop (IsReplyTo d) (λ e r. is_refused r) rotation w r v → KeepsGroups w v
-  rotation_keeps w v r it = jobs_keep (λ e r. is_refused r) rotation (tt, (tt, (tt, (tt, tt)))) w v r it
-
-  behind_keeps : (w v : WorldData D) (r : Reply) → EndsJob (IsReplyTo d) w r v → KeepsGroups w v
-  behind_keeps w v r it = then_keeps w it.then_on v (rotation_keeps w it.then_on (Refused Busy) it.busy) (ended_keeps it.then_on v r it.ended)
-
-  room_keeps : (w v : WorldData D) (r : Reply) → IsRoomMade (IsReplyTo d) w r v → KeepsGroups w v
-  room_keeps w v r (AtOnce other it) = rotation_keeps w v r it
-  room_keeps w v r (AtJob refused it) = behind_keeps w v r it
-  room_keeps w v r (AtAgain q u goes other it again) = then_keeps w u v (behind_keeps w u q it) (rotation_keeps u v r again)
-  room_keeps w v r (AtEnough u goes it again) = then_keeps w u v (behind_keeps w u r it) (rotation_keeps u v (Refused NothingToDo) again)
+  rotation_keeps w v r it = steps_keep (λ e r. is_refused r) rotation (tt, (tt, (tt, (tt, tt)))) w v r it
 
   body_keeps : (w v : WorldData D) (r : Reply) → IsReplyTo d w AppendBody r v → stops_flush AppendBody r ≡ false → KeepsGroups w v
   body_keeps w v Written it h = stored_keeps AppendBodyCall (Ok tt) tt w v it
@@ -229,9 +177,9 @@ module _ {D : Type 0} (d : Ghosts D) where
       omega arith
 
   rotated_count : (w v : WorldData D) (r : Reply) (m : Stamp) → r ≡ Durable m → IsRotatedAppend (IsReplyTo d) w r v → count v < count w
-  rotated_count w v r m is (AtRoom refused it) = cc
+  rotated_count w v r m is (AtRotation refused it) = cc
   rotated_count w v r m is (AtAppend q u passes it rest) =
-      let same = kept_count w u (room_keeps w u q it) in
+      let same = kept_count w u (rotation_keeps w u q it) in
       let less = append_count u v m (subst (λ (x : Reply). AreToStop (IsReplyTo d) stops_flush append u x v) is rest) in
       omega arith
 

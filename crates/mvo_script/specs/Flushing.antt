@@ -8,8 +8,8 @@ use Rattle.mvo_world.specs.declared.event.Event.{Event}
 use Rattle.mvo_world.specs.declared.event.Event.TheVariants.{CloseGroup, TakeGroup, AppendBody, AppendOpen}
 use Rattle.mvo_world.specs.declared.reply.Reply.{Reply}
 use Rattle.mvo_world.specs.declared.reply.Reply.TheVariants.{Durable, Refused}
-use Rattle.mvo_script.specs.Stopping.{is_refused, AreToStop}
-use Rattle.mvo_script.specs.Room.{IsRoomMade}
+use Rattle.mvo_script.specs.Stopping.{is_refused, AreToStop, AreToRefusal}
+use Rattle.mvo_script.specs.Rotating.{rotation}
 
 -- after a flush no group is closed or taken, and the mark is the store's; else it is refused
 abbrev pub IsFlushed : {D : Type 0} → WorldData D → Reply → Type 0
@@ -24,8 +24,8 @@ IsAppended (Refused r) = Unit {0}
 IsAppended _ = ⊥
 
 -- Each refusal stops a flush, but these: there is nothing to close, or the ring of closed groups
--- is full; a group is pending already; its body is written already. A segment that is full, and a
--- job that runs, are no end of it either: `IsAppend` and `IsRoomMade` say what comes then.
+-- is full; a group is pending already; its body is written already. A segment that is full is no
+-- end of it either: `IsAppend` says what comes then.
 abbrev pub stops_flush : Event → Reply → Bool
 stops_flush CloseGroup (Refused NothingToDo) = false
 stops_flush CloseGroup (Refused RingFull) = false
@@ -39,15 +39,16 @@ append = AppendBody ∷ AppendOpen ∷ []
 
 -- ---- by the steps of the world
 module _ {D : Type 0} (IsStep : WorldData D → Event → Reply → WorldData D → Type 0) where
-  -- Room in the log, and then an append: it is answered as the making of room where that is
+  -- A rotation of the log, and then an append: it is answered as the rotation where that is
   -- refused, and else as the append.
   pub data IsRotatedAppend (w : WorldData D) (r : Reply) (w' : WorldData D) : Type 0 where
-    AtRoom : is_refused r ≡ true → IsRoomMade IsStep w r w' → IsRotatedAppend w r w'
-    AtAppend : (q : Reply) (v : WorldData D) → is_refused q ≡ false → IsRoomMade IsStep w q v
-        → AreToStop IsStep stops_flush append v r w' → IsRotatedAppend w r w'
+    AtRotation : is_refused r ≡ true → AreToRefusal IsStep rotation w r w' → IsRotatedAppend w r w'
+    AtAppend : (q : Reply) (v : WorldData D) → is_refused q ≡ false
+        → AreToRefusal IsStep rotation w q v → AreToStop IsStep stops_flush append v r w'
+        → IsRotatedAppend w r w'
 
-  -- An append of the pending group. Where the segment is full for it, and only there, room is made
-  -- first.
+  -- An append of the pending group. Where the segment is full for it, and only there, the log is
+  -- rotated first.
   pub data IsAppend (w : WorldData D) (r : Reply) (w' : WorldData D) : Type 0 where
     AtBody : r ≢ Refused SegmentFull → stops_flush AppendBody r ≡ true
         → IsStep w AppendBody r w' → IsAppend w r w'

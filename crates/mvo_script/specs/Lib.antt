@@ -7,7 +7,6 @@ pub mod Stopping
 pub mod Rotating
 pub mod Checkpointing
 pub mod Merging
-pub mod Room
 pub mod Flushing
 pub mod Events
 pub mod Answers

@@ -3,15 +3,15 @@ ghost use Rattle.mvo_world.specs.Replies.{IsReplyTo};
 ghost use Rattle.mvo_script.specs.Flushing.{IsAppend, IsAppended, IsFlush, IsFlushed, IsRotatedAppend};
 ghost use Rattle.mvo_script.specs.Flushing.{stops_flush};
 
-use crate::room::make_room;
-use crate::rotate::is_refused;
+use crate::rotate::{is_refused, rotate};
 use mvo_disk::Disk;
 use mvo_types::Refusal;
 use mvo_world::{Event, Reply, World};
 
 /// Closes the next group, where there is one to close and room for it, and makes each closed
 /// group durable, with a rotation where the segment is full. It answers Durable with the store's
-/// mark, also where there was nothing to do, or the refusal at which it stopped.
+/// mark, also where there was nothing to do, or the refusal at which it stopped: so Busy where a
+/// job runs and the segment is full, since a job is brought on by its own steps alone.
 pub fn flush<D: Disk>(world: &mut World<D>) -> Reply
     ensures flushed { IsFlushed world.new result }
     ensures steps { let step = IsReplyTo D.Disk in IsFlush step world.old result world.new }
@@ -35,7 +35,7 @@ pub fn flush<D: Disk>(world: &mut World<D>) -> Reply
 }
 
 /// Makes the pending group durable. Its body may be written already. Where the segment is full for
-/// it, room is made first.
+/// it, the log is rotated first.
 fn append<D: Disk>(world: &mut World<D>) -> Reply
     ensures answer { IsAppended result }
     ensures steps { let step = IsReplyTo D.Disk in IsAppend step world.old result world.new }
@@ -53,9 +53,9 @@ fn append_rotated<D: Disk>(world: &mut World<D>) -> Reply
     ensures steps { let step = IsReplyTo D.Disk in
         IsRotatedAppend step world.old result world.new }
 {
-    let room = make_room(world);
-    if is_refused(&room) {
-        return room;
+    let rotated = rotate(world);
+    if is_refused(&rotated) {
+        return rotated;
     }
     let written = world.step(Event::AppendBody);
     if stops_body(&written) {

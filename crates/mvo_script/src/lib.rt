@@ -10,7 +10,6 @@ mod line;
 mod merge;
 mod names;
 mod reply;
-mod room;
 mod rotate;
 mod script;
 mod words;

@@ -11,7 +11,7 @@ impl<L: Run, D: Disk> LockedStore<L, D> {
 
     /// Makes the group durable that is being appended, or else the next one of the ring. False
     /// where there is none. Refused: Down, and as the steps of a rotation where the segment is
-    /// full, and else OutOfMemory or DiskFault.
+    /// full, among them Busy beside a job, and else OutOfMemory or DiskFault.
     pub fn flush_one(&mut self, marks: &Marks) -> Result<bool, Refusal>
         requires { marks.now ≡ L.marks }
     {
@@ -34,25 +34,13 @@ impl<L: Run, D: Disk> LockedStore<L, D> {
         Ok(true)
     }
 
-    /// A rotation of the log, or what is left of one that a refusal stopped.
+    /// A rotation of the log. Beside a job it is refused as Busy: a job is brought on by its own
+    /// steps alone, and so is a rotation that a refusal cut short.
     fn rotate(&mut self) -> Result<(), Refusal> {
-        match self.rotate_write() {
-            Ok(()) | Err(Refusal::Busy) => {}
-            Err(refusal) => return Err(refusal),
-        }
-        due(self.install_close())?;
-        due(self.install_body())?;
-        match self.install_open() {
-            Ok(_) => Ok(()),
-            Err(refusal) => Err(refusal),
-        }
-    }
-}
-
-/// A step that isn't due is passed over.
-fn due(step: Result<(), Refusal>) -> Result<(), Refusal> {
-    match step {
-        Err(Refusal::NothingToDo) => Ok(()),
-        other => other,
+        self.rotate_write()?;
+        self.install_close()?;
+        self.install_body()?;
+        let _ = self.install_open()?;
+        Ok(())
     }
 }
