@@ -10,6 +10,9 @@ use std::alloc::{AllocError, Global};
 use std::thread::Threads;
 use std::time::Instant;
 
+/// The seed of the stores' tables.
+const SEED: u64 = 7;
+
 type HostStore = Store<DirDisk<HostRuntime>>;
 
 /// The bytes that a group of so many commits of a row of 100 bytes takes: its length, its body, a
@@ -83,7 +86,7 @@ fn open(
     let Ok(disk) = format(rt.alloc(), scratch.disk(rt, &name)?) else {
         bail!("the store isn't made");
     };
-    match Store::open(threads, rt.alloc(), disk) {
+    match Store::open(threads, rt.alloc(), SEED, disk) {
         Ok((store, _, _)) => Ok(store),
         Err(_) => bail!("the new store isn't opened"),
     }

@@ -1,7 +1,7 @@
 use crate::log::sum_of;
 use crate::opening::{Opened, open};
 use crate::steps::{MemStore, checkpoint_data, checkpoint_delta, checkpoint_read, install};
-use crate::writer::{rotate, written};
+use crate::writer::{SEED, rotate, written};
 use anyhow::{Result, bail};
 use mvo_disk::MemDisk;
 use mvo_store::{Progress, Store};
@@ -42,7 +42,7 @@ fn checkpointed(store: &mut MemStore) -> Result<usize, Refusal> {
 // A disk with a store whose rows lie in the pairs that checkpoints of its log made, and how many.
 fn pairs_of(rt: &(impl Threads + Sync), alloc: Global, count: u64) -> Result<(MemDisk, usize)> {
     let disk = written(rt, alloc, count)?;
-    let Ok((mut store, _, _)) = Store::open(rt, alloc, disk) else {
+    let Ok((mut store, _, _)) = Store::open(rt, alloc, SEED, disk) else {
         bail!("the store isn't opened");
     };
     let pairs = checkpointed(&mut store)?;

@@ -1,3 +1,4 @@
+use crate::writer::SEED;
 use anyhow::{Result, bail};
 use mvo_disk::MemDisk;
 use mvo_store::Store;
@@ -21,7 +22,7 @@ where
     R: AllocGlobal + Clock + Threads + Sync,
 {
     let start = Instant::now(rt)?;
-    let opened = Store::open(rt, rt.alloc(), disk);
+    let opened = Store::open(rt, rt.alloc(), SEED, disk);
     let millis = start.elapsed(rt)?.as_nanos() / 1_000_000;
     match opened {
         Ok((store, rows, mark)) => Ok(Opened {

@@ -12,6 +12,9 @@ const WRITES: u64 = 100;
 
 const RECORDS: u64 = 300;
 
+// The seed of the stores' tables.
+pub const SEED: u64 = 7;
+
 // The sort of a row, well mixed.
 pub fn sort_of(key: u64) -> u64 {
     let a = key.wrapping_add(1).wrapping_mul(0x9e37_79b9_7f4a_7c15);
@@ -100,7 +103,7 @@ pub fn written(rt: &(impl Threads + Sync), alloc: Global, count: u64) -> Result<
     let Ok(disk) = format(alloc, MemDisk::new(alloc)?) else {
         bail!("the disk isn't formatted");
     };
-    let Ok((mut store, _, _)) = Store::open(rt, alloc, disk) else {
+    let Ok((mut store, _, _)) = Store::open(rt, alloc, SEED, disk) else {
         bail!("the new store isn't opened");
     };
     append_all(&mut store, alloc, count)?;

@@ -108,7 +108,7 @@ impl Drop for Held {
 /// What the store in a folder holds. The folder isn't used any longer then.
 pub fn open_held<R>(rt: &R, folder: &str, is_terminal: bool) -> Result<Held, Fault>
 where
-    R: AllocGlobal + Eprint + Files<File = File> + Threads + Sync + Clone + Drop,
+    R: AllocGlobal + Eprint + Files<File = File> + RandomSource + Threads + Sync + Clone + Drop,
 {
     match open_disk(rt, folder, is_terminal) {
         Ok(disk) => held_on(rt, rt.alloc(), disk),
@@ -118,11 +118,12 @@ where
 
 /// What the store on a disk holds.
 fn held_on<D: Disk + Drop>(
-    rt: &(impl Threads + Sync),
+    rt: &(impl RandomSource + Threads + Sync),
     alloc: Global,
     disk: D,
 ) -> Result<Held, Fault> {
-    match Store::open(rt, alloc, disk) {
+    let seed = draw_seed(rt)?;
+    match Store::open(rt, alloc, seed, disk) {
         Ok((store, rows, mark)) => Ok(held_of(&store, rows, mark)),
         Err((refusal, _)) => Err(Fault::Refused(refusal)),
     }

@@ -167,7 +167,15 @@ fn run_world<D: Disk + Drop>(
 /// Prints the rows of a table of the store in a folder.
 fn print_rows<R>(rt: &R, folder: &str, table: u8, is_terminal: bool) -> Result<(), Fault>
 where
-    R: AllocGlobal + Print + Eprint + Files<File = File> + Threads + Sync + Clone + Drop,
+    R: AllocGlobal
+        + Print
+        + Eprint
+        + Files<File = File>
+        + RandomSource
+        + Threads
+        + Sync
+        + Clone
+        + Drop,
 {
     let held = open_held(rt, folder, is_terminal)?;
     write_rows(rt.alloc(), &held, table, io::writer(rt))
@@ -176,7 +184,15 @@ where
 /// Prints what the store in a folder holds.
 fn print_counts<R>(rt: &R, folder: &str, is_terminal: bool) -> Result<(), Fault>
 where
-    R: AllocGlobal + Print + Eprint + Files<File = File> + Threads + Sync + Clone + Drop,
+    R: AllocGlobal
+        + Print
+        + Eprint
+        + Files<File = File>
+        + RandomSource
+        + Threads
+        + Sync
+        + Clone
+        + Drop,
 {
     let held = open_held(rt, folder, is_terminal)?;
     write_counts(&held, &mut io::writer(rt))

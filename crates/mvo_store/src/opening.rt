@@ -10,7 +10,7 @@ ghost use Rattle.mvo_store.specs.Standing.{IsUp, Gives, HasSlots, KeepsRows};
 ghost use Rattle.mvo_store.specs.Opening.{IsAnswer, HasBegun, KeepsContent, LeavesAsBefore};
 ghost use Rattle.mvo_store.specs.Opening.{HasSynced, IsNotOpened};
 
-use crate::limits::{MAX_FAULTS, PLACES_SEED};
+use crate::limits::MAX_FAULTS;
 use crate::store::Store;
 use crate::syncing::sync_used;
 use mvo_disk::Disk;
@@ -34,6 +34,7 @@ fn last_segment(manifest: &Manifest) -> u16
 fn load_synced<D: Disk>(
     rt: &(impl Threads + Sync),
     alloc: Global,
+    seed: u64,
     disk: &mut D,
 ) -> Result<Loaded, Refusal>
     ensures loaded { IfOk result (λ l. IsLoaded FIRST_FORMAT (D.content disk.old) l.manifest l.rows
@@ -51,7 +52,7 @@ fn load_synced<D: Disk>(
     if disk.faults() >= MAX_FAULTS {
         return Err(Refusal::ClockSpent);
     }
-    let loaded = match load(rt, alloc, disk, FIRST_FORMAT, PLACES_SEED) {
+    let loaded = match load(rt, alloc, disk, FIRST_FORMAT, seed) {
         Ok(loaded) => loaded,
         Err(refusal) => return Err(refusal),
     };
@@ -64,7 +65,8 @@ fn load_synced<D: Disk>(
 impl<D: Disk> Store<D> {
     /// Opens what is on the disk, and answers its rows and mark. It writes and cuts nothing, and
     /// syncs what it read before it answers Ok: both slots and every file that the manifest names.
-    /// Refused, the disk comes back.
+    /// Refused, the disk comes back. The seed decides where the places of the records stand in
+    /// memory; who chooses the keys must not know it.
     ///
     /// Refused: ClockSpent where the fault counter is 2^63 or above; then by the first rule that is
     /// broken, in the order slot 0, slot 1, pairs, segments: NotFormatted, Corrupt with the file,
@@ -72,6 +74,7 @@ impl<D: Disk> Store<D> {
     pub fn open(
         rt: &(impl Threads + Sync),
         alloc: Global,
+        seed: u64,
         disk: D,
     ) -> Result<(Store<D>, Rows, Stamp), (Refusal, D)>
         ensures answer { IfOk result (λ x. IsAnswer (D.content disk) (Ok (x.1, x.2.0))) }
@@ -92,7 +95,7 @@ impl<D: Disk> Store<D> {
             places,
             mark,
             gate,
-        } = match load_synced(rt, alloc, &mut disk) {
+        } = match load_synced(rt, alloc, seed, &mut disk) {
             Ok(loaded) => loaded,
             Err(refusal) => return Err((refusal, disk)),
         };

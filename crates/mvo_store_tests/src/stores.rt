@@ -10,6 +10,9 @@ use std::process::Abort;
 use std::test::Fail;
 use std::thread::Threads;
 
+/// The seed of the tests' stores.
+pub(crate) const SEED: u64 = 7;
+
 type Opened = (Store<MemDisk>, Rows, Stamp);
 
 pub(crate) fn opened(
@@ -17,7 +20,7 @@ pub(crate) fn opened(
     alloc: Global,
     disk: MemDisk,
 ) -> Result<Opened, Fail> {
-    match Store::open(rt, alloc, disk) {
+    match Store::open(rt, alloc, SEED, disk) {
         Ok(opened) => Ok(opened),
         Err((refusal, _)) => Err(Fail::from(refusal)),
     }

@@ -103,7 +103,7 @@ impl<D: Disk> World<D> {
         ensures content_err { IfErr result (λ e. KeepsContent D.Disk disk e.1) }
         ensures any_moment_err { IfErr result (λ e. LeavesAsBefore D.Disk disk e.1) }
     {
-        let (store, rows, mark) = match Store::open(rt, alloc, disk) {
+        let (store, rows, mark) = match Store::open(rt, alloc, seed, disk) {
             Ok(opened) => opened,
             Err(refused) => return Err(refused),
         };

@@ -1,4 +1,5 @@
 //! What a store on a new disk gives for a group.
+use crate::stores::SEED;
 use mvo_disk::MemDisk;
 use mvo_group::Group;
 use mvo_store::{Durable, Store, format};
@@ -12,7 +13,7 @@ fn new_store(rt: &(impl Threads + Sync), alloc: Global) -> Result<Store<MemDisk>
         Ok(disk) => disk,
         Err((refusal, _)) => return Err(refusal),
     };
-    match Store::open(rt, alloc, disk) {
+    match Store::open(rt, alloc, SEED, disk) {
         Ok((store, _, _)) => Ok(store),
         Err((refusal, _)) => Err(refusal),
     }
