@@ -10,7 +10,7 @@ use Rattle.mvo_theory.specs.Sound.{IsRising}
 use Rattle.mvo_tale.specs.declared.slot.Slot.{Slot}
 use Rattle.mvo_tale.specs.declared.slot.Slot.TheVariants.{Open, Settled, Empty}
 use Rattle.mvo_tale.specs.Stored.{StoredCommit}
-use Rattle.mvo_tale.specs.Slots.{open_end_of, open_end_at, and_place, without_empty_back}
+use Rattle.mvo_tale.specs.Slots.{open_end_of, open_end_at, and_place, without_empty_back, or_all, closed_up}
 use Rattle.mvo_tale.specs.Timeline.{IsStoredAs, IsPlaceOf, ArePlacesOf}
 
 none_end : (e : ℕ) → ◌≡◌ {A = Option ℕ} None (Some e) → ⊥
@@ -45,8 +45,15 @@ open_without [] q d h = absurd (none_end d h)
 open_without (x ∷ xs) zero d h = kept_first x (without_empty_back xs) d h
 open_without (x ∷ xs) (suc q) d h = kept_later x (without_empty_back xs) q d (open_without xs q d h)
 
-pub open_left : (slots : List Slot) (p q e d : ℕ) → open_end_at slots p ≡ Some e → open_end_at slots q ≡ Some d → d ≢ e → open_end_at (without_empty_back (slice_set slots p Empty)) q ≡ Some d
-open_left slots p q e d at h ne = open_without (slice_set slots p Empty) q d (open_beside slots p q Empty e d at h ne)
+open_closed : (slots : List Slot) (q d : ℕ) → open_end_at slots q ≡ Some d → open_end_at (closed_up slots) q ≡ Some d
+open_closed slots q d h = go (without_empty_back slots) (open_without slots q d h)
+  where
+    go : (ws : List Slot) → open_end_at ws q ≡ Some d → open_end_at (or_all slots ws) q ≡ Some d
+    go [] k = h
+    go (w ∷ ws) k = k
+
+pub open_left : (slots : List Slot) (p q e d : ℕ) → open_end_at slots p ≡ Some e → open_end_at slots q ≡ Some d → d ≢ e → open_end_at (closed_up (slice_set slots p Empty)) q ≡ Some d
+open_left slots p q e d at h ne = open_closed (slice_set slots p Empty) q d (open_beside slots p q Empty e d at h ne)
 
 pub open_behind : (slots : List Slot) (y : Slot) (q d : ℕ) → open_end_at slots q ≡ Some d → open_end_at (slots ++ y ∷ []) q ≡ Some d
 open_behind [] y q d h = absurd (none_end d h)
@@ -205,11 +212,18 @@ places_without (Settled c ∷ slots) (x ∷ xs) h = settled_and c (without_empty
 places_without (Empty ∷ slots) [] h = empty_and (without_empty_back slots) [] (places_without slots [] h)
 places_without (Empty ∷ slots) (x ∷ xs) h = empty_and (without_empty_back slots) (x ∷ xs) (places_without slots (x ∷ xs) h)
 
+places_closed : (slots : List Slot) (xs : List StampedTx) → ArePlacesOf slots xs → ArePlacesOf (closed_up slots) xs
+places_closed slots xs h = go (without_empty_back slots) (places_without slots xs h)
+  where
+    go : (ws : List Slot) → ArePlacesOf ws xs → ArePlacesOf (or_all slots ws) xs
+    go [] k = h
+    go (w ∷ ws) k = k
+
 pub places_left : (slots : List Slot) (xs : List StampedTx) (p t e : ℕ) → ArePlacesOf slots xs → IsRising xs → open_end_at slots p ≡ Some e
-    → ArePlacesOf (without_empty_back (slice_set slots p Empty)) (map (with_flag t e) (filter (not_at e) xs))
+    → ArePlacesOf (closed_up (slice_set slots p Empty)) (map (with_flag t e) (filter (not_at e) xs))
 places_left slots xs p t e h r at =
-    places_flagged t e (without_empty_back (slice_set slots p Empty)) (filter (not_at e) xs)
-    (places_without (slice_set slots p Empty) (filter (not_at e) xs) (places_emptied slots xs p e h r at))
+    places_flagged t e (closed_up (slice_set slots p Empty)) (filter (not_at e) xs)
+    (places_closed (slice_set slots p Empty) (filter (not_at e) xs) (places_emptied slots xs p e h r at))
 
 -- ---- a check leaves them
 pub places_checked : (e : ℕ) (v : Bool) (slots : List Slot) (xs : List StampedTx) → ArePlacesOf slots xs → ArePlacesOf slots (map (with_check e v) xs)

@@ -12,7 +12,7 @@ use Rattle.mvo_txn.specs.declared.state.TxState.TheVariants.{Active, Preparing, 
 use Rattle.mvo_txn.specs.Txns.{state_of, IsUnended}
 use Rattle.mvo_tale.specs.declared.slot.Slot.{Slot}
 use Rattle.mvo_tale.specs.declared.slot.Slot.TheVariants.{Empty}
-use Rattle.mvo_tale.specs.Slots.{open_end_at, without_empty_back}
+use Rattle.mvo_tale.specs.Slots.{open_end_at, closed_up}
 use Rattle.mvo_core.specs.Data.{CoreData}
 use Rattle.mvo_core.specs.Standing.{StandsFor}
 
@@ -47,6 +47,6 @@ abbrev pub tale_left : Option TxState → List Slot → ℕ → List Slot
 tale_left None slots place = slots
 tale_left (Some Active) slots place = slots
 tale_left (Some (Preparing e)) slots place =
-    without_empty_back (slice_set slots place Empty)
+    closed_up (slice_set slots place Empty)
 tale_left (Some (Committed e)) slots place = slots
 tale_left (Some Aborted) slots place = slots

@@ -26,6 +26,7 @@ use Rattle.mvo_tale.specs.Records.{IsRecordOf, AreRecordsOf, commit_len, fits}
 use Rattle.mvo_tale.specs.Next.{due_in, NoneIsDue, IsBehindStored, AreGroupedTo, AreNextRecords}
 use Rattle.mvo_tale.specs.Walk.{IsDueAt, AreFitting, IsOneMore, IsTooMuch, end_behind}
 use Rattle.mvo_tale.proofs.Rising.{RisingCommits, commits-append, open_ends-append, rising_filter, rising_taken}
+use Rattle.mvo_tale.proofs.Moving.{stored_behind}
 use Rattle.mvo_tale.proofs.DueCommits.{within_not_due, not_due_later, none_later, none_due, due_more, none_more, opens_more, left_from, due_parts, due_first, passed_within}
 
 -- ---- what the walk has gathered before a place
@@ -325,4 +326,4 @@ pub behind_stored : (slots : List Slot) (place : ℕ) (x : Slot) (commit : Store
 behind_stored slots place x commit lt is at =
     let next : suc place ≡ place + 1 = omega arith in
     let found : slice_get slots place ≡ Some (Settled commit) = slice_get_read slots (length slots) place x refl lt is ∙ ap Some at in
-    subst (IsBehindStored slots) next (subst (λ (o : Option Slot). IsSome (option_and_then stored_of o)) (sym found) refl)
+    subst (IsBehindStored slots) next (stored_behind slots place (subst (λ (o : Option Slot). IsSome (option_and_then stored_of o)) (sym found) refl))

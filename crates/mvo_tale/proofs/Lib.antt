@@ -2,7 +2,9 @@ pub mod NetWrites
 pub mod LastWrites
 pub mod Rising
 pub mod Backs
+pub mod Gone
 pub mod DueCommits
 pub mod Grouping
 pub mod Moving
 pub mod NextGroups
+pub mod KeptPlaces

@@ -1,9 +1,10 @@
 -- The records of the next group, and where the group after it goes on.
-use Rattle.std.specs.Prelude.{ℕ, zero, suc, ◌≡◌, nat_le, false, List, [], filter, drop, take, length, IsSome, ⊤}
+use Rattle.std.specs.Prelude.{ℕ, zero, suc, ◌≡◌, nat_le, false, List, [], ◌∷◌, filter, drop, take, length, IsSome, ⊤}
 use Rattle.std.specs.List.{AllByRecursion}
 use Rattle.mvo_theory.specs.Marks.{Commit}
 use Rattle.mvo_theory.specs.Groups.{is_due, IsLongest, mark_by}
 use Rattle.mvo_tale.specs.declared.slot.Slot.{Slot}
+use Rattle.mvo_tale.specs.declared.slot.Slot.TheVariants.{Open, Settled, Empty}
 use Rattle.mvo_tale.specs.declared.next_records.NextRecords.{NextRecords}
 use Rattle.mvo_tale.specs.Slots.{open_ends, commits, stored_at}
 use Rattle.mvo_tale.specs.Records.{AreRecordsOf, fits}
@@ -16,13 +17,17 @@ due_in prev low slots = filter (is_due prev) (filter (λ c. nat_le c.0 low) (com
 abbrev pub NoneIsDue : ℕ → List Commit → Type 0
 NoneIsDue mark cs = AllByRecursion (λ c. is_due mark c ≡ false) cs
 
--- the first place, or one right behind a stored commit
+-- a place before which all are empty, or one right behind a stored commit
 abbrev pub IsBehindStored : List Slot → ℕ → Type 0
 IsBehindStored slots zero = ⊤
-IsBehindStored slots (suc place) = IsSome (stored_at slots place)
+IsBehindStored [] (suc place) = ⊥
+IsBehindStored (Open e ∷ slots) (suc place) = IsSome (stored_at (Open e ∷ slots) place)
+IsBehindStored (Settled c ∷ slots) (suc place) = IsSome (stored_at (Settled c ∷ slots) place)
+IsBehindStored (Empty ∷ slots) (suc place) = IsBehindStored slots place
 
 -- before the place none is Preparing, and each commit that wrote is in a group up to the mark. The
--- place is right behind a commit, so that it stays one where empty places at the back go
+-- place is right behind a commit, or all before it are empty, so that it stays one where empty
+-- places at the back go
 pub record AreGroupedTo (slots : List Slot) (place mark : ℕ) : Type 0 where
   pub behind : IsBehindStored slots place
   pub settled : open_ends (take place slots) ≡ []

@@ -65,3 +65,12 @@ and_place x (y ∷ ys) = x ∷ y ∷ ys
 abbrev pub without_empty_back : List Slot → List Slot
 without_empty_back [] = []
 without_empty_back (x ∷ xs) = and_place x (without_empty_back xs)
+
+-- these, if there are any
+abbrev pub or_all : List Slot → List Slot → List Slot
+or_all xs [] = xs
+or_all xs (y ∷ ys) = y ∷ ys
+
+-- the empty ones at the back go, unless all are empty
+abbrev pub closed_up : List Slot → List Slot
+closed_up xs = or_all xs (without_empty_back xs)

@@ -5,6 +5,7 @@
 mod commit_record;
 mod effect;
 mod gathering;
+mod laws;
 mod next_records;
 mod slot;
 mod step;
@@ -14,6 +15,7 @@ mod walk;
 mod writes;
 
 pub use commit_record::record_of;
+pub use laws::laws_of_kept_places;
 pub use next_records::NextRecords;
 pub use slot::Slot;
 pub use tale::Tale;

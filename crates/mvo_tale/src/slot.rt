@@ -8,18 +8,42 @@ pub enum Slot {
     Open(Stamp),
     /// The transaction that ends here is committed.
     Settled(TaleEntry),
-    /// The transaction that was to end here was aborted.
+    /// The transaction that was to end here was aborted, or its commit is forgotten.
     Empty,
 }
 
 impl Slot {
     ghost use Rattle.std.specs.Prelude.{◌≡◌};
-    ghost use Rattle.mvo_tale.specs.Slots.{is_empty};
+    ghost use Rattle.std.specs.Option.{option_copied};
+    ghost use Rattle.mvo_tale.specs.Slots.{is_empty, stored_of};
+    ghost use Rattle.mvo_tale.specs.Forgetting.{may_go};
 
     /// Whether it is an empty place.
     pub(crate) fn is_empty(&self) -> bool
         ensures { result ≡ is_empty self.now }
     {
         matches!(self, Slot::Empty)
+    }
+
+    /// The stored commit, if one is there.
+    pub(crate) fn stored(&self) -> Option<&TaleEntry>
+        ensures { option_copied result ≡ stored_of self.now }
+    {
+        match self {
+            Slot::Open(_) => None,
+            Slot::Settled(entry) => Some(entry),
+            Slot::Empty => None,
+        }
+    }
+
+    /// Whether nothing is lost with the place: it is empty, or its commit ends at most there.
+    pub(crate) fn may_go(&self, upto: Stamp) -> bool
+        ensures { result ≡ may_go upto.0 self.now }
+    {
+        match self {
+            Slot::Open(_) => false,
+            Slot::Settled(entry) => !entry.is_above(upto),
+            Slot::Empty => true,
+        }
     }
 }

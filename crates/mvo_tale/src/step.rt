@@ -1,4 +1,6 @@
 ghost use Rattle.mvo_tale.specs.declared.slot.Slot.TheVariants.{Settled};
+ghost use Rattle.std.specs.Option.{option_copied};
+ghost use Rattle.mvo_tale.specs.Forgetting.{slot_or_empty};
 ghost use Rattle.mvo_tale.specs.Walk.{IsStepAt};
 
 use crate::slot::Slot;
@@ -18,13 +20,14 @@ pub enum Step<'a> {
 }
 
 /// What the walk does at the place of a group above prev.
-pub fn step_at<'a>(slot: &'a Slot, prev: Stamp, low_water: Stamp) -> Step<'a>
-    ensures { IsStepAt prev.0 low_water.0 slot.now result }
+pub fn step_at<'a>(slot: Option<&'a Slot>, prev: Stamp, low_water: Stamp) -> Step<'a>
+    ensures { IsStepAt prev.0 low_water.0 (slot_or_empty (option_copied slot.entry)) result }
 {
     match slot {
-        Slot::Open(_) => Step::Stop,
-        Slot::Empty => Step::Skipped,
-        Slot::Settled(entry) => step_over(entry, prev, low_water),
+        Some(Slot::Open(_)) => Step::Stop,
+        Some(Slot::Settled(entry)) => step_over(entry, prev, low_water),
+        Some(Slot::Empty) => Step::Skipped,
+        None => Step::Skipped,
     }
 }
 

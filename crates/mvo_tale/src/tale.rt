@@ -1,5 +1,7 @@
-ghost use Rattle.std.specs.Prelude.{◌≡◌, take};
-ghost use Rattle.mvo_tale.specs.Slots.{without_empty_back};
+ghost use Rattle.std.specs.Prelude.{◌≡◌, ◌+◌, ◌≤◌, length, take, slice_get};
+ghost use Rattle.std.specs.Option.{option_copied};
+ghost use Rattle.mvo_tale.specs.Slots.{without_empty_back, closed_up};
+ghost use Rattle.mvo_tale.specs.Forgetting.{behind_gone, from_kept, goes_first};
 
 use crate::next_records::NextRecords;
 use crate::slot::Slot;
@@ -7,36 +9,48 @@ use crate::tale_entry::TaleEntry;
 use crate::walk::records_from;
 use mvo_types::{MAX_STAMP, Stamp};
 use std::alloc::{AllocError, Global};
+use std::collections::VecDeque;
 use std::marker::Model;
 
 /// The stored commits, in the order of their ends. Transactions draw their ends in order, and are
 /// settled or aborted in any order: so each end has a place, from 0 on, which is open until then.
 /// Contracts see the list of places. The ends rise over them.
+///
+/// Places keep their numbers. Of those at the front from which nothing is stored any more there is
+/// only the number, how many they are: contracts see them as empty.
 #[derive(Drop)]
 pub struct Tale {
-    slots: Vec<Slot>,
+    slots: VecDeque<Slot>,
+    /// How many places at the front are gone.
+    gone: usize,
 }
 
 impl Model for Tale {
-    ghost use Rattle.std.specs.Prelude.{List};
+    ghost use Rattle.std.specs.Prelude.{List, ◌+◌, ◌<◌, ◌^◌};
+    ghost use Rattle.std.specs.VecDeque.{deque_len};
     ghost use Rattle.mvo_tale.specs.declared.slot.Slot.{Slot as Place};
     ghost use Rattle.mvo_tale.specs.Slots.{AreRising, ends};
+    ghost use Rattle.mvo_tale.specs.Forgetting.{behind_gone};
 
     ghost Value = { List Place };
 
-    ghost view = { λ t. t.slots.items };
+    ghost view = { λ t. behind_gone t.gone t.slots.items };
 
-    ghost invariant = { λ t. AreRising (ends t.slots.items) };
+    ghost invariant = { λ t. AreRising (ends t.slots.items)
+        × (t.gone + deque_len t.slots < 2 ^ 64) };
 }
 
 impl Tale {
-    ghost use Rattle.std.specs.Prelude.{◌≡◌, ◌++◌, ◌∷◌, [], ◌<◌, ◌≤◌, length, slice_set, IfOk, OnOk, OnErr, IsSome, Some};
+    ghost use Rattle.std.specs.Prelude.{◌≡◌, ◌++◌, ◌∷◌, [], ◌<◌, ◌≤◌, length, slice_get, slice_set};
+    ghost use Rattle.std.specs.Prelude.{IfOk, OnOk, OnErr, IsSome, Some};
     ghost use Rattle.std.specs.List.{AllByRecursion};
     ghost use Rattle.std.specs.Option.{option_copied};
     ghost use Rattle.mvo_group.specs.Data.{group_of};
     ghost use Rattle.mvo_group.specs.Rules.{KeepsRules};
     ghost use Rattle.mvo_tale.specs.declared.slot.Slot.TheVariants.{Open, Settled, Empty};
-    ghost use Rattle.mvo_tale.specs.Slots.{AreRising, ends, open_ends, open_end_at, stored_at, without_empty_back};
+    ghost use Rattle.mvo_tale.specs.Slots.{AreRising, ends, open_ends};
+    ghost use Rattle.mvo_tale.specs.Slots.{open_end_at, stored_at, closed_up};
+    ghost use Rattle.mvo_tale.specs.Forgetting.{forgotten, slot_or_empty};
     ghost use Rattle.mvo_tale.specs.Next.{AreGroupedTo, AreNextRecords};
 
     /// No places. It takes no memory.
@@ -44,7 +58,8 @@ impl Tale {
         ensures { result ≡ [] }
     {
         Tale {
-            slots: Vec::new(alloc),
+            slots: VecDeque::new(alloc),
+            gone: 0,
         }
     }
 
@@ -56,8 +71,11 @@ impl Tale {
         ensures ok { OnOk result (self.new ≡ self.old ++ Open end ∷ []) }
         ensures err { OnErr result (self.new ≡ self.old) }
     {
-        let place = self.slots.len();
-        self.slots.push(Slot::Open(end))?;
+        let place = self.gone + self.slots.len();
+        if place == usize::MAX {
+            return Err(AllocError);
+        }
+        self.slots.push_back(Slot::Open(end))?;
         Ok(place)
     }
 
@@ -66,43 +84,60 @@ impl Tale {
         requires { open_end_at self.old place ≡ Some entry.end }
         ensures { self.new ≡ slice_set self.old place (Settled entry) }
     {
-        self.slots[place] = Slot::Settled(entry);
+        self.slots[place - self.gone] = Slot::Settled(entry);
     }
 
-    /// Empties the open place of a transaction that was aborted. Empty places at the back go. It
-    /// takes no memory.
+    /// Empties the open place of a transaction that was aborted. Empty places at the back go,
+    /// unless all are empty. It takes no memory.
     pub fn leave(&mut self, place: usize)
         requires { IsSome (open_end_at self.old place) }
-        ensures { self.new ≡ without_empty_back (slice_set self.old place Empty) }
+        ensures { self.new ≡ closed_up (slice_set self.old place Empty) }
     {
-        self.slots[place] = Slot::Empty;
-        let kept = kept_len(&self.slots);
-        self.slots.truncate(kept);
+        self.slots[place - self.gone] = Slot::Empty;
+        let gone = drop_back(&mut self.slots);
+        self.gone += gone;
+    }
+
+    /// Forgets the commits at the front that end at most there, up to a place that is open or one
+    /// whose commit ends later: such a place is empty then. It takes no memory, and time by how
+    /// many go, each of which goes once.
+    pub fn forget(&mut self, upto: Stamp)
+        ensures { self.new ≡ forgotten upto.0 self.old }
+    {
+        let gone = drop_front(&mut self.slots, upto);
+        self.gone += gone;
     }
 
     /// How many places there are.
     pub fn len(&self) -> usize
-        ensures { result ≡ length self.now }
+        ensures count { result ≡ length self.now }
+        ensures rising { AreRising (ends self.now) }
     {
-        self.slots().len()
+        self.gone + self.slots.len()
     }
 
     /// The stored commit at a place, if one is there.
     pub fn get(&self, place: usize) -> Option<&TaleEntry>
         ensures { option_copied result ≡ stored_at self.now place }
     {
-        match self.slots.get(place) {
-            Some(Slot::Settled(entry)) => Some(entry),
-            _ => None,
+        if place < self.gone {
+            return None;
+        }
+        match nth(&self.slots, place - self.gone) {
+            Some(slot) => slot.stored(),
+            None => None,
         }
     }
 
-    /// The places in the order of their ends.
-    pub fn slots(&self) -> &[Slot]
-        ensures value { result.now ≡ self.now }
-        ensures rising { AreRising (ends self.now) }
+    /// What is at the place; of one at the front that is gone, and so empty, nothing.
+    pub fn slot(&self, place: usize) -> Option<&Slot>
+        requires { place < length self.now }
+        ensures { slice_get self.now place ≡ Some (slot_or_empty (option_copied result)) }
     {
-        self.slots.as_slice()
+        if place < self.gone {
+            return None;
+        }
+        nth(&self.slots, place - self.gone)
     }
 
     /// The records of the next group, above prev and up to the low-water: of the commits that
@@ -124,13 +159,48 @@ impl Tale {
         ensures next { IfOk result (AreNextRecords self.now prev.0 low_water.0) }
         ensures rules { IfOk result (λ n. KeepsRules (group_of prev.0 n.mark.0 n.records.items)) }
     {
-        records_from(alloc, &self.slots, from, prev, low_water)
+        let from = self.first_from(from, prev);
+        records_from(alloc, self, from, prev, low_water)
+    }
+
+    /// The place, or the first that isn't gone where that is behind it.
+    fn first_from(&self, from: usize, prev: Stamp) -> usize
+        requires { AreGroupedTo self.now from prev.0 }
+        ensures { AreGroupedTo self.now result prev.0 }
+    {
+        if from < self.gone {
+            return self.gone;
+        }
+        from
     }
 }
 
+fn nth(slots: &VecDeque<Slot>, place: usize) -> Option<&Slot>
+    ensures { option_copied result ≡ slice_get slots.now.items place }
+{
+    slots.get(place)
+}
+
+/// Takes the empty places at the back off. Where all are empty, all go, and it answers how many
+/// they were.
+fn drop_back(slots: &mut VecDeque<Slot>) -> usize
+    ensures same { behind_gone result slots.new.items ≡ closed_up slots.old.items }
+    ensures few { result + length slots.new.items ≤ length slots.old.items }
+{
+    let kept = kept_len(slots);
+    if kept == 0 {
+        let gone = slots.len();
+        slots.clear();
+        return gone;
+    }
+    slots.truncate(kept);
+    0
+}
+
 /// How many places are left without the empty ones at the back.
-fn kept_len(slots: &[Slot]) -> usize
-    ensures { take result slots.now ≡ without_empty_back slots.now }
+fn kept_len(slots: &VecDeque<Slot>) -> usize
+    ensures kept { take result slots.now.items ≡ without_empty_back slots.now.items }
+    ensures within { result ≤ length slots.now.items }
 {
     let mut kept = slots.len();
     while kept > 0 {
@@ -140,4 +210,27 @@ fn kept_len(slots: &[Slot]) -> usize
         kept -= 1;
     }
     kept
+}
+
+/// Takes the places at the front off from which nothing is lost. Answers how many they were.
+fn drop_front(slots: &mut VecDeque<Slot>, upto: Stamp) -> usize
+    ensures kept { slots.new.items ≡ from_kept upto.0 slots.old.items }
+    ensures count { result + length slots.new.items ≡ length slots.old.items }
+{
+    let mut count = 0;
+    while goes_first(slots, upto) {
+        slots.pop_front();
+        count += 1;
+    }
+    count
+}
+
+/// Whether the first place goes.
+fn goes_first(slots: &VecDeque<Slot>, upto: Stamp) -> bool
+    ensures { result ≡ goes_first upto.0 slots.now.items }
+{
+    match slots.front() {
+        Some(slot) => slot.may_go(upto),
+        None => false,
+    }
 }

@@ -1,8 +1,9 @@
 -- One more of a list, as a loop goes over it.
-use Rattle.std.proofs.Common.{◌≡◌, ℕ, suc, ◌+◌, ◌-◌, ◌<◌, List, [], ◌∷◌, ◌++◌, length, take, get_or, refl, sym, ap, ◌∙◌, subst, arith}
+use Rattle.std.proofs.Common.{◌≡◌, ℕ, zero, suc, ◌+◌, ◌-◌, ◌<◌, ◌≤◌, true, List, [], ◌∷◌, ◌++◌, length, take, get_or, refl, sym, ap, ◌∙◌, subst, arith}
 use Rattle.std.specs.Prelude.{IsSome}
 use Rattle.std.specs.List.{AllByRecursion}
 use Rattle.std.specs.Option.{option_map}
+use Rattle.std.proofs.lemmas.Bool.{false≢true}
 use Rattle.std.proofs.lemmas.List.{take_more, map-append}
 use Rattle.mvo_types.specs.declared.row.RowKey.{RowKey}
 use Rattle.mvo_types.specs.declared.op.Op.{Op}
@@ -14,8 +15,10 @@ use Rattle.mvo_theory.proofs.Each.{each_append}
 use Rattle.mvo_tale.specs.declared.slot.Slot.{Slot}
 use Rattle.mvo_theory.specs.Told.{history_told}
 use Rattle.mvo_theory.specs.Limits.{IsInLimits}
-use Rattle.mvo_tale.specs.Slots.{ends, open_ends, stored_at}
+use Rattle.mvo_tale.specs.declared.slot.Slot.TheVariants.{Open, Settled, Empty}
+use Rattle.mvo_tale.specs.Slots.{ends, open_ends, stored_at, is_empty}
 use Rattle.mvo_tale.specs.Next.{IsBehindStored}
+use Rattle.mvo_tale.proofs.Moving.{stored_behind}
 use Rattle.mvo_tale.proofs.Rising.{ends-append, open_ends-append}
 
 taken_more : {X : Type 0} (xs : List X) (i : ℕ) (x : X) → i < length xs → x ≡ get_or xs i x → take (i + 1) xs ≡ take i xs ++ x ∷ []
@@ -28,11 +31,21 @@ ends_more P xs i x lt is h k = subst (AllByRecursion P) (sym (ap ends (taken_mor
 pub open_ends_more : (P : ℕ → Type 0) (xs : List Slot) (i : ℕ) (x : Slot) → i < length xs → x ≡ get_or xs i x → AllByRecursion P (open_ends (take i xs)) → AllByRecursion P (open_ends (x ∷ [])) → AllByRecursion P (open_ends (take (i + 1) xs))
 open_ends_more P xs i x lt is h k = subst (AllByRecursion P) (sym (ap open_ends (taken_more xs i x lt is) ∙ open_ends-append (take i xs) (x ∷ []))) (each_append P (open_ends (take i xs)) (open_ends (x ∷ [])) h k)
 
-pub behind_first : (xs : List Slot) (place : ℕ) → place ≡ 0 → IsBehindStored xs place
-behind_first xs place e = subst (IsBehindStored xs) (sym e) tt
+pub empty_more : (P : Slot → Type 0) (xs : List Slot) (i : ℕ) (x : Slot) → i < length xs → x ≡ get_or xs i x → AllByRecursion P (take i xs) → P x → AllByRecursion P (take (i + 1) xs)
+empty_more P xs i x lt is h k = subst (AllByRecursion P) (sym (taken_more xs i x lt is)) (each_append P (take i xs) (x ∷ []) h (k, tt))
 
-pub behind_stored : (xs : List Slot) (place : ℕ) → 0 < place → IsSome (stored_at xs (place - 1)) → IsBehindStored xs place
-behind_stored xs place lt h = let n : suc (place - 1) ≡ place = omega arith in subst (IsBehindStored xs) n h
+behind_rest : (x : Slot) (xs : List Slot) (n : ℕ) → is_empty x ≡ true → IsBehindStored xs n → IsBehindStored (x ∷ xs) (suc n)
+behind_rest (Open e) xs n i h = absurd (false≢true i)
+behind_rest (Settled c) xs n i h = absurd (false≢true i)
+behind_rest Empty xs n i h = h
+
+pub behind_empty : (xs : List Slot) (place : ℕ) → place ≤ length xs → AllByRecursion (λ x. is_empty x ≡ true) (take place xs) → IsBehindStored xs place
+behind_empty xs zero le h = tt
+behind_empty [] (suc n) le h = absurd (omega arith)
+behind_empty (x ∷ xs) (suc n) le h = behind_rest x xs n h.0 (behind_empty xs n (omega arith) h.1)
+
+pub behind_commit : (xs : List Slot) (place : ℕ) → 0 < place → IsSome (stored_at xs (place - 1)) → IsBehindStored xs place
+behind_commit xs place lt h = let n : suc (place - 1) ≡ place = omega arith in subst (IsBehindStored xs) n (stored_behind xs (place - 1) h)
 
 -- ---- operations
 one_more : (ops : List (Op × Answer)) (i : ℕ) (x : Op × Answer) → i < length ops → x ≡ get_or ops i x → history_told (take (i + 1) ops) ≡ history_told (take i ops) ++ (x.0, answer_data x.1) ∷ []

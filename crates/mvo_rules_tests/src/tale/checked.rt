@@ -1,31 +1,34 @@
 //! Calls of the tale, where what they require stands. It is tested first.
 
-ghost use Rattle.std.specs.Prelude.{◌≡◌, ◌<◌, [], ◌∷◌, IsTrue, Some};
+ghost use Rattle.std.specs.Prelude.{◌≡◌, ◌<◌, ◌≤◌, [], ◌∷◌, IsTrue, Some, length, take, true};
 ghost use Rattle.std.specs.List.{AllByRecursion};
+ghost use Rattle.std.specs.Option.{option_copied};
 ghost use Rattle.mvo_theory.specs.Groups.{is_due as due};
 ghost use Rattle.mvo_tale.specs.Stored.{commit_of};
-ghost use Rattle.mvo_tale.specs.Slots.{ends, open_ends, commits, open_end_at};
+ghost use Rattle.mvo_tale.specs.Slots.{ends, open_ends, commits, open_end_at, is_empty};
+ghost use Rattle.mvo_tale.specs.Forgetting.{slot_or_empty};
 ghost use Rattle.mvo_tale.specs.Next.{NoneIsDue, IsBehindStored, AreGroupedTo};
 
 use mvo_tale::{NextRecords, Slot, Tale, TaleEntry};
 use mvo_types::{MAX_STAMP, Stamp};
 use std::alloc::{AllocError, Global};
 
-fn is_end_below(slot: &Slot, bound: Stamp) -> bool
-    ensures { IsTrue result → AllByRecursion (λ end. end < bound.0) (ends (slot.now ∷ [])) }
+fn is_end_below(slot: Option<&Slot>, bound: Stamp) -> bool
+    ensures { let x = slot_or_empty (option_copied slot.entry) in
+        IsTrue result → AllByRecursion (λ end. end < bound.0) (ends (x ∷ [])) }
 {
     match slot {
-        Slot::Open(end) => end.0 < bound.0,
-        Slot::Settled(entry) => entry.end.0 < bound.0,
-        Slot::Empty => true,
+        Some(Slot::Open(end)) => end.0 < bound.0,
+        Some(Slot::Settled(entry)) => entry.end.0 < bound.0,
+        _ => true,
     }
 }
 
-fn are_ends_below(slots: &[Slot], bound: Stamp) -> bool
-    ensures { IsTrue result → AllByRecursion (λ end. end < bound.0) (ends slots.now) }
+fn are_ends_below(tale: &Tale, bound: Stamp) -> bool
+    ensures { IsTrue result → AllByRecursion (λ end. end < bound.0) (ends tale.now) }
 {
-    for slot in slots {
-        if !is_end_below(slot, bound) {
+    for place in 0..tale.len() {
+        if !is_end_below(tale.slot(place), bound) {
             return false;
         }
     }
@@ -34,16 +37,19 @@ fn are_ends_below(slots: &[Slot], bound: Stamp) -> bool
 
 /// Opens a place, if the end is above the others.
 pub fn open_at(tale: &mut Tale, end: Stamp) -> Result<Option<usize>, AllocError> {
-    if !are_ends_below(tale.slots(), end) {
+    if !are_ends_below(tale, end) {
         return Ok(None);
     }
     Ok(Some(tale.open(end)?))
 }
 
-fn is_open_at(slots: &[Slot], place: usize, end: Stamp) -> bool
-    ensures { IsTrue result → open_end_at slots.now place ≡ Some end.0 }
+fn is_open_at(tale: &Tale, place: usize, end: Stamp) -> bool
+    ensures { IsTrue result → open_end_at tale.now place ≡ Some end.0 }
 {
-    match slots.get(place) {
+    if place >= tale.len() {
+        return false;
+    }
+    match tale.slot(place) {
         Some(Slot::Open(at)) => at.0 == end.0,
         _ => false,
     }
@@ -51,7 +57,7 @@ fn is_open_at(slots: &[Slot], place: usize, end: Stamp) -> bool
 
 /// Stores a commit at an open place, if the end there is its own.
 pub fn settle_at(tale: &mut Tale, place: usize, entry: TaleEntry) -> bool {
-    if !is_open_at(tale.slots(), place, entry.end) {
+    if !is_open_at(tale, place, entry.end) {
         return false;
     }
     tale.settle(place, entry);
@@ -60,41 +66,44 @@ pub fn settle_at(tale: &mut Tale, place: usize, entry: TaleEntry) -> bool {
 
 /// Leaves an open place, if the end there is this one.
 pub fn leave_at(tale: &mut Tale, place: usize, end: Stamp) -> bool {
-    if !is_open_at(tale.slots(), place, end) {
+    if !is_open_at(tale, place, end) {
         return false;
     }
     tale.leave(place);
     true
 }
 
-fn is_open_above(slot: &Slot, mark: Stamp) -> bool
-    ensures { IsTrue result → AllByRecursion (λ end. mark.0 < end) (open_ends (slot.now ∷ [])) }
+fn is_open_above(slot: Option<&Slot>, mark: Stamp) -> bool
+    ensures { let x = slot_or_empty (option_copied slot.entry) in
+        IsTrue result → AllByRecursion (λ end. mark.0 < end) (open_ends (x ∷ [])) }
 {
     match slot {
-        Slot::Open(end) => mark.0 < end.0,
+        Some(Slot::Open(end)) => mark.0 < end.0,
         _ => true,
     }
 }
 
-fn are_open_above(slots: &[Slot], mark: Stamp) -> bool
-    ensures { IsTrue result → AllByRecursion (λ end. mark.0 < end) (open_ends slots.now) }
+fn are_open_above(tale: &Tale, mark: Stamp) -> bool
+    ensures { IsTrue result → AllByRecursion (λ end. mark.0 < end) (open_ends tale.now) }
 {
-    for slot in slots {
-        if !is_open_above(slot, mark) {
+    for place in 0..tale.len() {
+        if !is_open_above(tale.slot(place), mark) {
             return false;
         }
     }
     true
 }
 
-fn is_grouped(slot: &Slot, mark: Stamp) -> bool
-    ensures opens { IsTrue result → open_ends (slot.now ∷ []) ≡ [] }
-    ensures due { IsTrue result → NoneIsDue mark.0 (commits (slot.now ∷ [])) }
+fn is_grouped(slot: Option<&Slot>, mark: Stamp) -> bool
+    ensures opens { let x = slot_or_empty (option_copied slot.entry) in
+        IsTrue result → open_ends (x ∷ []) ≡ [] }
+    ensures due { let x = slot_or_empty (option_copied slot.entry) in
+        IsTrue result → NoneIsDue mark.0 (commits (x ∷ [])) }
 {
     match slot {
-        Slot::Open(_) => false,
-        Slot::Settled(entry) => !is_due(entry, mark),
-        Slot::Empty => true,
+        Some(Slot::Open(_)) => false,
+        Some(Slot::Settled(entry)) => !is_due(entry, mark),
+        _ => true,
     }
 }
 
@@ -104,32 +113,68 @@ fn is_due(entry: &TaleEntry, mark: Stamp) -> bool
     mark.0 < entry.end.0 && entry.has_written()
 }
 
-fn are_grouped(slots: &[Slot], mark: Stamp) -> bool
-    ensures opens { IsTrue result → open_ends slots.now ≡ [] }
-    ensures due { IsTrue result → NoneIsDue mark.0 (commits slots.now) }
+fn are_grouped(tale: &Tale, before: usize, mark: Stamp) -> bool
+    requires { before ≤ length tale.now }
+    ensures opens { IsTrue result → open_ends (take before tale.now) ≡ [] }
+    ensures due { IsTrue result → NoneIsDue mark.0 (commits (take before tale.now)) }
 {
-    for slot in slots {
-        if !is_grouped(slot, mark) {
+    for place in 0..before {
+        if !is_grouped(tale.slot(place), mark) {
             return false;
         }
     }
     true
 }
 
-/// Whether a commit is right in front of the place, or nothing.
+fn are_empty(tale: &Tale, before: usize) -> bool
+    requires { before ≤ length tale.now }
+    ensures { IsTrue result → AllByRecursion (λ x. is_empty x ≡ true) (take before tale.now) }
+{
+    for place in 0..before {
+        if !is_empty_there(tale.slot(place)) {
+            return false;
+        }
+    }
+    true
+}
+
+fn is_empty_there(slot: Option<&Slot>) -> bool
+    ensures { IsTrue result → is_empty (slot_or_empty (option_copied slot.entry)) ≡ true }
+{
+    match slot {
+        Some(Slot::Open(_)) => false,
+        Some(Slot::Settled(_)) => false,
+        _ => true,
+    }
+}
+
+/// Whether a commit is right in front of the place, or only empty places are.
 fn is_behind(tale: &Tale, place: usize) -> bool
+    requires { place ≤ length tale.now }
+    ensures { IsTrue result → IsBehindStored tale.now place }
+{
+    if are_empty(tale, place) {
+        return true;
+    }
+    is_behind_commit(tale, place)
+}
+
+fn is_behind_commit(tale: &Tale, place: usize) -> bool
     ensures { IsTrue result → IsBehindStored tale.now place }
 {
     if place == 0 {
         return true;
     }
-    tale.get(place - 1).is_some()
+    match tale.get(place - 1) {
+        Some(_) => true,
+        None => false,
+    }
 }
 
 fn are_grouped_to(tale: &Tale, place: usize, mark: Stamp) -> bool
     ensures { IsTrue result → AreGroupedTo tale.now place mark.0 }
 {
-    place <= tale.len() && is_behind(tale, place) && are_grouped(&tale.slots()[..place], mark)
+    place <= tale.len() && is_behind(tale, place) && are_grouped(tale, place, mark)
 }
 
 /// The records of the next group, if there can be one from the place on.
@@ -143,7 +188,7 @@ pub fn next_group(
     if prev.0 >= low_water.0 || low_water.0 > MAX_STAMP {
         return Ok(None);
     }
-    if !are_open_above(tale.slots(), low_water) {
+    if !are_open_above(tale, low_water) {
         return Ok(None);
     }
     if !are_grouped_to(tale, from, prev) {

@@ -20,6 +20,7 @@ struct Counts {
     settled: u64,
     left: u64,
     shortened: u64,
+    forgotten: u64,
     groups: u64,
     records: u64,
     empty_groups: u64,
@@ -69,6 +70,7 @@ impl Course {
                 settled: 0,
                 left: 0,
                 shortened: 0,
+                forgotten: 0,
                 groups: 0,
                 records: 0,
                 empty_groups: 0,
@@ -78,10 +80,11 @@ impl Course {
 
     /// One step. Whether the tale answers as the list does.
     fn advance(&mut self) -> Result<bool, Fail> {
-        match self.numbers.below(8) {
+        match self.numbers.below(9) {
             0 | 1 | 2 => self.open(),
             3 | 4 | 5 => self.settle(),
             6 => self.leave(),
+            7 => self.forget(),
             _ => self.close(),
         }
     }
@@ -138,18 +141,42 @@ impl Course {
         };
         at.state = State::Empty;
         let end = Stamp(at.end);
+        self.close_up();
+        count(&mut self.counts.left, 1);
+        Ok(leave_at(&mut self.tale, place, end))
+    }
+
+    /// The empty places at the back go, unless all are empty.
+    fn close_up(&mut self) {
         let before = self.list.len();
+        if self.list.iter().all(|at| at.state == State::Empty) {
+            return;
+        }
         for _ in 0..before {
             if self.list.last().map(|at| at.state) != Some(State::Empty) {
                 break;
             }
             let _ = self.list.pop();
         }
-        count(&mut self.counts.left, 1);
         if self.list.len() < before {
             count(&mut self.counts.shortened, 1);
         }
-        Ok(leave_at(&mut self.tale, place, end))
+    }
+
+    /// Commits up to the last mark, or one before it, are forgotten.
+    fn forget(&mut self) -> Result<bool, Fail> {
+        let upto = self.closed.saturating_sub(self.numbers.below(6));
+        self.tale.forget(Stamp(upto));
+        for at in self.list.iter_mut() {
+            if at.state == State::Open || (at.state == State::Settled && at.end > upto) {
+                break;
+            }
+            if at.state == State::Settled {
+                at.state = State::Empty;
+                count(&mut self.counts.forgotten, 1);
+            }
+        }
+        Ok(true)
     }
 
     fn low_water(&self) -> u64 {
@@ -225,6 +252,7 @@ fn check_counts(rt: &impl Abort, counts: &Counts) {
         (counts.settled, 500),
         (counts.left, 100),
         (counts.shortened, 10),
+        (counts.forgotten, 300),
         (counts.groups, 100),
         (counts.records, 300),
         (counts.empty_groups, 5),

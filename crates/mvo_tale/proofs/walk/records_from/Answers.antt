@@ -6,6 +6,9 @@ use Rattle.mvo_tale.specs.Stored.{commit_of}
 use Rattle.mvo_tale.specs.Slots.{open_ends, commits}
 use Rattle.mvo_tale.specs.Next.{due_in, NoneIsDue}
 use Rattle.mvo_tale.specs.Walk.{IsOneMore, IsTooMuch}
+use Rattle.std.specs.Option.{option_copied}
+use Rattle.mvo_tale.specs.Forgetting.{slot_or_empty}
+use Rattle.mvo_tale.proofs.Gone.{slot_is}
 use Rattle.mvo_tale.proofs.DueCommits.{none_left, none_behind, due_passed, passed_within}
 use Rattle.mvo_tale.proofs.Grouping.{IsWalked, walked_first, walked_over, walked_more, next_whole, rules_whole, next_cut, rules_cut, behind_stored}
 use Rattle.mvo_tale.proofs.walk.records_from.Goals as goal
@@ -13,18 +16,18 @@ use Rattle.mvo_tale.proofs.walk.records_from.Goals.{After-up_to_last, in-Skipped
 
 pub loop-place-init : goal.loop-place-init
 loop-place-init c =
-    subst (λ (rs : List RecordData). IsWalked c.args.slots.now c.args.prev.0 c.args.low_water.0 c.args.from c.args.from rs) (sym c.new-gathered.ensures)
-    (walked_first c.args.slots.now c.args.prev.0 c.args.low_water.0 c.args.from c.requires.above c.requires.grouped)
+    subst (λ (rs : List RecordData). IsWalked c.args.tale.now c.args.prev.0 c.args.low_water.0 c.args.from c.args.from rs) (sym c.new-gathered.ensures)
+    (walked_first c.args.tale.now c.args.prev.0 c.args.low_water.0 c.args.from c.requires.above c.requires.grouped)
 
 pub returns-in-Stop-clause-next : goal.returns-in-Stop-clause-next
 returns-in-Stop-clause-next c =
-    next_whole c.args.slots.now c.args.prev.0 c.args.low_water.0 c.loop-place.place c.loop-place.next c.loop-place.gathered c.up_to.result c.up_to.ensures.fitting c.loop-place.invariant
-    (none_left c.args.prev.0 c.args.low_water.0 c.args.slots.now c.loop-place.place c.index-slots-place.result (omega arith) c.index-slots-place.is c.in-Stop.ensures c.requires.rising c.requires.preparing)
+    next_whole c.args.tale.now c.args.prev.0 c.args.low_water.0 c.loop-place.place c.loop-place.next c.loop-place.gathered c.up_to.result c.up_to.ensures.fitting c.loop-place.invariant
+    (none_left c.args.prev.0 c.args.low_water.0 c.args.tale.now c.loop-place.place (slot_or_empty (option_copied c.slot.result)) (omega arith) (slot_is c.args.tale.now c.loop-place.place (slot_or_empty (option_copied c.slot.result)) c.slot.ensures) c.in-Stop.ensures c.len-place-end.ensures.rising c.requires.preparing)
     c.up_to.ensures.records (ap (λ m. m.0) c.up_to.ensures.mark) c.up_to.ensures.next
 
 pub returns-in-Stop-clause-rules : goal.returns-in-Stop-clause-rules
 returns-in-Stop-clause-rules c =
-    rules_whole c.args.slots.now c.args.prev.0 c.args.low_water.0 c.loop-place.place c.loop-place.next c.loop-place.gathered c.up_to.result c.requires.rising c.requires.above c.requires.drawn c.up_to.ensures.fitting c.loop-place.invariant c.up_to.ensures.records (ap (λ m. m.0) c.up_to.ensures.mark)
+    rules_whole c.args.tale.now c.args.prev.0 c.args.low_water.0 c.loop-place.place c.loop-place.next c.loop-place.gathered c.up_to.result c.len-place-end.ensures.rising c.requires.above c.requires.drawn c.up_to.ensures.fitting c.loop-place.invariant c.up_to.ensures.records (ap (λ m. m.0) c.up_to.ensures.mark)
 
 -- the records stay, and the commit's doesn't fit
 full : (c : After-up_to_last) → (c.add.new.self ≡ c.loop-place.gathered) × IsTooMuch (commit_of c.in-Due.entry.now) c.loop-place.gathered
@@ -33,28 +36,28 @@ full c = subst (λ (b : Bool). MatchBool b (IsOneMore (commit_of c.in-Due.entry.
 too_much : (c : After-up_to_last) → IsTooMuch (commit_of c.in-Due.entry.now) c.add.new.self
 too_much c = let f = full c in subst (IsTooMuch (commit_of c.in-Due.entry.now)) (sym f.0) f.1
 
-walked : (c : After-up_to_last) → IsWalked c.args.slots.now c.args.prev.0 c.args.low_water.0 c.loop-place.place c.loop-place.next c.add.new.self
-walked c = let f = full c in subst (IsWalked c.args.slots.now c.args.prev.0 c.args.low_water.0 c.loop-place.place c.loop-place.next) (sym f.0) c.loop-place.invariant
+walked : (c : After-up_to_last) → IsWalked c.args.tale.now c.args.prev.0 c.args.low_water.0 c.loop-place.place c.loop-place.next c.add.new.self
+walked c = let f = full c in subst (IsWalked c.args.tale.now c.args.prev.0 c.args.low_water.0 c.loop-place.place c.loop-place.next) (sym f.0) c.loop-place.invariant
 
 pub returns-then-not-branch-clause-next : goal.returns-then-not-branch-clause-next
 returns-then-not-branch-clause-next c =
-    next_cut c.args.slots.now c.args.prev.0 c.args.low_water.0 c.loop-place.place c.loop-place.next c.add.new.self c.up_to_last.result c.index-slots-place.result c.in-Due.entry.now (omega arith) c.index-slots-place.is c.in-Due.ensures (too_much c) c.requires.rising c.up_to_last.ensures.fitting (walked c) c.up_to_last.ensures.records c.up_to_last.ensures.mark c.up_to_last.ensures.next
+    next_cut c.args.tale.now c.args.prev.0 c.args.low_water.0 c.loop-place.place c.loop-place.next c.add.new.self c.up_to_last.result (slot_or_empty (option_copied c.slot.result)) c.in-Due.entry.now (omega arith) (slot_is c.args.tale.now c.loop-place.place (slot_or_empty (option_copied c.slot.result)) c.slot.ensures) c.in-Due.ensures (too_much c) c.len-place-end.ensures.rising c.up_to_last.ensures.fitting (walked c) c.up_to_last.ensures.records c.up_to_last.ensures.mark c.up_to_last.ensures.next
 
 pub returns-then-not-branch-clause-rules : goal.returns-then-not-branch-clause-rules
 returns-then-not-branch-clause-rules c =
-    rules_cut c.args.slots.now c.args.prev.0 c.args.low_water.0 c.loop-place.place c.loop-place.next c.add.new.self c.up_to_last.result (commit_of c.in-Due.entry.now) c.requires.rising c.requires.above c.requires.drawn (too_much c) c.up_to_last.ensures.fitting (walked c) c.up_to_last.ensures.records c.up_to_last.ensures.mark
+    rules_cut c.args.tale.now c.args.prev.0 c.args.low_water.0 c.loop-place.place c.loop-place.next c.add.new.self c.up_to_last.result (commit_of c.in-Due.entry.now) c.len-place-end.ensures.rising c.requires.above c.requires.drawn (too_much c) c.up_to_last.ensures.fitting (walked c) c.up_to_last.ensures.records c.up_to_last.ensures.mark
 
 pub loop-place-preserved : goal.loop-place-preserved
 loop-place-preserved c =
-    let slots = c.args.slots.now in
+    let slots = c.args.tale.now in
     let prev = c.args.prev.0 in
     let low = c.args.low_water.0 in
     let place = c.loop-place.place in
     let next = c.loop-place.next in
     let rs = c.loop-place.gathered in
-    let x = c.index-slots-place.result in
+    let x = slot_or_empty (option_copied c.slot.result) in
     let lt : place < length slots = omega arith in
-    let is = c.index-slots-place.is in
+    let is = slot_is slots place x c.slot.ensures in
     let h = c.loop-place.invariant in
     elim c.match-step_at.branch [
       | in-Skipped w ↦ moved slots prev low (place + 1) next c.match-step_at.next rs c.match-step_at.gathered w.next-is w.gathered-is
@@ -72,10 +75,10 @@ loop-place-preserved c =
 
 pub returns-clause-next : goal.returns-clause-next
 returns-clause-next c =
-    next_whole c.args.slots.now c.args.prev.0 c.args.low_water.0 c.loop-place.place c.loop-place.next c.loop-place.gathered c.up_to-2.result c.up_to-2.ensures.fitting c.loop-place.invariant
-    (none_behind c.args.prev.0 c.args.low_water.0 c.args.slots.now c.loop-place.place (omega arith))
+    next_whole c.args.tale.now c.args.prev.0 c.args.low_water.0 c.loop-place.place c.loop-place.next c.loop-place.gathered c.up_to-2.result c.up_to-2.ensures.fitting c.loop-place.invariant
+    (none_behind c.args.prev.0 c.args.low_water.0 c.args.tale.now c.loop-place.place (omega arith))
     c.up_to-2.ensures.records (ap (λ m. m.0) c.up_to-2.ensures.mark) c.up_to-2.ensures.next
 
 pub returns-clause-rules : goal.returns-clause-rules
 returns-clause-rules c =
-    rules_whole c.args.slots.now c.args.prev.0 c.args.low_water.0 c.loop-place.place c.loop-place.next c.loop-place.gathered c.up_to-2.result c.requires.rising c.requires.above c.requires.drawn c.up_to-2.ensures.fitting c.loop-place.invariant c.up_to-2.ensures.records (ap (λ m. m.0) c.up_to-2.ensures.mark)
+    rules_whole c.args.tale.now c.args.prev.0 c.args.low_water.0 c.loop-place.place c.loop-place.next c.loop-place.gathered c.up_to-2.result c.len-place-end.ensures.rising c.requires.above c.requires.drawn c.up_to-2.ensures.fitting c.loop-place.invariant c.up_to-2.ensures.records (ap (λ m. m.0) c.up_to-2.ensures.mark)

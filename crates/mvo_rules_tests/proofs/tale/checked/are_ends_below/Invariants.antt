@@ -3,5 +3,5 @@ use Rattle.std.specs.List.{AllByRecursion}
 use Rattle.mvo_tale.specs.Slots.{ends}
 use Rattle.mvo_rules_tests.proofs.tale.checked.are_ends_below.Given as goal
 
-abbrev pub invariant-loop-slot : goal.invariant-loop-slot
-invariant-loop-slot l = AllByRecursion (λ end. end < l.bound.0) (ends (take l.slot-index l.slots))
+abbrev pub invariant-loop-place : goal.invariant-loop-place
+invariant-loop-place l = AllByRecursion (λ end. end < l.bound.0) (ends (take l.place l.tale))

@@ -3,8 +3,8 @@ use Rattle.mvo_tale.specs.Slots.{open_ends, commits}
 use Rattle.mvo_tale.specs.Next.{NoneIsDue}
 use Rattle.mvo_rules_tests.proofs.tale.checked.are_grouped.Given as goal
 
-abbrev pub invariant-loop-slot : goal.invariant-loop-slot
-invariant-loop-slot l = record {
-  opens : open_ends (take l.slot-index l.slots) ≡ [];
-  due : NoneIsDue l.mark.0 (commits (take l.slot-index l.slots));
+abbrev pub invariant-loop-place : goal.invariant-loop-place
+invariant-loop-place l = record {
+  opens : open_ends (take l.place l.tale) ≡ [];
+  due : NoneIsDue l.mark.0 (commits (take l.place l.tale));
 }

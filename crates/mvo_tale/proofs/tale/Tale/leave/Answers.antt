@@ -1,17 +1,53 @@
-use Rattle.std.proofs.Common.{sym, ap, ◌∙◌, subst, take}
-use Rattle.std.specs.Prelude.{slice_set}
+use Rattle.std.proofs.Common.{◌≡◌, ℕ, ◌-◌, ◌≤◌, List, sym, ap, ◌∙◌, subst, arith}
+use Rattle.std.specs.Prelude.{slice_set, IsSome}
+use Rattle.std.proofs.Math.ListN.{length-set}
+use Rattle.mvo_tale.specs.declared.slot.Slot.{Slot}
 use Rattle.mvo_tale.specs.declared.slot.Slot.TheVariants.{Empty}
-use Rattle.mvo_tale.specs.Slots.{AreRising, ends, without_empty_back}
+use Rattle.mvo_tale.specs.Slots.{AreRising, ends, open_end_at, closed_up}
+use Rattle.mvo_tale.specs.Forgetting.{behind_gone}
 use Rattle.mvo_tale.proofs.Rising.{rising_emptied}
-use Rattle.mvo_tale.proofs.Backs.{ends_without}
+use Rattle.mvo_tale.proofs.Gone.{open_after, open_there, set_gone, gone_more, closed_gone, ends_gone, ends_closed}
 use Rattle.mvo_tale.proofs.tale.Tale.leave.Goals as goal
+
+is_open : (xs ys : List Slot) (p : ℕ) → xs ≡ ys → IsSome (open_end_at ys p) → IsSome (open_end_at xs p)
+is_open xs ys p i h = subst (λ (zs : List Slot). IsSome (open_end_at zs p)) (sym i) h
+
+pub overflow_sub-place : goal.overflow_sub-place
+overflow_sub-place c =
+    let g = c.self.inside.gone in
+    let xs = c.self.inside.slots.items in
+    open_after g c.args.place xs (is_open (behind_gone g xs) c.args.self.now c.args.place c.self.view_is c.requires)
+
+pub index_mut-requires : goal.index_mut-requires
+index_mut-requires c =
+    let g = c.self.inside.gone in
+    let xs = c.self.inside.slots.items in
+    let lt = open_there g c.args.place xs (is_open (behind_gone g xs) c.args.self.now c.args.place c.self.view_is c.requires) in
+    omega arith
 
 pub invariant_of-self : goal.invariant_of-self
 invariant_of-self c =
-    let emptied = slice_set c.self.inside.slots.items c.args.place Empty in
-    let left =
-    c.truncate.ensures.items
-    ∙ ap (take c.kept_len-kept.result) (sym c.deref.ensures.value)
-    ∙ c.kept_len-kept.ensures
-    ∙ ap without_empty_back c.deref.ensures.value in
-    subst AreRising (sym (ap ends left ∙ ends_without emptied)) (rising_emptied c.self.inside.slots.items c.args.place c.self.invariant)
+    let g = c.self.inside.gone in
+    let xs = c.self.inside.slots.items in
+    let k = c.drop_back-gone.result in
+    let ys = c.drop_back-gone.new.slots.items in
+    let emptied = slice_set xs (c.args.place - g) Empty in
+    let same = sym (ends_gone k ys) ∙ ap ends c.drop_back-gone.ensures.same ∙ ends_closed emptied in
+    let few = c.drop_back-gone.ensures.few in
+    let len = length-set xs (c.args.place - g) Empty in
+    let below = c.self.invariant.1 in
+    (subst AreRising (sym same) (rising_emptied xs (c.args.place - g) c.self.invariant.0), omega arith)
+
+pub returns : goal.returns
+returns c =
+    let g = c.self.inside.gone in
+    let xs = c.self.inside.slots.items in
+    let k = c.drop_back-gone.result in
+    let ys = c.drop_back-gone.new.slots.items in
+    let emptied = slice_set xs (c.args.place - g) Empty in
+    let le = open_after g c.args.place xs (is_open (behind_gone g xs) c.args.self.now c.args.place c.self.view_is c.requires) in
+    sym (gone_more g k ys)
+    ∙ ap (behind_gone g) c.drop_back-gone.ensures.same
+    ∙ closed_gone g emptied
+    ∙ ap closed_up (set_gone g c.args.place Empty xs le
+    ∙ ap (λ (zs : List Slot). slice_set zs c.args.place Empty) c.self.view_is)

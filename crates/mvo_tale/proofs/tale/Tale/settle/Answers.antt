@@ -1,9 +1,43 @@
-use Rattle.std.proofs.Common.{◌≡◌, List, Some, sym, subst}
+use Rattle.std.proofs.Common.{◌≡◌, ℕ, ◌-◌, ◌≤◌, List, Some, sym, ap, ◌∙◌, subst, arith}
+use Rattle.std.specs.Prelude.{is_some, slice_set, IsSome}
 use Rattle.mvo_tale.specs.declared.slot.Slot.{Slot}
+use Rattle.mvo_tale.specs.declared.slot.Slot.TheVariants.{Settled}
 use Rattle.mvo_tale.specs.Slots.{AreRising, open_end_at}
+use Rattle.mvo_tale.specs.Forgetting.{behind_gone}
 use Rattle.mvo_tale.proofs.Rising.{ends_settled}
+use Rattle.mvo_tale.proofs.Gone.{open_after, open_moved, open_there, set_gone}
 use Rattle.mvo_tale.proofs.tale.Tale.settle.Goals as goal
+
+is_open : (xs ys : List Slot) (p e : ℕ) → xs ≡ ys → open_end_at ys p ≡ Some e → open_end_at xs p ≡ Some e
+is_open xs ys p e i h = ap (λ (zs : List Slot). open_end_at zs p) i ∙ h
+
+pub overflow_sub-place : goal.overflow_sub-place
+overflow_sub-place c =
+    let g = c.self.inside.gone in
+    let xs = c.self.inside.slots.items in
+    open_after g c.args.place xs (ap is_some (is_open (behind_gone g xs) c.args.self.now c.args.place c.args.entry.end c.self.view_is c.requires))
+
+pub index_mut-requires : goal.index_mut-requires
+index_mut-requires c =
+    let g = c.self.inside.gone in
+    let xs = c.self.inside.slots.items in
+    let lt = open_there g c.args.place xs (ap is_some (is_open (behind_gone g xs) c.args.self.now c.args.place c.args.entry.end c.self.view_is c.requires)) in
+    omega arith
 
 pub invariant_of-self : goal.invariant_of-self
 invariant_of-self c =
-    subst AreRising (sym (ends_settled c.self.inside.slots.items c.args.place c.args.entry (subst (λ (xs : List Slot). open_end_at xs c.args.place ≡ Some c.args.entry.end) (sym c.self.view_is) c.requires))) c.self.invariant
+    let g = c.self.inside.gone in
+    let xs = c.self.inside.slots.items in
+    let h = is_open (behind_gone g xs) c.args.self.now c.args.place c.args.entry.end c.self.view_is c.requires in
+    let le = open_after g c.args.place xs (ap is_some h) in
+    let there = sym (open_moved g c.args.place xs le) ∙ h in
+    (subst AreRising (sym (ends_settled xs (c.args.place - g) c.args.entry there)) c.self.invariant.0, c.self.invariant.1)
+
+pub returns : goal.returns
+returns c =
+    let g = c.self.inside.gone in
+    let xs = c.self.inside.slots.items in
+    let h = is_open (behind_gone g xs) c.args.self.now c.args.place c.args.entry.end c.self.view_is c.requires in
+    let le = open_after g c.args.place xs (ap is_some h) in
+    set_gone g c.args.place (Settled c.args.entry) xs le
+    ∙ ap (λ (zs : List Slot). slice_set zs c.args.place (Settled c.args.entry)) c.self.view_is
