@@ -13,7 +13,7 @@ use Rattle.mvo_tale.specs.Timeline.{ArePlacesOf}
 use Rattle.std.specs.Prelude.{nat_le}
 use Rattle.std.proofs.lemmas.Bool.{leb-true}
 use Rattle.mvo_tale.specs.Forgetting.{forgotten}
-use Rattle.mvo_tale.specs.Kept.{MayGo, HasTale, TrimKeepsTale, CloseKeepsTale, ForgettingKeepsTale, WholeIsTale}
+use Rattle.mvo_tale.specs.Kept.{MayGo, IsTale, HasTale, TrimKeepsTale, CloseKeepsTale, ForgettingKeepsTale, WholeIsTale}
 
 -- ---- places of two lists one after another
 pub record ArePartedPlaces (slots : List Slot) (xs ys : List StampedTx) : Type 0 where
@@ -49,9 +49,9 @@ pub tale_trimmed : TrimKeepsTale
 tale_trimmed s m slots rising le h = record {
   gone = h.gone;
   kept = h.kept ++ filter (is_to m) s.stamped;
-  past = ap (λ (xs : List StampedTx). xs ++ filter (is_to m) s.stamped) h.past ∙ append_assoc h.gone h.kept (filter (is_to m) s.stamped);
+  parts = ap (λ (xs : List StampedTx). xs ++ filter (is_to m) s.stamped) h.parts ∙ append_assoc h.gone h.kept (filter (is_to m) s.stamped);
   places = subst (ArePlacesOf slots) (ap (λ (xs : List StampedTx). h.kept ++ xs) (sym (parted m s.stamped rising)) ∙ sym (append_assoc h.kept (filter (is_to m) s.stamped) (filter (is_after m) s.stamped))) h.places;
-  may = each_weaker (MayGo s) (MayGo (after_trim s m)) (λ x g. record { trimmed = (let l = g.trimmed in omega (arith, l, le)); grouped = g.grouped }) h.gone h.may;
+  may = each_weaker (MayGo s.start s.marks.closed) (MayGo m s.marks.closed) (λ x g. record { trimmed = (let l = g.trimmed in omega (arith, l, le)); grouped = g.grouped }) h.gone h.may;
 }
 
 -- ---- a group is closed
@@ -59,14 +59,14 @@ pub tale_closed : CloseKeepsTale
 tale_closed s mark slots le h = record {
   gone = h.gone;
   kept = h.kept;
-  past = h.past;
+  parts = h.parts;
   places = h.places;
-  may = each_weaker (MayGo s) (MayGo (after_close s mark)) (λ x g. record { trimmed = g.trimmed; grouped = (let l = g.grouped in omega (arith, l, le)) }) h.gone h.may;
+  may = each_weaker (MayGo s.start s.marks.closed) (MayGo s.start mark) (λ x g. record { trimmed = g.trimmed; grouped = (let l = g.grouped in omega (arith, l, le)) }) h.gone h.may;
 }
 
 -- ---- the front goes: an empty place
 pub empty_goes : (s : State) (slots : List Slot) → HasTale s (Empty ∷ slots) → HasTale s slots
-empty_goes s slots h = record { gone = h.gone; kept = h.kept; past = h.past; places = go (h.kept ++ s.stamped) h.places; may = h.may }
+empty_goes s slots h = record { gone = h.gone; kept = h.kept; parts = h.parts; places = go (h.kept ++ s.stamped) h.places; may = h.may }
   where
     go : (xs : List StampedTx) → ArePlacesOf (Empty ∷ slots) xs → ArePlacesOf slots xs
     go [] p = p
@@ -74,7 +74,7 @@ empty_goes s slots h = record { gone = h.gone; kept = h.kept; past = h.past; pla
 
 -- a commit that ends at most at the start and is in a group
 pub settled_goes : (s : State) (c : StoredCommit) (slots : List Slot) → IsStarted s → c.end ≤ s.start → c.end ≤ s.marks.closed → HasTale s (Settled c ∷ slots) → HasTale s slots
-settled_goes s c slots st low grouped h = go h.kept h.past h.places
+settled_goes s c slots st low grouped h = go h.kept h.parts h.places
   where
     later : (xs : List StampedTx) → AllByRecursion (λ x. s.start < x.end) xs → ArePlacesOf (Settled c ∷ slots) xs → ⊥
     later [] l p = p
@@ -85,18 +85,18 @@ settled_goes s c slots st low grouped h = go h.kept h.past h.places
     go (x ∷ kept) past p = record {
       gone = h.gone ++ x ∷ [];
       kept = kept;
-      past = past ∙ sym (append_assoc h.gone (x ∷ []) kept);
+      parts = past ∙ sym (append_assoc h.gone (x ∷ []) kept);
       places = p.1;
-      may = each_append (MayGo s) h.gone (x ∷ []) h.may (record { trimmed = (let i = p.0.end' in omega (arith, i, low)); grouped = (let i = p.0.end' in omega (arith, i, grouped)) }, tt);
+      may = each_append (MayGo s.start s.marks.closed) h.gone (x ∷ []) h.may (record { trimmed = (let i = p.0.end' in omega (arith, i, low)); grouped = (let i = p.0.end' in omega (arith, i, grouped)) }, tt);
     }
 
 -- ---- untrimmed, as the tale is when a core opens
 pub tale_whole : WholeIsTale
-tale_whole s slots e h = record { gone = []; kept = []; past = e; places = h; may = tt }
+tale_whole s slots e h = record { gone = []; kept = []; parts = e; places = h; may = tt }
 
 -- ---- it leaves an empty place
 empty_comes : (s : State) (slots : List Slot) → HasTale s slots → HasTale s (Empty ∷ slots)
-empty_comes s slots h = record { gone = h.gone; kept = h.kept; past = h.past; places = go (h.kept ++ s.stamped) h.places; may = h.may }
+empty_comes s slots h = record { gone = h.gone; kept = h.kept; parts = h.parts; places = go (h.kept ++ s.stamped) h.places; may = h.may }
   where
     go : (xs : List StampedTx) → ArePlacesOf slots xs → ArePlacesOf (Empty ∷ slots) xs
     go [] p = p

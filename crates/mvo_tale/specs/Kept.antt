@@ -9,18 +9,22 @@ use Rattle.mvo_tale.specs.Timeline.{ArePlacesOf}
 use Rattle.mvo_tale.specs.Forgetting.{forgotten}
 
 -- it ends at most at the start of the tale, and at most at the mark of the last group
-pub record MayGo (s : State) (x : StampedTx) : Type 0 where
-  pub trimmed : x.end ≤ s.start
-  pub grouped : x.end ≤ s.marks.closed
+pub record MayGo (start closed : ℕ) (x : StampedTx) : Type 0 where
+  pub trimmed : x.end ≤ start
+  pub grouped : x.end ≤ closed
 
 -- The places are those of all that have an end, but for some at the front that may be forgotten. Of
 -- those up to the start the ones that are in no group yet stay.
-pub record HasTale (s : State) (slots : List Slot) : Type 0 where
+pub record IsTale (start closed : ℕ) (past stamped : List StampedTx)
+    (slots : List Slot) : Type 0 where
   pub gone : List StampedTx
   pub kept : List StampedTx
-  pub past : s.past ≡ gone ++ kept
-  pub places : ArePlacesOf slots (kept ++ s.stamped)
-  pub may : AllByRecursion (MayGo s) gone
+  pub parts : past ≡ gone ++ kept
+  pub places : ArePlacesOf slots (kept ++ stamped)
+  pub may : AllByRecursion (MayGo start closed) gone
+
+abbrev pub HasTale : State → List Slot → Type 0
+HasTale s slots = IsTale s.start s.marks.closed s.past s.stamped slots
 
 -- ---- laws
 -- A trim keeps the places: what was stamped up to the new start stays for its group.
