@@ -68,7 +68,7 @@ fn next_due(versions: &Versions, waiting: &mut Waiting, start: Stamp) -> Option<
 }
 
 /// Whether nobody has put the version any more, and nobody has ended it.
-fn is_dead(versions: &Versions, number: VersionNo) -> bool
+pub fn is_dead(versions: &Versions, number: VersionNo) -> bool
     ensures { result ≡ is_dead_at versions.now.slots number }
 {
     match versions.get(number) {

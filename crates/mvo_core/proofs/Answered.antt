@@ -12,7 +12,7 @@ use Rattle.mvo_types.specs.Keys.{Map}
 use Rattle.mvo_model.specs.History.{write_of}
 use Rattle.mvo_model.specs.Trace.{Step}
 use Rattle.mvo_model.specs.Trace.Step.{Answers}
-use Rattle.mvo_theory.specs.State.{State, ActiveTx, StampedTx, Claim, active_of}
+use Rattle.mvo_theory.specs.State.{State, ActiveTx, StampedTx, Claim, Marks, active_of}
 use Rattle.mvo_theory.specs.Phases.{phase_in}
 use Rattle.mvo_theory.specs.Claims.{new_claim}
 use Rattle.mvo_theory.specs.Changes.{with_answer, after_operation, taken_over, after_answer}
@@ -28,7 +28,7 @@ use Rattle.mvo_deps.specs.declared.node.Node.{Node}
 use Rattle.mvo_deps.specs.Nodes.{after_register_all}
 use Rattle.mvo_chain.specs.declared.version.Version.{Version}
 use Rattle.mvo_tale.specs.declared.slot.Slot.{Slot}
-use Rattle.mvo_tale.specs.Timeline.{ArePlacesOf}
+use Rattle.mvo_tale.specs.Kept.{IsTale}
 use Rattle.mvo_versions.specs.Data.{VersionsData, AreIndexed}
 use Rattle.mvo_representation.specs.Words.{Phases}
 use Rattle.mvo_representation.specs.Versions.{AreVersionsOf}
@@ -40,6 +40,7 @@ use Rattle.mvo_representation.specs.Table.{phases_of}
 use Rattle.mvo_representation.specs.WordLists.{HasWordLists}
 use Rattle.mvo_representation.proofs.OrderAborts.{same_stay_in_order}
 use Rattle.mvo_representation.proofs.WordsKept.{answer_keeps_lists}
+use Rattle.mvo_collect.proofs.Over.{each_call_keeps_over}
 use Rattle.mvo_core.specs.declared.transaction.Transaction.{Transaction}
 use Rattle.mvo_core.specs.Data.{CoreData, own_of}
 use Rattle.mvo_core.specs.Standing.{StandsFor, HasWorks, IsActive, IsPreparing, words_in}
@@ -169,11 +170,11 @@ module _ (opening : Map) (steps : List Step) (s : State) (c : CoreData) (h : Sta
         (same_stay_in_order s.start (state_of c.table) (state_of table) v.slots v.slots v.lists states (λ m. refl) w.order);
     works = works_answered opening steps s c h t r w.found op a ids table w.told;
     words = w.words;
-    tale = subst (ArePlacesOf c.tale) (sym beside.1) h.tale;
+    tale = subst (λ (q : ℕ × Marks × List StampedTx × List StampedTx). IsTale q.0 q.1.closed q.2 q.3 c.tale) (λ i. (sym beside.0 i, sym beside.2 i, sym beside.3 i, sym beside.1 i)) h.tale;
     marks = beside.2 ∙ h.marks;
     grouped = h.grouped;
     start = beside.0 ∙ h.start;
-    past = beside.3 ∙ h.past;
+    over = each_call_keeps_over opening steps s (phases_of (state_of c.table)) (all_versions c.versions.slots) (Do t.0 op) Accepted h.versions.kept may_come h.versions.versions h.over;
   }
 
   pub answer_leads : LeadsOn opening steps s (Do t.0 op) Accepted (record c { versions = v; table = table })

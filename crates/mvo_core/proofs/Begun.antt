@@ -34,6 +34,7 @@ use Rattle.mvo_representation.specs.Table.{phases_of}
 use Rattle.mvo_representation.specs.WordLists.{HasWordLists}
 use Rattle.mvo_representation.proofs.TableNodes.{begun_state, begun_others}
 use Rattle.mvo_core.specs.declared.transaction.Transaction.{Transaction}
+use Rattle.mvo_collect.proofs.Over.{each_call_keeps_over}
 use Rattle.mvo_core.specs.Data.{CoreData, own_of}
 use Rattle.mvo_core.specs.Standing.{StandsFor, HasWorks, IsActive, Stands, words_by, words_in}
 use Rattle.mvo_core.specs.Steps.{came, LeadsOn}
@@ -138,7 +139,7 @@ module _ (opening : Map) (steps : List Step) (s : State) (c : CoreData) (h : Sta
       marks = h.marks;
       grouped = h.grouped;
       start = h.start;
-      past = h.past;
+      over = each_call_keeps_over opening steps s (phases_of (state_of c.table)) (all_versions c.versions.slots) Begin Accepted h.versions.kept may h.versions.versions h.over;
     }
 
     pub begin_leads : (r : Result TxId Refusal) (table : Txns (Node Transaction)) → OnOk r (table ≡ after_begin c.table node) → OnOk r (why_not_begun c.table ≡ None)

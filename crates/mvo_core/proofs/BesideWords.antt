@@ -1,5 +1,5 @@
 -- What a core stands for beside the lists of words, as it finishes an ended transaction.
-use Rattle.std.proofs.Common.{◌≡◌, ◌≢◌, ℕ, ◌++◌, Bool, true, false, cond, List, [], Option, None, Some, refl, sym, ap, ◌∙◌, subst, inl, inr}
+use Rattle.std.proofs.Common.{◌≡◌, ◌≢◌, ℕ, ◌++◌, Bool, true, false, cond, List, Option, None, Some, refl, sym, ap, ◌∙◌, subst, inl, inr}
 use Rattle.std.specs.Option.{option_map}
 use Rattle.mvo_types.specs.Keys.{Map}
 use Rattle.mvo_model.specs.Trace.{Step}
@@ -27,7 +27,7 @@ use Rattle.mvo_word.specs.declared.held.Held.{Held}
 use Rattle.mvo_work.specs.declared.word_place.WordPlace.{WordPlace}
 use Rattle.mvo_work.specs.declared.word_place.WordPlace.TheVariants.{Begin, End}
 use Rattle.mvo_tale.specs.declared.slot.Slot.{Slot}
-use Rattle.mvo_tale.specs.Timeline.{ArePlacesOf}
+use Rattle.mvo_tale.specs.Kept.{HasTale}
 use Rattle.mvo_tale.specs.Next.{AreGroupedTo}
 use Rattle.mvo_versions.specs.Data.{VersionsData}
 use Rattle.mvo_versions.specs.Changes.{IsReworded}
@@ -44,6 +44,8 @@ use Rattle.mvo_representation.specs.WordLists.{HasWordLists, HaveListNow, number
 use Rattle.mvo_representation.proofs.TableNodes.{written_state, left_state, left_others}
 use Rattle.mvo_representation.proofs.WordPlaces.{names_here}
 use Rattle.mvo_representation.proofs.WordsSaid.{ended_not_active, ended_not_preparing}
+use Rattle.mvo_collect.proofs.Over.{each_call_keeps_over}
+use Rattle.mvo_collect.specs.Begun.{AreOver}
 use Rattle.mvo_core.specs.declared.transaction.Transaction.{Transaction}
 use Rattle.mvo_core.specs.Data.{CoreData, own_of}
 use Rattle.mvo_core.specs.Standing.{StandsFor, HasWorks, IsActive, IsPreparing, words_by, words_in}
@@ -58,11 +60,11 @@ pub record StandsBeside (opening : Map) (steps : List Step) (s : State) (c : Cor
   pub dependencies : HasDependencies s c.table
   pub order : AllStandInOrder s.start (state_of c.table) c.versions.slots c.versions.lists
   pub works : HasWorks s c.table c.tale
-  pub tale : ArePlacesOf c.tale s.stamped
+  pub tale : HasTale s c.tale
   pub marks : s.marks ≡ record { opening = c.opening; closed = c.closed }
   pub grouped : AreGroupedTo c.tale c.grouped c.closed
-  pub start : s.start ≡ c.opening
-  pub past : s.past ≡ []
+  pub start : s.start ≡ c.start
+  pub over : AreOver s
 
 pub beside : (opening : Map) (steps : List Step) (s : State) (c : CoreData) → StandsFor opening steps s c → StandsBeside opening steps s c
 beside opening steps s c h = record {
@@ -74,7 +76,7 @@ beside opening steps s c h = record {
   marks = h.marks;
   grouped = h.grouped;
   start = h.start;
-  past = h.past;
+  over = h.over;
 }
 
 pub with_lists : (opening : Map) (steps : List Step) (s : State) (c : CoreData) → StandsBeside opening steps s c → HasWordLists s c.versions.slots (words_in c.table) → StandsFor opening steps s c
@@ -88,7 +90,7 @@ with_lists opening steps s c h l = record {
   marks = h.marks;
   grouped = h.grouped;
   start = h.start;
-  past = h.past;
+  over = h.over;
 }
 
 -- ---- what is written of one transaction
@@ -174,7 +176,7 @@ module _ (opening : Map) (steps : List Step) (s : State) (c : CoreData) (h : Sta
     marks = h.marks;
     grouped = h.grouped;
     start = h.start;
-    past = h.past;
+    over = h.over;
   }
 
   -- a word that names it is finished
@@ -210,7 +212,7 @@ module _ (opening : Map) (steps : List Step) (s : State) (c : CoreData) (h : Sta
         marks = h.marks;
         grouped = h.grouped;
         start = h.start;
-        past = h.past;
+        over = h.over;
       })
 
   -- ---- the state goes on
@@ -232,19 +234,22 @@ module _ (opening : Map) (steps : List Step) (s : State) (c : CoreData) (h : Sta
   -- in the state with other ended ones, where the table has these works
   beside_after : (table : Txns (Node Transaction))
       → representation.StandsFor opening (steps ++ steps_of s (Finish u.id) Accepted) (changes.after_finish s u.id) (state_of table) c.versions.slots c.versions.lists c.versions.places
-      → HasDependencies (changes.after_finish s u.id) table → AllStandInOrder s.start (state_of table) c.versions.slots c.versions.lists → HasWorks s table c.tale
+      → HasDependencies (changes.after_finish s u.id) table → AllStandInOrder s.start (state_of table) c.versions.slots c.versions.lists → HasWorks s table c.tale → AreOver (changes.after_finish s u.id)
       → StandsBeside opening (steps ++ steps_of s (Finish u.id) Accepted) (changes.after_finish s u.id) (record c { table = table })
-  beside_after table versions deps order works = record {
+  beside_after table versions deps order works over = record {
     versions = versions;
     dependencies = deps;
     order = subst (λ (x : State). AllStandInOrder x.start (state_of table) c.versions.slots c.versions.lists) (sym (finish_is s u.id)) order;
     works = subst (λ (x : State). HasWorks x table c.tale) (sym (finish_is s u.id)) (record { active = works.active; preparing = works.preparing });
-    tale = subst (λ (x : State). ArePlacesOf c.tale x.stamped) (sym (finish_is s u.id)) h.tale;
+    tale = subst (λ (x : State). HasTale x c.tale) (sym (finish_is s u.id)) h.tale;
     marks = ap (λ (x : State). x.marks) (finish_is s u.id) ∙ h.marks;
     grouped = h.grouped;
     start = ap (λ (x : State). x.start) (finish_is s u.id) ∙ h.start;
-    past = ap (λ (x : State). x.past) (finish_is s u.id) ∙ h.past;
+    over = over;
   }
+
+  over_finished : MayCome s (Finish u.id) Accepted → AreOver (changes.after_finish s u.id)
+  over_finished may = each_call_keeps_over opening steps s (phases_of (state_of c.table)) (all_versions c.versions.slots) (Finish u.id) Accepted h.versions.kept may h.versions.versions h.over
 
   none_done : is_done s u.id ≡ false → is_done s u.id ≡ true → IsUnnamed u.id (all_versions c.versions.slots)
   none_done more last = absurd (false≢true (sym more ∙ last))
@@ -253,7 +258,7 @@ module _ (opening : Map) (steps : List Step) (s : State) (c : CoreData) (h : Sta
   pub beside_word : MayCome s (Finish u.id) Accepted → is_done s u.id ≡ false → StandsBeside opening (steps ++ steps_of s (Finish u.id) Accepted) (changes.after_finish s u.id) c
   beside_word may more =
       let deps = word_in_table s c.table u.id h.dependencies more in
-      beside_after c.table (versions_after may c.table deps (none_done more)) deps h.order h.works
+      beside_after c.table (versions_after may c.table deps (none_done more)) deps h.order h.works (over_finished may)
 
   -- none is left: it leaves
   left_own : (v : ℕ) → v ≢ u.id → own_of (after_terminate c.table u.id) v ≡ own_of c.table v
@@ -267,3 +272,4 @@ module _ (opening : Map) (steps : List Step) (s : State) (c : CoreData) (h : Sta
       beside_after table (versions_after may table deps (λ y. unnamed)) deps
       (leaving_in_order s.start (state_of c.table) (state_of table) c.versions.slots c.versions.lists u.id (λ v ne. left_others c.table u.id v ne) (left_state c.table u.id) unnamed h.order)
       (works_of_others s c.table table c.tale u.id u h.versions.kept.single e left_own h.works)
+      (over_finished may)

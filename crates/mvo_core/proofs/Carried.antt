@@ -111,7 +111,7 @@ module _ (opening : Map) (steps : List Step) (s : State) (c : CoreData) (h : Sta
     marks = h.marks;
     grouped = h.grouped;
     start = h.start;
-    past = h.past;
+    over = h.over;
   } where
     states : state_of c.table ≡ state_of (after_write c.table t new)
     states = λ i u. sym (written_state c.table t node new was same u) i

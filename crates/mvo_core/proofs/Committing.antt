@@ -1,5 +1,5 @@
 -- A Preparing transaction is settled: what the core stands for then.
-use Rattle.std.proofs.Common.{◌≡◌, ◌≢◌, ℕ, Bool, true, false, not, cond, List, ◌++◌, append-nil, Option, None, Some, map, refl, sym, ap, ◌∙◌, subst}
+use Rattle.std.proofs.Common.{◌≡◌, ◌≢◌, ℕ, ◌<◌, Bool, true, false, not, cond, List, ◌++◌, append-nil, Option, None, Some, map, refl, sym, ap, ◌∙◌, subst}
 use Rattle.std.specs.Prelude.{IsSome, ◌==◌, ◌||◌, slice_set, MatchOption}
 use Rattle.std.specs.Option.{is_some, option_map}
 use Rattle.std.specs.List.{AllByRecursion}
@@ -32,6 +32,7 @@ use Rattle.mvo_deps.specs.Waiting.{IsLeastOpen, HasNoneOpen}
 use Rattle.mvo_tale.specs.declared.slot.Slot.{Slot}
 use Rattle.mvo_tale.specs.declared.slot.Slot.TheVariants.{Settled}
 use Rattle.mvo_tale.specs.Stored.{StoredCommit}
+use Rattle.mvo_tale.specs.Kept.{IsTale}
 use Rattle.mvo_tale.specs.Slots.{open_end_at}
 use Rattle.mvo_tale.proofs.Moving.{grouped_settled}
 use Rattle.mvo_representation.specs.WordLists.{HasWordLists}
@@ -53,7 +54,8 @@ use Rattle.mvo_core.proofs.GivenUp.{settle_given_up}
 use Rattle.mvo_core.proofs.OwnChanged.{IsOwnChanged, own_changed, words_stay}
 use Rattle.mvo_core.proofs.Reporting.{own_same, says_same, words_same, stands_now, others_stand}
 use Rattle.mvo_core.proofs.Rest.{HasRest, preparing_there, stands_then}
-use Rattle.mvo_core.proofs.TaleMoves.{IsCommitOf, open_beside, places_settled}
+use Rattle.mvo_core.proofs.KeptTale.{tale_settled}
+use Rattle.mvo_core.proofs.TaleMoves.{IsCommitOf, open_beside}
 use Rattle.mvo_core.proofs.Undone.{IsKeptOfPreparing, kept_of_preparing, place_open}
 
 or_parts : (a b : Bool) → (a || b) ≡ false → (a ≡ false) × (b ≡ false)
@@ -210,12 +212,12 @@ module _ (opening : Map) (steps : List Step) (s : State) (c : CoreData) (h : Sta
       rest : HasRest (after_commit s t.0 x.end) table (slice_set c.tale place (Settled entry)) c
       rest = record {
         works = works_after;
-        tale = subst (λ (n : ℕ). Rattle.mvo_tale.specs.Timeline.ArePlacesOf (slice_set c.tale place (Settled entry)) (map (with_settled n) s.stamped)) (sym x_ends)
-            (places_settled c.tale s.stamped place entry h.tale h.versions.kept.sound.rising at is_commit);
+        tale = subst (λ (n : ℕ). IsTale s.start s.marks.closed s.past (map (with_settled n) s.stamped) (slice_set c.tale place (Settled entry))) (sym x_ends)
+            (tale_settled s c.tale h.versions.kept.started h.versions.kept.sound.rising h.tale place entry at
+            (subst (λ (n : ℕ). s.start < n) x_ends (found_holds (λ y. s.start < y.end) t.0 s.stamped x there.1 h.versions.kept.started.later).0) is_commit);
         marks = h.marks;
         grouped = grouped_settled c.tale c.grouped c.closed place entry (ap is_some at) h.grouped;
         start = h.start;
-        past = h.past;
       }
 
       after_is : HasNoneOpen c.table (data_of c.table t).on → after_settle s t.0 ≡ after_commit s t.0 x.end

@@ -94,6 +94,9 @@ module _ (opening : Map) (steps : List Step) (s : State) (c : CoreData) (h : Sta
         on = subst (λ (x : Shown). AreDependencies s (Delete k) here.tx (option_to_list x.depends_on)) (sym shown) (names_just opening steps s c h t.0 here.tx here.found k (Delete k) refl)
 
         -- for want of memory
+        pub delete_starved : LeadsOn opening steps s (Do t.0 (Delete k)) (Refused OutOfMemory) c
+        delete_starved = spent_leads opening steps s t.0 (Delete k) c may h
+
         pub delete_spent : (table : Txns (Node Transaction)) → IsWritten c.table table t.0 HasDoneAsMuch → LeadsOn opening steps s (Do t.0 (Delete k)) (Refused OutOfMemory) (record c { table = table })
         delete_spent table w = spent_leads opening steps s t.0 (Delete k) (record c { table = table }) may (stands_as_much opening steps s c h t.0 table w)
 

@@ -15,12 +15,11 @@ use Rattle.mvo_theory.specs.State.{State, ActiveTx, active_of}
 use Rattle.mvo_theory.specs.Causes.{when, why_not_precommit}
 use Rattle.mvo_theory.specs.Changes.{to_stamped, after_prepare}
 use Rattle.mvo_theory.specs.Steps.{after_precommit_of, after_precommit}
-use Rattle.mvo_theory.specs.Sound.{IsPlaced as StandsPlaced}
 use Rattle.mvo_theory.specs.Calls.{IsRefusal, MayCome}
 use Rattle.mvo_theory.specs.Calls as theory
 use Rattle.mvo_theory.specs.Calls.Call.{Precommit}
 use Rattle.mvo_theory.specs.Calls.Result.{Accepted, Refused}
-use Rattle.mvo_theory.proofs.Each.{each_append, each_both, each_filter, each_map}
+use Rattle.mvo_theory.proofs.Each.{each_append, each_both, each_filter, each_weaker}
 use Rattle.mvo_theory.proofs.Who.{active_holds, id_of}
 use Rattle.mvo_txn.specs.declared.state.TxState.TheVariants.{Active, Preparing}
 use Rattle.mvo_txn.specs.Txns as txns
@@ -31,7 +30,6 @@ use Rattle.mvo_tale.specs.declared.slot.Slot.{Slot}
 use Rattle.mvo_tale.specs.declared.slot.Slot.TheVariants.{Open}
 use Rattle.mvo_tale.specs.Slots.{ends, open_end_at}
 use Rattle.mvo_tale.proofs.Moving.{grouped_opened}
-use Rattle.mvo_tale.proofs.NextGroups.{ends_of_places, places_opened}
 use Rattle.mvo_representation.specs.Table.{phase_as, phases_of}
 use Rattle.mvo_representation.specs.Order.{IsWritten as HasWritten, MayAbort, with_fronts}
 use Rattle.mvo_representation.specs.WordLists.{HasWordLists}
@@ -51,10 +49,11 @@ use Rattle.mvo_core.proofs.EndLaws.{precommit_in_table, draw_in_order, precommit
 use Rattle.mvo_core.proofs.GivenUp.{precommit_given_up}
 use Rattle.mvo_core.proofs.OwnChanged.{IsOwnChanged, own_changed, words_stay, some_own}
 use Rattle.mvo_core.proofs.Rest.{HasRest, stands_then}
+use Rattle.mvo_core.proofs.KeptTale.{tale_opened, ends_upto}
 use Rattle.mvo_core.proofs.TaleMoves.{open_behind, open_last}
 
 -- ---- numbers
-over_limit : (m n : ℕ) → n < m → nat_le m n ≡ false
+pub over_limit : (m n : ℕ) → n < m → nat_le m n ≡ false
 over_limit m n lt = go (nat_le m n) refl
   where
     go : (b : Bool) → nat_le m n ≡ b → b ≡ false
@@ -86,8 +85,8 @@ module _ (opening : Map) (steps : List Step) (s : State) (c : CoreData) (h : Sta
   pub ends_below : (e : ℕ) → e ≡ c.table.clock + 1 → AllByRecursion (λ earlier. earlier < e) (ends c.tale)
   ends_below e is =
       let clock = h.dependencies.stands.clock in
-      subst (AllByRecursion (λ earlier. earlier < e)) (sym (ends_of_places c.tale s.stamped h.tale))
-      (each_map (λ x. x.end) (StandsPlaced s.stamped s.clock) (λ earlier. earlier < e) (λ x p. let le = p.drawn in omega (arith, le, clock, is)) s.stamped h.versions.kept.sound.placed)
+      each_weaker (λ (earlier : ℕ). earlier ≤ s.clock) (λ (earlier : ℕ). earlier < e) (λ earlier le. omega (arith, le, clock, is)) (ends c.tale)
+      (ends_upto s c.tale h.versions.kept.started h.versions.kept.sound.rising h.tale h.versions.kept.sound.placed)
 
   module _ (t : TxId) (none : why_not_active c.table t.0 ≡ None) where
     pub was_active : state_of c.table t.0 ≡ Some Active
@@ -153,10 +152,10 @@ module _ (opening : Map) (steps : List Step) (s : State) (c : CoreData) (h : Sta
       its_own : active_of r.id s.active ≡ Some r
       its_own = subst (λ (n : ℕ). active_of n s.active ≡ Some r) (sym its_id) found.1
 
-      here : state_of table t.0 ≡ Some (Preparing end')
+      pub here : state_of table t.0 ≡ Some (Preparing end')
       here = state_now placed.seats t.0 (Preparing end') Active t.0 refl still_active
 
-      others : (u : ℕ) → u ≢ t.0 → state_of table u ≡ state_of c.table u
+      pub others : (u : ℕ) → u ≢ t.0 → state_of table u ≡ state_of c.table u
       others u ne = state_restated placed.seats t.0 (Preparing end') u ne ∙ change.states u
 
       same_words : words_in c.table ≡ words_in table
@@ -206,11 +205,10 @@ module _ (opening : Map) (steps : List Step) (s : State) (c : CoreData) (h : Sta
       rest : HasRest (after_prepare s r (s.clock + 1)) table tale c
       rest = record {
         works = works;
-        tale = places_opened c.tale s.stamped end' (to_stamped (s.clock + 1) r) h.tale refl (sym end_is);
+        tale = tale_opened s c.tale h.versions.kept.started h.versions.kept.sound.rising h.tale end' (to_stamped (s.clock + 1) r) refl (sym end_is);
         marks = h.marks;
         grouped = grouped_opened c.tale c.grouped c.closed end' h.grouped;
         start = h.start;
-        past = h.past;
       }
 
       -- ---- the core

@@ -74,7 +74,7 @@ final_none (Some (Preparing e)) w f = absurd f
 final_none (Some (Committed e)) w f = refl
 final_none (Some Aborted) w f = refl
 
-final_is : (o : Option TxState) (w : Held) → IsFinalWord o w → w ≡ word_of_stamp (end_in (phase_as o))
+pub final_is : (o : Option TxState) (w : Held) → IsFinalWord o w → w ≡ word_of_stamp (end_in (phase_as o))
 final_is None w f = absurd f
 final_is (Some Active) w f = absurd f
 final_is (Some (Preparing e)) w f = absurd f

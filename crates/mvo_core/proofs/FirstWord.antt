@@ -10,8 +10,8 @@ use Rattle.mvo_representation.proofs.WordPlaces.{names_there}
 use Rattle.mvo_core.specs.declared.transaction.Transaction.{Transaction}
 use Rattle.mvo_core.specs.Standing.{words_in}
 use Rattle.mvo_core.specs.Keeping.{IsWritten}
-use Rattle.mvo_core.specs.Finishing.{HasPassed}
-use Rattle.mvo_core.proofs.OwnChanged.{own_changed, words_here}
+use Rattle.mvo_core.specs.Finishing.{HasPassed, from_own}
+use Rattle.mvo_core.proofs.OwnChanged.{own_changed, words_here, words_before}
 use Rattle.mvo_core.proofs.Passed.{first_named}
 
 none_place : (p : WordPlace) → ◌≡◌ {A = Option WordPlace} None (Some p) → ⊥
@@ -38,3 +38,10 @@ first_there slots table between t p w first =
     let there = names_there slots t p (first_named slots t changed.before.work.words p here.rest
     (sym changed.changed.words ∙ sym (words_here table between t (HasPassed slots t) changed) ∙ here.is)) in
     subst IsSome (sym there.at) refl
+
+-- it is the first of the list that still names the transaction
+pub first_passed : (slots : Slots) (table between : Txns (Node Transaction)) (t : ℕ) → IsWritten table between t (HasPassed slots t) → slice_get (words_in between t) 0 ≡ slice_get (from_own slots t (words_in table t)) 0
+first_passed slots table between t w =
+    let changed = own_changed table between t (HasPassed slots t) w in
+    ap (λ (qs : List WordPlace). slice_get qs 0)
+    (words_here table between t (HasPassed slots t) changed ∙ changed.changed.words ∙ ap (from_own slots t) (sym (words_before table between t (HasPassed slots t) changed)))

@@ -57,18 +57,18 @@ none_word w q = cc
 some_word : (v w : WordPlace) → ◌≡◌ {A = Option WordPlace} (Some v) (Some w) → v ≡ w
 some_word v w q = cc
 
-taken_suc : (ws : List WordPlace) (k : ℕ) (w : WordPlace) → slice_get ws k ≡ Some w → take (suc k) ws ≡ take k ws ++ w ∷ []
+pub taken_suc : (ws : List WordPlace) (k : ℕ) (w : WordPlace) → slice_get ws k ≡ Some w → take (suc k) ws ≡ take k ws ++ w ∷ []
 taken_suc [] k w h = absurd (none_word w h)
 taken_suc (v ∷ ws) zero w h = ap (λ x. x ∷ []) (some_word v w h)
 taken_suc (v ∷ ws) (suc k) w h = ap (λ xs. v ∷ xs) (taken_suc ws k w h)
 
-taken_same : (ws : List WordPlace) (k : ℕ) → slice_get ws k ≡ None → take (suc k) ws ≡ take k ws
+pub taken_same : (ws : List WordPlace) (k : ℕ) → slice_get ws k ≡ None → take (suc k) ws ≡ take k ws
 taken_same [] zero h = refl
 taken_same [] (suc k) h = refl
 taken_same (v ∷ ws) zero h = absurd (none_word v (sym h))
 taken_same (v ∷ ws) (suc k) h = ap (λ xs. v ∷ xs) (taken_same ws k h)
 
-taken_all : (ws : List WordPlace) → take (length ws) ws ≡ ws
+pub taken_all : (ws : List WordPlace) → take (length ws) ws ≡ ws
 taken_all [] = refl
 taken_all (w ∷ ws) = ap (λ xs. w ∷ xs) (taken_all ws)
 

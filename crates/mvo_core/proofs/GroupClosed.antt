@@ -1,6 +1,7 @@
 -- A group is closed: what the core stands for then.
-use Rattle.std.proofs.Common.{◌≡◌, ◌<◌, ◌≤◌, ℕ, Bool, true, false, List, [], ◌∷◌, ◌++◌, Option, None, Some, refl, sym, ap, ◌∙◌, subst, arith}
-use Rattle.std.specs.Prelude.{◌==◌, ◌↔◌, IsTrue, Result, Ok, Err}
+use Rattle.std.proofs.Common.{◌≡◌, ◌<◌, ◌≤◌, ℕ, Bool, true, false, List, [], ◌∷◌, Option, None, Some, refl, sym, ap, ◌∙◌, subst, arith}
+use Rattle.std.specs.Prelude.{◌==◌, ◌↔◌, IsTrue, Result, Ok, Err, min}
+use Rattle.std.proofs.Math.Nat.{min-le_left, min-le_right}
 use Rattle.std.specs.Option.{SomeIff}
 use Rattle.std.specs.Result.{IsErrAnd}
 use Rattle.std.specs.List.{AllByRecursion}
@@ -12,7 +13,7 @@ use Rattle.mvo_types.specs.Keys.{Map}
 use Rattle.mvo_model.specs.Trace.{Step}
 use Rattle.mvo_group.specs.Data.{GroupData, group_of}
 use Rattle.mvo_group.specs.Rules.{KeepsRules}
-use Rattle.mvo_theory.specs.State.{State, StampedTx, Marks, timeline}
+use Rattle.mvo_theory.specs.State.{State, Marks}
 use Rattle.mvo_theory.specs.Marks.{IsClosedAt, low_water}
 use Rattle.mvo_theory.specs.Groups.{IsNextGroup}
 use Rattle.mvo_theory.specs.Changes.{after_close}
@@ -23,11 +24,12 @@ use Rattle.mvo_theory.proofs.Groups.{closed_at_low, closed_below_low, next_group
 use Rattle.mvo_txn.specs.Txns.{state_of, IsLowWater}
 use Rattle.mvo_deps.specs.declared.node.Node.{Node}
 use Rattle.mvo_tale.specs.declared.next_records.NextRecords.{NextRecords}
+use Rattle.mvo_tale.specs.declared.slot.Slot.{Slot}
+use Rattle.mvo_tale.specs.Forgetting.{forgotten}
 use Rattle.mvo_tale.specs.Slots.{open_ends}
 use Rattle.mvo_tale.specs.Records.{fits}
-use Rattle.mvo_tale.specs.Timeline.{ArePlacesOf}
 use Rattle.mvo_tale.specs.Next.{AreNextRecords}
-use Rattle.mvo_tale.proofs.NextGroups.{open_ends_above, next_group_is}
+use Rattle.mvo_tale.proofs.KeptPlaces.{tale_closed}
 use Rattle.mvo_representation.specs.DependencyLaws.{CloseInTable}
 use Rattle.mvo_representation.specs.TableLaws.{TellsLowWater}
 use Rattle.mvo_representation.specs.WordLaws.{CloseKeepsLists}
@@ -42,6 +44,8 @@ use Rattle.mvo_core.specs.declared.answers.Closed.{Closed}
 use Rattle.mvo_core.specs.Data.{CoreData}
 use Rattle.mvo_core.specs.Standing.{StandsFor, Stands, words_in}
 use Rattle.mvo_core.specs.Closing.{IsClosedNow, IsNotClosed, HasClosed}
+use Rattle.mvo_core.proofs.KeptTale.{opens_above, next_group_kept}
+use Rattle.mvo_core.proofs.Trimmed.{stands_forgotten}
 use Rattle.rtrb.specs.declared.producer.Producer.{Producer}
 
 close_in_table : CloseInTable Transaction
@@ -83,7 +87,7 @@ module _ (opening : Map) (steps : List Step) (s : State) (c : CoreData) (h : Sta
 
   -- ---- what the records of the next group need
   pub ends_above : AllByRecursion (λ e. low < e) (open_ends c.tale)
-  ends_above = subst (λ (n : ℕ). AllByRecursion (λ e. n < e) (open_ends c.tale)) (sym low_is) (open_ends_above (low_water s) c.tale s.stamped h.tale (closed_at_low opening steps s h.versions.kept).above)
+  ends_above = subst (λ (n : ℕ). AllByRecursion (λ e. n < e) (open_ends c.tale)) (sym low_is) (opens_above s c.tale h.versions.kept.started h.versions.kept.sound.rising h.tale (low_water s) (closed_at_low opening steps s h.versions.kept).above)
 
   pub above_closed : IsClosedAt s.marks.closed s → (low == c.closed) ≡ false → c.closed < low
   above_closed closed moved =
@@ -97,46 +101,54 @@ module _ (opening : Map) (steps : List Step) (s : State) (c : CoreData) (h : Sta
   low_drawn = subst (λ (n : ℕ). n ≤ s.clock) (sym low_is) (closed_at_low opening steps s h.versions.kept).drawn
 
   -- ---- the group
-  places : ArePlacesOf c.tale (timeline s)
-  places = subst (λ (xs : List StampedTx). ArePlacesOf c.tale (xs ++ s.stamped)) (sym h.past) h.tale
-
   module _ (n : NextRecords) (are : AreNextRecords c.tale c.closed low n) where
     in_state : AreNextRecords c.tale s.marks.closed (low_water s) n
     in_state = subst (λ (m : Marks). AreNextRecords c.tale m.closed (low_water s) n) (sym h.marks) (subst (λ (l : ℕ). AreNextRecords c.tale c.closed l n) low_is are)
 
     next_is : IsNextGroup fits s (record { prev = s.marks.closed; mark = n.mark.0; commits = in_state.taken })
-    next_is = next_group_is s c.tale n places in_state
+    next_is = next_group_kept s c.tale h.versions.kept.started h.versions.kept.sound.rising h.tale n in_state
 
-    pub stands_closed : StandsFor opening steps (after_close s n.mark.0) (record c { closed = n.mark.0; grouped = n.next })
-    stands_closed = record {
-      versions = record {
-        kept = kept_closed opening steps s n.mark.0 h.versions.kept;
-        versions = kept_after_close s (phases_of (state_of c.table)) (all_versions c.versions.slots) n.mark.0 h.versions.versions;
-        numbers = h.versions.numbers;
-        order = h.versions.order;
-      };
-      dependencies = close_in_table s c.table n.mark.0 h.dependencies;
-      order = h.order;
-      works = record { active = h.works.active; preparing = h.works.preparing };
-      words = close_in_lists s c.versions.slots (words_in c.table) n.mark.0 h.words;
-      tale = h.tale;
-      marks = ap (λ (m : Marks). record { opening = m.opening; closed = n.mark.0 }) h.marks;
-      grouped = are.next;
-      start = h.start;
-      past = h.past;
-    }
+    -- the new mark is the lowest that a group may have
+    module _ (up : c.closed < n.mark.0) where
+      up_in_state : s.marks.closed ≤ n.mark.0
+      up_in_state = subst (λ (m : Marks). m.closed ≤ n.mark.0) (sym h.marks) (omega (arith, up))
 
-    pub closed_now : (prev : Stamp) → prev.0 ≡ c.closed → KeepsRules (group_of c.closed n.mark.0 n.records.items)
-        → IsClosedNow opening steps s (record { prev = prev; mark = n.mark }) (record c { closed = n.mark.0; grouped = n.next }) (group_of c.closed n.mark.0 n.records.items)
-    closed_now prev was rules = record {
-      commits = in_state.taken;
-      next = subst (λ (m : Marks). IsNextGroup fits s (record { prev = m.closed; mark = n.mark.0; commits = in_state.taken })) h.marks next_is;
-      records = in_state.records;
-      rules = rules;
-      prev = sym was;
-      mark = refl;
-      stands = stands_closed;
-    }
+      with_group : StandsFor opening steps (after_close s n.mark.0) (record c { closed = n.mark.0; grouped = n.next })
+      with_group = record {
+        versions = record {
+          kept = kept_closed opening steps s n.mark.0 h.versions.kept;
+          versions = kept_after_close s (phases_of (state_of c.table)) (all_versions c.versions.slots) n.mark.0 h.versions.versions;
+          numbers = h.versions.numbers;
+          order = h.versions.order;
+        };
+        dependencies = close_in_table s c.table n.mark.0 h.dependencies;
+        order = h.order;
+        works = record { active = h.works.active; preparing = h.works.preparing };
+        words = close_in_lists s c.versions.slots (words_in c.table) n.mark.0 h.words;
+        tale = tale_closed s n.mark.0 c.tale up_in_state h.tale;
+        marks = ap (λ (m : Marks). record { opening = m.opening; closed = n.mark.0 }) h.marks;
+        grouped = are.next;
+        start = h.start;
+        over = h.over;
+      }
+
+      -- and what is both in a group and trimmed is forgotten
+      pub stands_closed : StandsFor opening steps (after_close s n.mark.0) (record c { tale = forgotten (min c.start n.mark.0) c.tale; closed = n.mark.0; grouped = n.next })
+      stands_closed = stands_forgotten opening steps (after_close s n.mark.0) (record c { closed = n.mark.0; grouped = n.next }) with_group (min c.start n.mark.0)
+          (subst (λ (m : ℕ). min c.start n.mark.0 ≤ m) (sym h.start) (min-le_left c.start n.mark.0)) (min-le_right c.start n.mark.0)
+
+      pub closed_now : (prev : Stamp) → prev.0 ≡ c.closed → KeepsRules (group_of c.closed n.mark.0 n.records.items)
+          → (tale : List Slot) → tale ≡ forgotten (min c.start n.mark.0) c.tale
+          → IsClosedNow opening steps s (record { prev = prev; mark = n.mark }) (record c { tale = tale; closed = n.mark.0; grouped = n.next }) (group_of c.closed n.mark.0 n.records.items)
+      closed_now prev was rules tale left = record {
+        commits = in_state.taken;
+        next = subst (λ (m : Marks). IsNextGroup fits s (record { prev = m.closed; mark = n.mark.0; commits = in_state.taken })) h.marks next_is;
+        records = in_state.records;
+        rules = rules;
+        prev = sym was;
+        mark = refl;
+        stands = subst (λ (xs : List Slot). StandsFor opening steps (after_close s n.mark.0) (record c { tale = xs; closed = n.mark.0; grouped = n.next })) (sym left) stands_closed;
+      }
 
     -- and all are settled up to its mark
     pub all_settled : IsClosedAt s.marks.closed s → IsClosedAt n.mark.0 (after_close s n.mark.0)
@@ -161,14 +173,15 @@ module _ (opening : Map) (steps : List Step) (s : State) (c : CoreData) (h : Sta
   no_memory full ne f = record { refused = subst (λ o. IsRefusal true o OutOfMemory) (moved_is full false ne f) refl; stands = h }
 
 -- ---- a core stands for the state with the group
-pub stands_with_group : {c : CoreData} (i : Stands c) (low : ℕ) → IsLowWater c.table low → (n : NextRecords) → AreNextRecords c.tale c.closed low n → Stands (record c { closed = n.mark.0; grouped = n.next })
-stands_with_group {c} i low told n are = record {
+pub stands_with_group : {c : CoreData} (i : Stands c) (low : ℕ) → IsLowWater c.table low → (n : NextRecords) → AreNextRecords c.tale c.closed low n → c.closed < n.mark.0
+    → (tale : List Slot) → tale ≡ forgotten (min c.start n.mark.0) c.tale → Stands (record c { tale = tale; closed = n.mark.0; grouped = n.next })
+stands_with_group {c} i low told n are up tale left = subst (λ (xs : List Slot). Stands (record c { tale = xs; closed = n.mark.0; grouped = n.next })) (sym left) (record {
   opening = i.opening;
   steps = i.steps;
   state = after_close i.state n.mark.0;
-  stands = stands_closed i.opening i.steps i.state c i.stands low told n are;
+  stands = stands_closed i.opening i.steps i.state c i.stands low told n are up;
   closed = all_settled i.opening i.steps i.state c i.stands low told n are i.closed;
-}
+})
 
 -- ---- what the code learns
 pub made : (o : Option GroupData) (x g : GroupData) → SomeIff o (KeepsRules g) g → o ≡ Some x → KeepsRules g × (g ≡ x)

@@ -58,6 +58,9 @@ module _ (opening : Map) (steps : List Step) (s : State) (c : CoreData) (h : Sta
     here = active_here opening steps s c h t.0 (active_if_put c.table t.0 row none)
 
     -- for want of memory
+    pub insert_starved : LeadsOn opening steps s (Do t.0 (Insert row)) (Refused OutOfMemory) c
+    insert_starved = spent_leads opening steps s t.0 (Insert row) c may h
+
     pub insert_spent : (table : Txns (Node Transaction)) → IsWritten c.table table t.0 HasDoneAsMuch → LeadsOn opening steps s (Do t.0 (Insert row)) (Refused OutOfMemory) (record c { table = table })
     insert_spent table w = spent_leads opening steps s t.0 (Insert row) (record c { table = table }) may (stands_as_much opening steps s c h t.0 table w)
 

@@ -24,6 +24,8 @@ pub mod Fronting
 pub mod Reporting
 pub mod Rest
 pub mod TaleMoves
+pub mod KeptTale
+pub mod Trimmed
 pub mod Undone
 pub mod EndCauses
 pub mod Held
@@ -46,3 +48,6 @@ pub mod SameRising
 pub mod ScanRefused
 pub mod ScanSame
 pub mod ScanAnswered
+pub mod Awaiting
+pub mod Waits
+pub mod WaitsOn

@@ -16,6 +16,7 @@ use Rattle.mvo_chain.specs.declared.version.Version.{Version}
 use Rattle.mvo_txn.specs.declared.seat.Seat.{Seat}
 use Rattle.mvo_txn.specs.Txns.{no_txns, state_of}
 use Rattle.mvo_deps.specs.declared.node.Node.{Node}
+use Rattle.mvo_visible.specs.Words.{States}
 use Rattle.mvo_versions.specs.Data.{VersionsData, AreIndexed}
 use Rattle.mvo_versions.specs.Changes.{AreLoaded}
 use Rattle.mvo_representation.specs.DependencyLaws.{OpenedTable}
@@ -28,6 +29,9 @@ use Rattle.mvo_representation.proofs.OrderOthers.{opening_stands_in_order}
 use Rattle.mvo_representation.proofs.Proved.{opens_so}
 use Rattle.mvo_representation.proofs.TableSteps.{table_opened}
 use Rattle.mvo_representation.proofs.WordsKept.{opening_has_lists}
+use Rattle.mvo_collect.specs.Waiting.{WaitingData, AreWaiting, IsNothing}
+use Rattle.mvo_collect.proofs.Needed.{opening_waits}
+use Rattle.mvo_collect.proofs.Over.{opens_over}
 use Rattle.mvo_core.specs.declared.transaction.Transaction.{Transaction}
 use Rattle.mvo_core.specs.Data.{CoreData}
 use Rattle.mvo_core.specs.Standing.{OpensAs, Stands, words_by, words_in}
@@ -62,25 +66,29 @@ module _ (rows : Map) (mark : ℕ) (v : VersionsData) (is : AreLoaded rows mark 
   words : HasWordLists (opened rows mark) v.slots (words_in (no_txns {P = Node Transaction} mark))
   words = subst (HasWordLists (opened rows mark) v.slots) (sym no_words) (opening_has_lists rows mark (state_of (no_txns {P = Node Transaction} mark)) v.slots versions)
 
-  pub opens : OpensAs rows mark (record { versions = v; table = no_txns mark; tale = []; opening = mark; closed = mark; grouped = 0 })
+  pub opens : OpensAs rows mark (record { versions = v; table = no_txns mark; tale = []; start = mark; opening = mark; closed = mark; grouped = 0 })
   opens = record {
     versions = record { kept = kept_opened rows mark; versions = versions; numbers = indexed.numbers; order = indexed.order };
     dependencies = opened_table rows mark;
     order = in_order;
     works = record { active = tt; preparing = tt };
     words = words;
-    tale = tt;
+    tale = record { gone = []; kept = []; parts = refl; places = tt; may = tt };
     marks = refl;
     grouped = record { behind = tt; settled = refl; grouped = tt };
     start = refl;
-    past = refl;
+    over = opens_over rows mark;
   }
 
+  -- nothing waits
+  pub opened_waits : (clock : ℕ) (states : States) (w : WaitingData) → IsNothing w → AreWaiting clock states v.slots w
+  opened_waits clock states w nothing = opening_waits clock mark states v.slots w (subst (AllByRecursion (IsLoadedAt mark)) (sym is) (all_loaded mark (fin.entries rows))) nothing
+
   -- what the table and the tale are
-  pub opens_as : (c : CoreData) → c.versions ≡ v → c.table ≡ no_txns mark → c.tale ≡ [] → c.opening ≡ mark → c.closed ≡ mark → c.grouped ≡ 0 → OpensAs rows mark c
-  opens_as c is_versions is_table is_tale is_opening is_closed is_grouped =
+  pub opens_as : (c : CoreData) → c.versions ≡ v → c.table ≡ no_txns mark → c.tale ≡ [] → c.start ≡ mark → c.opening ≡ mark → c.closed ≡ mark → c.grouped ≡ 0 → OpensAs rows mark c
+  opens_as c is_versions is_table is_tale is_start is_opening is_closed is_grouped =
       subst (OpensAs rows mark)
-      (λ i. record { versions = sym is_versions i; table = sym is_table i; tale = sym is_tale i; opening = sym is_opening i; closed = sym is_closed i; grouped = sym is_grouped i }) opens
+      (λ i. record { versions = sym is_versions i; table = sym is_table i; tale = sym is_tale i; start = sym is_start i; opening = sym is_opening i; closed = sym is_closed i; grouped = sym is_grouped i }) opens
 
 pub opened_stands : (rows : Map) (mark : ℕ) (c : CoreData) → OpensAs rows mark c → Stands c
 opened_stands rows mark c h = record { opening = rows; steps = []; state = opened rows mark; stands = h; closed = (chained_opened rows mark).closed }

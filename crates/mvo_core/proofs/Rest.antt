@@ -1,5 +1,5 @@
 -- What a core has beside versions and dependencies, after a step.
-use Rattle.std.proofs.Common.{◌≡◌, ℕ, ◌++◌, List, [], None, Some, sym, ap, ◌∙◌, subst, arith}
+use Rattle.std.proofs.Common.{◌≡◌, ℕ, ◌++◌, List, None, Some, sym, ap, ◌∙◌, subst, arith}
 use Rattle.mvo_types.specs.Keys.{Map}
 use Rattle.mvo_model.specs.Trace.{Step}
 use Rattle.mvo_theory.specs.State.{State, StampedTx, preparing_of, is_preparing_as}
@@ -12,7 +12,7 @@ use Rattle.mvo_txn.specs.declared.state.TxState.TheVariants.{Active, Preparing}
 use Rattle.mvo_txn.specs.Txns.{Txns, state_of}
 use Rattle.mvo_deps.specs.declared.node.Node.{Node}
 use Rattle.mvo_tale.specs.declared.slot.Slot.{Slot}
-use Rattle.mvo_tale.specs.Timeline.{ArePlacesOf}
+use Rattle.mvo_tale.specs.Kept.{HasTale}
 use Rattle.mvo_tale.specs.Next.{AreGroupedTo}
 use Rattle.mvo_representation.specs.Versions.{AreVersionsOf}
 use Rattle.mvo_representation.specs.Indexes.{all_versions, HasNumbers}
@@ -25,6 +25,7 @@ use Rattle.mvo_representation.proofs.Facts.{preparing_is}
 use Rattle.mvo_representation.proofs.Tabled.{active_is}
 use Rattle.mvo_hash.specs.Lists.{Lists}
 use Rattle.mvo_core.specs.declared.transaction.Transaction.{Transaction}
+use Rattle.mvo_collect.proofs.Over.{each_call_keeps_over}
 use Rattle.mvo_core.specs.Data.{CoreData}
 use Rattle.mvo_core.specs.Standing.{StandsFor, HasWorks, words_in}
 use Rattle.mvo_core.proofs.Laws.{call_keeps}
@@ -32,11 +33,10 @@ use Rattle.mvo_core.proofs.Laws.{call_keeps}
 -- the rest is that of the state: what is kept of each, the tale and the marks
 pub record HasRest (s : State) (table : Txns (Node Transaction)) (slots : List Slot) (c : CoreData) : Type 0 where
   pub works : HasWorks s table slots
-  pub tale : ArePlacesOf slots s.stamped
+  pub tale : HasTale s slots
   pub marks : s.marks ≡ record { opening = c.opening; closed = c.closed }
   pub grouped : AreGroupedTo slots c.grouped c.closed
-  pub start : s.start ≡ c.opening
-  pub past : s.past ≡ []
+  pub start : s.start ≡ c.start
 
 module _ (opening : Map) (steps : List Step) (s : State) (c : CoreData) (h : StandsFor opening steps s c) where
   -- one that is Active isn't Preparing
@@ -79,5 +79,5 @@ module _ (opening : Map) (steps : List Step) (s : State) (c : CoreData) (h : Sta
     marks = rest.marks;
     grouped = rest.grouped;
     start = rest.start;
-    past = rest.past;
+    over = each_call_keeps_over opening steps s (phases_of (state_of c.table)) (all_versions c.versions.slots) call r h.versions.kept may h.versions.versions h.over;
   }

@@ -48,5 +48,5 @@ module _ (opening : Map) (steps : List Step) (s : State) (c : CoreData) (h : Sta
     marks = h.marks;
     grouped = h.grouped;
     start = h.start;
-    past = h.past;
+    over = h.over;
   }

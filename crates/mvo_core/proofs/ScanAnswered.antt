@@ -32,9 +32,9 @@ module _ (opening : Map) (steps : List Step) (s : State) (c : CoreData) (h : Sta
   here : IsActiveHere s c t.0
   here = active_here opening steps s c h t.0 (active_if_looked c.table t.0 of (Range of lo hi) none)
 
-  module _ (rows : List RowData) (on : List TxId) (w : IsScanned (state_of c.table) c.versions c.opening t.0 of lo hi rows on) where
+  module _ (rows : List RowData) (on : List TxId) (w : IsScanned (state_of c.table) c.versions c.start t.0 of lo hi rows on) where
     seen : IsSeen (state_of c.table) c.versions s.start t.0 of lo hi rows on
-    seen = scan_seen opening steps s c h t.0 of lo hi rows on c.opening (sym h.start) here.state w
+    seen = scan_seen opening steps s c h t.0 of lo hi rows on c.start (sym h.start) here.state w
 
     rows_there : rows ≡ scan (snapshot s t.0) of lo hi
     rows_there = seen.rows' ∙ rows_are_scan opening steps s c h t.0 here.tx here.found of lo hi

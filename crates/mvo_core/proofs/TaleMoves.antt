@@ -82,7 +82,7 @@ end_among (Empty ∷ slots) (x ∷ xs) zero d e h at k = absurd (none_end e at)
 end_among (Empty ∷ slots) [] (suc p) d e h at k = end_among slots [] p d e h at k
 end_among (Empty ∷ slots) (x ∷ xs) (suc p) d e h at k = end_among slots (x ∷ xs) p d e h at k
 
-below_apart : (d e : ℕ) → d < e → (d == e) ≡ false
+pub below_apart : (d e : ℕ) → d < e → (d == e) ≡ false
 below_apart d e lt = ne_eqb d e (λ q. omega arith)
 
 above_apart : (d e : ℕ) → e < d → (d == e) ≡ false
@@ -144,7 +144,7 @@ not_false : (b : Bool) → b ≡ false → not b ≡ true
 not_false true h = absurd (false≢true (sym h))
 not_false false h = refl
 
-filter_kept : (e : ℕ) (x : StampedTx) (xs : List StampedTx) → (x.end == e) ≡ false → x ∷ filter (not_at e) xs ≡ filter (not_at e) (x ∷ xs)
+pub filter_kept : (e : ℕ) (x : StampedTx) (xs : List StampedTx) → (x.end == e) ≡ false → x ∷ filter (not_at e) xs ≡ filter (not_at e) (x ∷ xs)
 filter_kept e x xs f = sym (ap (λ (b : Bool). cond b (x ∷ filter (not_at e) xs) (filter (not_at e) xs)) (not_false (x.end == e) f))
 
 filter_out : (e : ℕ) (x : StampedTx) (xs : List StampedTx) → x.end ≡ e → filter (not_at e) xs ≡ filter (not_at e) (x ∷ xs)
@@ -154,7 +154,7 @@ none_out : (e : ℕ) (xs : List StampedTx) → AllByRecursion (λ y. e < y.end) 
 none_out e [] k = refl
 none_out e (x ∷ xs) k = ap (λ ys. x ∷ ys) (none_out e xs k.1) ∙ filter_kept e x xs (above_apart x.end e k.0)
 
-places_emptied : (slots : List Slot) (xs : List StampedTx) (p e : ℕ) → ArePlacesOf slots xs → IsRising xs → open_end_at slots p ≡ Some e → ArePlacesOf (slice_set slots p Empty) (filter (not_at e) xs)
+pub places_emptied : (slots : List Slot) (xs : List StampedTx) (p e : ℕ) → ArePlacesOf slots xs → IsRising xs → open_end_at slots p ≡ Some e → ArePlacesOf (slice_set slots p Empty) (filter (not_at e) xs)
 places_emptied [] xs p e h r at = absurd (none_end e at)
 places_emptied (Open d ∷ slots) [] p e h r at = absurd h
 places_emptied (Open d ∷ slots) (x ∷ xs) zero e h r at =
@@ -180,7 +180,7 @@ places_emptied (Empty ∷ slots) (x ∷ xs) (suc p) e h r at = go (filter (not_a
     go [] g = g
     go (y ∷ ys) g = g
 
-places_flagged : (t e : ℕ) (slots : List Slot) (xs : List StampedTx) → ArePlacesOf slots xs → ArePlacesOf slots (map (with_flag t e) xs)
+pub places_flagged : (t e : ℕ) (slots : List Slot) (xs : List StampedTx) → ArePlacesOf slots xs → ArePlacesOf slots (map (with_flag t e) xs)
 places_flagged t e [] [] h = tt
 places_flagged t e [] (x ∷ xs) h = absurd h
 places_flagged t e (Open d ∷ slots) [] h = absurd h
@@ -212,18 +212,12 @@ places_without (Settled c ∷ slots) (x ∷ xs) h = settled_and c (without_empty
 places_without (Empty ∷ slots) [] h = empty_and (without_empty_back slots) [] (places_without slots [] h)
 places_without (Empty ∷ slots) (x ∷ xs) h = empty_and (without_empty_back slots) (x ∷ xs) (places_without slots (x ∷ xs) h)
 
-places_closed : (slots : List Slot) (xs : List StampedTx) → ArePlacesOf slots xs → ArePlacesOf (closed_up slots) xs
+pub places_closed : (slots : List Slot) (xs : List StampedTx) → ArePlacesOf slots xs → ArePlacesOf (closed_up slots) xs
 places_closed slots xs h = go (without_empty_back slots) (places_without slots xs h)
   where
     go : (ws : List Slot) → ArePlacesOf ws xs → ArePlacesOf (or_all slots ws) xs
     go [] k = h
     go (w ∷ ws) k = k
-
-pub places_left : (slots : List Slot) (xs : List StampedTx) (p t e : ℕ) → ArePlacesOf slots xs → IsRising xs → open_end_at slots p ≡ Some e
-    → ArePlacesOf (closed_up (slice_set slots p Empty)) (map (with_flag t e) (filter (not_at e) xs))
-places_left slots xs p t e h r at =
-    places_flagged t e (closed_up (slice_set slots p Empty)) (filter (not_at e) xs)
-    (places_closed (slice_set slots p Empty) (filter (not_at e) xs) (places_emptied slots xs p e h r at))
 
 -- ---- a check leaves them
 pub places_checked : (e : ℕ) (v : Bool) (slots : List Slot) (xs : List StampedTx) → ArePlacesOf slots xs → ArePlacesOf slots (map (with_check e v) xs)

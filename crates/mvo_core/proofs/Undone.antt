@@ -1,5 +1,5 @@
 -- A transaction is aborted: what the core stands for then.
-use Rattle.std.proofs.Common.{◌≡◌, ◌≢◌, ◌⊎◌, inl, inr, ℕ, true, false, not, List, [], ◌∷◌, ◌++◌, Option, None, Some, refl, sym, ap, ◌∙◌, subst}
+use Rattle.std.proofs.Common.{◌≡◌, ◌≢◌, ◌⊎◌, inl, inr, ℕ, ◌<◌, true, false, not, List, [], ◌∷◌, ◌++◌, Option, None, Some, refl, sym, ap, ◌∙◌, subst}
 use Rattle.std.specs.Prelude.{◌==◌, filter}
 use Rattle.std.specs.Option.{is_some}
 use Rattle.std.proofs.lemmas.Bool.{eq-eqb, false≢true}
@@ -45,7 +45,8 @@ use Rattle.mvo_core.proofs.Carried.{works_carried}
 use Rattle.mvo_core.proofs.CausesTold.{not_undone_is}
 use Rattle.mvo_core.proofs.Reporting.{says_same, words_same, stands_now, others_stand}
 use Rattle.mvo_core.proofs.Rest.{HasRest, not_preparing_too, preparing_there, stands_then}
-use Rattle.mvo_core.proofs.TaleMoves.{open_left, places_left}
+use Rattle.mvo_core.proofs.KeptTale.{tale_left_empty}
+use Rattle.mvo_core.proofs.TaleMoves.{open_left}
 use Rattle.mvo_core.proofs.EndLaws.{abort_in_table, abort_in_order, abort_in_lists, lists_are_written, fronts_in_numbers}
 
 -- ---- one that is Active or Preparing
@@ -63,7 +64,7 @@ may_abort (Some (Preparing e)) h = inr (e.0, refl)
 may_abort (Some (Committed e)) h = absurd h
 may_abort (Some Aborted) h = absurd h
 
-was_state : (o : Option TxState) → IsUnended o → (state : TxState) × (o ≡ Some state)
+pub was_state : (o : Option TxState) → IsUnended o → (state : TxState) × (o ≡ Some state)
 was_state None h = absurd h
 was_state (Some state) h = (state, refl)
 
@@ -124,7 +125,6 @@ module _ (opening : Map) (steps : List Step) (s : State) (c : CoreData) (h : Sta
       marks = h.marks;
       grouped = h.grouped;
       start = h.start;
-      past = h.past;
     }
 
     rest_of_preparing : (e : Stamp) (x : StampedTx) → preparing_of t s.stamped ≡ Some x → HasRest (after_abort_of s t (Some x)) table (tale_left (Some (Preparing e)) c.tale place) c
@@ -145,11 +145,10 @@ module _ (opening : Map) (steps : List Step) (s : State) (c : CoreData) (h : Sta
             })
             s.stamped w.preparing);
       };
-      tale = places_left c.tale s.stamped place t x.end h.tale h.versions.kept.sound.rising at;
+      tale = tale_left_empty s c.tale h.versions.kept.started h.versions.kept.sound.rising h.tale place t x.end at (found_holds (λ y. s.start < y.end) t s.stamped x f h.versions.kept.started.later).0;
       marks = h.marks;
       grouped = grouped_left c.tale c.grouped c.closed place (ap is_some at) h.grouped;
       start = h.start;
-      past = h.past;
     } where
       left : List Slot
       left = tale_left (Some (Preparing e)) c.tale place

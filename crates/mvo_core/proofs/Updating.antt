@@ -95,6 +95,9 @@ module _ (opening : Map) (steps : List Step) (s : State) (c : CoreData) (h : Sta
         on = subst (λ (x : Shown). AreDependencies s (Update row) here.tx (option_to_list x.depends_on)) (sym shown) (names_just opening steps s c h t.0 here.tx here.found row.key (Update row) refl)
 
         -- for want of memory
+        pub update_starved : LeadsOn opening steps s (Do t.0 (Update row)) (Refused OutOfMemory) c
+        update_starved = spent_leads opening steps s t.0 (Update row) c may h
+
         pub update_spent : (table : Txns (Node Transaction)) → IsWritten c.table table t.0 HasDoneAsMuch → LeadsOn opening steps s (Do t.0 (Update row)) (Refused OutOfMemory) (record c { table = table })
         update_spent table w = spent_leads opening steps s t.0 (Update row) (record c { table = table }) may (stands_as_much opening steps s c h t.0 table w)
 

@@ -42,7 +42,7 @@ use Rattle.mvo_core.proofs.EndLaws.{change_named, stamps_fall, check_in_table, c
 use Rattle.mvo_core.proofs.GivenUp.{validate_given_up}
 use Rattle.mvo_core.proofs.OwnChanged.{IsOwnChanged, own_changed, words_stay, some_own}
 use Rattle.mvo_core.proofs.Rest.{HasRest, preparing_there, stands_then}
-use Rattle.mvo_core.proofs.TaleMoves.{places_checked}
+use Rattle.mvo_core.proofs.KeptTale.{tale_checked}
 use Rattle.mvo_core.proofs.Undone.{IsKeptOfPreparing, kept_of_preparing}
 
 -- ---- what is found, and what is refused
@@ -130,7 +130,7 @@ module _ (opening : Map) (steps : List Step) (s : State) (c : CoreData) (h : Sta
       none_differs = ap (next_differs s.stamped) found.1 ∙ ap (λ (b : Bool). cond b None (entry_differs s.stamped x (slice_get (entries x.history) x.checked))) x_valid
 
       rest_same : HasRest s c.table c.tale c
-      rest_same = record { works = h.works; tale = h.tale; marks = h.marks; grouped = h.grouped; start = h.start; past = h.past }
+      rest_same = record { works = h.works; tale = h.tale; marks = h.marks; grouped = h.grouped; start = h.start }
 
       pub valid_leads : LeadsOn opening steps s (Validate t) Accepted c
       valid_leads = record {
@@ -239,11 +239,10 @@ module _ (opening : Map) (steps : List Step) (s : State) (c : CoreData) (h : Sta
                 (alone s h.versions.kept.single h.versions.kept.sound.rising t x found.1) (found_itself s h.versions.kept.single))
                 h.works.preparing);
           };
-          tale = places_checked x.end last c.tale s.stamped h.tale;
+          tale = tale_checked s c.tale h.versions.kept.started h.versions.kept.sound.rising h.tale x.end last;
           marks = h.marks;
           grouped = h.grouped;
           start = h.start;
-          past = h.past;
         } where
           active_beside : AllByRecursion (λ r. r.id ≢ t) s.active
           active_beside = each_weaker (λ r. AllByRecursion (λ y. y.id ≢ r.id) s.stamped) (λ r. r.id ≢ t)

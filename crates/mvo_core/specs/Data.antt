@@ -11,6 +11,8 @@ pub record CoreData : Type 0 where
   pub versions : VersionsData
   pub table : Txns (Node Transaction)
   pub tale : List Slot
+  -- where the tale starts: the opening mark, or where it was trimmed last
+  pub start : ℕ
   -- the marks of the rows that it was opened over, and of the group that was closed last
   pub opening : ℕ
   pub closed : ℕ

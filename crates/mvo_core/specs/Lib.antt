@@ -1,10 +1,13 @@
+pub use Rattle.mvo_tale.specs.Records
 pub mod Data
 pub mod Causes
 pub mod Standing
+pub mod View
 pub mod Steps
 pub mod Own
 pub mod Keeping
 pub mod Closing
+pub mod Trimming
 pub mod Groups
 pub mod Looking
 pub mod Finishing
@@ -13,5 +16,6 @@ pub mod Fronts
 pub mod Ending
 pub mod Inserting
 pub mod Checking
+pub mod Collecting
 pub mod Scanning
 pub mod Spare

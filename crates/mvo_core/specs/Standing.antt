@@ -10,12 +10,13 @@ use Rattle.mvo_deps.specs.declared.node.Node.{Node}
 use Rattle.mvo_work.specs.declared.word_place.WordPlace.{WordPlace}
 use Rattle.mvo_tale.specs.declared.slot.Slot.{Slot}
 use Rattle.mvo_tale.specs.Slots.{open_end_at}
-use Rattle.mvo_tale.specs.Timeline.{ArePlacesOf}
+use Rattle.mvo_tale.specs.Kept.{HasTale}
 use Rattle.mvo_tale.specs.Next.{AreGroupedTo}
 use Rattle.mvo_representation.specs.Laws as representation
 use Rattle.mvo_representation.specs.Dependencies.{HasDependencies}
 use Rattle.mvo_representation.specs.Order.{AllStandInOrder}
 use Rattle.mvo_representation.specs.WordLists.{HasWordLists}
+use Rattle.mvo_collect.specs.Begun.{AreOver}
 use Rattle.mvo_core.specs.declared.transaction.Transaction.{Transaction}
 use Rattle.mvo_core.specs.Data.{CoreData, own_of}
 
@@ -57,12 +58,11 @@ pub record StandsFor (opening : Map) (steps : List Step) (s : State) (c : CoreDa
   pub order : AllStandInOrder s.start (state_of c.table) c.versions.slots c.versions.lists
   pub works : HasWorks s c.table c.tale
   pub words : HasWordLists s c.versions.slots (words_in c.table)
-  pub tale : ArePlacesOf c.tale s.stamped
+  pub tale : HasTale s c.tale
   pub marks : s.marks ≡ record { opening = c.opening; closed = c.closed }
   pub grouped : AreGroupedTo c.tale c.grouped c.closed
-  -- the tale isn't trimmed
-  pub start : s.start ≡ c.opening
-  pub past : s.past ≡ []
+  pub start : s.start ≡ c.start
+  pub over : AreOver s
 
 -- for some state, whatever steps led there. Up to the mark of the group that was closed last all
 -- are settled there

@@ -2,6 +2,7 @@
 
 use crate::answers::Closed;
 use crate::engine::Core;
+use crate::trimming::lesser;
 use mvo_group::Group;
 use mvo_tale::NextRecords;
 use mvo_types::Refusal;
@@ -10,13 +11,16 @@ use std::alloc::Global;
 
 impl Core {
     ghost use Rattle.rtrb.specs.Ring.{SameProducer};
+    ghost use Rattle.std.specs.Prelude.{IfOk};
     ghost use Rattle.mvo_core.specs.Closing.{IsClosing, AllowsNext};
+    ghost use Rattle.mvo_core.specs.Trimming.{HasForgotten};
 
     /// Closes the next group and puts it into the ring: the longest beginning of the commits that
     /// wrote with an end above the last group's mark and at most the low-water, which fits into a
     /// group. If all fit, its mark is the low-water, else the end of the last that does. A group
-    /// may hold no records. Refused, in this order: NothingToDo if the mark wouldn't rise, RingFull
-    /// if no slot of the ring is free, OutOfMemory.
+    /// may hold no records. What is both in a group and trimmed then is forgotten. Refused, in this
+    /// order: NothingToDo if the mark wouldn't rise, RingFull if no slot of the ring is free,
+    /// OutOfMemory.
     ///
     /// A ring may have a rule on what goes through it, as that each group begins where the one
     /// before it ended: the core keeps any rule that allows each group from the last mark on.
@@ -27,6 +31,8 @@ impl Core {
         requires allowed { AllowsNext P.allows self.old ring.old }
         ensures step { IsClosing self.old ring.old result self.new ring.new }
         ensures ring { SameProducer ring.old ring.new }
+        ensures forgets { IfOk result (λ c.
+            HasForgotten self.old.start c.mark.0 self.old self.new) }
     {
         let prev = self.closed;
         let low_water = self.table.low_water();
@@ -49,6 +55,7 @@ impl Core {
         ring.push_reserved(Group::new(prev, mark, records).unwrap());
         self.closed = mark;
         self.grouped = next;
+        self.tale.forget(lesser(self.start, mark));
         Ok(Closed { prev, mark })
     }
 }

@@ -22,6 +22,7 @@ ghost use Rattle.mvo_core.specs.Checking.{change_between, change_for};
 ghost use Rattle.mvo_core.specs.Fronts.{passes, comes_at_draw, IsInFrontIf, AreInFront};
 
 use crate::answers::{Settlement, Validation};
+use crate::collecting::await_ends;
 use crate::engine::Core;
 use crate::refusing::{is_failure, not_active, not_preparing, not_undone};
 use crate::transaction::Table;
@@ -57,9 +58,13 @@ impl Core {
         if clock >= MAX_STAMP {
             return Err(Refusal::ClockSpent);
         }
-        let place = self.tale.open(Stamp(clock + 1))?;
+        let end = Stamp(clock + 1);
+        self.waiting
+            .make_room_for_ended(word_count(&self.table, tx))?;
+        let place = self.tale.open(end)?;
         bring_forward(&mut self.versions, &self.table, tx);
         keep_place(&mut self.table, tx, place);
+        await_ends(&mut self.waiting, &self.table, tx, end);
         self.table.prepare(tx)
     }
 
@@ -264,7 +269,7 @@ fn take_operations(table: &mut Table, tx: TxId) -> (usize, Operations)
 }
 
 /// The word of the transaction at a place of its list.
-fn word_at(table: &Table, tx: TxId, place: usize) -> Option<WordPlace>
+pub fn word_at(table: &Table, tx: TxId, place: usize) -> Option<WordPlace>
     ensures { result ≡ slice_get (words_in table.now tx.0) place }
 {
     match table.get(tx) {
@@ -274,7 +279,7 @@ fn word_at(table: &Table, tx: TxId, place: usize) -> Option<WordPlace>
 }
 
 /// How many words the transaction's list has.
-fn word_count(table: &Table, tx: TxId) -> usize
+pub fn word_count(table: &Table, tx: TxId) -> usize
     ensures { result ≡ length (words_in table.now tx.0) }
 {
     match table.get(tx) {
@@ -308,7 +313,7 @@ fn bring_puts(versions: &mut Versions, table: &Table, tx: TxId)
 }
 
 /// The number of the version that has the word.
-fn number_of(word: WordPlace) -> VersionNo
+pub fn number_of(word: WordPlace) -> VersionNo
     ensures { result ≡ number_at word }
 {
     match word {

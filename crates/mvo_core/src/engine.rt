@@ -1,5 +1,6 @@
 use crate::spares::Spares;
 use crate::transaction::{Table, begun};
+use mvo_collect::Waiting;
 use mvo_tale::Tale;
 use mvo_txn::TxnTable;
 use mvo_types::{MAX_STAMP, Refusal, Rows, Stamp, TxId};
@@ -16,7 +17,11 @@ pub struct Core {
     pub(crate) alloc: Global,
     pub(crate) versions: Versions,
     pub(crate) table: Table,
+    /// What is garbage among the versions, or may come to be.
+    pub(crate) waiting: Waiting,
     pub(crate) tale: Tale,
+    /// Where the tale starts: the opening mark, or where it was trimmed last.
+    pub(crate) start: Stamp,
     /// The mark of the rows that it was opened over.
     pub(crate) opening: Stamp,
     /// The mark of the group that was closed last, or the opening mark.
@@ -32,7 +37,9 @@ impl Drop for Core {
             alloc: _,
             versions: _,
             table: _,
+            waiting: _,
             tale: _,
+            start: _,
             opening: _,
             closed: _,
             grouped: _,
@@ -47,29 +54,16 @@ impl Model for Core {
     ghost use Rattle.mvo_range.specs.Place.{coded_map};
     ghost use Rattle.mvo_txn.specs.Txns.{coded_txns};
     ghost use Rattle.mvo_core.specs.Data.{CoreData};
-    ghost use Rattle.mvo_core.specs.Standing.{Stands};
 
     ghost Value = { CoreData };
 
     ghost coded = { Prim.hlevel (codes, coded_lists, coded_map, coded_txns) };
 
-    ghost view = { λ c. record {
-      versions = c.versions;
-      table = c.table;
-      tale = c.tale;
-      opening = c.opening.0;
-      closed = c.closed.0;
-      grouped = c.grouped;
-    } };
+    ghost use Rattle.mvo_core.specs.View.{core_data, IsCore};
 
-    ghost invariant = { λ c. Stands (record {
-      versions = c.versions;
-      table = c.table;
-      tale = c.tale;
-      opening = c.opening.0;
-      closed = c.closed.0;
-      grouped = c.grouped;
-    }) };
+    ghost view = { core_data };
+
+    ghost invariant = { IsCore };
 }
 
 impl Core {
@@ -93,7 +87,9 @@ impl Core {
             alloc,
             versions,
             table,
+            waiting: Waiting::new(alloc),
             tale: Tale::new(alloc),
+            start: mark,
             opening: mark,
             closed: mark,
             grouped: 0,
@@ -106,13 +102,6 @@ impl Core {
         ensures { result.0 ≡ self.now.table.clock }
     {
         self.table.clock()
-    }
-
-    /// The stored commits, by end timestamp.
-    pub fn tale(&self) -> &Tale
-        ensures { result.now ≡ self.now.tale }
-    {
-        &self.tale
     }
 
     /// Begins a transaction. Its id is its begin timestamp. Refused: TableFull, ClockSpent,

@@ -11,6 +11,7 @@ ghost use Rattle.mvo_core.specs.Finishing.{why_not_finished, IsFinalWord, HasDra
 ghost use Rattle.mvo_core.specs.Finishing.{from_own, HasPassed, IsNextReplaced};
 
 use crate::answers::Finishing;
+use crate::collecting::count_off;
 use crate::engine::Core;
 use crate::transaction::Table;
 use mvo_txn::TxState;
@@ -34,7 +35,8 @@ impl Core {
         ensures answer { IfOk result (IsFinishing self.old tx.0) }
     {
         let word = final_word(&self.table, tx)?;
-        replace_next(&mut self.versions, &mut self.table, tx, word);
+        let replaced = replace_next(&mut self.versions, &mut self.table, tx, word);
+        count_off(&mut self.waiting, &self.versions, replaced);
         if next_own(&self.versions, &mut self.table, tx).is_some() {
             return Ok(Finishing::More);
         }
@@ -63,15 +65,24 @@ fn final_word(table: &Table, tx: TxId) -> Result<Word, Refusal>
 }
 
 /// Replaces the first word of the transaction's list that still names it, if there is one, and
-/// takes it off the list, with those before it, which others took over.
-fn replace_next(versions: &mut Versions, table: &mut Table, tx: TxId, word: Word)
+/// takes it off the list, with those before it, which others took over. Answers which it was.
+fn replace_next(
+    versions: &mut Versions,
+    table: &mut Table,
+    tx: TxId,
+    word: Word,
+) -> Option<WordPlace>
     requires { IsSome (own_of table.old tx.0) }
-    ensures { IsNextReplaced versions.old versions.new table.old table.new tx.0 word }
+    ensures replaced { IsNextReplaced versions.old versions.new table.old table.new tx.0 word }
+    ensures first { result ≡
+        slice_get (from_own versions.old.slots tx.0 (words_in table.old tx.0)) 0 }
 {
-    if let Some(place) = next_own(versions, table, tx) {
-        replace(versions, place, word);
-        drop_word(table, tx);
-    }
+    let Some(place) = next_own(versions, table, tx) else {
+        return None;
+    };
+    replace(versions, place, word);
+    drop_word(table, tx);
+    Some(place)
 }
 
 /// The first word of the transaction's list that still names it. Those before it, which others took

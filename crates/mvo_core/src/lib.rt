@@ -3,6 +3,7 @@
 
 mod answers;
 mod closing;
+mod collecting;
 mod depending;
 mod ending;
 mod engine;
@@ -12,6 +13,8 @@ mod refusing;
 mod scanning;
 mod spares;
 mod transaction;
+mod trimming;
 
 pub use answers::{Closed, Finishing, Settlement, Validation};
 pub use engine::Core;
+pub use mvo_tale::Tale;

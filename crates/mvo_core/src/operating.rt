@@ -15,6 +15,7 @@ ghost use Rattle.mvo_core.specs.Keeping.{IsWritten, HasDoneAsMuch};
 ghost use Rattle.mvo_core.specs.Ending.{IsRemoved, IsReplaced, IsLeft};
 ghost use Rattle.mvo_core.specs.Looking.{row_shown, cause_at, HasSameVersions};
 
+use crate::collecting::{has_open_end, owe_end};
 use crate::depending::{depend, make_room, note_word, record_answer, tell};
 use crate::engine::Core;
 use crate::refusing::{not_looked, not_put, not_removed};
@@ -66,7 +67,9 @@ impl Core {
             return Ok(Answer::Exists);
         }
         let on = found.depends_on;
+        self.waiting.make_room()?;
         insert_row(&mut self.versions, &mut self.table, tx, row, on)?;
+        self.waiting.owe();
         Ok(Answer::Inserted)
     }
 
@@ -90,7 +93,11 @@ impl Core {
             record_answer(&mut self.table, tx, on, Op::Update(row), Answer::Absent)?;
             return Ok(Answer::Absent);
         };
+        self.waiting.make_room()?;
+        let is_open = has_open_end(&self.versions, old);
         put_instead(&mut self.versions, &mut self.table, tx, old, row, on)?;
+        self.waiting.owe();
+        owe_end(&mut self.waiting, is_open);
         Ok(Answer::Updated)
     }
 
@@ -113,7 +120,10 @@ impl Core {
             record_answer(&mut self.table, tx, on, Op::Delete(key), Answer::Absent)?;
             return Ok(Answer::Absent);
         };
+        self.waiting.make_room()?;
+        let is_open = has_open_end(&self.versions, old);
         remove(&mut self.versions, &mut self.table, tx, old, key, on)?;
+        owe_end(&mut self.waiting, is_open);
         Ok(Answer::Deleted)
     }
 }

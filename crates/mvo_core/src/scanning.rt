@@ -43,7 +43,7 @@ impl Core {
             return Err(self.give_up(tx, refusal));
         }
         let alloc = self.alloc;
-        let (versions, start) = (&self.versions, self.opening);
+        let (versions, start) = (&self.versions, self.start);
         let scanned = scan_places(alloc, versions, &self.table, start, tx, table, lo, hi)?;
         let Scanned { rows, on } = scanned;
         let kept = copies_of(alloc, &rows)?;

@@ -1,6 +1,7 @@
 //! How often each kind of reply was met.
 
 use crate::reply::Reply;
+use mvo_collect::Collection;
 use mvo_core::{Finishing, Settlement, Validation};
 use mvo_types::{Answer, Cause, Refusal};
 use std::alloc::{AllocError, Global};
@@ -63,7 +64,17 @@ pub const GROUP_BELOW_COMMITS: usize = 126;
 
 pub const COMPARED_GROUP: usize = 127;
 
-const KINDS: usize = 130;
+pub const TRIMMED: usize = 128;
+
+pub const TRIMMED_PAST_GROUPS: usize = 129;
+
+pub const COLLECTED: usize = 130;
+
+pub const NOTHING: usize = 131;
+
+pub const COLLECTED_BESIDE_OPEN: usize = 132;
+
+const KINDS: usize = 140;
 
 /// By kind.
 #[derive(Drop)]
@@ -108,6 +119,9 @@ pub fn kind_of(reply: &Reply) -> usize {
         Reply::RolledBack => ROLLED_BACK,
         Reply::Finished(Finishing::More) => MORE_WORDS,
         Reply::Finished(Finishing::Done) => DONE,
+        Reply::Trimmed(_) => TRIMMED,
+        Reply::Collection(Collection::Collected) => COLLECTED,
+        Reply::Collection(Collection::Nothing) => NOTHING,
         Reply::Refused(refusal) => kind_of_refusal(*refusal),
     }
 }

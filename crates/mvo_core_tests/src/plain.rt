@@ -10,6 +10,7 @@ mod operating;
 mod refusing;
 mod requests;
 mod transaction;
+mod trimming;
 mod version;
 
 pub use closing::PlainGroup;

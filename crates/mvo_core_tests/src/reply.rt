@@ -1,5 +1,6 @@
 //! Replies, and their text as scripts have it.
 
+use mvo_collect::Collection;
 use mvo_core::{Finishing, Settlement, Validation};
 use mvo_types::{Answer, Refusal, Row, Stamp, TxId};
 use std::fmt;
@@ -14,6 +15,8 @@ pub enum Reply {
     Settled(Settlement),
     RolledBack,
     Finished(Finishing),
+    Trimmed(Stamp),
+    Collection(Collection),
     Refused(Refusal),
 }
 
@@ -30,6 +33,9 @@ impl fmt::Display for Reply {
             Reply::RolledBack => f.write_str("rolled back"),
             Reply::Finished(Finishing::More) => f.write_str("more"),
             Reply::Finished(Finishing::Done) => f.write_str("done"),
+            Reply::Trimmed(start) => write!(f, "trimmed {start}"),
+            Reply::Collection(Collection::Collected) => f.write_str("collected"),
+            Reply::Collection(Collection::Nothing) => f.write_str("nothing"),
             Reply::Refused(refusal) => write!(f, "{refusal}"),
         }
     }

@@ -36,6 +36,8 @@ pub fn is_same_reply(reply: &Reply, other: &Reply) -> bool {
         (Reply::Settled(told), Reply::Settled(other)) => told == other,
         (Reply::RolledBack, Reply::RolledBack) => true,
         (Reply::Finished(told), Reply::Finished(other)) => told == other,
+        (Reply::Trimmed(start), Reply::Trimmed(other)) => start == other,
+        (Reply::Collection(told), Reply::Collection(other)) => told == other,
         (Reply::Refused(refusal), Reply::Refused(other)) => refusal == other,
         _ => false,
     }

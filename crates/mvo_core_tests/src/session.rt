@@ -29,6 +29,9 @@ pub enum Call {
     Finish(u64),
     /// A precommit, all checks, one settle, and after a commit all words.
     Commit(u64),
+    /// Up to this stamp, by no transaction.
+    Trim(u64),
+    Collect,
 }
 
 /// So many groups may wait in a fresh session.
@@ -101,6 +104,23 @@ impl Session {
         self.core.tale().len()
     }
 
+    /// How many commits are stored that end above the stamp.
+    pub fn stored_above(&self, stamp: Stamp) -> u64 {
+        let tale = self.core.tale();
+        let mut stored = 0_u64;
+        for place in 0..tale.len() {
+            if let Some(entry) = tale.get(place) {
+                stored = stored.saturating_add(u64::from(entry.end.0 > stamp.0));
+            }
+        }
+        stored
+    }
+
+    /// Where the tale starts.
+    pub fn tale_start(&self) -> Stamp {
+        self.core.tale_start()
+    }
+
     /// Closes the next group into the ring.
     pub fn close(&mut self) -> Result<Closed, Refusal> {
         self.core.close_group(&mut self.producer)
@@ -137,6 +157,8 @@ impl Session {
             Call::Rollback(tx) => self.roll_back(TxId(tx)),
             Call::Finish(tx) => self.finish(TxId(tx)),
             Call::Commit(tx) => self.commit(TxId(tx)),
+            Call::Trim(upto) => self.trim(Stamp(upto)),
+            Call::Collect => self.collect(),
             _ => self.begin(),
         }
     }
@@ -203,6 +225,17 @@ impl Session {
     pub fn finish(&mut self, tx: TxId) -> Reply {
         match self.core.finish_one(tx) {
             Ok(finishing) => Reply::Finished(finishing),
+            Err(refusal) => Reply::Refused(refusal),
+        }
+    }
+
+    pub fn collect(&mut self) -> Reply {
+        Reply::Collection(self.core.collect_one())
+    }
+
+    pub fn trim(&mut self, upto: Stamp) -> Reply {
+        match self.core.trim_tale(upto) {
+            Ok(()) => Reply::Trimmed(upto),
             Err(refusal) => Reply::Refused(refusal),
         }
     }

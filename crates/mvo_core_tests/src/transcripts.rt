@@ -1,7 +1,8 @@
 //! Sessions with the replies that are due.
 
 use crate::session::Call::{
-    Begin, Commit, Delete, Insert, Precommit, Read, Rollback, Scan, Settle, Update, Validate,
+    Begin, Collect, Commit, Delete, Finish, Insert, Precommit, Read, Rollback, Scan, Settle, Trim,
+    Update, Validate,
 };
 use crate::session::{Call, Session};
 use std::alloc::Global;
@@ -145,4 +146,67 @@ fn a_speculative_read_of_what_is_rolled_back(rt: HostRuntime) -> Result<(), Fail
 #[test]
 fn own_rows_are_scanned(rt: HostRuntime) -> Result<(), Fail> {
     follow(&rt, rt.alloc(), &[&SETUP, &OWN_ROWS_ARE_SCANNED])
+}
+
+/// The start goes no further than what is settled, and not back.
+const A_TALE_IS_TRIMMED: [(Call, &str); 9] = [
+    (Trim(0), "refused 56"),
+    (Begin, "began 1"),
+    (Insert(1, 1, 10, 0x61), "inserted"),
+    (Trim(1), "trimmed 1"),
+    (Trim(2), "refused 56"),
+    (Commit(1), "committed 2"),
+    (Trim(3), "refused 56"),
+    (Trim(2), "trimmed 2"),
+    (Trim(2), "refused 56"),
+];
+
+#[test]
+fn a_tale_is_trimmed_once(rt: HostRuntime) -> Result<(), Fail> {
+    follow(&rt, rt.alloc(), &[&A_TALE_IS_TRIMMED])
+}
+
+const WHAT_WAS_ENDED_IS_COLLECTED: [(Call, &str); 12] = [
+    (Begin, "began 1"),
+    (Insert(1, 1, 10, 0x61), "inserted"),
+    (Commit(1), "committed 2"),
+    (Begin, "began 3"),
+    (Update(3, 1, 10, 0x62), "updated"),
+    (Commit(3), "committed 4"),
+    (Collect, "nothing"),
+    (Trim(5), "refused 56"),
+    (Trim(4), "trimmed 4"),
+    (Collect, "collected"),
+    (Collect, "nothing"),
+    (Trim(4), "refused 56"),
+];
+
+/// A version that was put by one that is rolled back, and ended by one that is Preparing.
+const WHAT_A_PREPARING_ONE_ENDED_STAYS: [(Call, &str); 12] = [
+    (Begin, "began 3"),
+    (Update(3, 1, 10, 0x63), "updated"),
+    (Precommit(3), "preparing 4"),
+    (Begin, "began 5"),
+    (Delete(5, 1), "deleted"),
+    (Precommit(5), "preparing 6"),
+    (Rollback(3), "rolled back"),
+    (Finish(3), "more"),
+    (Finish(3), "done"),
+    (Collect, "nothing"),
+    (Begin, "began 7"),
+    (Read(7, 1), "none"),
+];
+
+#[test]
+fn what_was_ended_is_collected(rt: HostRuntime) -> Result<(), Fail> {
+    follow(&rt, rt.alloc(), &[&WHAT_WAS_ENDED_IS_COLLECTED])
+}
+
+#[test]
+fn what_a_preparing_one_ended_stays(rt: HostRuntime) -> Result<(), Fail> {
+    follow(
+        &rt,
+        rt.alloc(),
+        &[&SETUP, &WHAT_A_PREPARING_ONE_ENDED_STAYS],
+    )
 }

@@ -3,10 +3,11 @@
 use crate::equal::same;
 use crate::events::Event;
 use crate::met::{
-    ABSENT, BEGAN, COMMITTED, COMPARED_GROUP, CONFLICT_WITH_ACTIVE, DELETED, DONE, EXISTS, GROUP,
-    GROUP_BELOW_COMMITS, GROUP_BESIDE_PREPARING, GROUP_OF_SEVERAL, INSERTED, MORE_CHECKS,
-    MORE_WORDS, NO_ROW, NO_ROWS, ONE_ROW, PREPARING, ROLLED_BACK, ROW, ROWS, THREE_PREPARING,
-    TWO_DEPENDENCIES, TWO_FLAGGED, UPDATED, VALID, WAITING,
+    ABSENT, BEGAN, COLLECTED, COLLECTED_BESIDE_OPEN, COMMITTED, COMPARED_GROUP,
+    CONFLICT_WITH_ACTIVE, DELETED, DONE, EXISTS, GROUP, GROUP_BELOW_COMMITS,
+    GROUP_BESIDE_PREPARING, GROUP_OF_SEVERAL, INSERTED, MORE_CHECKS, MORE_WORDS, NO_ROW, NO_ROWS,
+    NOTHING, ONE_ROW, PREPARING, ROLLED_BACK, ROW, ROWS, THREE_PREPARING, TRIMMED,
+    TRIMMED_PAST_GROUPS, TWO_DEPENDENCIES, TWO_FLAGGED, UPDATED, VALID, WAITING,
 };
 use crate::twins::Twins;
 use mvo_types::{Op, Row, RowKey};
@@ -90,6 +91,49 @@ fn follow_young(rt: &impl Abort, alloc: Global, seed: u64) -> Result<(), Fail> {
 fn replies_are_those_of_the_plain_model(rt: HostRuntime) -> Result<(), Fail> {
     for seed in [1, 0x9e37_79b9_7f4a_7c15] {
         follow_young(&rt, rt.alloc(), seed)?;
+    }
+    Ok(())
+}
+
+/// How often each is met at least in a course with trims and collections.
+const TRIM_FLOORS: [(usize, u64); 9] = [
+    (56, 600),
+    (TRIMMED, 170),
+    (TRIMMED_PAST_GROUPS, 8),
+    (COLLECTED, 200),
+    (COLLECTED_BESIDE_OPEN, 200),
+    (NOTHING, 200),
+    (COMMITTED, 300),
+    (ROWS, 100),
+    (COMPARED_GROUP, 150),
+];
+
+fn trim_by_the_way(rt: &impl Abort, twins: &mut Twins) -> Result<(), Fail> {
+    for _ in 0..STEPS {
+        twins.advance(rt)?;
+        match twins.events.draws.below(8) {
+            0 => twins.trim(rt)?,
+            1..=3 => twins.collect(rt)?,
+            _ => {}
+        }
+    }
+    twins.met.check(rt, &TRIM_FLOORS);
+    Ok(())
+}
+
+fn follow_trimmed(rt: &impl Abort, alloc: Global, seed: u64) -> Result<(), Fail> {
+    let mut twins = Twins::young(alloc, seed)?;
+    let followed = trim_by_the_way(rt, &mut twins);
+    twins.end();
+    followed
+}
+
+#[test]
+fn replies_stay_those_of_the_plain_model_beside_trims_and_collections(
+    rt: HostRuntime,
+) -> Result<(), Fail> {
+    for seed in [6, 0x9e37_79b9_7f4a_7c15] {
+        follow_trimmed(&rt, rt.alloc(), seed)?;
     }
     Ok(())
 }

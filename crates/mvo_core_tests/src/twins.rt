@@ -5,17 +5,19 @@ use crate::draws::Draws;
 use crate::equal::{holds, same};
 use crate::events::{Event, Events};
 use crate::met::{
-    COMPARED_GROUP, GROUP, GROUP_BELOW_COMMITS, GROUP_BESIDE_PREPARING, GROUP_OF_SEVERAL, Met,
-    THREE_PREPARING, TWO_DEPENDENCIES, TWO_FLAGGED, kind_of, kind_of_refusal,
+    COLLECTED_BESIDE_OPEN, COMPARED_GROUP, GROUP, GROUP_BELOW_COMMITS, GROUP_BESIDE_PREPARING,
+    GROUP_OF_SEVERAL, Met, THREE_PREPARING, TRIMMED_PAST_GROUPS, TWO_DEPENDENCIES, TWO_FLAGGED,
+    kind_of, kind_of_refusal,
 };
 use crate::plain::{Plain, PlainGroup};
 use crate::random::opening_rows;
 use crate::reply::Reply;
 use crate::same::{are_same_records, is_same_reply};
 use crate::session::{FEW_GROUPS, Session};
+use mvo_collect::Collection;
 use mvo_core::Closed;
 use mvo_group::Group;
-use mvo_types::{MAX_STAMP, Op, Refusal, TxId};
+use mvo_types::{MAX_STAMP, Op, Refusal, Stamp, TxId};
 use std::alloc::{AllocError, Global};
 use std::collections::VecDeque;
 use std::process::Abort;
@@ -169,6 +171,45 @@ impl Twins {
         self.met.note(kind_of(&told));
         self.note_many();
         Ok(())
+    }
+
+    /// Trims up to a stamp that was drawn lately.
+    pub fn trim(&mut self, rt: &impl Abort) -> Result<(), Fail> {
+        let back = self.events.draws.below(48);
+        let upto = self.plain.clock.saturating_add(1).saturating_sub(back);
+        let due = self.plain.trim(upto);
+        let told = self.session.trim(Stamp(upto));
+        compare_replies(rt, &told, &due);
+        self.met.note(kind_of(&told));
+        if matches!(told, Reply::Trimmed(_)) && self.plain.closed < upto {
+            self.met.note(TRIMMED_PAST_GROUPS);
+        }
+        self.compare_tales(rt);
+        Ok(())
+    }
+
+    /// Collects one garbage version, if there is one.
+    pub fn collect(&mut self, rt: &impl Abort) -> Result<(), Fail> {
+        let due = self.plain.collect();
+        let told = self.session.collect();
+        compare_replies(rt, &told, &due);
+        self.met.note(kind_of(&told));
+        let is_one_open = self.plain.id_at(0).is_some();
+        if is_one_open && matches!(told, Reply::Collection(Collection::Collected)) {
+            self.met.note(COLLECTED_BESIDE_OPEN);
+        }
+        Ok(())
+    }
+
+    /// Just the commits above the start are stored, and those up to it that are in no group yet.
+    fn compare_tales(&mut self, rt: &impl Abort) {
+        let start = self.plain.start;
+        let kept = start.min(self.plain.closed);
+        same(rt, &self.session.tale_start().0, &start);
+        for stamp in [start, kept, 0] {
+            let stored = self.session.stored_above(Stamp(stamp));
+            same(rt, &stored, &self.plain.ended_above(stamp.max(kept)));
+        }
     }
 
     /// Notes how many are Preparing, are flagged and depend on others.

@@ -127,13 +127,23 @@ impl Plain {
         }
     }
 
+    /// Whether the version is over for every begin from the start of the tale on.
+    fn is_over(&self, version: &Version) -> bool {
+        match self.stamp(version.end) {
+            Some(stamp) => stamp <= self.start,
+            None => false,
+        }
+    }
+
     /// Whether the version makes a scan of the range look at its key.
     fn counts(&self, tx: &PlainTx, version: &Version, range: Entry) -> bool {
         let key = version.row.key;
         if key.table == range.table() && tx.keys.contains(&key) {
             return true;
         }
-        range.covers(key, version.row.sort) && self.is_below(version.begin, tx.id)
+        range.covers(key, version.row.sort)
+            && self.is_below(version.begin, tx.id)
+            && !self.is_over(version)
     }
 
     /// The keys that a scan of the range looks at.

@@ -69,7 +69,7 @@ impl Plain {
     }
 
     /// Below the least end of those that are Preparing, or the clock if none is.
-    fn low_water(&self) -> u64 {
+    pub fn low_water(&self) -> u64 {
         let mut found = self.clock;
         for tx in &self.table {
             if let State::Preparing(end) = tx.state {

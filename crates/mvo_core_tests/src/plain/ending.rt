@@ -115,6 +115,7 @@ impl Plain {
         };
         self.set_state(id, State::Committed(end));
         self.keep_commit(id, end)?;
+        self.ends.push(end)?;
         Ok(Reply::Settled(Settlement::Committed(Stamp(end))))
     }
 

@@ -12,11 +12,17 @@ pub struct Plain {
     pub clock: u64,
     /// The mark of the group that was closed last, or the opening mark.
     pub closed: u64,
+    /// Where the tale starts.
+    pub start: u64,
     pub versions: Vec<Version>,
     /// The unfinished ones.
     pub table: Vec<PlainTx>,
     /// What was committed since the last group, by end timestamp.
     pub commits: Vec<Record>,
+    /// The ends of all that were committed.
+    pub ends: Vec<u64>,
+    /// How many garbage versions were collected. They stay here, where nobody looks at them.
+    pub collected: u64,
 }
 
 impl Drop for Plain {
@@ -25,9 +31,12 @@ impl Drop for Plain {
             alloc: _,
             clock: _,
             closed: _,
+            start: _,
             versions: _,
             table: _,
             commits: _,
+            ends: _,
+            collected: _,
         } = self;
     }
 }
@@ -40,9 +49,12 @@ impl Plain {
             alloc,
             clock: mark,
             closed: mark,
+            start: mark,
             versions,
             table: Vec::new(alloc),
             commits: Vec::new(alloc),
+            ends: Vec::new(alloc),
+            collected: 0,
         })
     }
 

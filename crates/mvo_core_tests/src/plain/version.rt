@@ -26,3 +26,14 @@ pub struct Version {
     pub begin: Word,
     pub end: Word,
 }
+
+impl Version {
+    /// Whether nobody has put it any more and nobody has ended it, or it was ended up to there.
+    pub fn is_garbage(&self, horizon: u64) -> bool {
+        match (self.begin, self.end) {
+            (_, Word::At(end)) => end <= horizon,
+            (Word::Infinity, Word::Infinity) => true,
+            _ => false,
+        }
+    }
+}

@@ -6,11 +6,14 @@ use Rattle.mvo_theory.specs.Calls.Result.{Accepted, Refused}
 use Rattle.mvo_theory.specs.Entries.Entry.{Key}
 use Rattle.mvo_core.specs.Causes.{why_not_look}
 use Rattle.mvo_core.specs.Data.{CoreData}
+use Rattle.mvo_core.specs.View.{core_data}
 use Rattle.mvo_core.specs.Standing.{StandsFor}
 use Rattle.mvo_core.specs.Steps.{LeadsOn}
 use Rattle.mvo_core.proofs.Begun.{stands_on}
 use Rattle.mvo_core.proofs.Refused.{came_spent}
 use Rattle.mvo_core.proofs.Reading.{read_refused, read_spent, read_spent_roomy, read_answers, read_leads}
+use Rattle.mvo_core.specs.Keeping.{HasDoneAsMuch}
+use Rattle.mvo_core.proofs.Waits.{waits_alike, alike_written, alike_recorded}
 use Rattle.mvo_core.proofs.engine.Core.read.Goals as goal
 
 pub returns-in-Some-clause-step : goal.returns-in-Some-clause-step
@@ -35,36 +38,44 @@ returns-in_err-kept-clause-step c = λ opening steps s h.
 pub invariant_of-self : goal.invariant_of-self
 invariant_of-self c =
     let f = c.self.inside in
-    let i = c.self.invariant in
-    let old : CoreData = record { versions = f.versions; table = f.table; tale = f.tale; opening = f.opening.0; closed = f.closed.0; grouped = f.grouped } in
-    stands_on i (Do c.args.tx.0 (Read c.args.key)) (Refused OutOfMemory) (record old { table = c.record_answer.new.table })
-    (read_spent_roomy i.opening i.steps i.state old i.stands c.args.tx c.args.key (sym c.not_looked.ensures ∙ c.in_default.is) c.record_answer.new.table c.in_err-record_answer.ensures.err)
+    let i = c.self.invariant.stands in
+    let old : CoreData = core_data f in
+    record {
+      stands =
+          stands_on i (Do c.args.tx.0 (Read c.args.key)) (Refused OutOfMemory) (record old { table = c.record_answer.new.table })
+          (read_spent_roomy i.opening i.steps i.state old i.stands c.args.tx c.args.key (sym c.not_looked.ensures ∙ c.in_default.is) c.record_answer.new.table c.in_err-record_answer.ensures.err);
+      waiting = waits_alike f.table c.record_answer.new.table f.versions.slots f.waiting (alike_written f.table c.record_answer.new.table c.args.tx.0 HasDoneAsMuch c.in_err-record_answer.ensures.err) c.self.invariant.waiting;
+    }
 
 pub returns-in_err-record_answer-clause-step : goal.returns-in_err-record_answer-clause-step
 returns-in_err-record_answer-clause-step c = λ opening steps s h.
     let f = c.self.inside in
-    let old : CoreData = record { versions = f.versions; table = f.table; tale = f.tale; opening = f.opening.0; closed = f.closed.0; grouped = f.grouped } in
+    let old : CoreData = core_data f in
     subst (λ r. LeadsOn opening steps s (Do c.args.tx.0 (Read c.args.key)) r (record old { table = c.record_answer.new.table })) (came_spent c.from_residual-in_err-record_answer.result c.from_residual-in_err-record_answer.ensures.1)
     (read_spent_roomy opening steps s old (subst (StandsFor opening steps s) (sym c.self.view_is) h) c.args.tx c.args.key (sym c.not_looked.ensures ∙ c.in_default.is) c.record_answer.new.table c.in_err-record_answer.ensures.err)
 
 pub invariant_of-self-2 : goal.invariant_of-self-2
 invariant_of-self-2 c =
     let f = c.self.inside in
-    let i = c.self.invariant in
-    let old : CoreData = record { versions = f.versions; table = f.table; tale = f.tale; opening = f.opening.0; closed = f.closed.0; grouped = f.grouped } in
-    stands_on i (Do c.args.tx.0 (Read c.args.key)) Accepted (record old { table = c.record_answer.new.table })
-    (read_leads i.opening i.steps i.state old i.stands c.args.tx c.args.key (sym c.not_looked.ensures ∙ c.in_default.is) c.shown-found.result c.shown-found.ensures c.in_ok-kept.kept
-    (c.in_ok-kept.ensures ∙ c.in_ok-row.ensures) c.record_answer.new.table c.in_ok-record_answer.ensures.ok)
+    let i = c.self.invariant.stands in
+    let old : CoreData = core_data f in
+    record {
+      stands =
+          stands_on i (Do c.args.tx.0 (Read c.args.key)) Accepted (record old { table = c.record_answer.new.table })
+          (read_leads i.opening i.steps i.state old i.stands c.args.tx c.args.key (sym c.not_looked.ensures ∙ c.in_default.is) c.shown-found.result c.shown-found.ensures c.in_ok-kept.kept
+          (c.in_ok-kept.ensures ∙ c.in_ok-row.ensures) c.record_answer.new.table c.in_ok-record_answer.ensures.ok);
+      waiting = waits_alike f.table c.record_answer.new.table f.versions.slots f.waiting (alike_recorded f.table c.record_answer.new.table c.args.tx _ _ _ c.in_ok-record_answer.ensures.ok) c.self.invariant.waiting;
+    }
 
 pub returns-clause-step : goal.returns-clause-step
 returns-clause-step c = λ opening steps s h.
     let f = c.self.inside in
-    let old : CoreData = record { versions = f.versions; table = f.table; tale = f.tale; opening = f.opening.0; closed = f.closed.0; grouped = f.grouped } in
+    let old : CoreData = core_data f in
     read_leads opening steps s old (subst (StandsFor opening steps s) (sym c.self.view_is) h) c.args.tx c.args.key (sym c.not_looked.ensures ∙ c.in_default.is) c.shown-found.result c.shown-found.ensures c.in_ok-kept.kept
     (c.in_ok-kept.ensures ∙ c.in_ok-row.ensures) c.record_answer.new.table c.in_ok-record_answer.ensures.ok
 
 pub returns-clause-answer : goal.returns-clause-answer
 returns-clause-answer c = λ opening steps s h.
     let f = c.self.inside in
-    let old : CoreData = record { versions = f.versions; table = f.table; tale = f.tale; opening = f.opening.0; closed = f.closed.0; grouped = f.grouped } in
+    let old : CoreData = core_data f in
     read_answers opening steps s old (subst (StandsFor opening steps s) (sym c.self.view_is) h) c.args.tx c.args.key (sym c.not_looked.ensures ∙ c.in_default.is) c.shown-found.result c.shown-found.ensures c.in_ok-row.row c.in_ok-row.ensures

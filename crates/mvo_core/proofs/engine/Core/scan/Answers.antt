@@ -6,12 +6,15 @@ use Rattle.mvo_theory.specs.Calls.Result.{Accepted, Refused}
 use Rattle.mvo_theory.specs.Entries.Entry.{Range}
 use Rattle.mvo_core.specs.Causes.{why_not_look}
 use Rattle.mvo_core.specs.Data.{CoreData}
+use Rattle.mvo_core.specs.View.{core_data}
 use Rattle.mvo_core.specs.Standing.{StandsFor}
 use Rattle.mvo_core.specs.Steps.{LeadsOn}
 use Rattle.mvo_core.proofs.Begun.{stands_on}
 use Rattle.mvo_core.proofs.Refused.{came_spent}
 use Rattle.mvo_core.proofs.ScanRefused.{scan_refused, scan_spent, scan_spent_roomy}
 use Rattle.mvo_core.proofs.ScanAnswered.{scan_answers, scan_leads}
+use Rattle.mvo_core.specs.Keeping.{HasDoneAsMuch}
+use Rattle.mvo_core.proofs.Waits.{waits_alike, alike_written, alike_recorded}
 use Rattle.mvo_core.proofs.engine.Core.scan.Goals as goal
 
 pub returns-in-Some-clause-step : goal.returns-in-Some-clause-step
@@ -36,36 +39,44 @@ returns-in_err-kept-clause-step c = λ opening steps s h.
 pub invariant_of-self : goal.invariant_of-self
 invariant_of-self c =
     let f = c.self.inside in
-    let i = c.self.invariant in
-    let old : CoreData = record { versions = f.versions; table = f.table; tale = f.tale; opening = f.opening.0; closed = f.closed.0; grouped = f.grouped } in
-    stands_on i (Do c.args.tx.0 (Scan c.args.table c.args.lo c.args.hi)) (Refused OutOfMemory) (record old { table = c.record_answer_on.new.table })
-    (scan_spent_roomy i.opening i.steps i.state old i.stands c.args.tx c.args.table c.args.lo c.args.hi (sym c.not_looked.ensures ∙ c.in_default.is) c.record_answer_on.new.table c.in_err-record_answer_on.ensures.err)
+    let i = c.self.invariant.stands in
+    let old : CoreData = core_data f in
+    record {
+      stands =
+          stands_on i (Do c.args.tx.0 (Scan c.args.table c.args.lo c.args.hi)) (Refused OutOfMemory) (record old { table = c.record_answer_on.new.table })
+          (scan_spent_roomy i.opening i.steps i.state old i.stands c.args.tx c.args.table c.args.lo c.args.hi (sym c.not_looked.ensures ∙ c.in_default.is) c.record_answer_on.new.table c.in_err-record_answer_on.ensures.err);
+      waiting = waits_alike f.table c.record_answer_on.new.table f.versions.slots f.waiting (alike_written f.table c.record_answer_on.new.table c.args.tx.0 HasDoneAsMuch c.in_err-record_answer_on.ensures.err) c.self.invariant.waiting;
+    }
 
 pub returns-in_err-record_answer_on-clause-step : goal.returns-in_err-record_answer_on-clause-step
 returns-in_err-record_answer_on-clause-step c = λ opening steps s h.
     let f = c.self.inside in
-    let old : CoreData = record { versions = f.versions; table = f.table; tale = f.tale; opening = f.opening.0; closed = f.closed.0; grouped = f.grouped } in
+    let old : CoreData = core_data f in
     subst (λ r. LeadsOn opening steps s (Do c.args.tx.0 (Scan c.args.table c.args.lo c.args.hi)) r (record old { table = c.record_answer_on.new.table })) (came_spent c.from_residual-in_err-record_answer_on.result c.from_residual-in_err-record_answer_on.ensures.1)
     (scan_spent_roomy opening steps s old (subst (StandsFor opening steps s) (sym c.self.view_is) h) c.args.tx c.args.table c.args.lo c.args.hi (sym c.not_looked.ensures ∙ c.in_default.is) c.record_answer_on.new.table c.in_err-record_answer_on.ensures.err)
 
 pub invariant_of-self-2 : goal.invariant_of-self-2
 invariant_of-self-2 c =
     let f = c.self.inside in
-    let i = c.self.invariant in
-    let old : CoreData = record { versions = f.versions; table = f.table; tale = f.tale; opening = f.opening.0; closed = f.closed.0; grouped = f.grouped } in
-    stands_on i (Do c.args.tx.0 (Scan c.args.table c.args.lo c.args.hi)) Accepted (record old { table = c.record_answer_on.new.table })
-    (scan_leads i.opening i.steps i.state old i.stands c.args.tx c.args.table c.args.lo c.args.hi (sym c.not_looked.ensures ∙ c.in_default.is) c.in_ok-scanned.scanned.rows.items c.in_ok-scanned.scanned.on.items c.in_ok-scanned.ensures
-    c.in_ok-kept.kept.items (c.in_ok-kept.ensures ∙ c.deref.ensures.value) c.deref-2.result.now c.deref-2.ensures.value c.record_answer_on.new.table c.in_ok-record_answer_on.ensures.ok)
+    let i = c.self.invariant.stands in
+    let old : CoreData = core_data f in
+    record {
+      stands =
+          stands_on i (Do c.args.tx.0 (Scan c.args.table c.args.lo c.args.hi)) Accepted (record old { table = c.record_answer_on.new.table })
+          (scan_leads i.opening i.steps i.state old i.stands c.args.tx c.args.table c.args.lo c.args.hi (sym c.not_looked.ensures ∙ c.in_default.is) c.in_ok-scanned.scanned.rows.items c.in_ok-scanned.scanned.on.items c.in_ok-scanned.ensures
+          c.in_ok-kept.kept.items (c.in_ok-kept.ensures ∙ c.deref.ensures.value) c.deref-2.result.now c.deref-2.ensures.value c.record_answer_on.new.table c.in_ok-record_answer_on.ensures.ok);
+      waiting = waits_alike f.table c.record_answer_on.new.table f.versions.slots f.waiting (alike_recorded f.table c.record_answer_on.new.table c.args.tx _ _ _ c.in_ok-record_answer_on.ensures.ok) c.self.invariant.waiting;
+    }
 
 pub returns-clause-step : goal.returns-clause-step
 returns-clause-step c = λ opening steps s h.
     let f = c.self.inside in
-    let old : CoreData = record { versions = f.versions; table = f.table; tale = f.tale; opening = f.opening.0; closed = f.closed.0; grouped = f.grouped } in
+    let old : CoreData = core_data f in
     scan_leads opening steps s old (subst (StandsFor opening steps s) (sym c.self.view_is) h) c.args.tx c.args.table c.args.lo c.args.hi (sym c.not_looked.ensures ∙ c.in_default.is) c.in_ok-scanned.scanned.rows.items c.in_ok-scanned.scanned.on.items c.in_ok-scanned.ensures
     c.in_ok-kept.kept.items (c.in_ok-kept.ensures ∙ c.deref.ensures.value) c.deref-2.result.now c.deref-2.ensures.value c.record_answer_on.new.table c.in_ok-record_answer_on.ensures.ok
 
 pub returns-clause-answer : goal.returns-clause-answer
 returns-clause-answer c = λ opening steps s h.
     let f = c.self.inside in
-    let old : CoreData = record { versions = f.versions; table = f.table; tale = f.tale; opening = f.opening.0; closed = f.closed.0; grouped = f.grouped } in
+    let old : CoreData = core_data f in
     scan_answers opening steps s old (subst (StandsFor opening steps s) (sym c.self.view_is) h) c.args.tx c.args.table c.args.lo c.args.hi (sym c.not_looked.ensures ∙ c.in_default.is) c.in_ok-scanned.scanned.rows.items c.in_ok-scanned.scanned.on.items c.in_ok-scanned.ensures

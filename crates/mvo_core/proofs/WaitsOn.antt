@@ -1,0 +1,183 @@
+-- A call that collects; and what waits where a transaction draws its end, is settled or is aborted.
+use Rattle.std.proofs.Common.{◌≡◌, ◌≢◌, ℕ, ◌+◌, ◌<◌, ◌≤◌, List, [], ◌∷◌, ◌++◌, length, Option, None, Some, refl, sym, ap, ◌∙◌, subst, arith}
+use Rattle.std.specs.Prelude.{Result, Ok, Err, OnOk, IfErr}
+use Rattle.mvo_types.specs.declared.limits.TheConstants.{MAX_STAMP}
+use Rattle.mvo_types.specs.declared.ids.TxId.{TxId}
+use Rattle.mvo_types.specs.declared.ids.Stamp.{Stamp}
+use Rattle.mvo_types.specs.declared.refusal.Refusal.{Refusal}
+use Rattle.mvo_types.specs.declared.row.RowKey.{RowKey}
+use Rattle.mvo_types.specs.Keys.{Map}
+use Rattle.mvo_model.specs.Trace.{Step}
+use Rattle.mvo_theory.specs.State.{State}
+use Rattle.mvo_txn.specs.declared.state.TxState.{TxState}
+use Rattle.mvo_txn.specs.declared.state.TxState.TheVariants.{Preparing, Committed, Aborted}
+use Rattle.mvo_txn.specs.Txns as txns
+use Rattle.mvo_txn.specs.Txns.{Txns, state_of, spent_clock, IsUnended}
+use Rattle.mvo_deps.specs.declared.node.Node.{Node}
+use Rattle.mvo_deps.specs.Data as deps
+use Rattle.mvo_deps.specs.Data.{without_dependents}
+use Rattle.mvo_deps.specs.Nodes.{IsReported}
+use Rattle.mvo_versions.specs.Data.{VersionsData}
+use Rattle.mvo_representation.specs.Words.{end_in, ends_of, change_below, standing}
+use Rattle.mvo_representation.specs.Table.{phase_as, phases_of}
+use Rattle.mvo_representation.specs.Indexes.{all_versions}
+use Rattle.mvo_representation.specs.Order.{is_put_by}
+use Rattle.mvo_collect.specs.declared.collection.Collection.{Collection}
+use Rattle.mvo_collect.specs.declared.collection.Collection.TheVariants.{Collected, Nothing}
+use Rattle.mvo_collect.specs.Garbage.{horizon}
+use Rattle.mvo_collect.specs.Waiting.{WaitingData, AreWaiting}
+use Rattle.mvo_collect.specs.Collecting.{IsCollection}
+use Rattle.mvo_collect.specs.Laws.{Stands, IsCountedSo, IsFreeBegin, waiting_drawn, end_numbers}
+use Rattle.mvo_collect.proofs.Awaited.{draw_keeps_waiting}
+use Rattle.mvo_collect.proofs.Collections.{collection_stands, collection_counts}
+use Rattle.mvo_collect.proofs.Needed.{ends_are_listed}
+use Rattle.mvo_collect.proofs.Same.{collect_shows_same}
+use Rattle.mvo_core.specs.declared.transaction.Transaction.{Transaction}
+use Rattle.mvo_core.specs.Causes.{why_not_active}
+use Rattle.mvo_core.specs.Collecting.{IsTaken}
+use Rattle.mvo_core.specs.Data.{CoreData}
+use Rattle.mvo_core.specs.Fronts.{comes_at_draw, AreInFront}
+use Rattle.mvo_core.specs.Keeping.{IsWritten, IsPlaced, HasHandedOver}
+use Rattle.mvo_core.specs.Standing.{StandsFor, words_in}
+use Rattle.mvo_core.proofs.Drawing.{clock_written, was_active, others, here, over_limit}
+use Rattle.mvo_core.proofs.OwnChanged.{IsOwnChanged, own_changed, words_stay}
+use Rattle.mvo_core.proofs.Reporting.{stands_now, others_stand}
+use Rattle.mvo_core.proofs.Undone.{was_state}
+use Rattle.mvo_core.proofs.Waits.{clock_changed, alike_written, waits_alike, waits_beside, waits_roomy_ended}
+
+-- ---- what the versions, the table and what waits are tied to
+module _ (opening : Map) (steps : List Step) (s : State) (c : CoreData) (h : StandsFor opening steps s c) where
+  pub stands_with : (w : WaitingData) → AreWaiting c.table.clock (state_of c.table) c.versions.slots w → Stands opening steps s (state_of c.table) c.versions (words_in c.table) w
+  stands_with w waits = record {
+    versions = h.versions;
+    over = h.over;
+    order = h.order;
+    lists = h.words;
+    waiting = subst (λ (n : ℕ). AreWaiting n (state_of c.table) c.versions.slots w) h.dependencies.stands.clock waits;
+  }
+
+  -- ---- a call that collects
+  module _ (w : WaitingData) (waits : AreWaiting c.table.clock (state_of c.table) c.versions.slots w) (r : Collection) (new : VersionsData) (w' : WaitingData) (is : IsCollection c.start c.versions w r new w') where
+    is_here : IsCollection s.start c.versions w r new w'
+    is_here = subst (λ (n : ℕ). IsCollection n c.versions w r new w') (sym h.start) is
+
+    left : Stands opening steps s (state_of c.table) new (words_in c.table) w'
+    left = collection_stands opening steps s (state_of c.table) c.versions new (words_in c.table) w w' r (stands_with w waits) is_here
+
+    pub collected_stands : StandsFor opening steps s (record c { versions = new })
+    collected_stands = record {
+      versions = left.versions;
+      dependencies = h.dependencies;
+      order = left.order;
+      works = h.works;
+      words = left.lists;
+      tale = h.tale;
+      marks = h.marks;
+      grouped = h.grouped;
+      start = h.start;
+      over = h.over;
+    }
+
+    pub collected_waits : AreWaiting c.table.clock (state_of c.table) new.slots w'
+    collected_waits = subst (λ (n : ℕ). AreWaiting n (state_of c.table) new.slots w') (sym h.dependencies.stands.clock) left.waiting
+
+    pub collected_counts : IsCountedSo (horizon s) c.versions.slots new.slots r
+    collected_counts = collection_counts opening steps s (state_of c.table) c.versions new (words_in c.table) w w' r (stands_with w waits) is_here
+
+    pub collected_shows : (b : ℕ) (k : RowKey) → IsFreeBegin s (state_of c.table) c.versions.slots b
+        → standing (change_below (ends_of (phases_of (state_of c.table))) b k (all_versions new.slots))
+        ≡ standing (change_below (ends_of (phases_of (state_of c.table))) b k (all_versions c.versions.slots))
+    collected_shows b k free = go r is_here
+      where
+        go : (x : Collection) → IsCollection s.start c.versions w x new w'
+            → standing (change_below (ends_of (phases_of (state_of c.table))) b k (all_versions new.slots))
+            ≡ standing (change_below (ends_of (phases_of (state_of c.table))) b k (all_versions c.versions.slots))
+        go Collected q = collect_shows_same opening steps s (state_of c.table) c.versions new (words_in c.table) w q.0 b k (stands_with w waits) q.1 free
+        go Nothing q = ap (λ (v : VersionsData). standing (change_below (ends_of (phases_of (state_of c.table))) b k (all_versions v.slots))) q.0
+
+pub taken_so : (start : ℕ) (old new : VersionsData) (w w' : WaitingData) (r : Collection) → IsCollection start old w r new w' → IsTaken start old r new
+taken_so start old new w w' Collected q = (q.0, q.1)
+taken_so start old new w w' Nothing q = q.0
+
+-- ---- a transaction draws its end
+-- its list of words is the same
+pub words_placed : (old new : Txns (Node Transaction)) (t place : ℕ) → IsWritten old new t (IsPlaced place) → words_in new ≡ words_in old
+words_placed old new t place w =
+    let change = own_changed old new t (IsPlaced place) w in
+    words_stay old new t (IsPlaced place) change (ap (λ x. x.words) change.changed.work)
+
+none_refusal : (r : Refusal) → ◌≡◌ {A = Option Refusal} None (Some r) → ⊥
+none_refusal r q = cc
+
+module _ (opening : Map) (steps : List Step) (s : State) (c : CoreData) (h : StandsFor opening steps s c) (t : TxId) (none : why_not_active c.table t.0 ≡ None) (place : ℕ) (last : place ≡ length c.tale) (placed : Txns (Node Transaction)) (written : IsWritten c.table placed t.0 (IsPlaced place))
+    (e : Stamp) (drawn : e.0 ≡ c.table.clock + 1) (versions : VersionsData) (front : AreInFront (comes_at_draw (state_of c.table) t.0) c.versions versions (words_in c.table t.0)) (lt : c.table.clock < MAX_STAMP) where
+  change : IsOwnChanged c.table placed t.0 (IsPlaced (length c.tale))
+  change = own_changed c.table placed t.0 (IsPlaced (length c.tale)) (subst (λ (n : ℕ). IsWritten c.table placed t.0 (IsPlaced n)) last written)
+
+  same_clock : placed.clock ≡ c.table.clock
+  same_clock = clock_written c.table placed t.0 (IsPlaced place) written
+
+  same_words : words_in placed ≡ words_in c.table
+  same_words = words_stay c.table placed t.0 (IsPlaced (length c.tale)) change (ap (λ w. w.words) change.changed.work)
+
+  end_is : e ≡ record { 0 = placed.clock + 1 }
+  end_is = λ i. record { 0 = (drawn ∙ ap (λ (n : ℕ). n + 1) (sym same_clock)) i }
+
+  prepared_waits : (w roomy w' : WaitingData) → roomy ≡ record w { ended_room = roomy.ended_room }
+      → w' ≡ record roomy { ended = roomy.ended ++ waiting_drawn e (end_numbers (words_in placed t.0)); ended_room = w'.ended_room }
+      → AreWaiting c.table.clock (state_of c.table) c.versions.slots w
+      → AreWaiting (placed.clock + 1) (state_of (txns.after_prepare placed t.0)) versions.slots w'
+  prepared_waits w roomy w' room is waits =
+      let states' = state_of (txns.after_prepare placed t.0) in
+      let ns = end_numbers (words_in c.table t.0) in
+      let roomy_waits = waits_roomy_ended c.table.clock (state_of c.table) c.versions.slots w roomy roomy.ended_room room waits in
+      let now = draw_keeps_waiting opening steps s (state_of c.table) states' c.versions (words_in c.table) roomy t.0 e ns (stands_with opening steps s c h roomy roomy_waits)
+      (was_active opening steps s c h t none) (others opening steps s c h t none placed change)
+      (subst (λ (x : Stamp). states' t.0 ≡ Some (Preparing x)) (sym end_is) (here opening steps s c h t none placed change))
+      (drawn ∙ ap (λ (n : ℕ). n + 1) h.dependencies.stands.clock)
+      (λ n x at named. ends_are_listed s c.versions.slots (words_in c.table) t.0 n x h.words at named) in
+      let clock : s.clock + 1 ≡ placed.clock + 1 = ap (λ (n : ℕ). n + 1) (sym (same_clock ∙ h.dependencies.stands.clock)) in
+      waits_roomy_ended (placed.clock + 1) states' versions.slots (record roomy { ended = roomy.ended ++ waiting_drawn e ns }) w' w'.ended_room
+      (is ∙ ap (λ (ws : ℕ → List Rattle.mvo_work.specs.declared.word_place.WordPlace.WordPlace). record roomy { ended = roomy.ended ++ waiting_drawn e (end_numbers (ws t.0)); ended_room = w'.ended_room }) same_words)
+      (subst (λ ss. AreWaiting (placed.clock + 1) states' ss (record roomy { ended = roomy.ended ++ waiting_drawn e ns })) (sym front.slots)
+      (subst (λ (n : ℕ). AreWaiting n states' c.versions.slots (record roomy { ended = roomy.ended ++ waiting_drawn e ns })) clock now))
+
+  pub drawn_waits : (w roomy w' : WaitingData) → roomy ≡ record w { ended_room = roomy.ended_room }
+      → w' ≡ record roomy { ended = roomy.ended ++ waiting_drawn e (end_numbers (words_in placed t.0)); ended_room = w'.ended_room }
+      → AreWaiting c.table.clock (state_of c.table) c.versions.slots w
+      → (result : Result Stamp Refusal) (table : Txns (Node Transaction)) → OnOk result (table ≡ txns.after_prepare placed t.0) → IfErr result (λ why. spent_clock placed.clock ≡ Some why)
+      → AreWaiting table.clock (state_of table) versions.slots w'
+  drawn_waits w roomy w' room is waits (Ok d) table made spent =
+      subst (λ (x : Txns (Node Transaction)). AreWaiting x.clock (state_of x) versions.slots w') (sym made) (prepared_waits w roomy w' room is waits)
+  drawn_waits w roomy w' room is waits (Err why) table made spent =
+      absurd (none_refusal why (sym (ap spent_clock same_clock ∙ ap (λ b. Rattle.std.proofs.Common.cond b (Some Rattle.mvo_types.specs.declared.refusal.Refusal.TheVariants.ClockSpent) None) (over_limit MAX_STAMP c.table.clock lt)) ∙ spent))
+
+-- ---- one stands otherwise, and is reported
+reported_clock : (f : deps.DependencyData → deps.DependencyData) (old untold new : Txns (Node Transaction)) (t : TxId) (state : TxState) → untold ≡ txns.after_change old t.0 state → IsReported f untold new t → new.clock ≡ old.clock
+reported_clock f old untold new t state is told = told.clock ∙ clock_changed untold t.0 without_dependents ∙ ap (λ (x : Txns (Node Transaction)). x.clock) is
+
+none_end : (e : ℕ) → ◌≡◌ {A = Option ℕ} None (Some e) → ⊥
+none_end e q = cc
+
+-- it is aborted
+pub aborted_waits : (old untold table : Txns (Node Transaction)) (t : TxId) (v new : VersionsData) (w : WaitingData) (ws : List Rattle.mvo_work.specs.declared.word_place.WordPlace.WordPlace) → IsUnended (state_of old t.0)
+    → untold ≡ txns.after_change old t.0 Aborted → IsReported (deps.after_abort t) untold table t → AreInFront (is_put_by t.0) v new ws
+    → AreWaiting old.clock (state_of old) v.slots w → AreWaiting table.clock (state_of table) new.slots w
+aborted_waits old untold table t v new w ws unended is told front h =
+    let was = was_state (state_of old t.0) unended in
+    let now = stands_now (deps.after_abort t) old untold table t Aborted is told was.0 was.1 in
+    let clock = reported_clock (deps.after_abort t) old untold table t Aborted is told in
+    subst (λ ss. AreWaiting table.clock (state_of table) ss w) (sym front.slots)
+    (waits_beside old table t.0 v.slots w (omega (arith, clock)) (others_stand (deps.after_abort t) old untold table t Aborted is told)
+    (λ e q. absurd (none_end e (ap (λ o. end_in (phase_as o)) (sym now) ∙ q))) h)
+
+-- it is settled
+pub committed_waits : (old untold reported table : Txns (Node Transaction)) (t : TxId) (e : Stamp) (v : VersionsData) (w : WaitingData) → state_of old t.0 ≡ Some (Preparing e)
+    → untold ≡ txns.after_change old t.0 (Committed e) → IsReported deps.after_commit untold reported t → IsWritten reported table t.0 HasHandedOver
+    → AreWaiting old.clock (state_of old) v.slots w → AreWaiting table.clock (state_of table) v.slots w
+committed_waits old untold reported table t e v w was is told handed h =
+    let now = stands_now deps.after_commit old untold reported t (Committed e) is told (Preparing e) was in
+    let clock = reported_clock deps.after_commit old untold reported t (Committed e) is told in
+    waits_alike reported table v.slots w (alike_written reported table t.0 HasHandedOver handed)
+    (waits_beside old reported t.0 v.slots w (omega (arith, clock)) (others_stand deps.after_commit old untold reported t (Committed e) is told)
+    (λ d q. ap (λ o. end_in (phase_as o)) was ∙ sym (ap (λ o. end_in (phase_as o)) now) ∙ q) h)

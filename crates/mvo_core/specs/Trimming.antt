@@ -1,0 +1,53 @@
+-- What is stored of the commits, and what a trim forgets.
+use Rattle.std.specs.Prelude.{ℕ, suc, ◌≡◌, nat_lt, nat_le, min, Bool, ◌&&◌, if◌then◌else◌, List, [], ◌∷◌}
+use Rattle.std.specs.FinMap as fin
+use Rattle.mvo_types.specs.declared.row.RowKey.{RowKey}
+use Rattle.mvo_theory.specs.State.{State, StampedTx}
+use Rattle.mvo_theory.specs.Sound.{IsLegal}
+use Rattle.mvo_chain.specs.Slots.{Slots}
+use Rattle.mvo_visible.specs.Words.{States}
+use Rattle.mvo_representation.specs.Words.{ends_of, change_below, row_in}
+use Rattle.mvo_representation.specs.Indexes.{all_versions}
+use Rattle.mvo_representation.specs.Table.{phases_of}
+use Rattle.mvo_tale.specs.declared.slot.Slot.{Slot}
+use Rattle.mvo_tale.specs.declared.slot.Slot.TheVariants.{Open, Settled, Empty}
+use Rattle.mvo_tale.specs.Stored.{StoredCommit}
+use Rattle.mvo_tale.specs.Forgetting.{forgotten}
+use Rattle.mvo_core.specs.Data.{CoreData}
+
+-- ---- the stored commits
+abbrev pub and_above : ℕ → StoredCommit → List StoredCommit → List StoredCommit
+and_above start c cs = if nat_lt start c.end then c ∷ cs else cs
+
+-- those at the places that end above the start
+abbrev pub stored_above : ℕ → List Slot → List StoredCommit
+stored_above start [] = []
+stored_above start (Open e ∷ slots) = stored_above start slots
+stored_above start (Settled c ∷ slots) = and_above start c (stored_above start slots)
+stored_above start (Empty ∷ slots) = stored_above start slots
+
+-- the settled ones, with their ends and histories
+abbrev pub committed : List StampedTx → List StoredCommit
+committed [] = []
+committed (x ∷ xs) =
+    if x.settled
+    then record { id = x.id; end = x.end; history = x.history } ∷ committed xs
+    else committed xs
+
+-- The places have just the commits above the start, by end timestamp. They are legal from the rows
+-- at the start, which the versions show to a begin just above it.
+pub record IsTaleOf (s : State) (states : States) (slots : Slots) (tale : List Slot) : Type 0 where
+  pub stored : stored_above s.start tale ≡ committed s.stamped
+  pub legal : IsLegal s.base s.stamped
+  pub shown : (k : RowKey)
+      → row_in (change_below (ends_of (phases_of states)) (suc s.start) k (all_versions slots))
+      ≡ fin.get s.base k
+
+-- ---- a trim
+-- up to m: above the start, and at most the oldest begin and the low-water
+abbrev pub is_within : ℕ → ℕ → ℕ → ℕ → Bool
+is_within m start oldest low = nat_lt start m && (nat_le m oldest && nat_le m low)
+
+-- what is trimmed and in a closed group is, and nothing else
+abbrev pub HasForgotten : ℕ → ℕ → CoreData → CoreData → Type 0
+HasForgotten start closed old new = new.tale ≡ forgotten (min start closed) old.tale

@@ -1,0 +1,67 @@
+//! The tale: what is stored of the commits, and where it starts.
+ghost use Rattle.std.specs.Prelude.{◌≡◌, min};
+ghost use Rattle.mvo_core.specs.Trimming.{is_within};
+
+use crate::engine::Core;
+use mvo_tale::Tale;
+use mvo_types::{Refusal, Stamp};
+
+impl Core {
+    ghost use Rattle.std.specs.Prelude.{◌≡◌, IfOk, IfErr};
+    ghost use Rattle.mvo_theory.specs.Calls.Call.{Trim};
+    ghost use Rattle.mvo_txn.specs.Txns.{state_of};
+    ghost use Rattle.mvo_core.specs.Steps.{IsStep, InEach};
+    ghost use Rattle.mvo_core.specs.Trimming.{IsTaleOf, HasForgotten};
+
+    /// The stored commits, by end timestamp: all that end above the start of the tale, and of those
+    /// up to it the ones at the back that are in no closed group yet, which stay for theirs.
+    pub fn tale(&self) -> &Tale
+        ensures tale { result.now ≡ self.now.tale }
+        ensures stored { InEach self.now (λ s.
+            IsTaleOf s (state_of self.now.table) self.now.versions.slots result.now) }
+    {
+        &self.tale
+    }
+
+    /// Where the tale starts: the opening mark, or where it was trimmed last. Those that end at
+    /// most there are in the rows that it starts from.
+    pub fn tale_start(&self) -> Stamp
+        ensures { result.0 ≡ self.now.start }
+    {
+        self.start
+    }
+
+    /// Makes the stamp the start of the tale, and forgets the commits that are trimmed and in a
+    /// closed group. Of those in no group yet the stored rows stay for theirs. It takes no memory,
+    /// and time by how many commits go, each of which goes once. Refused with NothingToDo alone:
+    /// where the stamp isn't above the start, or is above the oldest begin or the low-water.
+    pub fn trim_tale(&mut self, upto: Stamp) -> Result<(), Refusal>
+        ensures step { IsStep self.old (Trim upto.0) result self.new }
+        ensures forgets { IfOk result (λ _. HasForgotten upto.0 self.old.closed self.old self.new) }
+        ensures err { IfErr result (λ r. r ≡ Refusal.NothingToDo) }
+    {
+        let oldest = self.table.oldest_begin();
+        let low_water = self.table.low_water();
+        if !is_within(upto, self.start, oldest, low_water) {
+            return Err(Refusal::NothingToDo);
+        }
+        self.start = upto;
+        self.tale.forget(lesser(upto, self.closed));
+        Ok(())
+    }
+}
+
+/// Whether the tale may be trimmed up to there, by where it starts, the oldest begin and the
+/// low-water.
+fn is_within(upto: Stamp, start: Stamp, oldest: Stamp, low_water: Stamp) -> bool
+    ensures { result ≡ is_within upto.0 start.0 oldest.0 low_water.0 }
+{
+    start < upto && upto <= oldest && upto <= low_water
+}
+
+/// The lesser of the two.
+pub fn lesser(a: Stamp, b: Stamp) -> Stamp
+    ensures { result.0 ≡ min a.0 b.0 }
+{
+    if a < b { a } else { b }
+}
