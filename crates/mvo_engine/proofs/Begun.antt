@@ -1,5 +1,5 @@
 -- A run before its first step is sound.
-use Rattle.std.proofs.Common.{◌≡◌, ℕ, ◌<◌, ◌≤◌, Bool, true, false, List, [], ◌∷◌, ◌++◌, map, Option, None, refl, sym, ap, ◌∙◌, subst, arith, append-nil}
+use Rattle.std.proofs.Common.{◌≡◌, ℕ, ◌≤◌, Bool, true, false, List, [], ◌∷◌, ◌++◌, map, Option, refl, sym, ap, ◌∙◌, subst, arith, append-nil}
 use Rattle.std.specs.Prelude.{◌==◌, if◌then◌else◌}
 use Rattle.std.specs.Option.{option_to_list}
 use Rattle.std.proofs.Math.Path.{fun_ext}
@@ -10,18 +10,18 @@ use Rattle.mvo_types.specs.Keys.{Map}
 use Rattle.mvo_disk.specs.declared.disk.Disk.{Ghosts}
 use Rattle.mvo_disk.specs.Disk.{Image}
 use Rattle.mvo_group.specs.Data.{GroupData, group_of}
-use Rattle.mvo_group.specs.Rules.{KeepsRules}
-use Rattle.mvo_theory.specs.State.{State, Marks, opened}
+use Rattle.mvo_theory.specs.State.{Marks, opened}
 use Rattle.mvo_core.specs.Data.{CoreData}
 use Rattle.mvo_core.specs.Groups.{AreGroupsOf}
-use Rattle.mvo_image.specs.Rows.{after_groups}
+use Rattle.mvo_store.specs.Rows.{after_groups}
+use Rattle.mvo_store.specs.Seen.{disk_of, mark_of}
 use Rattle.mvo_store.specs.StoreData.{StoreData}
 use Rattle.mvo_store.specs.Standing.{Gives, HasSlots, KeepsRows, FollowsMark}
 use Rattle.mvo_store.specs.Opening.{KeepsContent}
 use Rattle.mvo_world.specs.WorldData.{WorldData, HasBegun, waiting}
 use Rattle.mvo_world.specs.Past.{opened_over}
 use Rattle.mvo_world.specs.Standing.{IsAfter}
-use Rattle.mvo_world.proofs.Marked.{gives_stamp}
+use Rattle.mvo_store.proofs.Marked.{gives_stamp}
 use Rattle.mvo_engine.specs.Sound.{IsSoundCore, IsSoundStore, last_mark}
 use Rattle.mvo_engine.specs.Opened.{HasOpened, opening_groups}
 
@@ -52,43 +52,43 @@ none_sent : (gs hs : List GroupData) → map (λ g. g.mark) (gs ++ hs) ≡ [] �
 none_sent [] hs e = refl
 none_sent (g ∷ gs) hs e = absurd cc
 
-pub opened_world : {D : Type 0} (d : Ghosts D) (old : D) (w : WorldData D) → KeepsContent d old w.store.disk → (rows : Map) → Gives rows w.store.mark (d.content old) → HasBegun rows w
-    → (HasSlots (d.content old) → IsAfter d (opened_over rows w.store.mark) w) → HasOpened d (d.content w.store.disk) w.core w.store
+pub opened_world : {D : Type 0} (d : Ghosts D) (old : D) (w : WorldData D) → KeepsContent d old (disk_of w.store) → (rows : Map) → Gives rows (mark_of w.store) (d.content old) → HasBegun rows w
+    → (HasSlots (d.content old) → IsAfter d (opened_over rows (mark_of w.store)) w) → HasOpened d (d.content (disk_of w.store)) w.core w.store
 opened_world {D} d old w content rows gives begun after = record {
   rows = rows;
-  gives = subst (Gives rows w.store.mark) (sym same) gives;
+  gives = subst (Gives rows (mark_of w.store)) (sym same) gives;
   core = begun.core;
-  pending = begun.pending;
+  pending = begun.store.pending;
   keeps = λ slots.
       let h = after (subst HasSlots same slots) in
       subst (λ (gs : List GroupData). KeepsRows d w.store (after_groups rows gs)) (none_sent h.sent (waiting w) h.marks) h.store;
 }
   where
-    same : d.content w.store.disk ≡ d.content old
+    same : d.content (disk_of w.store) ≡ d.content old
     same = fun_ext content
 
 module _ {D : Type 0} (d : Ghosts D) (image : Image) (c : CoreData) (s : StoreData D) (h : HasOpened d image c s) where
-  pub sound_core : (sent : List GroupData) → sent ≡ opening_groups s.mark → IsSoundCore image c sent
+  pub sound_core : (sent : List GroupData) → sent ≡ opening_groups (mark_of s) → IsSoundCore image c sent
   sound_core sent is = record {
     rows = h.rows;
-    mark = s.mark;
+    mark = mark_of s;
     gives = h.gives;
     steps = [];
-    state = opened h.rows s.mark;
+    state = opened h.rows (mark_of s);
     stands = h.core;
     closed = record { drawn = omega arith; above = tt };
-    groups = subst (AreGroupsOf (opened h.rows s.mark) 0) (sym is) (opened_of h.rows s.mark (gives_stamp image h.rows s.mark h.gives) (s.mark == 0) refl);
-    last = ap last_mark is ∙ opened_mark s.mark (s.mark == 0) refl ∙ ap (λ (m : Marks). m.closed) h.core.marks;
+    groups = subst (AreGroupsOf (opened h.rows (mark_of s)) 0) (sym is) (opened_of h.rows (mark_of s) (gives_stamp image h.rows (mark_of s) h.gives) (mark_of s == 0) refl);
+    last = ap last_mark is ∙ opened_mark (mark_of s) (mark_of s == 0) refl ∙ ap (λ (m : Marks). m.closed) h.core.marks;
   }
 
-  pub sound_store : (received : List GroupData) → received ≡ opening_groups s.mark → IsSoundStore d image s received
+  pub sound_store : (received : List GroupData) → received ≡ opening_groups (mark_of s) → IsSoundStore d image s received
   sound_store received is = record {
     rows = h.rows;
-    mark = s.mark;
+    mark = mark_of s;
     gives = h.gives;
-    durable = opening_groups s.mark;
-    received_is = is ∙ sym (append-nil (opening_groups s.mark)) ∙ ap (λ (o : Option GroupData). opening_groups s.mark ++ option_to_list o) (sym h.pending);
-    mark_is = sym (opened_mark s.mark (s.mark == 0) refl);
-    follows = subst (FollowsMark s.mark) (sym h.pending) tt;
-    keeps = λ slots. subst (KeepsRows d s) (sym (opened_rows s.mark h.rows (s.mark == 0))) (h.keeps slots);
+    durable = opening_groups (mark_of s);
+    received_is = is ∙ sym (append-nil (opening_groups (mark_of s))) ∙ ap (λ (o : Option GroupData). opening_groups (mark_of s) ++ option_to_list o) (sym h.pending);
+    mark_is = sym (opened_mark (mark_of s) (mark_of s == 0) refl);
+    follows = subst (FollowsMark (mark_of s)) (sym h.pending) tt;
+    keeps = λ slots. subst (KeepsRows d s) (sym (opened_rows (mark_of s) h.rows (mark_of s == 0))) (h.keeps slots);
   }

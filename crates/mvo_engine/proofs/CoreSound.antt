@@ -1,20 +1,18 @@
 -- The core under its lock stays sound.
-use Rattle.std.proofs.Common.{◌≡◌, ℕ, ◌≤◌, List, [], ◌∷◌, ◌++◌, Result, Ok, Err, refl, sym, ap, ◌∙◌, subst, arith}
+use Rattle.std.proofs.Common.{◌≡◌, ℕ, ◌≤◌, List, [], ◌∷◌, ◌++◌, Result, Ok, Err, sym, ap, ◌∙◌, subst, arith}
 use Rattle.std.specs.List.{AllByRecursion}
 use Rattle.rtrb.specs.declared.producer.Producer.{Producer}
 use Rattle.rtrb.specs.Ring.{sent as ring_sent}
 use Rattle.mvo_types.specs.declared.refusal.Refusal.{Refusal}
-use Rattle.mvo_types.specs.Keys.{Map}
-use Rattle.mvo_model.specs.Trace.{Step}
 use Rattle.mvo_disk.specs.Disk.{Image}
 use Rattle.mvo_group.specs.Data.{GroupData}
-use Rattle.mvo_theory.specs.State.{State, StampedTx, Marks, timeline}
+use Rattle.mvo_theory.specs.State.{StampedTx, Marks}
 use Rattle.mvo_theory.specs.Marks.{IsClosedAt}
-use Rattle.mvo_theory.specs.Sound.{IsPlaced}
+use Rattle.mvo_theory.specs.Sound.{IsPast, IsPlaced}
 use Rattle.mvo_theory.specs.Changes.{after_close}
 use Rattle.mvo_theory.specs.Calls as theory
 use Rattle.mvo_theory.specs.Calls.{Call, after_call, steps_of, group_of}
-use Rattle.mvo_theory.proofs.Each.{each_weaker}
+use Rattle.mvo_theory.proofs.Each.{each_append, each_weaker}
 use Rattle.mvo_theory.proofs.Stays.{stays_after_call}
 use Rattle.mvo_core.specs.declared.answers.Closed as closing
 use Rattle.mvo_core.specs.Data.{CoreData}
@@ -23,7 +21,7 @@ use Rattle.mvo_core.specs.Groups.{AreGroupsOf}
 use Rattle.mvo_core.specs.Steps.{came, IsStep}
 use Rattle.mvo_core.specs.Closing.{IsClosedNow, HasClosed}
 use Rattle.mvo_core.proofs.Begun.{still_closed}
-use Rattle.mvo_frame.specs.Frames.{mark_after}
+use Rattle.mvo_store.specs.Frames.{mark_after}
 use Rattle.mvo_world.proofs.Asked.{same_closed, stands_serial}
 use Rattle.mvo_world.proofs.Chain.{groups_stay}
 use Rattle.mvo_world.proofs.Closed.{group_of_next}
@@ -102,7 +100,11 @@ module _ {image : Image} {c : CoreData} {sent : List GroupData} (i : IsSoundCore
     state = i.state;
     stands = i.stands;
     serial = stands_serial i.rows i.steps i.state c i.stands;
-    ends = subst (λ (xs : List StampedTx). AllByRecursion (λ (x : StampedTx). x.end ≤ c.table.clock) (xs ++ i.state.stamped)) (sym i.stands.past)
-        (each_weaker (IsPlaced i.state.stamped i.state.clock) (λ (x : StampedTx). x.end ≤ c.table.clock) (λ x p. let is = i.stands.dependencies.stands.clock in let le = p.drawn in omega (arith, is, le)) i.state.stamped i.stands.versions.kept.sound.placed);
+    ends =
+        let is = i.stands.dependencies.stands.clock in
+        let started = i.stands.versions.kept.started in
+        each_append (λ (x : StampedTx). x.end ≤ c.table.clock) i.state.past i.state.stamped
+        (each_weaker (IsPast i.state.start) (λ (x : StampedTx). x.end ≤ c.table.clock) (λ x p. let le = p.until in let drawn = started.drawn in omega (arith, is, le, drawn)) i.state.past started.past)
+        (each_weaker (IsPlaced i.state.stamped i.state.clock) (λ (x : StampedTx). x.end ≤ c.table.clock) (λ x p. let le = p.drawn in omega (arith, is, le)) i.state.stamped i.stands.versions.kept.sound.placed);
     groups = i.groups;
   }

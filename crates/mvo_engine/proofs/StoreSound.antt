@@ -8,8 +8,9 @@ use Rattle.mvo_disk.specs.declared.disk.Disk.{Ghosts}
 use Rattle.mvo_disk.specs.Disk.{Image, AllOf}
 use Rattle.mvo_group.specs.Data.{GroupData}
 use Rattle.mvo_group.specs.Rules.{IsGroup}
-use Rattle.mvo_image.specs.Rows.{after_groups}
-use Rattle.mvo_recovery.proofs.Grown.{after_groups-append}
+use Rattle.mvo_store.specs.Rows.{after_groups}
+use Rattle.mvo_store.proofs.Grown.{after_groups-append}
+use Rattle.mvo_store.specs.Seen.{disk_of, mark_of, pending_of}
 use Rattle.mvo_store.specs.StoreData.{StoreData, opening}
 use Rattle.mvo_store.specs.Standing.{Gives, GivesOr, FollowsMark, HasSlots, KeepsRows, Keeps, IsKeeping, after_taken}
 use Rattle.mvo_store.specs.Calls.{StoreCall, IsStoreStep}
@@ -31,7 +32,7 @@ module _ {D : Type 0} (d : Ghosts D) {image : Image} {s : StoreData D} {received
     durable = i.durable;
     received_is = i.received_is ∙ ap (λ (o : Option GroupData). i.durable ++ option_to_list o) (sym taken.pending);
     mark_is = taken.mark ∙ i.mark_is;
-    follows = subst (λ (o : Option GroupData). FollowsMark t.mark o) (sym taken.pending) (subst (λ (m : ℕ). FollowsMark m s.pending) (sym taken.mark) i.follows);
+    follows = subst (λ (o : Option GroupData). FollowsMark (mark_of t) o) (sym taken.pending) (subst (λ (m : ℕ). FollowsMark m (pending_of s)) (sym taken.mark) i.follows);
     keeps = λ slots. keeps.keeps (after_groups i.rows i.durable) (i.keeps slots);
   }
 
@@ -39,15 +40,15 @@ module _ {D : Type 0} (d : Ghosts D) {image : Image} {s : StoreData D} {received
   kept_by call result t quiet h = kept t (quiet_taken d s call result t quiet h.comes) (quiet_rows d s call result t quiet h)
 
   -- the groups that were received are those that are durable, where none is being appended
-  received_all : s.pending ≡ None → received ≡ i.durable
+  received_all : pending_of s ≡ None → received ≡ i.durable
   received_all none = i.received_is ∙ ap (λ (o : Option GroupData). i.durable ++ option_to_list o) none ∙ append-nil i.durable
 
   -- so the next one begins at the store's mark
-  pub next_follows : s.pending ≡ None → (g : GroupData) → g.prev ≡ last_mark received → g.prev ≡ s.mark
+  pub next_follows : pending_of s ≡ None → (g : GroupData) → g.prev ≡ last_mark received → g.prev ≡ mark_of s
   next_follows none g is = is ∙ ap last_mark (received_all none) ∙ sym i.mark_is
 
   -- over the taking of a group
-  pub taken_in : (t : StoreData D) (received' : List GroupData) (g : GroupData) → IsGroup g → s.pending ≡ None → received' ≡ received ++ g ∷ [] → t.pending ≡ Some g → t.mark ≡ s.mark → g.prev ≡ s.mark → Keeps d s t → IsSoundStore d image t received'
+  pub taken_in : (t : StoreData D) (received' : List GroupData) (g : GroupData) → IsGroup g → pending_of s ≡ None → received' ≡ received ++ g ∷ [] → pending_of t ≡ Some g → mark_of t ≡ (mark_of s) → g.prev ≡ (mark_of s) → Keeps d s t → IsSoundStore d image t received'
   taken_in t received' g is none there pending mark prev keeps = record {
     rows = i.rows;
     mark = i.mark;
@@ -55,12 +56,12 @@ module _ {D : Type 0} (d : Ghosts D) {image : Image} {s : StoreData D} {received
     durable = i.durable;
     received_is = there ∙ ap (λ (gs : List GroupData). gs ++ g ∷ []) (received_all none) ∙ ap (λ (o : Option GroupData). i.durable ++ option_to_list o) (sym pending);
     mark_is = mark ∙ i.mark_is;
-    follows = subst (FollowsMark t.mark) (sym pending) (prev ∙ sym mark, is);
+    follows = subst (FollowsMark (mark_of t)) (sym pending) (prev ∙ sym mark, is);
     keeps = λ slots. keeps.keeps (after_groups i.rows i.durable) (i.keeps slots);
   }
 
   -- over the opening of a group's gate
-  pub appended : (t : StoreData D) (g : GroupData) → s.pending ≡ Some g → t.mark ≡ g.mark → t.pending ≡ None → IsKeeping d (λ rows. after_taken rows s.pending) s t → IsSoundStore d image t received
+  pub appended : (t : StoreData D) (g : GroupData) → pending_of s ≡ Some g → mark_of t ≡ g.mark → pending_of t ≡ None → IsKeeping d (λ rows. after_taken rows (pending_of s)) s t → IsSoundStore d image t received
   appended t g there mark none keeps =
       record {
         rows = i.rows;
@@ -68,27 +69,27 @@ module _ {D : Type 0} (d : Ghosts D) {image : Image} {s : StoreData D} {received
         gives = i.gives;
         durable = i.durable ++ g ∷ [];
         received_is = i.received_is ∙ ap (λ (o : Option GroupData). i.durable ++ option_to_list o) there ∙ sym (append-nil (i.durable ++ g ∷ [])) ∙ ap (λ (o : Option GroupData). (i.durable ++ g ∷ []) ++ option_to_list o) (sym none);
-        follows = subst (FollowsMark t.mark) (sym none) tt;
+        follows = subst (FollowsMark (mark_of t)) (sym none) tt;
         mark_is = mark ∙ sym (mark_after-append 0 i.durable (g ∷ []));
         keeps = λ slots. subst (KeepsRows d t) (ap (after_taken (after_groups i.rows i.durable)) there ∙ sym (after_groups-append i.rows i.durable (g ∷ []))) (keeps.keeps (after_groups i.rows i.durable) (i.keeps slots));
       }
 
   -- ---- what a stop leaves
   module _ (left : Image) (slots : HasSlots left) where
-    without : Gives (after_groups i.rows i.durable) s.mark left → GivesReceived image received s.mark left
+    without : Gives (after_groups i.rows i.durable) (mark_of s) left → GivesReceived image received (mark_of s) left
     without gives = record {
       rows = i.rows;
       mark = i.mark;
       opened = i.gives;
       front = i.durable;
-      behind = option_to_list s.pending;
+      behind = option_to_list (pending_of s);
       received_is = i.received_is;
       slots = slots;
       gives = subst (λ (m : ℕ). Gives (after_groups i.rows i.durable) m left) i.mark_is gives;
       covers = let at = i.mark_is in omega (arith, at);
     }
 
-    with_opening : (g : GroupData) → s.pending ≡ Some g → s.mark ≤ g.mark → Gives (after_groups (after_groups i.rows i.durable) (g ∷ [])) g.mark left → GivesReceived image received s.mark left
+    with_opening : (g : GroupData) → pending_of s ≡ Some g → mark_of s ≤ g.mark → Gives (after_groups (after_groups i.rows i.durable) (g ∷ [])) g.mark left → GivesReceived image received (mark_of s) left
     with_opening g there up gives =
         let last : last_mark (i.durable ++ g ∷ []) ≡ g.mark = mark_after-append 0 i.durable (g ∷ []) in
         record {
@@ -104,20 +105,20 @@ module _ {D : Type 0} (d : Ghosts D) {image : Image} {s : StoreData D} {received
           covers = omega (arith, last, up);
         }
 
-    pub with_or_without : (b : Bool) (o : Option GroupData) → s.pending ≡ o → ((g : GroupData) → s.pending ≡ Some g → s.mark ≤ g.mark) → GivesOr (after_groups i.rows i.durable) s.mark (cond b o None) left → GivesReceived image received s.mark left
+    pub with_or_without : (b : Bool) (o : Option GroupData) → pending_of s ≡ o → ((g : GroupData) → pending_of s ≡ Some g → mark_of s ≤ g.mark) → GivesOr (after_groups i.rows i.durable) (mark_of s) (cond b o None) left → GivesReceived image received (mark_of s) left
     with_or_without false o e up gives = without gives
     with_or_without true None e up gives = without gives
     with_or_without true (Some g) e up (inl gives) = without gives
     with_or_without true (Some g) e up (inr gives) = with_opening g e (up g e) gives
 
-  pub above : (g : GroupData) → s.pending ≡ Some g → s.mark ≤ g.mark
+  pub above : (g : GroupData) → pending_of s ≡ Some g → mark_of s ≤ g.mark
   above g there =
-      let f : FollowsMark s.mark (Some g) = subst (FollowsMark s.mark) there i.follows in
+      let f : FollowsMark (mark_of s) (Some g) = subst (FollowsMark (mark_of s)) there i.follows in
       let prev = f.0 in
       let lt = f.1.rules.above in
       omega (arith, prev, lt)
 
-  pub received_image : HasSlots image → (left : Image) → AllOf (d.may_leave s.disk) left → GivesReceived image received s.mark left
+  pub received_image : HasSlots image → (left : Image) → AllOf (d.may_leave (disk_of s)) left → GivesReceived image received (mark_of s) left
   received_image slots left of =
       let may = (i.keeps slots).images left of in
-      with_or_without left may.slots s.written s.pending refl above may.gives
+      with_or_without left may.slots s.written (pending_of s) refl above may.gives

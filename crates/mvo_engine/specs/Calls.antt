@@ -14,6 +14,7 @@ use Rattle.mvo_core.specs.declared.answers.Closed.{Closed}
 use Rattle.mvo_core.specs.Standing.{StandsFor}
 use Rattle.mvo_core.specs.Steps.{IsStep}
 use Rattle.mvo_core.specs.Closing.{IsClosedNow, IsNotClosed}
+use Rattle.mvo_store.specs.Seen.{mark_of}
 use Rattle.mvo_store.specs.Causes.{why_not_take}
 use Rattle.mvo_store.specs.Calls.{StoreCall, IsStoreStep}
 use Rattle.mvo_store.specs.Calls.StoreCall.{Take, AppendOpen}
@@ -50,7 +51,7 @@ pub record IsQuietStep {D A : Type 0} (d : Ghosts D) (old : StoreState D) (call 
 -- the next group, which begins at the store's mark, is being appended
 pub record HasTaken {D : Type 0} (d : Ghosts D) (old new : StoreState D) : Type 0 where
   pub group : GroupData
-  pub prev : group.prev ≡ old.store.mark
+  pub prev : group.prev ≡ mark_of old.store
   pub received : new.received ≡ old.received ++ group ∷ []
   pub step : IsStoreStep {A = Unit {0}} d old.store (Take group) (Ok tt) new.store
   pub published : new.published ≡ old.published
@@ -77,7 +78,7 @@ pub record IsAppendStep {D A : Type 0} (d : Ghosts D) (old : StoreState D)
     (result : Result A Refusal) (new : StoreState D) : Type 0 where
   pub step : IsStoreStep d old.store AppendOpen result new.store
   pub received : new.received ≡ old.received
-  pub published : new.published ≡ published_after old.published result new.store.mark
+  pub published : new.published ≡ published_after old.published result (mark_of new.store)
 
 -- ---- a session
 

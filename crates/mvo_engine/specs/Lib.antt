@@ -4,3 +4,4 @@ pub mod Opened
 pub mod States
 pub mod Calls
 pub mod Legal
+pub mod Logging

@@ -1,20 +1,18 @@
 -- A run before its first step.
-use Rattle.std.specs.Prelude.{◌≡◌, ◌==◌, ◌⊎◌, ℕ, List, [], ◌∷◌, None, if◌then◌else◌}
+use Rattle.std.specs.Prelude.{◌≡◌, ◌==◌, ℕ, List, [], ◌∷◌, None, if◌then◌else◌}
 use Rattle.atomic_table.specs.Seated.{TableId}
 use Rattle.rtrb.specs.declared.producer.Producer.{Producer}
 use Rattle.rtrb.specs.declared.consumer.Consumer.{Consumer}
 use Rattle.rtrb.specs.Ring.{sent, received}
-use Rattle.mvo_types.specs.declared.refusal.Refusal.{Refusal}
-use Rattle.mvo_types.specs.declared.refusal.Refusal.TheVariants.{OutOfMemory}
 use Rattle.mvo_types.specs.Keys.{Map}
 use Rattle.mvo_disk.specs.declared.disk.Disk.{Ghosts}
 use Rattle.mvo_disk.specs.Disk.{Image}
 use Rattle.mvo_group.specs.Data.{GroupData, group_of}
 use Rattle.mvo_core.specs.Data.{CoreData}
 use Rattle.mvo_core.specs.Standing.{OpensAs}
+use Rattle.mvo_store.specs.Seen.{disk_of, mark_of, pending_of}
 use Rattle.mvo_store.specs.StoreData.{StoreData}
 use Rattle.mvo_store.specs.Standing.{Gives, HasSlots, KeepsRows}
-use Rattle.mvo_store.specs.Opening.{IsNotOpened}
 use Rattle.mvo_marks.specs.Marks.{SeatData}
 use Rattle.mvo_world.specs.WorldData.{WorldData}
 use Rattle.mvo_engine.specs.Rings.{RingName, ring_of, ring_from}
@@ -23,13 +21,13 @@ use Rattle.mvo_engine.specs.Rings.{RingName, ring_of, ring_from}
 pub record HasOpened {D : Type 0} (d : Ghosts D) (image : Image) (c : CoreData)
     (s : StoreData D) : Type 0 where
   pub rows : Map
-  pub gives : Gives rows s.mark image
-  pub core : OpensAs rows s.mark c
-  pub pending : s.pending ≡ None
+  pub gives : Gives rows (mark_of s) image
+  pub core : OpensAs rows (mark_of s) c
+  pub pending : pending_of s ≡ None
   pub keeps : HasSlots image → KeepsRows d s rows
 
 abbrev pub IsOpenedWorld : {D : Type 0} → Ghosts D → WorldData D → Type 0
-IsOpenedWorld d w = HasOpened d (d.content w.store.disk) w.core w.store
+IsOpenedWorld d w = HasOpened d (d.content (disk_of w.store)) w.core w.store
 
 -- the group that leads from 0 to the opening mark, with no records; none where that is 0
 abbrev pub opening_groups : ℕ → List GroupData
@@ -59,10 +57,6 @@ pub record FreshData (D : Type 0) : Type 0 where
 -- what names the run is fixed by its parts
 pub record IsNamedBy {D : Type 0} (d : Ghosts D) (image : Image) (marks : TableId)
     (ring : RingName) (f : FreshData D) : Type 0 where
-  pub image_is : d.content f.store.disk ≡ image
+  pub image_is : d.content (disk_of f.store) ≡ image
   pub marks_are : f.marks ≡ marks
   pub ring_is : f.ring ≡ ring
-
--- the store wasn't opened, or memory for the rest was refused
-abbrev pub IsNoRun : {D : Type 0} → Ghosts D → D → Refusal → D → Type 0
-IsNoRun d old e new = IsNotOpened d old e new ⊎ (e ≡ OutOfMemory)

@@ -11,8 +11,9 @@ use Rattle.mvo_theory.specs.Marks.{IsClosedAt}
 use Rattle.mvo_core.specs.Data.{CoreData}
 use Rattle.mvo_core.specs.Standing.{StandsFor}
 use Rattle.mvo_core.specs.Groups.{AreGroupsOf}
-use Rattle.mvo_frame.specs.Frames.{mark_after}
-use Rattle.mvo_image.specs.Rows.{after_groups}
+use Rattle.mvo_store.specs.Frames.{mark_after}
+use Rattle.mvo_store.specs.Rows.{after_groups}
+use Rattle.mvo_store.specs.Seen.{disk_of, mark_of, pending_of}
 use Rattle.mvo_store.specs.StoreData.{StoreData}
 use Rattle.mvo_store.specs.Standing.{Gives, HasSlots, KeepsRows, FollowsMark}
 
@@ -43,9 +44,9 @@ pub record IsSoundStore {D : Type 0} (d : Ghosts D) (image : Image) (s : StoreDa
   pub mark : ℕ
   pub gives : Gives rows mark image
   pub durable : List GroupData
-  pub received_is : received ≡ durable ++ option_to_list s.pending
-  pub mark_is : s.mark ≡ last_mark durable
-  pub follows : FollowsMark s.mark s.pending
+  pub received_is : received ≡ durable ++ option_to_list (pending_of s)
+  pub mark_is : mark_of s ≡ last_mark durable
+  pub follows : FollowsMark (mark_of s) (pending_of s)
   pub keeps : HasSlots image → KeepsRows d s (after_groups rows durable)
 
 -- An image is well formed, and gives the opening rows followed by a beginning of the groups that
@@ -66,8 +67,8 @@ pub record GivesReceived (opening : Image) (received : List GroupData) (least : 
 -- by a beginning of the groups that were received, up to a mark at least the store's.
 pub record LeavesReceived {D : Type 0} (d : Ghosts D) (opening : Image) (received : List GroupData)
     (s : StoreData D) : Type 0 where
-  pub images : HasSlots opening → (image : Image) → AllOf (d.may_leave s.disk) image →
-      GivesReceived opening received s.mark image
+  pub images : HasSlots opening → (image : Image) → AllOf (d.may_leave (disk_of s)) image →
+      GivesReceived opening received (mark_of s) image
 
 -- An image is well formed, and gives the opening rows followed by groups.
 pub record GivesSome (opening : Image) (image : Image) : Type 0 where

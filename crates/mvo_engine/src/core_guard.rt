@@ -1,6 +1,6 @@
 use crate::locked_core::LockedCore;
 use crate::run::Run;
-use mvo_tale::Tale;
+use mvo_core::Tale;
 use mvo_types::Stamp;
 use std::marker::Model;
 use std::sync::MutexGuard;

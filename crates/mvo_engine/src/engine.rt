@@ -11,6 +11,7 @@ use crate::session::Session;
 use crate::store_guard::StoreGuard;
 use mvo_disk::Disk;
 use mvo_marks::Marks;
+use mvo_store::turn;
 use mvo_types::{Refusal, Stamp};
 use std::sync::{Mutex, MutexGuard, Wait};
 use std::thread;
@@ -93,8 +94,8 @@ impl<L: Run, D: Disk, G: Gate + Drop> Engine<L, D, G> {
     pub fn flush<R: Wait>(&self, rt: &R) -> Result<Stamp, Refusal> {
         self.close_group(rt)?;
         for _ in rt.forever() {
-            let mut store = self.enter_store(rt);
-            if !store.flush_one(&self.marks)? {
+            let mut store = self.lock_store(rt);
+            if !turn(&mut store)? {
                 return Ok(store.mark());
             }
         }

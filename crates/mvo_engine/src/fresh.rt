@@ -28,7 +28,8 @@ impl<D: Disk> Model for Fresh<D> {
     ghost use Rattle.std.specs.Prelude.{◌≡◌};
     ghost use Rattle.std.specs.Coded.{codes};
     ghost use Rattle.mvo_core.specs.contracts.engine.Core.{the_row as core_row};
-    ghost use Rattle.mvo_ckpt.specs.Places.{coded_places};
+    ghost use Rattle.mvo_store.specs.Places.{coded_places};
+    ghost use Rattle.mvo_store.specs.Seen.{disk_of, mark_of};
     ghost use Rattle.mvo_engine.specs.Rings.{ring_of, ring_from};
     ghost use Rattle.mvo_engine.specs.Opened.{FreshData, HasOpened, AreFreshSeats, IsFreshRing};
 
@@ -43,16 +44,18 @@ impl<D: Disk> Model for Fresh<D> {
       ring = ring_of f.producer;
     } };
 
-    ghost invariant = { λ f. HasOpened D.Disk (D.content f.store.disk) f.core f.store ×
-        AreFreshSeats f.marks f.store.mark f.publisher f.seat ×
-        IsFreshRing f.store.mark f.producer f.consumer };
+    ghost invariant = { λ f. HasOpened D.Disk (D.content (disk_of f.store)) f.core f.store ×
+        AreFreshSeats f.marks (mark_of f.store) f.publisher f.seat ×
+        IsFreshRing (mark_of f.store) f.producer f.consumer };
 }
 
 impl<D: Disk> Fresh<D> {
     ghost use Rattle.std.specs.Prelude.{◌≡◌, IfOk, IfErr};
     ghost use Rattle.mvo_types.specs.declared.refusal.Refusal.{Refusal};
     ghost use Rattle.mvo_store.specs.Opening.{KeepsContent};
-    ghost use Rattle.mvo_engine.specs.Opened.{IsOpenedWorld, IsNoRun};
+    ghost use Rattle.mvo_store.specs.Seen.{disk_of};
+    ghost use Rattle.mvo_world.specs.Promise.{IsNoRun};
+    ghost use Rattle.mvo_engine.specs.Opened.{IsOpenedWorld};
 
     /// Opens what is on the disk, and takes the world apart. Refused as `World::open` is, or with
     /// OutOfMemory; the disk comes back.
@@ -62,7 +65,7 @@ impl<D: Disk> Fresh<D> {
         seed: u64,
         disk: D,
     ) -> Result<Fresh<D>, (Refusal, D)>
-        ensures content { IfOk result (λ fresh. KeepsContent D.Disk disk fresh.store.disk) }
+        ensures content { IfOk result (λ fresh. KeepsContent D.Disk disk (disk_of fresh.store)) }
         ensures refused { IfErr result (λ e. IsNoRun D.Disk disk e.0 e.1) }
         ensures content_err { IfErr result (λ e. KeepsContent D.Disk disk e.1) }
     {

@@ -1,9 +1,8 @@
 use crate::chain::Chain;
 use crate::run::{MAX_SESSIONS, Run};
-use mvo_core::{Closed, Core, Finishing, Settlement, Validation};
+use mvo_core::{Closed, Core, Finishing, Settlement, Tale, Validation};
 use mvo_group::Group;
 use mvo_marks::{Marks, Seat};
-use mvo_tale::Tale;
 use mvo_types::{Answer, Refusal, Row, RowKey, Stamp, TxId};
 use rtrb::Producer;
 use std::alloc::Global;

@@ -1,12 +1,9 @@
-mod flushing;
-
 use crate::chain::Chain;
 use crate::run::Run;
 use mvo_disk::Disk;
 use mvo_group::Group;
-use mvo_manifest::Manifest;
 use mvo_marks::{Marks, Publisher, Seat};
-use mvo_store::{Durable, Generation, Store};
+use mvo_store::{Durable, Generation, Manifest, Store};
 use mvo_types::{Refusal, Stamp};
 use rtrb::Consumer;
 use std::alloc::Global;
@@ -38,8 +35,9 @@ impl<L: Run, D: Disk + Drop> Drop for LockedStore<L, D> {
 impl<L: Run, D: Disk> Model for LockedStore<L, D> {
     ghost use Rattle.std.specs.Prelude.{◌≡◌, ◌≤◌};
     ghost use Rattle.std.specs.Coded.{codes};
-    ghost use Rattle.mvo_ckpt.specs.Places.{coded_places};
+    ghost use Rattle.mvo_store.specs.Places.{coded_places};
     ghost use Rattle.rtrb.specs.Ring.{received};
+    ghost use Rattle.mvo_store.specs.Seen.{mark_of};
     ghost use Rattle.mvo_engine.specs.Rings.{ring_from};
     ghost use Rattle.mvo_engine.specs.Sound.{IsSoundStore};
     ghost use Rattle.mvo_engine.specs.States.{StoreState};
@@ -55,7 +53,7 @@ impl<L: Run, D: Disk> Model for LockedStore<L, D> {
     } };
 
     ghost invariant = { λ s. IsSoundStore D.Disk L.image s.store (received s.ring) ×
-        (s.publisher.marks ≡ L.marks) × (s.publisher.known.published ≤ s.store.mark) ×
+        (s.publisher.marks ≡ L.marks) × (s.publisher.known.published ≤ mark_of s.store) ×
         (ring_from s.ring ≡ L.ring) };
 }
 
@@ -64,6 +62,7 @@ impl<L: Run, D: Disk> LockedStore<L, D> {
     ghost use Rattle.std.specs.Prelude.{OnOk, IfOk, IfErr};
     ghost use Rattle.rtrb.specs.Ring.{received};
     ghost use Rattle.mvo_store.specs.Standing.{HasSlots};
+    ghost use Rattle.mvo_store.specs.Seen.{disk_of, mark_of, installed_manifest};
     ghost use Rattle.mvo_store.specs.Causes.{why_not_take};
     ghost use Rattle.mvo_store.specs.Calls.StoreCall.{AppendBody, RotateWrite};
     ghost use Rattle.mvo_store.specs.Calls.StoreCall.{InstallClose, InstallBody, InstallOpen};
@@ -95,9 +94,9 @@ impl<L: Run, D: Disk> LockedStore<L, D> {
 
     /// The disk, as it stands.
     pub fn into_disk(self) -> D
-        ensures disk { result ≡ self.store.disk }
+        ensures disk { result ≡ disk_of self.store }
         ensures gives { HasSlots L.image →
-            GivesReceived L.image self.received self.store.mark (D.content result) }
+            GivesReceived L.image self.received (mark_of self.store) (D.content result) }
     {
         let LockedStore {
             store,
@@ -112,7 +111,7 @@ impl<L: Run, D: Disk> LockedStore<L, D> {
     /// that a stop now may leave gives the opening rows followed by the groups that were received,
     /// up to a mark at least this one.
     pub fn mark(&self) -> Stamp
-        ensures value { result.0 ≡ self.now.store.mark }
+        ensures value { result.0 ≡ mark_of self.now.store }
         ensures images { LeavesReceived D.Disk L.image self.now.received self.now.store }
     {
         self.store.mark()
@@ -120,7 +119,7 @@ impl<L: Run, D: Disk> LockedStore<L, D> {
 
     /// The installed manifest.
     pub fn manifest(&self) -> &Manifest
-        ensures { result.now ≡ self.now.store.manifest }
+        ensures { result.now ≡ installed_manifest self.now.store }
     {
         self.store.manifest()
     }
@@ -136,7 +135,7 @@ impl<L: Run, D: Disk> LockedStore<L, D> {
     pub fn confirm(&mut self, marks: &Marks, seat: &mut Seat)
         requires marks { marks.now ≡ L.marks }
         requires seat { seat.old.marks ≡ L.marks }
-        ensures seen { seat.old.known.durable ≤ self.old.store.mark }
+        ensures seen { seat.old.known.durable ≤ mark_of self.old.store }
         ensures seat { seat.new ≡ seat.old }
         ensures store { self.new ≡ self.old }
     {

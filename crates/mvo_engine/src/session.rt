@@ -40,6 +40,7 @@ impl<'e, L: Run, D: Disk, G: Gate + Drop> Model for Session<'e, L, D, G> {
 impl<'e, L: Run, D: Disk, G: Gate + Drop> Session<'e, L, D, G> {
     ghost use Rattle.std.specs.Prelude.{◌≡◌, ◌≤◌, None, IsTrue, OnOk, IfErr};
     ghost use Rattle.mvo_types.specs.declared.refusal.Refusal.{Refusal};
+    ghost use Rattle.mvo_store.specs.Seen.{mark_of};
 
     pub(crate) fn new(engine: &'e Engine<L, D, G>, seat: Seat) -> Session<'e, L, D, G>
         requires { seat.marks ≡ L.marks }
@@ -84,7 +85,7 @@ impl<'e, L: Run, D: Disk, G: Gate + Drop> Session<'e, L, D, G> {
 
     // What it has seen of the durable mark is at most the store's mark.
     pub(crate) fn confirm(&mut self, store: &mut LockedStore<L, D>)
-        ensures seen { self.old.durable ≤ store.old.store.mark }
+        ensures seen { self.old.durable ≤ mark_of store.old.store }
         ensures session { self.new ≡ self.old }
         ensures store { store.new ≡ store.old }
     {

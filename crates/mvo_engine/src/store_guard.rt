@@ -5,9 +5,8 @@ use crate::locked_store::LockedStore;
 use crate::run::Run;
 use crate::session::Session;
 use mvo_disk::Disk;
-use mvo_manifest::Manifest;
 use mvo_marks::Marks;
-use mvo_store::{Durable, Generation};
+use mvo_store::{Durable, Generation, Log, LogStep, Manifest};
 use mvo_types::{Refusal, Stamp};
 use std::marker::Model;
 use std::sync::MutexGuard;
@@ -23,7 +22,7 @@ pub struct StoreGuard<'e, L: Run, D: Disk> {
 impl<'e, L: Run, D: Disk> Model for StoreGuard<'e, L, D> {
     ghost use Rattle.std.specs.Coded.{codes};
     ghost use Rattle.std.specs.Sync.Mutex.{mutex_guard_value};
-    ghost use Rattle.mvo_ckpt.specs.Places.{coded_places};
+    ghost use Rattle.mvo_store.specs.Places.{coded_places};
     ghost use Rattle.mvo_engine.specs.States.{StoreState};
 
     ghost Value = { StoreState D };
@@ -35,6 +34,7 @@ impl<'e, L: Run, D: Disk> Model for StoreGuard<'e, L, D> {
 
 impl<'e, L: Run, D: Disk> StoreGuard<'e, L, D> {
     ghost use Rattle.std.specs.Prelude.{◌≡◌, ◌≤◌, OnOk, IfOk, IfErr};
+    ghost use Rattle.mvo_store.specs.Seen.{mark_of, installed_manifest};
     ghost use Rattle.mvo_store.specs.Causes.{why_not_take};
     ghost use Rattle.mvo_store.specs.Calls.StoreCall.{AppendBody, RotateWrite};
     ghost use Rattle.mvo_store.specs.Calls.StoreCall.{InstallClose, InstallBody, InstallOpen};
@@ -55,7 +55,7 @@ impl<'e, L: Run, D: Disk> StoreGuard<'e, L, D> {
     /// that a stop now may leave gives the opening rows followed by the groups that were received,
     /// up to a mark at least this one.
     pub fn mark(&self) -> Stamp
-        ensures value { result.0 ≡ self.now.store.mark }
+        ensures value { result.0 ≡ mark_of self.now.store }
         ensures images { LeavesReceived D.Disk L.image self.now.received self.now.store }
     {
         self.held.mark()
@@ -63,7 +63,7 @@ impl<'e, L: Run, D: Disk> StoreGuard<'e, L, D> {
 
     /// The installed manifest.
     pub fn manifest(&self) -> &Manifest
-        ensures { result.now ≡ self.now.store.manifest }
+        ensures { result.now ≡ installed_manifest self.now.store }
     {
         self.held.manifest()
     }
@@ -77,7 +77,7 @@ impl<'e, L: Run, D: Disk> StoreGuard<'e, L, D> {
 
     /// How far a session has seen commits to be durable is at most the store's mark.
     pub fn confirm<G: Gate + Drop>(&mut self, session: &mut Session<'_, L, D, G>)
-        ensures seen { session.old.durable ≤ self.old.store.mark }
+        ensures seen { session.old.durable ≤ mark_of self.old.store }
         ensures session { session.new ≡ session.old }
         ensures store { self.new ≡ self.old }
     {
@@ -135,5 +135,29 @@ impl<'e, L: Run, D: Disk> StoreGuard<'e, L, D> {
         ensures generation { IfOk result (λ g. AnswersGeneration self.new.store g.0) }
     {
         self.held.install_open()
+    }
+}
+
+impl<'e, L: Run, D: Disk> Log for StoreGuard<'e, L, D> {
+    ghost use Rattle.mvo_engine.specs.Logging.{IsGuardStep};
+
+    ghost comes_to = { IsGuardStep D.Disk };
+
+    fn take_step(&mut self, step: LogStep) -> Result<(), Refusal> {
+        match step {
+            LogStep::Take => self.take(),
+            LogStep::AppendBody => self.append_body(),
+            LogStep::AppendOpen => {
+                self.append_open()?;
+                Ok(())
+            }
+            LogStep::RotateWrite => self.rotate_write(),
+            LogStep::InstallClose => self.install_close(),
+            LogStep::InstallBody => self.install_body(),
+            LogStep::InstallOpen => {
+                self.install_open()?;
+                Ok(())
+            }
+        }
     }
 }

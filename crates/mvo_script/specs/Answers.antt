@@ -24,6 +24,7 @@ use Rattle.mvo_script.specs.declared.driver.Driver.{Driver}
 use Rattle.mvo_script.specs.declared.line.Line.{Line}
 use Rattle.mvo_script.specs.declared.line.Line.TheVariants as line
 use Rattle.mvo_script.specs.declared.line.RowText.{RowText}
+use Rattle.mvo_store.specs.Seen.{mark_of}
 use Rattle.mvo_script.specs.declared.names.Names.{Names}
 
 -- the line speaks of a name that isn't bound
@@ -139,7 +140,7 @@ module _ {D : Type 0} (IsStep : WorldData D → Event → Reply → WorldData D 
 
   -- whether the transaction that the name is bound to is durable; nothing changes
   abbrev pub IsPolled : Driver D → BoundTx → Reply → Driver D → Type 0
-  IsPolled d b r d' = (r ≡ Polled (is_covered d.world.store.mark b.end)) × (d' ≡ d)
+  IsPolled d b r d' = (r ≡ Polled (is_covered (mark_of d.world.store) b.end)) × (d' ≡ d)
 
   -- a line is answered
   abbrev pub IsAnswer : Driver D → Line → Reply → Driver D → Type 0

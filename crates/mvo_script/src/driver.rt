@@ -14,7 +14,7 @@ use crate::rotate::rotate;
 use mvo_core::{Finishing, Settlement, Validation};
 use mvo_disk::{Disk, MemDisk};
 use mvo_store::format;
-use mvo_types::{Refusal, Row, TxId};
+use mvo_types::{Refusal, Row, Stamp, TxId};
 use mvo_world::{Event, Reply, World};
 use std::alloc::Global;
 use std::thread::Threads;
@@ -57,6 +57,7 @@ impl Driver<MemDisk> {
 
 impl<D: Disk> Driver<D> {
     ghost use Rattle.std.specs.Prelude.{◌≡◌, IsSome, IsSomeAnd, MatchOption, None, Some};
+    ghost use Rattle.mvo_store.specs.Seen.{mark_of};
     ghost use Rattle.mvo_script.specs.Answers.{AreStepsOf, IsAnswer, IsAnswerBy, IsBegun, IsCommit, IsOfNoName, IsRowStep};
     ghost use Rattle.mvo_script.specs.Answers.{IsSettled, IsStepOf};
     ghost use Rattle.mvo_script.specs.Bound.{bound_by, is_covered, BindsNone};
@@ -77,6 +78,25 @@ impl<D: Disk> Driver<D> {
             world,
             names,
         }
+    }
+
+    /// The mark of its world.
+    pub fn mark(&self) -> Stamp
+        ensures { result.0 ≡ self.now.world.store.mark }
+    {
+        self.world.mark()
+    }
+
+    /// Its world.
+    pub fn into_world(self) -> World<D>
+        ensures { result ≡ self.world }
+    {
+        let Driver {
+            alloc: _,
+            world,
+            names: _,
+        } = self;
+        world
     }
 
     /// The reply to a line, without its line feed. A bad line changes nothing. No clause says which
@@ -280,7 +300,8 @@ impl<D: Disk> Driver<D> {
 
     /// Whether the store's mark is at least the end of the transaction, which may be none yet.
     fn poll(&mut self, bound: BoundTx) -> Reply
-        ensures reply { result ≡ Reply.Polled (is_covered self.old.world.store.mark bound.end) }
+        ensures reply { let mark = mark_of self.old.world.store in
+            result ≡ Reply.Polled (is_covered mark bound.end) }
         ensures same { self.new ≡ self.old }
     {
         match bound.end {

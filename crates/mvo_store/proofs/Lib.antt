@@ -1,3 +1,4 @@
+pub use Rattle.mvo_recovery.proofs.Grown
 pub mod Named
 mod Slotted
 pub mod Keeping
@@ -19,3 +20,6 @@ pub mod Synced
 pub mod Opens
 pub mod Formatted
 pub mod Emptied
+pub mod Answered
+pub mod Marked
+mod Turning

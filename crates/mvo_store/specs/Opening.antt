@@ -60,3 +60,7 @@ pub record IsSpent {D : Type 0} (d : Ghosts D) (old : D) (e : Refusal) (new : D)
 
 abbrev pub IsNotOpened : {D : Type 0} → Ghosts D → D → Refusal → D → Type 0
 IsNotOpened d old e new = IsSpent d old e new ⊎ IsRefused d old e new
+
+-- a refusal to open that says nothing of the files
+abbrev pub IsNotOfFiles : Refusal → Type 0
+IsNotOfFiles e = (e ≡ ClockSpent) ⊎ IsStop e

@@ -14,10 +14,10 @@ use Rattle.mvo_theory.specs.AfterTrace.{IsAfterTrace, pairs}
 use Rattle.mvo_theory.proofs.Tales.{pairs-append}
 use Rattle.mvo_theory.proofs.Each.{each_weaker}
 use Rattle.mvo_theory.specs.Groups.{is_due}
-use Rattle.mvo_tale.specs.Records.{AreRecordsOf}
-use Rattle.mvo_frame.specs.Frames.{mark_after}
-use Rattle.mvo_image.specs.Rows.{after_record, after_groups}
-use Rattle.mvo_recovery.proofs.Grown.{after_groups-append}
+use Rattle.mvo_core.specs.Records.{AreRecordsOf}
+use Rattle.mvo_store.specs.Frames.{mark_after}
+use Rattle.mvo_store.specs.Rows.{after_record, after_groups}
+use Rattle.mvo_store.proofs.Grown.{after_groups-append}
 use Rattle.mvo_core.specs.Groups.{AreGroupsOf}
 use Rattle.mvo_world.proofs.Rows.{left_by_all, left_by_all-append, is_after, records_rows}
 

@@ -9,7 +9,7 @@ use Rattle.mvo_theory.specs.Marks.{Commit, IsClosedAt}
 use Rattle.mvo_theory.specs.Groups.{IsNextGroup}
 use Rattle.mvo_theory.specs.Calls.{IsKept}
 use Rattle.mvo_theory.proofs.Groups.{next_group_closes}
-use Rattle.mvo_tale.specs.Records.{AreRecordsOf, fits}
+use Rattle.mvo_core.specs.Records.{AreRecordsOf, fits}
 use Rattle.mvo_core.specs.Groups.{IsGroupOf}
 
 pub group_of_next : (opening : Map) (steps : List Step) (s : State) (g : GroupData) (commits : List Commit) → IsKept opening steps s → IsClosedAt s.marks.closed s → IsNextGroup fits s (record { prev = g.prev; mark = g.mark; commits = commits }) → AreRecordsOf commits g.records → KeepsRules g → IsGroupOf s g

@@ -6,7 +6,7 @@ pub mod Standing
 pub mod Moves
 pub mod Runs
 pub mod Opened
-pub mod Marked
 pub mod Happened
 pub mod Asked
 pub mod Sound
+pub mod Promised

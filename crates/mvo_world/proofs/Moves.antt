@@ -23,9 +23,10 @@ use Rattle.mvo_theory.proofs.Stays.{stays_after_call}
 use Rattle.mvo_core.specs.declared.answers.Closed as closing
 use Rattle.mvo_core.specs.Standing.{StandsFor}
 use Rattle.mvo_core.proofs.Begun.{still_closed}
-use Rattle.mvo_frame.specs.Frames.{mark_after}
-use Rattle.mvo_image.specs.Rows.{after_groups}
-use Rattle.mvo_recovery.proofs.Grown.{after_groups-append}
+use Rattle.mvo_store.specs.Frames.{mark_after}
+use Rattle.mvo_store.specs.Rows.{after_groups}
+use Rattle.mvo_store.proofs.Grown.{after_groups-append}
+use Rattle.mvo_store.specs.Seen.{disk_of, mark_of, pending_of}
 use Rattle.mvo_store.specs.StoreData.{StoreData, opening}
 use Rattle.mvo_store.specs.Standing.{MayBeLeft, KeepsRows, LeavesRows, after_taken, IsKeeping, Keeps}
 use Rattle.mvo_store.specs.Causes.{why_not_take}
@@ -51,8 +52,8 @@ follow_push : (m last : ℕ) (gs : List GroupData) (g : GroupData) → Follow m 
 follow_push m last [] g h e = (e ∙ sym h, refl)
 follow_push m last (x ∷ gs) g h e = (h.0, follow_push x.mark last gs g h.1 e)
 
-pub linked_closed : {D : Type 0} (w : WorldData D) (g : GroupData) → g.prev ≡ w.core.closed → IsLinked w → Follow w.store.mark (option_to_list w.store.pending ++ (w.ring ++ g ∷ [])) g.mark
-linked_closed w g e h = subst (λ gs. Follow w.store.mark gs g.mark) (append_assoc (option_to_list w.store.pending) w.ring (g ∷ [])) (follow_push w.store.mark w.core.closed (waiting w) g h e)
+pub linked_closed : {D : Type 0} (w : WorldData D) (g : GroupData) → g.prev ≡ w.core.closed → IsLinked w → Follow (mark_of w.store) (option_to_list (pending_of w.store) ++ (w.ring ++ g ∷ [])) g.mark
+linked_closed w g e h = subst (λ gs. Follow (mark_of w.store) gs g.mark) (append_assoc (option_to_list (pending_of w.store)) w.ring (g ∷ [])) (follow_push (mark_of w.store) w.core.closed (waiting w) g h e)
 
 pub groups_closed : (s : State) (n m : ℕ) (gs : List GroupData) → AreGroupsOf s m gs → AreGroupsOf (after_close s n) m gs
 groups_closed s n m [] h = tt
@@ -148,11 +149,11 @@ silent_past p e r s = past_is p e r p.steps p.acknowledged p.closed (ap (λ xs. 
 
 module _ {D : Type 0} (d : Ghosts D) where
   -- ---- what a stop leaves meanwhile
-  pub meanwhile : (p : Past) (w w' : WorldData D) (h : IsAfter d p w) → LeavesRows d (after_groups p.rows h.sent) w.store w'.store → LeavesPrefix d p w w'
-  meanwhile p w w' h only = weaker d.moment d.left_since w.store.disk w'.store.disk (MayBeLeft (after_groups p.rows h.sent) w.store.mark (opening w.store)) (RecoversPrefix p) (λ image gives. prefix_image d p w h image gives) only
+  pub meanwhile : (p : Past) (w w' : WorldData D) (h : IsAfter d p w) → LeavesRows d (after_groups p.rows h.sent) w.store w'.store → LeavesPrefix d p (disk_of w.store) (disk_of w'.store)
+  meanwhile p w w' h only = weaker d.moment d.left_since (disk_of w.store) (disk_of w'.store) (MayBeLeft (after_groups p.rows h.sent) (mark_of w.store) (opening w.store)) (RecoversPrefix p) (λ image gives. prefix_image d p w h image gives) only
 
   -- ---- the store goes on, and no group becomes durable
-  moved_after : (p : Past) (w w' : WorldData D) → w'.core ≡ w.core → waiting w' ≡ waiting w → w'.store.mark ≡ w.store.mark → (h : IsAfter d p w) → KeepsRows d w'.store (after_groups p.rows h.sent) → IsAfter d p w'
+  moved_after : (p : Past) (w w' : WorldData D) → w'.core ≡ w.core → waiting w' ≡ waiting w → mark_of w'.store ≡ (mark_of w.store) → (h : IsAfter d p w) → KeepsRows d w'.store (after_groups p.rows h.sent) → IsAfter d p w'
   moved_after p w w' core wait mark h keeps = record {
     sent = h.sent;
     state = h.state;
@@ -167,7 +168,7 @@ module _ {D : Type 0} (d : Ghosts D) where
     covers = subst (λ m. AllByRecursion (λ n. n ≤ m) p.acknowledged) (sym mark) h.covers;
   }
 
-  pub moved : (IsReply : WorldData D → Event → Reply → WorldData D → Type 0) (w w' : WorldData D) (e : Event) (r : Reply) → IsSilent e r → IsReply w e r w' → w'.core ≡ w.core → waiting w' ≡ waiting w → w'.store.mark ≡ w.store.mark → Keeps d w.store w'.store
+  pub moved : (IsReply : WorldData D → Event → Reply → WorldData D → Type 0) (w w' : WorldData D) (e : Event) (r : Reply) → IsSilent e r → IsReply w e r w' → w'.core ≡ w.core → waiting w' ≡ waiting w → mark_of w'.store ≡ (mark_of w.store) → Keeps d w.store w'.store
       → IsStepBy IsReply d w e r w'
   moved IsReply w w' e r silent reply core wait mark keeps = record {
     reply = reply;
@@ -195,8 +196,8 @@ module _ {D : Type 0} (d : Ghosts D) where
       store_moved w store e (Refused why) (silent_refused e why silent) (reply (record { comes = refused_by A d w.store call why store h.comes; rest = refl })) (left_taken d call why w.store store h.comes.left) (refused_rows A d w.store call why store h)
 
   -- ---- a group becomes durable
-  pub durable : (w w' : WorldData D) (mark : Stamp) (g : GroupData) → IsReplyTo d w AppendOpen (Durable mark) w' → w'.core ≡ w.core → w'.ring ≡ w.ring → w.store.pending ≡ Some g → w'.store.pending ≡ None → w'.store.mark ≡ g.mark → mark.0 ≡ g.mark
-      → IsKeeping d (λ rows. after_taken rows w.store.pending) w.store w'.store → IsStep d w AppendOpen (Durable mark) w'
+  pub durable : (w w' : WorldData D) (mark : Stamp) (g : GroupData) → IsReplyTo d w AppendOpen (Durable mark) w' → w'.core ≡ w.core → w'.ring ≡ w.ring → pending_of w.store ≡ Some g → pending_of w'.store ≡ None → mark_of w'.store ≡ g.mark → mark.0 ≡ g.mark
+      → IsKeeping d (λ rows. after_taken rows (pending_of w.store)) w.store w'.store → IsStep d w AppendOpen (Durable mark) w'
   durable w w' mark g reply core ring pending none at is keeps = record {
     reply = reply;
     after = after;
@@ -222,7 +223,7 @@ module _ {D : Type 0} (d : Ghosts D) where
             mark = at ∙ sym (mark_after-append first h.sent (g ∷ []));
             groups = groups;
             marks = ap (map (λ x. x.mark)) (sym list) ∙ h.marks;
-            covers = each_append (λ n. n ≤ w'.store.mark) p.acknowledged (mark.0 ∷ []) (each_weaker (λ n. n ≤ w.store.mark) (λ n. n ≤ w'.store.mark) (λ n le. omega (arith, le, h.mark, up, at)) p.acknowledged h.covers) (omega (arith, at, is), tt);
+            covers = each_append (λ n. n ≤ mark_of w'.store) p.acknowledged (mark.0 ∷ []) (each_weaker (λ n. n ≤ mark_of w.store) (λ n. n ≤ mark_of w'.store) (λ n le. omega (arith, le, h.mark, up, at)) p.acknowledged h.covers) (omega (arith, at, is), tt);
           })
 
   module _ (only_now : OnlyNow d) where
@@ -236,7 +237,7 @@ module _ {D : Type 0} (d : Ghosts D) where
     asked_step w w' e r c result reply asked is silent unclosed = record {
       reply = reply;
       after = λ p h. subst (λ (v : WorldData D). IsAfter d (with_event p e r) v) (sym asked.rest) (after p h);
-      any_moment = λ p h. subst (λ (v : WorldData D). LeavesPrefix d p w v) (sym asked.rest) (meanwhile p w (record w { core = w'.core }) h ((refused_keeps d only_now w.store).any_moment (after_groups p.rows h.sent) h.store));
+      any_moment = λ p h. subst (λ (v : WorldData D). LeavesPrefix d p (disk_of w.store) (disk_of v.store)) (sym asked.rest) (meanwhile p w (record w { core = w'.core }) h ((refused_keeps d only_now w.store).any_moment (after_groups p.rows h.sent) h.store));
     }
       where
         after : (p : Past) → IsAfter d p w → IsAfter d (with_event p e r) (record w { core = w'.core })
@@ -278,11 +279,11 @@ module _ {D : Type 0} (d : Ghosts D) where
             let now = came.1.2 in
             let is = group_of_next p.rows p.steps s g now.commits h.core.versions.kept h.closed now.next now.records now.rules in
             let up : IsClosedAt c.mark.0 s = subst (λ (m : ℕ). IsClosedAt m s) now.mark is.closed in
-            let wait : waiting w' ≡ waiting w ++ g ∷ [] = ap (λ (t : StoreData D). option_to_list t.pending ++ w'.ring) store ∙ ap (λ (gs : List GroupData). option_to_list w.store.pending ++ gs) ring ∙ sym (append_assoc (option_to_list w.store.pending) w.ring (g ∷ [])) in
+            let wait : waiting w' ≡ waiting w ++ g ∷ [] = ap (λ (t : StoreData D). option_to_list t.pending ++ w'.ring) store ∙ ap (λ (gs : List GroupData). option_to_list (pending_of w.store) ++ gs) ring ∙ sym (append_assoc (option_to_list (pending_of w.store)) w.ring (g ∷ [])) in
             let list : (h.sent ++ waiting w) ++ g ∷ [] ≡ h.sent ++ waiting w' = append_assoc h.sent (waiting w) (g ∷ []) ∙ ap (λ gs. h.sent ++ gs) (sym wait) in
             let prev_is : g.prev ≡ mark_after first (h.sent ++ waiting w) =
             now.next.prev ∙ ap (λ (m : Marks). m.closed) h.core.marks
-            ∙ sym (follow_to w.store.mark w.core.closed (waiting w) linked)
+            ∙ sym (follow_to (mark_of w.store) w.core.closed (waiting w) linked)
             ∙ ap (λ (m : ℕ). mark_after m (waiting w)) h.mark
             ∙ sym (mark_after-append first h.sent (waiting w)) in
             subst (λ (q : Past). IsAfter d q w') (past_is p CloseGroup (Closed c) p.steps p.acknowledged (p.closed ++ g.mark ∷ []) (append-nil p.steps) (append-nil p.acknowledged) (ap (λ n. p.closed ++ n ∷ []) (sym now.mark))) (record {
@@ -311,7 +312,7 @@ module _ {D : Type 0} (d : Ghosts D) where
         after p h =
             let store = reply.store in
             let came = reply.closing p.rows p.steps h.state h.core in
-            let wait : waiting w' ≡ waiting w = ap (λ (t : StoreData D). option_to_list t.pending ++ w'.ring) store ∙ ap (λ (gs : List GroupData). option_to_list w.store.pending ++ gs) came.1 in
+            let wait : waiting w' ≡ waiting w = ap (λ (t : StoreData D). option_to_list t.pending ++ w'.ring) store ∙ ap (λ (gs : List GroupData). option_to_list (pending_of w.store) ++ gs) came.1 in
             subst (λ (q : Past). IsAfter d q w') (silent_past p CloseGroup (Refused r) (silent_refused CloseGroup r refl)) (record {
               sent = h.sent;
               state = h.state;
@@ -327,7 +328,7 @@ module _ {D : Type 0} (d : Ghosts D) where
             })
 
     -- a poll
-    pub polled_step : (w : WorldData D) (stamp : Stamp) (answer : Bool) → answer ≡ nat_le stamp.0 w.store.mark → IsStep d w (Poll stamp) (Polled answer) w
+    pub polled_step : (w : WorldData D) (stamp : Stamp) (answer : Bool) → answer ≡ nat_le stamp.0 (mark_of w.store) → IsStep d w (Poll stamp) (Polled answer) w
     polled_step w stamp false is = still (IsReplyTo d) w (Poll stamp) (Polled false) (record { steps = refl; acknowledged = refl; closed = refl }) (is, refl)
     polled_step w stamp true is = record {
       reply = (is, refl);
@@ -342,25 +343,25 @@ module _ {D : Type 0} (d : Ghosts D) where
         mark = h.mark;
         groups = h.groups;
         marks = h.marks;
-        covers = each_append (λ m. m ≤ w.store.mark) p.acknowledged (stamp.0 ∷ []) h.covers (leb-true stamp.0 w.store.mark (sym is), tt);
+        covers = each_append (λ m. m ≤ mark_of w.store) p.acknowledged (stamp.0 ∷ []) h.covers (leb-true stamp.0 (mark_of w.store) (sym is), tt);
       });
       any_moment = λ p h. meanwhile p w w h ((refused_keeps d only_now w.store).any_moment (after_groups p.rows h.sent) h.store);
     }
 
   -- ---- a world that was just opened
-  pub begun : (rows : Map) (w : WorldData D) → HasBegun rows w → KeepsRows d w.store rows → IsAfter d (opened_over rows w.store.mark) w
+  pub begun : (rows : Map) (w : WorldData D) → HasBegun rows w → KeepsRows d w.store rows → IsAfter d (opened_over rows (mark_of w.store)) w
   begun rows w is keeps =
-      let wait : waiting w ≡ [] = ap (λ (q : Option GroupData). option_to_list q ++ w.ring) is.pending ∙ is.ring in
+      let wait : waiting w ≡ [] = ap (λ (q : Option GroupData). option_to_list q ++ w.ring) is.store.pending ∙ is.ring in
       record {
         sent = [];
-        state = opened rows w.store.mark;
+        state = opened rows (mark_of w.store);
         core = is.core;
         closed = record { drawn = omega arith; above = tt };
         before = record { drawn = omega arith; above = tt };
         none = refl;
         store = keeps;
         mark = refl;
-        groups = subst (AreGroupsOf (opened rows w.store.mark) w.store.mark) (sym wait) tt;
+        groups = subst (AreGroupsOf (opened rows (mark_of w.store)) (mark_of w.store)) (sym wait) tt;
         marks = ap (map (λ x. x.mark)) wait;
         covers = (omega arith, tt);
       }

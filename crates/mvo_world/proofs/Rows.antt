@@ -18,8 +18,8 @@ use Rattle.mvo_model.proofs.Serials.{get-after_effect, get-after_history}
 use Rattle.mvo_group.specs.Data.{RecordData}
 use Rattle.mvo_theory.specs.Entries.{noted, noted_key, written_from, written_keys}
 use Rattle.mvo_theory.specs.Groups.{is_due, is_writing}
-use Rattle.mvo_image.specs.Rows.{after_record}
-use Rattle.mvo_tale.specs.Records.{IsRecordOf, AreRecordsOf, write_in}
+use Rattle.mvo_store.specs.Rows.{after_record}
+use Rattle.mvo_core.specs.Records.{IsRecordOf, AreRecordsOf, write_in}
 
 -- ---- one record
 unequal : (o : Ordering) → o ≡ Less → o ≡ Equal → ⊥

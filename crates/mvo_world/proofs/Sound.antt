@@ -17,6 +17,7 @@ use Rattle.mvo_world.specs.Ring.{IsClosingInto}
 use Rattle.mvo_world.specs.WorldData.{WorldData, waiting, Follow, IsSound}
 use Rattle.mvo_world.proofs.Asked.{same_closed}
 use Rattle.mvo_world.proofs.Closed.{group_of_next}
+use Rattle.mvo_store.specs.Seen.{mark_of, pending_of}
 use Rattle.mvo_world.proofs.Moves.{linked_closed}
 
 -- the mark of the last closed group, by the state that both stand for
@@ -30,7 +31,7 @@ module _ {D : Type 0} (w : WorldData D) (i : IsSound w) where
       let l = step i.core.opening i.core.steps i.core.state i.core.stands in
       record {
         core = stands_on i.core c (came result) core l;
-        linked = subst (λ (n : ℕ). Follow w.store.mark (waiting w) n) (sym (same_closed i.core c (came result) none l)) i.linked;
+        linked = subst (λ (n : ℕ). Follow (mark_of w.store) (waiting w) n) (sym (same_closed i.core c (came result) none l)) i.linked;
       }
 
   -- over one that is to close a group
@@ -53,21 +54,21 @@ module _ {D : Type 0} (w : WorldData D) (i : IsSound w) where
           stands = now.stands;
           closed = record { drawn = up.drawn; above = up.above };
         };
-        linked = subst (λ (gs : List GroupData). Follow w.store.mark (option_to_list w.store.pending ++ gs) core.closed) (sym there)
-            (subst (λ (n : ℕ). Follow w.store.mark (option_to_list w.store.pending ++ (w.ring ++ g ∷ [])) n) at (linked_closed w g prev i.linked));
+        linked = subst (λ (gs : List GroupData). Follow (mark_of w.store) (option_to_list (pending_of w.store) ++ gs) core.closed) (sym there)
+            (subst (λ (n : ℕ). Follow (mark_of w.store) (option_to_list (pending_of w.store) ++ (w.ring ++ g ∷ [])) n) at (linked_closed w g prev i.linked));
       }
   sound_closed (Err r) core ring step =
       let s = i.core.state in
       let told = step i.core.opening i.core.steps s i.core.stands in
       record {
         core = record { opening = i.core.opening; steps = i.core.steps; state = s; stands = told.0.stands; closed = i.core.closed };
-        linked = subst (λ (gs : List GroupData). Follow w.store.mark (option_to_list w.store.pending ++ gs) core.closed) (sym told.1)
-            (subst (λ (n : ℕ). Follow w.store.mark (waiting w) n) (sym (same_mark w.core.opening core.opening s.marks i.core.stands.marks told.0.stands.marks)) i.linked);
+        linked = subst (λ (gs : List GroupData). Follow (mark_of w.store) (option_to_list (pending_of w.store) ++ gs) core.closed) (sym told.1)
+            (subst (λ (n : ℕ). Follow (mark_of w.store) (waiting w) n) (sym (same_mark w.core.opening core.opening s.marks i.core.stands.marks told.0.stands.marks)) i.linked);
       }
 
 -- just opened
-pub sound_opened : {D : Type 0} (rows : Map) (mark : ℕ) (w : WorldData D) → OpensAs rows mark w.core → w.store.mark ≡ mark → w.store.pending ≡ None → w.ring ≡ [] → IsSound w
+pub sound_opened : {D : Type 0} (rows : Map) (mark : ℕ) (w : WorldData D) → OpensAs rows mark w.core → mark_of w.store ≡ mark → pending_of w.store ≡ None → w.ring ≡ [] → IsSound w
 sound_opened rows mark w core at pending ring = record {
   core = record { opening = rows; steps = []; state = opened rows mark; stands = core; closed = record { drawn = omega arith; above = tt } };
-  linked = subst (λ (gs : List GroupData). Follow w.store.mark gs w.core.closed) (sym (ap (λ (o : Option GroupData). option_to_list o ++ w.ring) pending ∙ ring)) (at ∙ ap (λ (m : Marks). m.closed) core.marks);
+  linked = subst (λ (gs : List GroupData). Follow (mark_of w.store) gs w.core.closed) (sym (ap (λ (o : Option GroupData). option_to_list o ++ w.ring) pending ∙ ring)) (at ∙ ap (λ (m : Marks). m.closed) core.marks);
 }

@@ -9,9 +9,10 @@ use Rattle.mvo_group.specs.Data.{GroupData}
 use Rattle.mvo_theory.specs.State.{State}
 use Rattle.mvo_theory.proofs.AfterTrace.{rising_all}
 use Rattle.mvo_theory.proofs.Each.{each_weaker}
-use Rattle.mvo_frame.specs.Frames.{mark_after}
-use Rattle.mvo_image.specs.Rows.{after_groups}
-use Rattle.mvo_recovery.proofs.Grown.{after_groups-append}
+use Rattle.mvo_store.specs.Frames.{mark_after}
+use Rattle.mvo_store.specs.Rows.{after_groups}
+use Rattle.mvo_store.proofs.Grown.{after_groups-append}
+use Rattle.mvo_store.specs.Seen.{mark_of, pending_of}
 use Rattle.mvo_store.specs.StoreData.{opening}
 use Rattle.mvo_store.specs.Standing.{Gives, GivesOr, HasSlots, MayBeLeft}
 use Rattle.mvo_world.specs.Past.{Past}
@@ -68,12 +69,12 @@ module _ {D : Type 0} (d : Ghosts D) (p : Past) (w : WorldData D) (h : IsAfter d
     };
   }
 
-  without : (image : Image) → HasSlots image → Gives (after_groups p.rows h.sent) w.store.mark image → RecoversPrefix p image
+  without : (image : Image) → HasSlots image → Gives (after_groups p.rows h.sent) (mark_of w.store) image → RecoversPrefix p image
   without image slots gives =
       prefix_of image slots h.sent (waiting w) h.groups h.marks (subst (λ (m : ℕ). AllByRecursion (λ n. n ≤ m) p.acknowledged) h.mark h.covers)
       (subst (λ (m : ℕ). Gives (after_groups p.rows h.sent) m image) h.mark gives)
 
-  with_opening : (image : Image) → HasSlots image → (g : GroupData) → w.store.pending ≡ Some g → Gives (after_groups (after_groups p.rows h.sent) (g ∷ [])) g.mark image → RecoversPrefix p image
+  with_opening : (image : Image) → HasSlots image → (g : GroupData) → pending_of w.store ≡ Some g → Gives (after_groups (after_groups p.rows h.sent) (g ∷ [])) g.mark image → RecoversPrefix p image
   with_opening image slots g e gives =
       let wait : waiting w ≡ g ∷ w.ring = ap (λ (q : Option GroupData). option_to_list q ++ w.ring) e in
       let list : h.sent ++ waiting w ≡ (h.sent ++ g ∷ []) ++ w.ring = ap (λ (gs : List GroupData). h.sent ++ gs) wait ∙ sym (append_assoc h.sent (g ∷ []) (w.ring)) in
@@ -81,16 +82,16 @@ module _ {D : Type 0} (d : Ghosts D) (p : Past) (w : WorldData D) (h : IsAfter d
       let last : mark_after p.mark (h.sent ++ g ∷ []) ≡ g.mark = mark_after-append p.mark h.sent (g ∷ []) in
       let up : mark_after p.mark h.sent ≤ g.mark = marks_rise h.state (mark_after p.mark h.sent) (g ∷ []) (groups_back h.state p.mark h.sent (g ∷ []) (groups_front h.state p.mark (h.sent ++ g ∷ []) (w.ring) groups)) in
       prefix_of image slots (h.sent ++ g ∷ []) (w.ring) groups (ap (map (λ x. x.mark)) (sym list) ∙ h.marks)
-      (each_weaker (λ n. n ≤ w.store.mark) (λ n. n ≤ mark_after p.mark (h.sent ++ g ∷ [])) (λ n le. omega (arith, le, h.mark, up, last)) p.acknowledged h.covers)
+      (each_weaker (λ n. n ≤ mark_of w.store) (λ n. n ≤ mark_after p.mark (h.sent ++ g ∷ [])) (λ n le. omega (arith, le, h.mark, up, last)) p.acknowledged h.covers)
       (subst (λ (m : ℕ). Gives (after_groups p.rows (h.sent ++ g ∷ [])) m image) (sym last)
       (subst (λ (rows : Map). Gives rows g.mark image) (sym (after_groups-append p.rows h.sent (g ∷ []))) gives))
 
   -- the group that is being opened is the pending one
-  with_or_without : (image : Image) → HasSlots image → (b : Bool) (o : Option GroupData) → w.store.pending ≡ o → GivesOr (after_groups p.rows h.sent) w.store.mark (cond b o None) image → RecoversPrefix p image
+  with_or_without : (image : Image) → HasSlots image → (b : Bool) (o : Option GroupData) → pending_of w.store ≡ o → GivesOr (after_groups p.rows h.sent) (mark_of w.store) (cond b o None) image → RecoversPrefix p image
   with_or_without image slots false o e gives = without image slots gives
   with_or_without image slots true None e gives = without image slots gives
   with_or_without image slots true (Some g) e (inl gives) = without image slots gives
   with_or_without image slots true (Some g) e (inr gives) = with_opening image slots g e gives
 
-  pub prefix_image : (image : Image) → MayBeLeft (after_groups p.rows h.sent) w.store.mark (opening w.store) image → RecoversPrefix p image
-  prefix_image image left = with_or_without image left.slots w.store.written w.store.pending refl left.gives
+  pub prefix_image : (image : Image) → MayBeLeft (after_groups p.rows h.sent) (mark_of w.store) (opening w.store) image → RecoversPrefix p image
+  prefix_image image left = with_or_without image left.slots w.store.written (pending_of w.store) refl left.gives

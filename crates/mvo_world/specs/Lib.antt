@@ -5,3 +5,5 @@ pub mod Past
 pub mod Standing
 pub mod Replies
 pub mod Steps
+pub mod Promise
+pub mod Logging

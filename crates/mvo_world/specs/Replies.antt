@@ -16,6 +16,7 @@ use Rattle.mvo_theory.specs.Calls.Result.{Accepted, Refused as RefusedCall}
 use Rattle.mvo_core.specs.declared.answers.Closed as closing
 use Rattle.mvo_core.specs.Standing.{StandsFor}
 use Rattle.mvo_core.specs.Steps.{LeadsOn, InEach, IsAnswered, IsValidation, IsSettlement, IsFinishing}
+use Rattle.mvo_store.specs.Seen.{mark_of}
 use Rattle.mvo_store.specs.declared.progress.Progress.TheVariants.{More, Ready as AllWritten}
 use Rattle.mvo_store.specs.Causes.{why_not_take}
 use Rattle.mvo_store.specs.Calls.{StoreCall, ComesTo, AnswersMark, AnswersProgress, AnswersGeneration}
@@ -117,7 +118,8 @@ IsReplyTo d w CloseGroup (Closed c) w' = HasComeTo w (Ok c) w'
 IsReplyTo d w CloseGroup (Refused r) w' = HasComeTo w (Err r) w'
 IsReplyTo d w TakeGroup Taken w' = (why_not_taken w ≡ None) × IsTaken d w w'
 IsReplyTo d w TakeGroup (Refused r) w' = (why_not_taken w ≡ Some r) × (w' ≡ w)
-IsReplyTo d w (Poll stamp) (Polled answer) w' = (answer ≡ nat_le stamp.0 w.store.mark) × (w' ≡ w)
+IsReplyTo d w (Poll stamp) (Polled answer) w' =
+    (answer ≡ nat_le stamp.0 (mark_of w.store)) × (w' ≡ w)
 IsReplyTo d w AppendBody Written w' = IsStored d w AppendBodyCall (Ok tt) w'
 IsReplyTo d w AppendBody (Refused r) w' = IsStored d w AppendBodyCall (Err r) w'
 IsReplyTo d w AppendOpen (Durable m) w' =

@@ -1,8 +1,6 @@
 -- What a world says of its past, and what a stop leaves of it.
 use Rattle.std.specs.Prelude.{◌≡◌, ◌≤◌, ◌⊎◌, ℕ, List, [], ◌∷◌, ◌++◌, map}
 use Rattle.std.specs.List.{AllByRecursion}
-use Rattle.mvo_types.specs.declared.refusal.Refusal.{Refusal}
-use Rattle.mvo_types.specs.declared.refusal.Refusal.TheVariants.{ClockSpent}
 use Rattle.mvo_types.specs.Keys.{Map}
 use Rattle.mvo_model.specs.Trace.{rows_up_to}
 use Rattle.mvo_disk.specs.declared.disk.Disk.{Ghosts}
@@ -11,9 +9,9 @@ use Rattle.mvo_group.specs.Data.{GroupData}
 use Rattle.mvo_theory.specs.State.{State, timeline}
 use Rattle.mvo_theory.specs.Marks.{IsClosedAt, settled_to}
 use Rattle.mvo_core.specs.Standing.{StandsFor}
-use Rattle.mvo_frame.specs.Frames.{mark_after}
-use Rattle.mvo_image.specs.Rows.{after_groups}
-use Rattle.mvo_pair.specs.Writing.{IsStop}
+use Rattle.mvo_store.specs.Frames.{mark_after}
+use Rattle.mvo_store.specs.Rows.{after_groups}
+use Rattle.mvo_store.specs.Seen.{mark_of}
 use Rattle.mvo_store.specs.Standing.{Gives, KeepsRows, HasSlots}
 use Rattle.mvo_world.specs.Past.{Past}
 use Rattle.mvo_world.specs.WorldData.{WorldData, waiting}
@@ -52,21 +50,16 @@ pub record IsAfter {D : Type 0} (d : Ghosts D) (p : Past) (w : WorldData D) : Ty
   pub before : IsClosedAt p.mark state
   pub none : settled_to p.mark (timeline state) ≡ []
   pub store : KeepsRows d w.store (after_groups p.rows sent)
-  pub mark : w.store.mark ≡ mark_after p.mark sent
+  pub mark : mark_of w.store ≡ mark_after p.mark sent
   pub groups : AreGroupsOf state p.mark (sent ++ waiting w)
   pub marks : map (λ g. g.mark) (sent ++ waiting w) ≡ p.closed
-  pub covers : AllByRecursion (λ m. m ≤ w.store.mark) p.acknowledged
+  pub covers : AllByRecursion (λ m. m ≤ mark_of w.store) p.acknowledged
 
 -- a stop now leaves an image that recovers a prefix
-abbrev pub MayLeavePrefix : {D : Type 0} → Ghosts D → Past → WorldData D → Type 0
-MayLeavePrefix d p w =
-    (image : Image) → AllOf (d.may_leave w.store.disk) image → RecoversPrefix p image
+abbrev pub MayLeavePrefix : {D : Type 0} → Ghosts D → Past → D → Type 0
+MayLeavePrefix d p disk =
+    (image : Image) → AllOf (d.may_leave disk) image → RecoversPrefix p image
 
--- so does a stop at any moment from one world to the next
-abbrev pub LeavesPrefix : {D : Type 0} → Ghosts D → Past → WorldData D → WorldData D → Type 0
-LeavesPrefix d p w w' =
-    LeavesOnly d.moment d.left_since w.store.disk w'.store.disk (RecoversPrefix p)
-
--- a refusal to open that says nothing of the files
-abbrev pub IsNotOfFiles : Refusal → Type 0
-IsNotOfFiles e = (e ≡ ClockSpent) ⊎ IsStop e
+-- so does a stop at any moment from one to the next
+abbrev pub LeavesPrefix : {D : Type 0} → Ghosts D → Past → D → D → Type 0
+LeavesPrefix d p old new = LeavesOnly d.moment d.left_since old new (RecoversPrefix p)

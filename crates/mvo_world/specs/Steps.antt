@@ -1,6 +1,7 @@
 -- One step of a world, and a run of them.
 use Rattle.std.specs.Prelude.{◌≡◌, List, [], ◌∷◌}
 use Rattle.mvo_disk.specs.declared.disk.Disk.{Ghosts}
+use Rattle.mvo_store.specs.Seen.{disk_of}
 use Rattle.mvo_world.specs.Past.{Past, with_event}
 use Rattle.mvo_world.specs.WorldData.{WorldData}
 use Rattle.mvo_world.specs.Standing.{IsAfter, LeavesPrefix}
@@ -14,7 +15,8 @@ pub record IsStepBy {D : Type 0} (IsReply : WorldData D → Event → Reply → 
     (d : Ghosts D) (w : WorldData D) (e : Event) (r : Reply) (w' : WorldData D) : Type 0 where
   pub reply : IsReply w e r w'
   pub after : (p : Past) → IsAfter d p w → IsAfter d (with_event p e r) w'
-  pub any_moment : (p : Past) → IsAfter d p w → LeavesPrefix d p w w'
+  pub any_moment : (p : Past) → IsAfter d p w →
+      LeavesPrefix d p (disk_of w.store) (disk_of w'.store)
 
 abbrev pub IsStep : {D : Type 0} → Ghosts D → WorldData D → Event → Reply → WorldData D → Type 0
 IsStep d = IsStepBy (IsReplyTo d) d

@@ -1,10 +1,11 @@
 -- What a world holds.
-use Rattle.std.specs.Prelude.{◌≡◌, ℕ, List, [], ◌∷◌, ◌++◌, None, false}
+use Rattle.std.specs.Prelude.{◌≡◌, ℕ, List, [], ◌∷◌, ◌++◌}
 use Rattle.std.specs.Option.{option_to_list}
 use Rattle.mvo_types.specs.Keys.{Map}
 use Rattle.mvo_group.specs.Data.{GroupData}
 use Rattle.mvo_core.specs.Data.{CoreData}
 use Rattle.mvo_core.specs.Standing.{Stands, OpensAs}
+use Rattle.mvo_store.specs.Seen.{mark_of, pending_of, IsAtRest}
 use Rattle.mvo_store.specs.StoreData.{StoreData}
 
 -- what its core has, the groups that are closed and not taken, the oldest first, and its store
@@ -15,7 +16,7 @@ pub record WorldData (D : Type 0) : Type 0 where
 
 -- the groups that are closed and not durable yet: the one that the store took, and those behind it
 abbrev pub waiting : {D : Type 0} → WorldData D → List GroupData
-waiting w = option_to_list w.store.pending ++ w.ring
+waiting w = option_to_list (pending_of w.store) ++ w.ring
 
 -- the groups follow one another, from one mark up to another
 abbrev pub Follow : ℕ → List GroupData → ℕ → Type 0
@@ -24,7 +25,7 @@ Follow mark (g ∷ gs) last = (g.prev ≡ mark) × Follow g.mark gs last
 
 -- the groups that wait lead from the store's mark to that of the last closed group
 abbrev pub IsLinked : {D : Type 0} → WorldData D → Type 0
-IsLinked w = Follow w.store.mark (waiting w) w.core.closed
+IsLinked w = Follow (mark_of w.store) (waiting w) w.core.closed
 
 -- the core stands for a state, whatever steps led there, and the groups that wait are linked
 pub record IsSound {D : Type 0} (w : WorldData D) : Type 0 where
@@ -33,9 +34,6 @@ pub record IsSound {D : Type 0} (w : WorldData D) : Type 0 where
 
 -- nothing happened since the opening over these rows
 pub record HasBegun {D : Type 0} (rows : Map) (w : WorldData D) : Type 0 where
-  pub core : OpensAs rows w.store.mark w.core
+  pub core : OpensAs rows (mark_of w.store) w.core
   pub ring : w.ring ≡ []
-  pub down : w.store.down ≡ false
-  pub pending : w.store.pending ≡ None
-  pub written : w.store.written ≡ false
-  pub job : w.store.job ≡ None
+  pub store : IsAtRest w.store

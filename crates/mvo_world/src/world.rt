@@ -1,3 +1,5 @@
+mod log;
+mod running;
 mod steps;
 mod transactions;
 
@@ -40,7 +42,7 @@ impl<D: Disk> Model for World<D> {
     ghost use Rattle.std.specs.Coded.{codes};
     ghost use Rattle.mvo_core.specs.contracts.engine.Core.{the_row as core_row};
     ghost use Rattle.mvo_types.specs.Keys.{coded_map as coded_rows};
-    ghost use Rattle.mvo_ckpt.specs.Places.{coded_places};
+    ghost use Rattle.mvo_store.specs.Places.{coded_places};
     ghost use Rattle.mvo_world.specs.WorldData.{WorldData, IsSound};
 
     ghost Value = { WorldData D };
@@ -66,11 +68,11 @@ impl<D: Disk> World<D> {
     ghost use Rattle.mvo_types.specs.Keys.{Map};
     ghost use Rattle.mvo_store.specs.Standing.{Gives, HasSlots};
     ghost use Rattle.mvo_store.specs.Opening.{IsAnswer, KeepsContent, LeavesAsBefore};
-    ghost use Rattle.mvo_store.specs.Opening.{IsNotOpened};
+    ghost use Rattle.mvo_store.specs.Opening.{IsNotOpened, IsNotOfFiles};
+    ghost use Rattle.mvo_store.specs.Seen.{disk_of, mark_of};
     ghost use Rattle.mvo_world.specs.WorldData.{HasBegun};
     ghost use Rattle.mvo_world.specs.Past.{Past, opened_over, with_events, IsSerialPast};
     ghost use Rattle.mvo_world.specs.Standing.{IsAfter, IsPrefix, RecoversPrefix, MayLeavePrefix};
-    ghost use Rattle.mvo_world.specs.Standing.{IsNotOfFiles};
     ghost use Rattle.mvo_world.specs.Steps.{IsStep, IsRunStep, AreSteps};
 
     /// A world over what is on the disk. It writes and cuts nothing. Refused as `Store::open` is,
@@ -86,17 +88,19 @@ impl<D: Disk> World<D> {
         disk: D,
     ) -> Result<World<D>, (Refusal, D)>
         ensures answer { IfOk result (λ w. (rows : Map) ×
-            IsAnswer (D.content disk) (Ok (rows, w.store.mark))) }
-        ensures gives { IfOk result (λ w. (rows : Map) × Gives rows w.store.mark (D.content disk)) }
-        ensures after { IfOk result (λ w. (rows : Map) → Gives rows w.store.mark (D.content disk) →
-            HasSlots (D.content disk) → IsAfter D.Disk (opened_over rows w.store.mark) w) }
-        ensures prefix { IfOk result (λ w. (rows : Map) → Gives rows w.store.mark (D.content disk) →
-            (past : Past) → RecoversPrefix past (D.content disk) →
-            IsPrefix past rows w.store.mark) }
-        ensures begins { IfOk result (λ w. (rows : Map) → Gives rows w.store.mark (D.content disk) →
-            HasBegun rows w) }
-        ensures content { IfOk result (λ w. KeepsContent D.Disk disk w.store.disk) }
-        ensures any_moment { IfOk result (λ w. LeavesAsBefore D.Disk disk w.store.disk) }
+            IsAnswer (D.content disk) (Ok (rows, mark_of w.store))) }
+        ensures gives { IfOk result (λ w. (rows : Map) ×
+            Gives rows (mark_of w.store) (D.content disk)) }
+        ensures after { IfOk result (λ w. (rows : Map) →
+            Gives rows (mark_of w.store) (D.content disk) → HasSlots (D.content disk) →
+            IsAfter D.Disk (opened_over rows (mark_of w.store)) w) }
+        ensures prefix { IfOk result (λ w. (rows : Map) →
+            Gives rows (mark_of w.store) (D.content disk) → (past : Past) →
+            RecoversPrefix past (D.content disk) → IsPrefix past rows (mark_of w.store)) }
+        ensures begins { IfOk result (λ w. (rows : Map) →
+            Gives rows (mark_of w.store) (D.content disk) → HasBegun rows w) }
+        ensures content { IfOk result (λ w. KeepsContent D.Disk disk (disk_of w.store)) }
+        ensures any_moment { IfOk result (λ w. LeavesAsBefore D.Disk disk (disk_of w.store)) }
         ensures refused { IfErr result (λ e. IsNotOpened D.Disk disk e.0 e.1) }
         ensures well_formed { IfErr result (λ e. (rows : Map) (mark : ℕ) →
             Gives rows mark (D.content disk) → IsNotOfFiles e.0) }
@@ -123,16 +127,16 @@ impl<D: Disk> World<D> {
 
     /// The mark of the last group that is durable, or the one that the world opened at.
     pub fn mark(&self) -> Stamp
-        ensures value { result.0 ≡ self.now.store.mark }
+        ensures value { result.0 ≡ mark_of self.now.store }
         ensures images { (past : Past) → IsAfter D.Disk past self.now →
-            MayLeavePrefix D.Disk past self.now }
+            MayLeavePrefix D.Disk past (disk_of self.now.store) }
     {
         self.store.mark()
     }
 
     /// The disk, as it stands.
     pub fn into_disk(self) -> D
-        ensures disk { result ≡ self.store.disk }
+        ensures disk { result ≡ disk_of self.store }
         ensures prefix { (past : Past) → IsAfter D.Disk past self →
             RecoversPrefix past (D.content result) }
     {

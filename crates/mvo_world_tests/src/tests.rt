@@ -14,7 +14,7 @@ mod steps;
 mod told;
 mod vectors;
 
-use calls::{close, formatted, left, mark, run, step, stop, try_open};
+use calls::{close, formatted, left, mark, run, run_over, step, stop, try_open};
 use images::bytes_of;
 use mvo_disk::{Disk, FileImage, MemDisk};
 use mvo_types::{Answer, RowKey, Stamp, TxId};
@@ -25,7 +25,7 @@ use std::test::Fail;
 use std::thread::Threads;
 use step::Step;
 use steps::{
-    A_FULL_RING, CHECKPOINT, COMMIT_OF_NOTHING, FALL, GROUPS_IN_TURN, MERGE, ONE_PUT,
+    A_FULL_RING, CHECKPOINT, COMMIT_OF_NOTHING, DURABLE_PUT, FALL, GROUPS_IN_TURN, MERGE, ONE_PUT,
     OPENING_OF_THE_GATE, OUT_OF_TURN, PUT_AND_REPLACE, READ_TOO_EARLY, RECLAIMS,
     RECLAIMS_OF_A_ROTATION, RECLAIMS_OF_PAIRS, REPLACE, ROTATION, ROTATION_BUT_ITS_GATE,
     ROTATION_OUT_OF_TURN, SECOND_PAIR, SETTLES,
@@ -134,6 +134,21 @@ fn follow(
         assert_reply(rt, alloc, reply, text)?;
     }
     Ok(())
+}
+
+/// Runs the steps over the disk, each of which is answered so. The disk comes back.
+fn follow_over(
+    rt: &(impl Abort + Threads + Sync),
+    alloc: Global,
+    disk: MemDisk,
+    steps: &[(Step, &str)],
+) -> Result<MemDisk, Fail> {
+    let (replies, disk) = run_over(rt, alloc, SEED, disk, &events_of(alloc, steps)?)?;
+    assert_eq!(rt; replies.len(), steps.len());
+    for (reply, (_, text)) in replies.iter().zip(steps) {
+        assert_reply(rt, alloc, reply, text)?;
+    }
+    Ok(disk)
 }
 
 fn follow_all(
@@ -458,4 +473,14 @@ fn stops_within_the_write_of_a_gate(rt: HostRuntime) -> Result<(), Fail> {
         assert_eq!(rt; found_at_gate(&rt, alloc, gate)?, wanted, "at {gate}");
     }
     Ok(())
+}
+
+#[test]
+fn events_run_over_a_disk(rt: HostRuntime) -> Result<(), Fail> {
+    let alloc = rt.alloc();
+    // The body behind the closed gate isn't there for who opens the disk.
+    let disk = follow_over(&rt, alloc, formatted(alloc)?, &ONE_PUT)?;
+    gives(&rt, alloc, disk, 0, None)?;
+    let disk = follow_over(&rt, alloc, formatted(alloc)?, &DURABLE_PUT)?;
+    gives(&rt, alloc, disk, 2, Some(1))
 }

@@ -50,6 +50,20 @@ pub fn run(world: &mut World<MemDisk>, events: &[Event]) -> Result<Vec<Reply>, R
     world.run(events)
 }
 
+/// The steps of the events over the disk, which comes back.
+pub fn run_over(
+    rt: &(impl Threads + Sync),
+    alloc: Global,
+    seed: u64,
+    disk: MemDisk,
+    events: &[Event],
+) -> Result<(Vec<Reply>, MemDisk), Fail> {
+    match World::run_over(rt, alloc, seed, disk, events) {
+        Ok(ran) => Ok(ran),
+        Err((refusal, _)) => Err(Fail::from(refusal)),
+    }
+}
+
 /// The mark of what is durable.
 pub fn mark(world: &World<MemDisk>) -> Stamp {
     world.mark()

@@ -29,6 +29,22 @@ pub const OPENING_OF_THE_GATE: [(Step, &str); 2] = [
     (Poll(2), "Polled(true)"),
 ];
 
+pub const DURABLE_PUT: [(Step, &str); 10] = [
+    (Begin, "Began(TxId(1))"),
+    (Insert(1), "Answered(Inserted)"),
+    (Precommit(1), "Prepared(Stamp(2))"),
+    (Validate(1), "Validated(Valid)"),
+    (Settle(1), "Settled(Committed(Stamp(2)))"),
+    (
+        CloseGroup,
+        "Closed(Closed { prev: Stamp(0), mark: Stamp(2) })",
+    ),
+    (TakeGroup, "Taken"),
+    (AppendBody, "Written"),
+    (AppendOpen, "Durable(Stamp(2))"),
+    (Poll(2), "Polled(true)"),
+];
+
 pub const ROTATION_OUT_OF_TURN: [(Step, &str); 11] = [
     (RotateWrite, "Refused(NothingToDo)"),
     (AppendOpen, "Durable(Stamp(2))"),

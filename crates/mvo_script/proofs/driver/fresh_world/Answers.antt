@@ -1,4 +1,4 @@
-use Rattle.std.proofs.Common.{◌≡◌, ◌⊎◌, ◌∙◌, inl, inr, refl, subst, ℕ, arith}
+use Rattle.std.proofs.Common.{◌≡◌, ◌⊎◌, inl, inr, refl, subst, ℕ, arith}
 use Rattle.std.specs.FinMap as map
 use Rattle.mvo_types.specs.Keys.{Map}
 use Rattle.mvo_core.specs.Standing.{OpensAs}
@@ -22,7 +22,7 @@ returns-in-Ok-open-clause-fresh g c =
       core = subst (λ (rows : Map). OpensAs rows 0 w.core) found.rows_are (subst (λ (mark : ℕ). OpensAs given.0 mark w.core) mark_is begins.core);
       mark = mark_is;
       ring = begins.ring;
-      pending = begins.pending;
+      pending = begins.store.pending;
     }
   where
     only : {n m : ℕ} → (n ≡ m) ⊎ ⊥ → n ≡ m

@@ -1,8 +1,9 @@
+use Rattle.mvo_store.specs.Seen.{mark_of}
 use Rattle.mvo_engine.proofs.engine.Engine.into_disk.Goals as goal
 
 pub returns : goal.returns
 returns g c = λ slots. record {
   received = c.into_inner.result.received;
-  least = c.into_inner.result.store.mark;
+  least = mark_of c.into_inner.result.store;
   gives = c.into_disk.ensures.gives slots;
 }

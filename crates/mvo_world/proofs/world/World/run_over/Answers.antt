@@ -1,0 +1,26 @@
+use Rattle.std.proofs.Common.{◌≡◌, inr, sym, subst}
+use Rattle.mvo_store.specs.Seen.{disk_of, mark_of}
+use Rattle.mvo_world.specs.Past.{Past, opened_over}
+use Rattle.mvo_world.specs.Promise.{LeavePrefixes}
+use Rattle.mvo_world.proofs.Promised.{leave_prefixes}
+use Rattle.mvo_world.proofs.world.World.run_over.Goals as goal
+
+pub returns-in-Ok-run-clause-promise : goal.returns-in-Ok-run-clause-promise
+returns-in-Ok-run-clause-promise g c = λ slots.
+    let w = c.in-Ok.world in
+    let given = c.in-Ok.ensures.gives in
+    let past : Past = opened_over given.0 (mark_of w.store) in
+    let after = c.in-Ok.ensures.after given.0 given.1 slots in
+    record {
+      rows = given.0;
+      mark = mark_of w.store;
+      gives = given.1;
+      serial = c.in-Ok-run.ensures.serial past after;
+      opened = disk_of w.store;
+      opening = c.in-Ok.ensures.any_moment;
+      prefixes = subst (LeavePrefixes g.D.Disk past (disk_of w.store) c.args.events.now c.in-Ok-run.replies.items) (sym c.into_disk.ensures.disk)
+          (leave_prefixes g.D.Disk past w c.args.events.now c.in-Ok-run.replies.items c.run.new.self after c.in-Ok-run.ensures.each);
+    }
+
+pub returns-in-Err-run-clause-refused : goal.returns-in-Err-run-clause-refused
+returns-in-Err-run-clause-refused g c = inr c.in-Err-run.ensures.memory
