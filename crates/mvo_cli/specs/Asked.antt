@@ -1,5 +1,5 @@
 -- The command line.
-use Rattle.std.specs.Prelude.{◌≡◌, List, Bool, Some, [], true, false, codes, pos, IsSomeAnd}
+use Rattle.std.specs.Prelude.{◌≡◌, ◌-◌, ◌^◌, List, Bool, Some, [], true, false, codes, pos, IsSomeAnd}
 use Rattle.clap.specs.Words.{App, Rule, Text, new_app, new_rule, subcommand_of, with_rule, with_subcommand}
 use Rattle.clap.specs.declared.builder.value_parser.ValueParser.TheVariants as parser
 use Rattle.mvo_cli.specs.Tasks.{IsTask}
@@ -24,6 +24,22 @@ with_folder name required = with_rule (new_app name) (folder_rule required)
 abbrev pub rows_command : App
 rows_command = with_rule (with_folder (codes "rows") true) table_rule
 
+-- the path of a script, which must be there
+abbrev pub script_rule : Rule
+script_rule = record (new_rule (codes "FILE")) { required = true }
+
+-- the number of a call, an option
+abbrev pub explain_rule : Rule
+explain_rule = record (new_rule (codes "explain")) {
+  long = Some (codes "explain");
+  value_names = 1;
+  parser = Some (parser.Unsigned 1 (2 ^ 64 - 1));
+}
+
+-- the command that looks at what stops and faults leave
+abbrev pub stops_command : App
+stops_command = with_rule (with_rule (new_app (codes "stops")) explain_rule) script_rule
+
 -- the program with no command yet, one of which must be there
 abbrev pub no_command : App
 no_command = record {
@@ -36,7 +52,9 @@ abbrev pub commands : App
 commands =
     let formats = with_subcommand no_command (with_folder (codes "format") true).top in
     let runs = with_subcommand formats (with_folder (codes "run") false).top in
-    with_subcommand (with_subcommand runs rows_command.top) (with_folder (codes "check") true).top
+    let rows = with_subcommand runs rows_command.top in
+    let checks = with_subcommand rows (with_folder (codes "check") true).top in
+    with_subcommand checks stops_command.top
 
 -- the words ask for the task
 abbrev pub AsksFor : List Text → Task → Type 0

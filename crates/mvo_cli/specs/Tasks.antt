@@ -15,6 +15,16 @@ HasTable rows table =
     (text : Text) × (first_of (codes "TABLE") rows ≡ Some text)
     × (table ≡ digits_value 10 (without_leading_plus text))
 
+-- the path of the script is this one
+abbrev pub HasScript : List Row → Text → Type 0
+HasScript rows script = first_of (codes "FILE") rows ≡ Some script
+
+-- the number of the call is this one
+abbrev pub HasNumber : List Row → ℕ → Type 0
+HasNumber rows number =
+    (text : Text) × (first_of (codes "explain") rows ≡ Some text)
+    × (number ≡ digits_value 10 (without_leading_plus text))
+
 -- the command and its words ask for the task
 abbrev pub IsTask : Text → List Row → Task → Type 0
 IsTask name rows (task.Format folder) = (name ≡ codes "format") × HasFolder rows folder.now
@@ -23,3 +33,7 @@ IsTask name rows (task.RunIn folder) = (name ≡ codes "run") × HasFolder rows 
 IsTask name rows (task.Rows folder table) =
     (name ≡ codes "rows") × HasFolder rows folder.now × HasTable rows table
 IsTask name rows (task.Check folder) = (name ≡ codes "check") × HasFolder rows folder.now
+IsTask name rows (task.Stops script) =
+    (name ≡ codes "stops") × HasScript rows script.now × (first_of (codes "explain") rows ≡ None)
+IsTask name rows (task.Explain number script) =
+    (name ≡ codes "stops") × HasScript rows script.now × HasNumber rows number

@@ -3,8 +3,10 @@ ghost use Rattle.std.specs.Prelude.{codes, map, option_map};
 ghost use Rattle.clap.specs.Words.{Text, app_of, kind_of, rule_of, subcommand_rows_of, with_subcommand};
 ghost use Rattle.clap.specs.declared.Command.TheViews.{out-Command};
 ghost use Rattle.mvo_cli.specs.Asked.{AsksFor, commands, folder_rule, no_command, rows_command, table_rule, with_folder};
+ghost use Rattle.mvo_cli.specs.Asked.{stops_command};
 ghost use Rattle.mvo_cli.specs.Tasks.{IsTask};
 
+use crate::stops_words::stops_command;
 use crate::task::{FOLDER, TABLE, Task, task_of};
 use clap::builder::ValueParser;
 use clap::error::ErrorKind;
@@ -119,6 +121,13 @@ fn rows_command<'a>(alloc: Global) -> Result<Command<'a>, AllocError>
     rows.arg(table_arg(alloc))
 }
 
+/// Adds the command that looks at what stops and faults leave.
+fn add_stops<'a>(mvo: Command<'a>, alloc: Global) -> Result<Command<'a>, AllocError>
+    ensures { IfOk result (λ c. app_of c ≡ with_subcommand (app_of mvo.entry) stops_command.top) }
+{
+    mvo.subcommand(stops_command(alloc)?)
+}
+
 /// The program with no command yet.
 fn no_command<'a>(alloc: Global) -> Command<'a>
     ensures { app_of result ≡ no_command }
@@ -149,11 +158,12 @@ fn command_line<'a>(alloc: Global) -> Result<Command<'a>, AllocError>
         false,
     )?;
     let mvo = add_rows(mvo, alloc)?;
-    add_command(
+    let mvo = add_command(
         mvo,
         alloc,
         "check",
         "Opens the store in a folder and counts",
         true,
-    )
+    )?;
+    add_stops(mvo, alloc)
 }

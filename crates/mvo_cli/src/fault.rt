@@ -3,6 +3,7 @@ ghost use Rattle.mvo_cli.specs.Status.{status_of};
 
 use clap::error::ErrorKind;
 use mvo_script::ScriptError;
+use mvo_stops::{Failed, StopsError};
 use mvo_types::Refusal;
 use std::alloc::AllocError;
 use std::io;
@@ -29,6 +30,15 @@ pub enum Fault {
     /// The script isn't run to its end.
     #[error("error: {0}\n")]
     Script(ScriptError),
+    /// The file with the script can't be read.
+    #[error("error: can't read the script: {0}\n")]
+    ScriptFile(io::Error),
+    /// Nothing can be said of a script, or it has no such call.
+    #[error("error: {0}\n")]
+    Stops(StopsError),
+    /// A stop or a fault at a call of a script leaves what wasn't promised.
+    #[error("error: {0}\n")]
+    Found(Failed),
     /// What was asked for can't be printed.
     #[error("error: can't write: {0}\n")]
     Print(io::Error),
@@ -45,8 +55,9 @@ impl Fault {
         self.status() == 0
     }
 
-    /// The exit status: 0 after help, 1 where the store wasn't made or opened, 2 for a bad command
-    /// line, 3 where reading or writing failed, or memory or a seed was refused.
+    /// The exit status: 0 after help, 1 where the store wasn't made or opened, or what wasn't
+    /// promised was found, 2 for a bad command line, 3 where reading or writing failed, or memory
+    /// or a seed was refused.
     pub fn status(&self) -> u8
         ensures { result ≡ status_of self.now }
     {
@@ -57,8 +68,14 @@ impl Fault {
                 _ => 2,
             },
             Fault::Words(_) => 2,
-            Fault::Refused(_) | Fault::InUse => 1,
-            Fault::Seed(_) | Fault::Script(_) | Fault::Print(_) | Fault::OutOfMemory => 3,
+            Fault::Stops(StopsError::NoSuchCall(_)) => 2,
+            Fault::Refused(_) | Fault::InUse | Fault::Found(_) => 1,
+            Fault::Seed(_)
+            | Fault::Script(_)
+            | Fault::ScriptFile(_)
+            | Fault::Stops(_)
+            | Fault::Print(_)
+            | Fault::OutOfMemory => 3,
         }
     }
 }

@@ -8,6 +8,8 @@ mod listing;
 mod program;
 mod seed;
 mod shown;
+mod stops;
+mod stops_words;
 mod task;
 
 pub use asked::command;

@@ -3,6 +3,7 @@ use crate::fault::Fault;
 use crate::folder::{format_folder, open_held, open_world};
 use crate::listing::{write_counts, write_rows};
 use crate::seed::draw_seed;
+use crate::stops::{print_call, print_stops};
 use crate::task::Task;
 use mvo_disk::Disk;
 use mvo_script::{run_over, run_script};
@@ -16,10 +17,10 @@ use std::thread::Threads;
 use std::{env, io};
 
 /// Runs the program on its words, standard input and standard output. Its exit status is 0 where
-/// all was done, refused lines and help included, 1 where a store wasn't made or opened, 2 for a
-/// bad command line, and 3 where reading or writing failed, or memory or a seed was refused.
-/// Statuses 1 to 3 come with a text on standard error. Where that is a terminal, it also shows how
-/// far a folder is read.
+/// all was done, refused lines and help included, 1 where a store wasn't made or opened, or what
+/// wasn't promised was found, 2 for a bad command line, and 3 where reading or writing failed, or
+/// memory or a seed was refused. Statuses 1 to 3 come with a text on standard error. Where that is
+/// a terminal, it also shows how far a folder is read or a script is looked at.
 pub fn run_program<R>(rt: &R, is_terminal: bool) -> ExitCode
 where
     R: AllocGlobal
@@ -110,6 +111,8 @@ where
         Task::RunIn(folder) => run_in(rt, folder, is_terminal),
         Task::Rows(folder, table) => print_rows(rt, folder, table, is_terminal),
         Task::Check(folder) => print_counts(rt, folder, is_terminal),
+        Task::Stops(script) => print_stops(rt, script, is_terminal),
+        Task::Explain(number, script) => print_call(rt, number, script),
     }
 }
 

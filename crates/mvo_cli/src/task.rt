@@ -10,6 +10,12 @@ pub const FOLDER: &str = "DIR";
 /// The name of the word that is the number of a table.
 pub const TABLE: &str = "TABLE";
 
+/// The name of the word that is the path of a script.
+pub const SCRIPT: &str = "FILE";
+
+/// The name of the option that is the number of a call.
+pub const EXPLAIN: &str = "explain";
+
 /// What the program is asked to do.
 #[derive(Clone, Copy, Debug)]
 pub enum Task<'a> {
@@ -23,6 +29,10 @@ pub enum Task<'a> {
     Rows(&'a str, u8),
     /// `mvo check DIR`: whether the store in a folder can be opened.
     Check(&'a str),
+    /// `mvo stops FILE`: whether a stop or a fault at any call leaves what a script was promised.
+    Stops(&'a str),
+    /// `mvo stops --explain N FILE`: what that call is, and what each image at it opens as.
+    Explain(u64, &'a str),
 }
 
 /// The task that a command asks for with its matches, if it is one of the program's and has what
@@ -43,6 +53,18 @@ pub fn task_of<'a>(name: &str, found: &ArgMatches<'a>) -> Option<Task<'a>>
             Some(Task::Rows(folder, table))
         }
         "check" => Some(Task::Check(found.get_str(FOLDER)?)),
+        "stops" => stops_of(found),
         _ => None,
+    }
+}
+
+/// The task that `stops` asks for.
+fn stops_of<'a>(found: &ArgMatches<'a>) -> Option<Task<'a>>
+    ensures { IfSome result (IsTask (codes "stops") (rows_of (found_of found.now))) }
+{
+    let script = found.get_str(SCRIPT)?;
+    match found.get_str(EXPLAIN) {
+        Some(number) => Some(Task::Explain(number.parse::<u64>().ok()?, script)),
+        None => Some(Task::Stops(script)),
     }
 }

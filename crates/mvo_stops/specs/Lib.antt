@@ -1,0 +1,4 @@
+pub mod Promise
+pub mod Judging
+pub mod Calls
+pub mod Counting

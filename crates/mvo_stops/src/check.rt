@@ -1,0 +1,231 @@
+//! Looks at all that stops and faults may leave at one call.
+use crate::base::Base;
+use crate::counts::Counts;
+use crate::ended::Ended;
+use crate::error::StopsError;
+use crate::fill::{Fill, Length};
+use crate::image::{Image, images_of};
+use crate::judge::Judge;
+use crate::loose::loose_after;
+use crate::moment::Moment;
+use crate::recorded::Recorded;
+use crate::wrong::Wrong;
+use mvo_disk::MemDisk;
+use mvo_types::{Refusal, Stamp};
+use std::thread::Threads;
+
+/// What was found at a call.
+#[derive(Clone, Copy, Debug)]
+pub struct Found {
+    pub counts: Counts,
+    pub wrong: Option<Wrong>,
+}
+
+/// Looks at the call at this place, from 0: at what a stop before it and within it leaves, at what
+/// is left where it fails and the rest of the script runs, and behind the last call at what a stop
+/// at the script's end leaves. It ends with what is wrong first.
+pub fn check_call(
+    rt: &(impl Threads + Sync),
+    recorded: &Recorded,
+    place: usize,
+) -> Result<Found, StopsError> {
+    let (history, _) = recorded.run_failing(rt, place)?.into_history();
+    let mut judge = Judge::new(history);
+    let ended = check_moments(rt, &mut judge, recorded, place);
+    let found = found_by(&judge, ended)?;
+    if place.saturating_add(1) < recorded.calls().len() || found.wrong.is_some() {
+        return Ok(found);
+    }
+    let end = check_end(rt, recorded)?;
+    Ok(Found {
+        counts: found.counts.and(end.counts),
+        wrong: end.wrong,
+    })
+}
+
+/// Looks at what a stop at the script's end leaves.
+fn check_end(rt: &(impl Threads + Sync), recorded: &Recorded) -> Result<Found, StopsError> {
+    let all = recorded.calls().len();
+    let (history, _) = recorded.run_failing(rt, all)?.into_history();
+    let mut judge = Judge::new(history);
+    let base = Base::before(recorded, all)?;
+    let ended = check_stopped(rt, &mut judge, &Moment::before(recorded, &base, all));
+    found_by(&judge, ended)
+}
+
+/// What was found up to here.
+fn found_by(judge: &Judge, ended: Result<(), Ended>) -> Result<Found, StopsError> {
+    let counts = judge.counts();
+    match ended {
+        Ok(()) => Ok(Found {
+            counts,
+            wrong: None,
+        }),
+        Err(Ended::Wrong(wrong)) => Ok(Found {
+            counts,
+            wrong: Some(wrong),
+        }),
+        Err(Ended::Error(error)) => Err(error),
+    }
+}
+
+fn check_moments(
+    rt: &(impl Threads + Sync),
+    judge: &mut Judge,
+    recorded: &Recorded,
+    place: usize,
+) -> Result<(), Ended> {
+    let base = Base::before(recorded, place)?;
+    check_stopped(rt, judge, &Moment::before(recorded, &base, place))?;
+    if let Some(moment) = Moment::within(recorded, &base, place)? {
+        check_stopped(rt, judge, &moment)?;
+    }
+    check_standing(rt, judge, &Moment::before(recorded, &base, place))?;
+    for fill in Fill::ALL {
+        for length in Length::ALL {
+            if let Some(moment) = Moment::failed(recorded, &base, place, fill, length)? {
+                check_standing(rt, judge, &moment)?;
+            }
+        }
+    }
+    Ok(())
+}
+
+/// What a stop may leave of a disk.
+fn images_on(moment: &Moment<'_>, disk: &MemDisk) -> Result<Vec<Image>, StopsError> {
+    let recorded = moment.recorded;
+    let loose = loose_after(recorded.alloc, &moment.base.start, disk.calls())?;
+    Ok(images_of(recorded.alloc, &loose)?)
+}
+
+/// Looks at each image that a stop at the moment leaves.
+fn check_stopped(
+    rt: &(impl Threads + Sync),
+    judge: &mut Judge,
+    moment: &Moment<'_>,
+) -> Result<(), Ended> {
+    let recorded = moment.recorded;
+    for image in images_on(moment, &moment.disk()?)? {
+        let mut disk = moment.disk()?;
+        stop(&mut disk, &image)?;
+        check_image(rt, judge, recorded, disk)?;
+    }
+    Ok(())
+}
+
+fn stop(disk: &mut MemDisk, image: &Image) -> Result<(), StopsError> {
+    disk.stop(&image.files)?;
+    Ok(())
+}
+
+/// Opens what a stop left, and again after a fault and a stop at each call of that opening. An
+/// opening changes nothing there, so one disk serves for all.
+fn check_image(
+    rt: &(impl Threads + Sync),
+    judge: &mut Judge,
+    recorded: &Recorded,
+    disk: MemDisk,
+) -> Result<(), Ended> {
+    let acknowledged = judge.acknowledged();
+    let (opened, disk) = judge.open(rt, recorded, disk);
+    judge.judge(recorded, opened, acknowledged)?;
+    let mut disk = disk;
+    for place in 0..disk.calls().len() {
+        disk = cut_short(rt, judge, recorded, disk, place)?;
+        disk = open_again(rt, judge, recorded, disk, acknowledged)?;
+        disk = cut_short(rt, judge, recorded, disk, place)?;
+        disk.stop(&[]).map_err(StopsError::from)?;
+        disk = open_again(rt, judge, recorded, disk, acknowledged)?;
+    }
+    Ok(())
+}
+
+/// An opening whose call at this place, from 0, fails.
+fn cut_short(
+    rt: &(impl Threads + Sync),
+    judge: &mut Judge,
+    recorded: &Recorded,
+    disk: MemDisk,
+    place: usize,
+) -> Result<MemDisk, Ended> {
+    let mut disk = disk;
+    disk.fail_at(place as u64);
+    match judge.open(rt, recorded, disk) {
+        (Err(Refusal::DiskFault), disk) => Ok(disk),
+        (Err(Refusal::OutOfMemory), _) => Err(Ended::Error(StopsError::OutOfMemory)),
+        (Err(refusal), _) => Err(Ended::Wrong(Wrong::NotOpened(refusal))),
+        (Ok(_), _) => Err(Ended::Wrong(Wrong::FaultMissed)),
+    }
+}
+
+/// An opening that is compared with what was promised.
+fn open_again(
+    rt: &(impl Threads + Sync),
+    judge: &mut Judge,
+    recorded: &Recorded,
+    disk: MemDisk,
+    acknowledged: Stamp,
+) -> Result<MemDisk, Ended> {
+    let (opened, disk) = judge.open(rt, recorded, disk);
+    judge.judge(recorded, opened, acknowledged)?;
+    Ok(disk)
+}
+
+/// Opens a disk as a fault left it, and again after a fault and a stop at each call of that
+/// opening, and after a stop behind it: what that opening answered is acknowledged then.
+fn check_standing(
+    rt: &(impl Threads + Sync),
+    judge: &mut Judge,
+    moment: &Moment<'_>,
+) -> Result<(), Ended> {
+    let recorded = moment.recorded;
+    let acknowledged = judge.acknowledged();
+    let disk = moment.disk()?;
+    let before = disk.calls().len();
+    let (opened, disk) = judge.open(rt, recorded, disk);
+    let mark = judge.judge(recorded, opened, acknowledged)?;
+    let calls = disk.calls().len().saturating_sub(before);
+    check_answered(rt, judge, moment, &disk, acknowledged.max(mark))?;
+    for place in 0..calls {
+        check_cut(rt, judge, moment, place, acknowledged)?;
+    }
+    Ok(())
+}
+
+/// Opens what a stop leaves behind an opening that answered.
+fn check_answered(
+    rt: &(impl Threads + Sync),
+    judge: &mut Judge,
+    moment: &Moment<'_>,
+    disk: &MemDisk,
+    acknowledged: Stamp,
+) -> Result<(), Ended> {
+    let recorded = moment.recorded;
+    for image in images_on(moment, disk)? {
+        let (_, disk) = judge.open(rt, recorded, moment.disk()?);
+        let mut disk = disk;
+        stop(&mut disk, &image)?;
+        open_again(rt, judge, recorded, disk, acknowledged)?;
+    }
+    Ok(())
+}
+
+/// Opens again after a fault at this call of an opening, and after a stop there.
+fn check_cut(
+    rt: &(impl Threads + Sync),
+    judge: &mut Judge,
+    moment: &Moment<'_>,
+    place: usize,
+    acknowledged: Stamp,
+) -> Result<(), Ended> {
+    let recorded = moment.recorded;
+    let disk = cut_short(rt, judge, recorded, moment.disk()?, place)?;
+    let images = images_on(moment, &disk)?;
+    open_again(rt, judge, recorded, disk, acknowledged)?;
+    for image in images {
+        let mut disk = cut_short(rt, judge, recorded, moment.disk()?, place)?;
+        stop(&mut disk, &image)?;
+        open_again(rt, judge, recorded, disk, acknowledged)?;
+    }
+    Ok(())
+}

@@ -1,0 +1,172 @@
+//! Whether what an opening answers is what was promised.
+ghost use Rattle.std.specs.Prelude.{◌≡◌, ◌↔◌, IsTrue, IfOk};
+ghost use Rattle.std.specs.FinMap as map;
+ghost use Rattle.mvo_types.specs.RowLists.{rows_by_key};
+ghost use Rattle.mvo_stops.specs.Promise.{rows_up_to, with_rows};
+
+use crate::commit::Commit;
+use crate::counts::Counts;
+use crate::ended::Ended;
+use crate::error::StopsError;
+use crate::history::History;
+use crate::opening::{Opened, open};
+use crate::recorded::Recorded;
+use crate::wrong::Wrong;
+use mvo_disk::MemDisk;
+use mvo_model::Serial;
+use mvo_types::{Refusal, Row, Rows, Stamp};
+use std::alloc::{AllocError, Global};
+use std::thread::Threads;
+
+/// What a run promised, with a fault or without, and how much was looked at.
+pub struct Judge {
+    history: History,
+    counts: Counts,
+}
+
+impl Drop for Judge {
+    fn drop(self) {
+        let Judge {
+            history: _,
+            counts: _,
+        } = self;
+    }
+}
+
+impl Judge {
+    ghost use Rattle.std.specs.Prelude.{◌≡◌, Ok, Err, IfOk};
+    ghost use Rattle.mvo_types.specs.Keys.{Map};
+    ghost use Rattle.mvo_stops.specs.Judging.{Promises, LooksAtOne, KeepsHistory};
+    ghost use Rattle.mvo_stops.specs.declared.wrong.Wrong.{Wrong};
+
+    /// What the replies of a run promised.
+    pub fn new(history: History) -> Judge {
+        Judge {
+            history,
+            counts: Counts::new(),
+        }
+    }
+
+    /// How much was looked at so far.
+    pub fn counts(&self) -> Counts
+        ensures { result ≡ self.now.counts }
+    {
+        self.counts
+    }
+
+    /// The greatest timestamp that was acknowledged.
+    pub fn acknowledged(&self) -> Stamp
+        ensures { result ≡ self.now.history.acknowledged }
+    {
+        self.history.acknowledged()
+    }
+
+    /// Opens the store on a disk, which comes back.
+    pub fn open(
+        &mut self,
+        rt: &(impl Threads + Sync),
+        recorded: &Recorded,
+        disk: MemDisk,
+    ) -> (Opened, MemDisk)
+        ensures { KeepsHistory self.old self.new }
+    {
+        self.counts.openings = self.counts.openings.saturating_add(1);
+        open(rt, recorded.alloc, recorded.seed, disk)
+    }
+
+    /// Compares what an opening answered with what was promised, where this timestamp was
+    /// acknowledged. The mark.
+    pub fn judge(
+        &mut self,
+        recorded: &Recorded,
+        opened: Opened,
+        acknowledged: Stamp,
+    ) -> Result<Stamp, Ended>
+        ensures promised { IfOk result (λ m. (rows : Map) × (opened ≡ Ok (rows, m)) ×
+            Promises self.old recorded.now acknowledged.0 rows m.0) }
+        ensures wrong { (w : Wrong) → result ≡ Err (Ended.Wrong w) → IfOk opened (λ o.
+            ¬ Promises self.old recorded.now acknowledged.0 o.0 o.1.0) }
+        ensures looked { LooksAtOne self.old self.new }
+    {
+        self.counts.images = self.counts.images.saturating_add(1);
+        match opened {
+            Ok((rows, mark)) => self.judge_rows(recorded, rows, mark, acknowledged),
+            // No call was made to fail.
+            Err(Refusal::OutOfMemory | Refusal::DiskFault) => {
+                Err(Ended::Error(StopsError::OutOfMemory))
+            }
+            Err(refusal) => Err(Ended::Wrong(Wrong::NotOpened(refusal))),
+        }
+    }
+
+    /// Compares rows and a mark with what was promised.
+    fn judge_rows(
+        &self,
+        recorded: &Recorded,
+        rows: Rows,
+        mark: Stamp,
+        acknowledged: Stamp,
+    ) -> Result<Stamp, Ended>
+        ensures promised { IfOk result (λ m. (m ≡ mark) ×
+            Promises self.now recorded.now acknowledged.0 rows mark.0) }
+        ensures wrong { (w : Wrong) → result ≡ Err (Ended.Wrong w) →
+            ¬ Promises self.now recorded.now acknowledged.0 rows mark.0 }
+    {
+        if mark.0 < acknowledged.0 {
+            return Err(Ended::Wrong(Wrong::MarkTooLow { mark, acknowledged }));
+        }
+        if self.history.clock().0 < mark.0 {
+            return Err(Ended::Wrong(Wrong::MarkTooHigh(mark)));
+        }
+        let wanted = rows_up_to(recorded, self.history.commits(), mark)?;
+        let rows = rows.into_rows(recorded.alloc)?;
+        if same_rows(&wanted, &rows) {
+            Ok(mark)
+        } else {
+            Err(Ended::Wrong(Wrong::OtherRows(mark)))
+        }
+    }
+}
+
+/// Whether both lists have the same rows.
+fn same_rows(one: &[Row], two: &[Row]) -> bool
+    ensures { IsTrue result ↔ (one.now ≡ two.now) }
+{
+    let mut rest = two;
+    for row in one {
+        let [other, after @ ..] = rest else {
+            return false;
+        };
+        if !row.same(other) {
+            return false;
+        }
+        rest = after;
+    }
+    rest.is_empty()
+}
+
+/// The rows of a list.
+fn rows_of(alloc: Global, list: &[Row]) -> Result<Rows, AllocError>
+    ensures { IfOk result (λ rows. rows ≡ with_rows list.now map.empty) }
+{
+    let mut rows = Rows::new(alloc);
+    for row in list {
+        rows.put(row.copy()?)?;
+    }
+    Ok(rows)
+}
+
+/// The rows, by their keys, after one map has run the commits up to a mark one after another.
+fn rows_up_to(recorded: &Recorded, commits: &[Commit], mark: Stamp) -> Result<Vec<Row>, AllocError>
+    ensures { IfOk result (λ v. v.items ≡
+        rows_by_key (rows_up_to mark.0 commits.now recorded.now.rows.items)) }
+{
+    let alloc = recorded.alloc;
+    let mut serial = Serial::new(alloc, rows_of(alloc, &recorded.rows)?);
+    for commit in commits {
+        if commit.end.0 <= mark.0 {
+            serial.run_one(&commit.ops)?;
+        }
+    }
+    serial.into_rows().into_rows(alloc)
+}

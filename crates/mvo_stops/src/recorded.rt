@@ -1,0 +1,173 @@
+use crate::error::StopsError;
+use crate::opening::open;
+use crate::replay::make;
+use crate::run::{Ran, driver_over, run_lines};
+use crate::start::Start;
+use mvo_disk::{Call, MemDisk, Work};
+use mvo_script::Driver;
+use mvo_types::Row;
+use std::alloc::{AllocError, Global};
+use std::thread::Threads;
+
+/// A script, what it starts from, and the calls of the device that it makes where none fails.
+pub struct Recorded {
+    pub(crate) alloc: Global,
+    pub(crate) seed: u64,
+    pub(crate) start: Start,
+    pub(crate) lines: Vec<Vec<u8>>,
+    /// The rows that it starts from.
+    pub(crate) rows: Vec<Row>,
+    /// So many calls open the store before the first line.
+    pub(crate) opening: usize,
+    /// The disk behind the last line, with all calls in its record.
+    disk: MemDisk,
+    /// The places of the calls whose syncs are left out.
+    forgotten: Vec<usize>,
+}
+
+impl Drop for Recorded {
+    fn drop(self) {
+        let Recorded {
+            alloc: _,
+            seed: _,
+            start: _,
+            lines: _,
+            rows: _,
+            opening: _,
+            disk: _,
+            forgotten: _,
+        } = self;
+    }
+}
+
+impl Recorded {
+    ghost use Rattle.std.specs.Prelude.{◌≡◌};
+    ghost use Rattle.mvo_stops.specs.Calls.{calls_of};
+
+    /// Runs the lines over what the disk holds as they begin. No line need be a good one.
+    pub fn of(
+        rt: &(impl Threads + Sync),
+        alloc: Global,
+        seed: u64,
+        start: Start,
+        lines: Vec<Vec<u8>>,
+    ) -> Result<Recorded, StopsError> {
+        let (rows, opening) = opened_start(rt, alloc, seed, &start)?;
+        let disk = run_whole(rt, alloc, seed, &start, &lines)?;
+        Ok(Recorded {
+            alloc,
+            seed,
+            start,
+            lines,
+            rows,
+            opening,
+            disk,
+            forgotten: Vec::new(alloc),
+        })
+    }
+
+    /// The calls of the device that the lines make, in order.
+    pub fn calls(&self) -> &[Call]
+        ensures { result.now ≡ calls_of self.now }
+    {
+        match self.disk.calls().get(self.opening..) {
+            Some(calls) => calls,
+            None => &[],
+        }
+    }
+
+    /// Leaves out the sync that is the call of this number, from 1: what is looked at from here on
+    /// is what a store leaves that forgets it. Whether that call is a sync; if not, nothing is left
+    /// out.
+    pub fn forget_sync(&mut self, number: usize) -> Result<bool, AllocError> {
+        let place = number.wrapping_sub(1);
+        let is_sync = match self.calls().get(place) {
+            Some(call) => matches!(&call.work, Work::Sync),
+            None => false,
+        };
+        if is_sync {
+            self.forgotten.push(place)?;
+        }
+        Ok(is_sync)
+    }
+
+    /// Leaves no sync out any more.
+    pub fn forget_none(&mut self) {
+        self.forgotten.clear();
+    }
+
+    /// Whether the call at this place, from 0, is a sync that is left out.
+    pub(crate) fn is_forgotten(&self, place: usize) -> bool {
+        self.forgotten.contains(&place)
+    }
+
+    /// Makes the calls from one place up to another, from 0, but for the syncs that are left out.
+    pub(crate) fn make_between(
+        &self,
+        disk: &mut MemDisk,
+        from: usize,
+        to: usize,
+    ) -> Result<(), StopsError> {
+        for (place, call) in self.calls().iter().enumerate().take(to).skip(from) {
+            if !self.is_forgotten(place) {
+                make(disk, call)?;
+            }
+        }
+        Ok(())
+    }
+
+    /// Runs the lines with the call at this place, from 0, failing.
+    pub(crate) fn run_failing(
+        &self,
+        rt: &(impl Threads + Sync),
+        place: usize,
+    ) -> Result<Ran, StopsError> {
+        let disk = self.disk_failing(place)?;
+        run_lines(rt, self.alloc, self.seed, disk, &self.lines)
+    }
+
+    /// A driver over a disk whose call at this place, from 0, behind the opening fails.
+    pub(crate) fn driver_failing(
+        &self,
+        rt: &(impl Threads + Sync),
+        place: usize,
+    ) -> Result<Driver<MemDisk>, StopsError> {
+        let disk = self.disk_failing(place)?;
+        driver_over(rt, self.alloc, self.seed, disk)
+    }
+
+    fn disk_failing(&self, place: usize) -> Result<MemDisk, StopsError> {
+        let mut disk = self.start.disk()?;
+        disk.fail_at(self.opening.saturating_add(place) as u64);
+        Ok(disk)
+    }
+}
+
+/// The rows that a script starts from, and how many calls the opening makes.
+fn opened_start(
+    rt: &(impl Threads + Sync),
+    alloc: Global,
+    seed: u64,
+    start: &Start,
+) -> Result<(Vec<Row>, usize), StopsError> {
+    let (opened, disk) = open(rt, alloc, seed, start.disk()?);
+    match opened {
+        Ok((rows, _)) => Ok((rows.into_rows(alloc)?, disk.calls().len())),
+        Err(refusal) => Err(StopsError::Start(refusal)),
+    }
+}
+
+/// The disk behind a script of which no call fails.
+fn run_whole(
+    rt: &(impl Threads + Sync),
+    alloc: Global,
+    seed: u64,
+    start: &Start,
+    lines: &[Vec<u8>],
+) -> Result<MemDisk, StopsError> {
+    let ran = run_lines(rt, alloc, seed, start.disk()?, lines)?;
+    if ran.fault.is_some() {
+        return Err(StopsError::OutOfMemory);
+    }
+    Ok(ran.into_disk())
+}
