@@ -1,6 +1,7 @@
 //! A core and the plain model, which are asked the same: each reply of the one is that of the
 //! other.
 
+use crate::course::opening_rows;
 use crate::draws::Draws;
 use crate::equal::{holds, same};
 use crate::events::{Event, Events};
@@ -10,7 +11,6 @@ use crate::met::{
     kind_of, kind_of_refusal,
 };
 use crate::plain::{Plain, PlainGroup};
-use crate::random::opening_rows;
 use crate::reply::Reply;
 use crate::same::{are_same_records, is_same_reply};
 use crate::session::{FEW_GROUPS, Session};
