@@ -1,9 +1,9 @@
-//! Which syncs are missed where a store forgets them: of some steps each of their syncs, in all
-//! places where a script makes that step.
+//! What is found where a store forgets a sync: of some steps each of their syncs, in all places
+//! where a script makes that step, and those of its openings.
 use crate::recorded_of;
 use anyhow::Result;
 use mvo_disk::Work;
-use mvo_stops::{Quiet, Recorded, check_stops, line_of};
+use mvo_stops::{Quiet, Recorded, Report, check_stops, line_of};
 use std::alloc::Global;
 use std::thread::Threads;
 
@@ -79,6 +79,22 @@ where
     let report = check_stops(rt, recorded, &mut Quiet)?;
     let (step, place) = (sync.step, sync.place);
     print!(rt; "without sync {place} of {step}: ")?;
+    print_found(rt, report)
+}
+
+/// Prints what is found where openings forget their syncs.
+pub fn print_opening<R>(rt: &R, text: &str) -> Result<()>
+where
+    R: AllocGlobal + Print + Threads + Sync,
+{
+    let mut recorded = recorded_of(rt, rt.alloc(), text.as_bytes())?;
+    recorded.forget_openings();
+    let report = check_stops(rt, &recorded, &mut Quiet)?;
+    print!(rt; "without the syncs of an opening: ")?;
+    print_found(rt, report)
+}
+
+fn print_found(rt: &impl Print, report: Report) -> Result<()> {
     match report.failed {
         None => println!(rt; "ok")?,
         Some(failed) => {

@@ -1,7 +1,8 @@
 //! What stops and faults leave of a script: whether it is what was promised, with how much was
 //! looked at. Counts go to standard output, times to standard error. Without an argument the script
-//! is one flush. With the argument all it is longer ones, and then it is printed which syncs of the
-//! store are missed where it forgets them; with a number it is so many random lines.
+//! is one flush, and then it is printed what is found where the store forgets one of its syncs, or
+//! those of an opening. With the argument all it is longer scripts; with a number it is so many
+//! random lines.
 #![tactic(auto)]
 
 mod forgotten;
@@ -20,13 +21,13 @@ use std::time::Instant;
 /// What is looked at.
 #[derive(Clone, Copy)]
 enum Work {
-    Flush,
+    Short,
     All,
     Random(u64),
 }
 
 fn main(rt: HostRuntime) -> Result<()> {
-    let mut work = Work::Flush;
+    let mut work = Work::Short;
     for word in env::args(&rt)?.skip(1) {
         work = match word.as_str() {
             "all" => Work::All,
@@ -34,10 +35,25 @@ fn main(rt: HostRuntime) -> Result<()> {
         };
     }
     match work {
-        Work::Flush => check(&rt, "one flush", scripts::FLUSH.as_bytes()),
+        Work::Short => check_short(&rt),
         Work::All => check_all(&rt),
         Work::Random(count) => check_random(&rt, count),
     }
+}
+
+fn check_short<R>(rt: &R) -> Result<()>
+where
+    R: AllocGlobal + Clock + Print + Eprint + Threads + Sync,
+{
+    check(rt, "one flush", scripts::FLUSH.as_bytes())?;
+    let start = Instant::now(rt)?;
+    for (text, steps) in scripts::STEPS {
+        forgotten::print(rt, text, steps)?;
+    }
+    forgotten::print_opening(rt, scripts::FLUSH)?;
+    let millis = start.elapsed(rt)?.as_nanos() / 1_000_000;
+    eprintln!(rt; "forgotten syncs: {millis} ms")?;
+    Ok(())
 }
 
 fn check_all<R>(rt: &R) -> Result<()>
@@ -47,10 +63,8 @@ where
     for (name, text) in scripts::ALL {
         check(rt, name, text.as_bytes())?;
     }
-    for (text, steps) in scripts::STEPS {
-        forgotten::print(rt, text, steps)?;
-    }
-    Ok(())
+    // Nothing rests on a reclaim's sync.
+    forgotten::print(rt, scripts::MERGE, &["reclaim"])
 }
 
 fn check_random<R>(rt: &R, count: u64) -> Result<()>

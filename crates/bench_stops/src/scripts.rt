@@ -76,7 +76,7 @@ checkpoint
 ";
 
 /// Two pairs become one, and what they leave is reclaimed.
-const MERGE: &str = "begin t1
+pub const MERGE: &str = "begin t1
 insert t1 0 5 50 61
 commit t1
 flush
@@ -119,5 +119,5 @@ pub const STEPS: [(&str, &[&str]); 3] = [
         CHECKPOINTS,
         &["install-close", "checkpoint-data", "checkpoint-delta"],
     ),
-    (MERGE, &["merge-data", "merge-delta", "reclaim"]),
+    (MERGE, &["merge-data", "merge-delta"]),
 ];

@@ -18,10 +18,10 @@ use std::alloc::Global;
 use std::thread::Threads;
 
 /// What a disk holds of files of this version. Nothing changes, and no stop within it leaves
-/// anything new. Files are read one after another, and the records of a pair in threads; memory is
-/// taken in proportion to the bytes of one pair's files or of one segment, and to the rows. The
-/// place of each live record takes 32 bytes or more; the seed is for the table of them, and who
-/// chose the keys can't know it.
+/// anything new. Files are read one after another, and the records of pairs in threads, unless the
+/// manifest says that there are fewer than 8,192; memory is taken in proportion to the bytes of one
+/// pair's files or of one segment, and to the rows. The place of each live record takes 32 bytes or
+/// more; the seed is for the table of them, and who chose the keys can't know it.
 ///
 /// Refused by the first rule that is broken, in this order: Corrupt with 0 or BadVersion by slot 0,
 /// Corrupt with 1 or BadVersion by slot 1, NotFormatted where no slot is open; of the pairs in

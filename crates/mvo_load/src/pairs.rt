@@ -20,6 +20,9 @@ use mvo_types::{Refusal, Rows};
 use std::alloc::{AllocError, Global};
 use std::thread::Threads;
 
+/// Fewer records than this are read by the calling thread: starting others takes longer than it.
+const FEW_RECORDS: u64 = 8_192;
+
 /// Puts the live records of a pair on the rows of those before. Whether no two of all have one key.
 pub fn join(rows: &mut Rows, live: Vec<Live>) -> Result<bool, AllocError>
     ensures { IfOk result (λ apart. (before : List (List Numbered)) → AreApart before →
@@ -75,7 +78,7 @@ fn load_in_turn<D: Disk>(
 /// The rows and the places of the live records of a manifest's pairs, made of all of them at once.
 /// Where a pair breaks a rule, or two records have one key, the pairs are read again one after
 /// another, to find the first broken rule.
-pub fn load_pairs<D: Disk>(
+fn load_beside<D: Disk>(
     rt: &(impl Threads + Sync),
     alloc: Global,
     disk: &mut D,
@@ -104,6 +107,48 @@ pub fn load_pairs<D: Disk>(
         }
     }
     match load_in_turn(alloc, disk, format, manifest, seed) {
+        Ok(found) => Ok(found),
+        Err(e) => Err(e),
+    }
+}
+
+/// How many records the pairs of a manifest have, by what it says of them.
+fn count_of(manifest: &Manifest) -> u64 {
+    let mut count = 0u64;
+    for pair in manifest.pairs() {
+        count = count.saturating_add(pair.records as u64);
+    }
+    count
+}
+
+/// The rows and the places of the live records of a manifest's pairs: of few in the calling thread,
+/// and of more in threads.
+pub fn load_pairs<D: Disk>(
+    rt: &(impl Threads + Sync),
+    alloc: Global,
+    disk: &mut D,
+    format: Format,
+    manifest: &Manifest,
+    seed: u64,
+) -> Result<(Rows, Places), Refusal>
+    requires room { D.fault_count disk.old + 1 < 2 ^ 64 }
+    ensures live { IfOk result (λ found. HaveRows format (D.content disk.old) manifest.now.pairs
+        found.0) }
+    ensures places { IfOk result (λ found. HavePlaces format (D.content disk.old)
+        manifest.now.pairs found.1.at) }
+    ensures leads { LeadsOn
+        (λ found. Segments (SegmentSays format) (D.content disk.old) found.0 manifest.now.segments
+        manifest.now.checkpoint_mark [])
+        (OpensWith (SegmentSays format) format (D.content disk.old) (Some manifest.now)) result }
+    ensures read { HasRead D.Disk disk.old disk.new result }
+{
+    if count_of(manifest) < FEW_RECORDS {
+        return match load_in_turn(alloc, disk, format, manifest, seed) {
+            Ok(found) => Ok(found),
+            Err(e) => Err(e),
+        };
+    }
+    match load_beside(rt, alloc, disk, format, manifest, seed) {
         Ok(found) => Ok(found),
         Err(e) => Err(e),
     }

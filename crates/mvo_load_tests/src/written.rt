@@ -116,6 +116,9 @@ fn a_live_key_stands_once(rt: HostRuntime) -> Result<(), Fail> {
     stands_once(&rt, rt.alloc(), &mut disk)
 }
 
+/// What a data file begins with.
+const DATA_HEADER: &str = "4d564f44 01000000";
+
 /// A data file with two records of one key, at 2 and at 4.
 fn both_records(alloc: Global) -> Result<Vec<u8>, Fail> {
     let second = bytes(alloc, LATER_DATA)?;
@@ -147,6 +150,59 @@ fn stands_once_within(
 fn a_key_stands_once_within_a_pair(rt: HostRuntime) -> Result<(), Fail> {
     let mut disk = disk_of_pairs(rt.alloc())?;
     stands_once_within(&rt, rt.alloc(), &mut disk)
+}
+
+/// Adds a record of table 0 with sort 50 and data 61.
+fn add_record(data: &mut Vec<u8>, stamp: u64, key: u64) -> Result<(), Fail> {
+    data.extend_from_slice(&stamp.to_le_bytes())?;
+    data.push(0)?;
+    data.extend_from_slice(&key.to_le_bytes())?;
+    data.extend_from_slice(&50u64.to_le_bytes())?;
+    data.extend_from_slice(&[1, 0, 0x61])?;
+    Ok(())
+}
+
+/// A data file with so many records, from timestamp 1 and key 0 on. The last one has this key.
+fn records(alloc: Global, count: u32, last: u64) -> Result<Vec<u8>, Fail> {
+    let mut data = bytes(alloc, DATA_HEADER)?;
+    for stamp in 1..count {
+        add_record(&mut data, stamp as u64, stamp as u64 - 1)?;
+    }
+    add_record(&mut data, count as u64, last)?;
+    Ok(data)
+}
+
+/// How many records a pair has, the key of the last one, and what is found. From the second count
+/// on pairs are read in threads.
+const COUNTS: [(u32, u64, &str); 4] = [
+    (8_191, 8_190, "0, 8191, 8, 8191: 50 61"),
+    (8_192, 8_191, "0, 8192, 8, 8192: 50 61"),
+    (8_191, 5, "refused 54 4"),
+    (8_192, 5, "refused 54 4"),
+];
+
+fn are_found_alike(
+    rt: &(impl Abort + Threads + Sync),
+    alloc: Global,
+    disk: &mut MemDisk,
+) -> Result<(), Fail> {
+    put_all(alloc, disk, &[(5, DELTA)])?;
+    for (count, last, line) in COUNTS {
+        put(disk, 4, &records(alloc, count, last)?)?;
+        let pair = Pair {
+            hi: Stamp(count as u64),
+            records: count,
+            ..earlier(0)
+        };
+        installed_finds(rt, alloc, disk, &[pair], &[], line)?;
+    }
+    Ok(())
+}
+
+#[test]
+fn few_and_many_records_are_found_alike(rt: HostRuntime) -> Result<(), Fail> {
+    let mut disk = disk_of_pairs(rt.alloc())?;
+    are_found_alike(&rt, rt.alloc(), &mut disk)
 }
 
 /// The group of the segment.

@@ -98,6 +98,15 @@ fn images_on(moment: &Moment<'_>, disk: &MemDisk) -> Result<Vec<Image>, StopsErr
     Ok(images_of(recorded.alloc, &loose)?)
 }
 
+/// The disk behind an opening at a moment, by the disk that came back. An opening changes no byte:
+/// where its syncs are left out, that is the disk before it.
+fn left_by_opening(moment: &Moment<'_>, disk: MemDisk) -> Result<MemDisk, StopsError> {
+    if moment.recorded.do_openings_forget() {
+        return moment.disk();
+    }
+    Ok(disk)
+}
+
 /// Looks at each image that a stop at the moment leaves.
 fn check_stopped(
     rt: &(impl Threads + Sync),
@@ -185,6 +194,7 @@ fn check_standing(
     let (opened, disk) = judge.open(rt, recorded, disk);
     let mark = judge.judge(recorded, opened, acknowledged)?;
     let calls = disk.calls().len().saturating_sub(before);
+    let disk = left_by_opening(moment, disk)?;
     check_answered(rt, judge, moment, &disk, acknowledged.max(mark))?;
     for place in 0..calls {
         check_cut(rt, judge, moment, place, acknowledged)?;
@@ -203,7 +213,7 @@ fn check_answered(
     let recorded = moment.recorded;
     for image in images_on(moment, disk)? {
         let (_, disk) = judge.open(rt, recorded, moment.disk()?);
-        let mut disk = disk;
+        let mut disk = left_by_opening(moment, disk)?;
         stop(&mut disk, &image)?;
         open_again(rt, judge, recorded, disk, acknowledged)?;
     }
@@ -220,10 +230,12 @@ fn check_cut(
 ) -> Result<(), Ended> {
     let recorded = moment.recorded;
     let disk = cut_short(rt, judge, recorded, moment.disk()?, place)?;
+    let disk = left_by_opening(moment, disk)?;
     let images = images_on(moment, &disk)?;
     open_again(rt, judge, recorded, disk, acknowledged)?;
     for image in images {
-        let mut disk = cut_short(rt, judge, recorded, moment.disk()?, place)?;
+        let disk = cut_short(rt, judge, recorded, moment.disk()?, place)?;
+        let mut disk = left_by_opening(moment, disk)?;
         stop(&mut disk, &image)?;
         open_again(rt, judge, recorded, disk, acknowledged)?;
     }

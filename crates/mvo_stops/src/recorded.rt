@@ -23,6 +23,8 @@ pub struct Recorded {
     disk: MemDisk,
     /// The places of the calls whose syncs are left out.
     forgotten: Vec<usize>,
+    /// Whether the syncs of openings are left out.
+    openings_forget: bool,
 }
 
 impl Drop for Recorded {
@@ -36,12 +38,13 @@ impl Drop for Recorded {
             opening: _,
             disk: _,
             forgotten: _,
+            openings_forget: _,
         } = self;
     }
 }
 
 impl Recorded {
-    ghost use Rattle.std.specs.Prelude.{◌≡◌};
+    ghost use Rattle.std.specs.Prelude.{◌≡◌, true};
     ghost use Rattle.mvo_stops.specs.Calls.{calls_of};
 
     /// Runs the lines over what the disk holds as they begin. No line need be a good one.
@@ -63,6 +66,7 @@ impl Recorded {
             opening,
             disk,
             forgotten: Vec::new(alloc),
+            openings_forget: false,
         })
     }
 
@@ -91,9 +95,25 @@ impl Recorded {
         Ok(is_sync)
     }
 
+    /// Leaves out the syncs of each opening behind the script: what is looked at from here on is
+    /// what a store leaves that trusts bytes before they are durable.
+    pub fn forget_openings(&mut self)
+        ensures { self.new ≡ record self.old { openings_forget = true } }
+    {
+        self.openings_forget = true;
+    }
+
     /// Leaves no sync out any more.
     pub fn forget_none(&mut self) {
         self.forgotten.clear();
+        self.openings_forget = false;
+    }
+
+    /// Whether the syncs of openings are left out.
+    pub(crate) fn do_openings_forget(&self) -> bool
+        ensures { result ≡ self.now.openings_forget }
+    {
+        self.openings_forget
     }
 
     /// Whether the call at this place, from 0, is a sync that is left out.

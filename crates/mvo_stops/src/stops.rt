@@ -13,8 +13,8 @@ use rayon::prelude::*;
 use std::alloc::AllocError;
 use std::thread::Threads;
 
-/// So many calls are looked at, each beside the others, before word is given.
-const CALLS_AT_ONCE: usize = 16;
+/// So many calls are looked at, in threads, before word is given.
+const CALLS_AT_ONCE: usize = 64;
 
 /// Looks at all that stops and faults may leave of a script. At each call of the device the script
 /// is stopped before it and within it, and runs to its end with that call failing. It ends with the
@@ -49,7 +49,7 @@ fn nothing_yet() -> Report
     }
 }
 
-/// What is found at the calls from one place up to another, from 0.
+/// What is found at the calls from one place up to another, from 0. One call is worth a thread.
 fn found_between(
     rt: &(impl Threads + Sync),
     recorded: &Recorded,
@@ -61,6 +61,7 @@ fn found_between(
 {
     (from..to)
         .into_par_iter()
+        .with_min_len(1)
         .map(|place: usize| -> Result<Found, StopsError> { check_call(rt, recorded, place) })
         .collect(rt, recorded.alloc)
 }

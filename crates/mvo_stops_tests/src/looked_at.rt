@@ -75,6 +75,26 @@ fn without(
     Ok(check_stops(rt, recorded, &mut Quiet)?.failed)
 }
 
+// An opening that trusts an open gate before it is durable answers a mark that a stop takes back. A
+// write of the gate that fails may leave it open.
+#[test]
+fn an_opening_that_forgets_its_syncs_is_found(rt: HostRuntime) -> Result<(), Fail> {
+    let mut recorded = recorded(&rt, rt.alloc(), FLUSHED)?;
+    recorded.forget_openings();
+    let trusted = Failed {
+        call: 3,
+        wrong: Wrong::MarkTooLow {
+            mark: Stamp(0),
+            acknowledged: Stamp(2),
+        },
+    };
+    let found = check_stops(&rt, &recorded, &mut Quiet)?.failed;
+    assert_eq!(rt; found, Some(trusted));
+    recorded.forget_none();
+    is_ok(&rt, &recorded, 4)?;
+    Ok(())
+}
+
 // Without the body's sync a stop within the gate's write may leave an open gate before no group.
 // Without the gate's the mark that was answered may be gone at the end.
 #[test]

@@ -11,6 +11,6 @@ returns g c =
     let from = c.args.from in
     let to = c.args.to in
     IfOk-then c.collect.result _ _ c.collect.ensures (λ v h.
-    let chain = rw (c.map.ensures.base, c.map.ensures.f) at h.1 in
+    let chain = rw (c.map.ensures.base, c.map.ensures.f, c.with_min_len.ensures.base) at h.1 in
     let places = chain.1 ∙ (λ i. nat_range (ends.0 i) (ends.1 i)) in
     ap length h.2 ∙ AllZip-long _ chain.0 h.0 chain.2 ∙ ap length places ∙ run-length from (to - from))

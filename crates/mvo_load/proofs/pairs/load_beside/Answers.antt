@@ -10,7 +10,7 @@ use Rattle.mvo_load.specs.Leading.{Leads}
 use Rattle.mvo_load.specs.Parts.{HavePlaces}
 use Rattle.mvo_load.proofs.Unchanged.{same_image}
 use Rattle.mvo_load.proofs.Gathering.{rows_made, places_made, leads_made}
-use Rattle.mvo_load.proofs.pairs.load_pairs.Goals as goal
+use Rattle.mvo_load.proofs.pairs.load_beside.Goals as goal
 
 pub returns-in-Some-2-clause-live : goal.returns-in-Some-2-clause-live
 returns-in-Some-2-clause-live g c =
