@@ -4,6 +4,7 @@
 
 mod keys;
 mod ranges;
+mod sorts;
 mod stalls;
 mod versions;
 mod watch;
@@ -14,6 +15,7 @@ const SIZES: [u64; 3] = [10_000, 100_000, 1_000_000];
 
 fn main(rt: HostRuntime) -> Result<()> {
     stalls::run(&rt, 1_000_000)?;
+    sorts::run(&rt)?;
     for count in SIZES {
         keys::run(&rt, count)?;
         versions::run(&rt, count)?;

@@ -43,6 +43,7 @@ use Rattle.mvo_core.specs.Aborting.{IsGivenUp}
 use Rattle.mvo_core.specs.Fronts.{comes_at_draw, numbers_in, AreInFront}
 use Rattle.mvo_core.specs.Keeping.{IsWritten, IsPlaced, with_own_at}
 use Rattle.mvo_core.specs.Steps.{came, LeadsOn}
+use Rattle.mvo_core.proofs.SamePlaces.{stands_by_places}
 use Rattle.mvo_core.proofs.CausesTold.{none_active, own_of_active}
 use Rattle.mvo_core.proofs.EndCauses.{not_precommitted_is, or_first, or_last}
 use Rattle.mvo_core.proofs.EndLaws.{precommit_in_table, draw_in_order, precommit_in_lists, lists_are_written, fronts_in_numbers}
@@ -241,7 +242,8 @@ module _ (opening : Map) (steps : List Step) (s : State) (c : CoreData) (h : Sta
           → StandsFor opening (steps ++ theory.steps_of s (Precommit t.0) Accepted) (after_precommit s t.0) (record c { versions = versions; table = table; tale = new })
       stands_drawn free versions new front is =
           subst (λ (p : VersionsData × List Slot). StandsFor opening (steps ++ theory.steps_of s (Precommit t.0) Accepted) (after_precommit s t.0) (record c { versions = p.0; table = table; tale = p.1 }))
-          (λ i. (record { slots = sym front.slots i; lists = sym front.lists i; places = sym front.places i }, sym is i)) (drawn free)
+          (λ i. (record { slots = sym front.slots i; lists = sym front.lists i; places = versions.places }, sym is i))
+          (stands_by_places opening _ _ _ versions.places front.places (drawn free))
 
     -- by what the table answers: with the clock below its limit, the end
     module _ (place : ℕ) (last : place ≡ length c.tale) (placed : Txns (Node Transaction)) (written : IsWritten c.table placed t.0 (IsPlaced place)) (e : Stamp) (drawn : e.0 ≡ c.table.clock + 1) (tale : List Slot) (opened : tale ≡ c.tale ++ Open e ∷ []) (versions : VersionsData) (front : AreInFront (comes_at_draw (state_of c.table) t.0) c.versions versions (words_in c.table t.0)) (lt : c.table.clock < MAX_STAMP) where

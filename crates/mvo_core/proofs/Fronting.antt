@@ -40,7 +40,7 @@ brought test old new n h f = record {
 
 -- it doesn't
 pub left_there : (test : Version → Bool) (old : VersionsData) (n : VersionNo) → passes test (version_at old.slots n) ≡ false → IsInFrontIf test old old n
-left_there test old n h = record { slots = refl; lists = front_false test old.lists n.0 (version_at old.slots n) h; places = refl }
+left_there test old n h = record { slots = refl; lists = front_false test old.lists n.0 (version_at old.slots n) h; places = record { at = λ p. refl } }
 
 -- ---- one after another
 fronts_more : (test : Version → Bool) (slots : Slots) (lists : Lists) (ns : List ℕ) (n : ℕ) → with_fronts test slots lists (ns ++ n ∷ []) ≡ with_front_if test (with_fronts test slots lists ns) n (version_at slots (number n))
@@ -74,7 +74,7 @@ taken_all (w ∷ ws) = ap (λ xs. w ∷ xs) (taken_all ws)
 
 -- none has come to the front yet
 pub front_first : (test : Version → Bool) (old : VersionsData) → AreInFront test old old []
-front_first test old = record { slots = refl; lists = refl; places = refl }
+front_first test old = record { slots = refl; lists = refl; places = record { at = λ p. refl } }
 
 front_push : (test : Version → Bool) (old mid new : VersionsData) (ws : List WordPlace) (w : WordPlace) → AreInFront test old mid ws → IsInFrontIf test mid new (number_at w) → AreInFront test old new (ws ++ w ∷ [])
 front_push test old mid new ws w h f = record {
@@ -84,7 +84,7 @@ front_push test old mid new ws w h f = record {
       ∙ ap (λ ss. with_front_if test (with_fronts test old.slots old.lists (numbers_in ws)) (number_at w).0 (version_at ss (number_at w))) h.slots
       ∙ sym (fronts_more test old.slots old.lists (numbers_in ws) (number_at w).0)
       ∙ ap (with_fronts test old.slots old.lists) (sym (numbers_more ws w));
-  places = f.places ∙ h.places;
+  places = record { at = λ p. f.places.at p ∙ h.places.at p };
 }
 
 -- one more has, where there is one more word

@@ -21,6 +21,7 @@ pub mod GroupClosed
 pub mod Recorded
 pub mod EndLaws
 pub mod Fronting
+pub mod SamePlaces
 pub mod Reporting
 pub mod Rest
 pub mod TaleMoves

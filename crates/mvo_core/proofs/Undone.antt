@@ -40,6 +40,7 @@ use Rattle.mvo_core.specs.Standing.{StandsFor, Stands, IsActive, IsPreparing, Ha
 use Rattle.mvo_core.specs.Causes.{why_not_undo}
 use Rattle.mvo_core.specs.Aborting.{HasOpenPlace, tale_left}
 use Rattle.mvo_core.specs.Fronts.{numbers_in, AreInFront}
+use Rattle.mvo_core.proofs.SamePlaces.{stands_by_places}
 use Rattle.mvo_core.proofs.Begun.{still_closed}
 use Rattle.mvo_core.proofs.Carried.{works_carried}
 use Rattle.mvo_core.proofs.CausesTold.{not_undone_is}
@@ -206,7 +207,8 @@ module _ (opening : Map) (steps : List Step) (s : State) (c : CoreData) (h : Sta
         → StandsFor opening (steps ++ Aborts t.0 ∷ []) (after_abort s t.0) (record c { versions = versions; table = table; tale = tale })
     stands_undone versions tale front left =
         subst (λ (p : VersionsData × List Slot). StandsFor opening (steps ++ Aborts t.0 ∷ []) (after_abort s t.0) (record c { versions = p.0; table = table; tale = p.1 }))
-        (λ i. (record { slots = sym front.slots i; lists = sym front.lists i; places = sym front.places i }, sym left i)) undone
+        (λ i. (record { slots = sym front.slots i; lists = sym front.lists i; places = versions.places }, sym left i))
+        (stands_by_places opening _ _ _ versions.places front.places undone)
 
     pub stands_aborted : IsClosedAt s.marks.closed s → (versions : VersionsData) (tale : List Slot) → AreInFront (is_put_by t.0) c.versions versions (words_in table t.0) → tale ≡ tale_left (state_of c.table t.0) c.tale (own_place (own_of c.table t.0))
         → Stands (record c { versions = versions; table = table; tale = tale })

@@ -10,6 +10,7 @@ use Rattle.mvo_representation.specs.Table.{phases_of}
 use Rattle.mvo_representation.specs.Order.{comes_forward, with_front_if, with_fronts}
 use Rattle.mvo_representation.specs.WordLists.{number_at}
 use Rattle.mvo_versions.specs.Data.{VersionsData}
+use Rattle.mvo_versions.specs.Changes.{HaveSamePlaces}
 
 -- whether the version passes, if there is one
 abbrev pub passes : (Version → Bool) → Option Version → Bool
@@ -30,11 +31,11 @@ pub record IsInFrontIf (test : Version → Bool) (old new : VersionsData)
   pub slots : new.slots ≡ old.slots
   pub lists :
       new.lists ≡ with_front_if test old.lists number.0 (version_at old.slots number)
-  pub places : new.places ≡ old.places
+  pub places : HaveSamePlaces old.places new.places
 
 -- those of the versions with these words that pass have, one after another
 pub record AreInFront (test : Version → Bool) (old new : VersionsData)
     (words : List WordPlace) : Type 0 where
   pub slots : new.slots ≡ old.slots
   pub lists : new.lists ≡ with_fronts test old.slots old.lists (numbers_in words)
-  pub places : new.places ≡ old.places
+  pub places : HaveSamePlaces old.places new.places

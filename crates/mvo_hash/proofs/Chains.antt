@@ -4,7 +4,7 @@ use Rattle.std.proofs.lemmas.Bool.{cond-true, cond-false, cases_Bool, eq-eqb, ne
 use Rattle.std.proofs.lemmas.Map.Steps.{length-le_from_distinct_below}
 use Rattle.std.specs.List.{IsDistinct, AllByRecursion}
 use Rattle.mvo_hash.specs.declared.link.Link.{Link}
-use Rattle.mvo_hash.specs.Lists.{newest_of, older_of, is_among}
+use Rattle.mvo_hash.specs.Lists.{newest_of, older_of, newer_behind, is_among}
 use Rattle.mvo_hash.specs.Links.{no_number, unheld, link, first_or_none, some_unless_none, walk, IsChain, IsApart}
 
 pub eqb_same : (n : ℕ) → eqb n n ≡ true
@@ -79,6 +79,20 @@ older_is ls newer (m ∷ ns) n small c a =
       | inr f ↦
           cond-false (eqb n m) (newest_of ns) (older_of n ns) f
           ∙ older_is ls m ns n small c.3 (sym (ap (λ b. b || is_among n ns) f) ∙ a)
+    ]
+
+-- the number in front of another is its newer neighbour
+pub newer_is : (ls : List Link) (newer : ℕ) (ns : List ℕ) (n : ℕ) → length ls ≤ unheld → IsChain ls newer ns → is_among n ns ≡ true → newer_behind (some_unless_none newer) n ns ≡ some_unless_none (link ls n).newer
+newer_is ls newer [] n small c a = absurd (false≢true a)
+newer_is ls newer (m ∷ ns) n small c a =
+    elim (cases_Bool (eqb n m)) [
+      | inl e ↦
+          cond-true (eqb n m) (some_unless_none newer) (newer_behind (Some m) n ns) e
+          ∙ ap some_unless_none (sym c.1 ∙ ap (λ k. (link ls k).newer) (sym (eqb-true n m e)))
+      | inr f ↦
+          cond-false (eqb n m) (some_unless_none newer) (newer_behind (Some m) n ns) f
+          ∙ ap (λ o. newer_behind o n ns) (sym (cond-false (eqb m no_number) None (Some m) (ne_eqb m no_number (λ e. let h : m < length ls = c.0 in omega (arith, e, h, small)))))
+          ∙ newer_is ls m ns n small c.3 (sym (ap (λ b. b || is_among n ns) f) ∙ a)
     ]
 
 -- a number's older neighbour has it as its newer one

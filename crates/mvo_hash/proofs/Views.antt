@@ -11,10 +11,10 @@ use Rattle.mvo_types.specs.Keys.{key_cmp}
 use Rattle.mvo_types.proofs.Maps.{keys_total, exact_keys}
 use Rattle.mvo_hash.specs.declared.link.Link.{Link}
 use Rattle.mvo_hash.specs.Table.{Map, Table}
-use Rattle.mvo_hash.specs.Lists.{Lists, no_versions, newest_of, older_of, is_among, numbers_of, or_empty, with_numbers, IsHeld, IsFresh, IsPastAll}
+use Rattle.mvo_hash.specs.Lists.{Lists, no_versions, newest_of, older_of, newer_of, is_among, numbers_of, or_empty, with_numbers, IsHeld, IsFresh, IsPastAll}
 use Rattle.mvo_hash.specs.Links.{unheld, no_link, link, number_or_none, walk, numbers, listed, lists_of, index_of, first_or_none, some_unless_none, IsIndexOf, IsIndex, IsGrown}
 use Rattle.mvo_hash.proofs.Finds.{same_key, other_key}
-use Rattle.mvo_hash.proofs.Chains.{walk_chain, chain_short, chain_kept, among_held, among_within, older_is}
+use Rattle.mvo_hash.proofs.Chains.{walk_chain, chain_short, chain_kept, among_held, among_within, older_is, newer_is}
 
 pub none_if_empty : List ℕ → Option (List ℕ)
 none_if_empty [] = None
@@ -88,6 +88,11 @@ shown_older heads ls t key n a =
     let e = numbers_shown heads ls (numbers heads ls) t key in
     ap (older_of n) e ∙ older_is ls 0xFFFF_FFFF (numbers heads ls key) n t.numbered (t.chained key) (ap (is_among n) (sym e) ∙ a)
 
+pub shown_newer : (heads : Map) (ls : List Link) → IsIndex heads ls → (key : RowKey) (n : ℕ) → is_among n (numbers_of (lists_of heads ls) key) ≡ true → newer_of n (numbers_of (lists_of heads ls) key) ≡ some_unless_none (link ls n).newer
+shown_newer heads ls t key n a =
+    let e = numbers_shown heads ls (numbers heads ls) t key in
+    ap (newer_of n) e ∙ newer_is ls 0xFFFF_FFFF (numbers heads ls key) n t.numbered (t.chained key) (ap (is_among n) (sym e) ∙ a)
+
 -- what was read at a place is the link there
 pub link_read : (ls : List Link) (i n : ℕ) (l : Link) → i ≡ n → n < length ls → l ≡ get_or ls i l → l ≡ link ls n
 link_read ls i n l is within e = get_or_read ls i l (omega (arith, is, within)) e no_link ∙ ap (link ls) is
@@ -99,6 +104,14 @@ read_older heads ls lists t view key n i l is e a =
     let read : l ≡ link ls n = link_read ls i n l is (shown_within heads ls t key n held) e in
     ap (λ m. older_of n (numbers_of m key)) (sym view) ∙ shown_older heads ls t key n held
     ∙ ap (λ (k : Link). some_unless_none k.older) (sym read)
+
+-- and what stands in front of it
+pub read_newer : (heads : Map) (ls : List Link) (lists : Lists) → IsIndex heads ls → lists_of heads ls ≡ lists → (key : RowKey) (n i : ℕ) (l : Link) → i ≡ n → l ≡ get_or ls i l → is_among n (numbers_of lists key) ≡ true → newer_of n (numbers_of lists key) ≡ some_unless_none l.newer
+read_newer heads ls lists t view key n i l is e a =
+    let held : is_among n (numbers_of (lists_of heads ls) key) ≡ true = ap (λ m. is_among n (numbers_of m key)) view ∙ a in
+    let read : l ≡ link ls n = link_read ls i n l is (shown_within heads ls t key n held) e in
+    ap (λ m. newer_of n (numbers_of m key)) (sym view) ∙ shown_newer heads ls t key n held
+    ∙ ap (λ (k : Link). some_unless_none k.newer) (sym read)
 
 pub walk_starts : (heads : Map) (ls : List Link) → IsIndex heads ls → (key : RowKey) → number_or_none (get heads key) ≡ first_or_none (numbers heads ls key)
 walk_starts heads ls t key = ap number_or_none (t.starts key)

@@ -62,6 +62,15 @@ abbrev pub older_of : ℕ → List ℕ → Option ℕ
 older_of n [] = None
 older_of n (m ∷ ns) = cond (eqb n m) (newest_of ns) (older_of n ns)
 
+-- the number in front of this one, where the first stands in front of all the others
+abbrev pub newer_behind : Option ℕ → ℕ → List ℕ → Option ℕ
+newer_behind front n [] = None
+newer_behind front n (m ∷ ns) = cond (eqb n m) front (newer_behind (Some m) n ns)
+
+-- the number that stands in front of this one
+abbrev pub newer_of : ℕ → List ℕ → Option ℕ
+newer_of n ns = newer_behind None n ns
+
 -- some key has the number
 abbrev pub IsHeld : Lists → ℕ → Type 0
 IsHeld lists n = (key : RowKey) × IsTrue (is_among n (numbers_of lists key))
@@ -78,3 +87,8 @@ IsPastAll lists n = (m : ℕ) → n ≤ m → IsFresh lists m
 pub record IsOlder (lists : Lists) (n : ℕ) (answer : Option ℕ) : Type 0 where
   pub at : (key : RowKey) → is_among n (numbers_of lists key) ≡ true
       → answer ≡ older_of n (numbers_of lists key)
+
+-- the answer is the number in front of this one, with whichever key has it
+pub record IsNewer (lists : Lists) (n : ℕ) (answer : Option ℕ) : Type 0 where
+  pub at : (key : RowKey) → is_among n (numbers_of lists key) ≡ true
+      → answer ≡ newer_of n (numbers_of lists key)

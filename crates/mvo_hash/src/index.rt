@@ -5,7 +5,7 @@ ghost use Rattle.std.specs.FinMap as finite_map;
 ghost use Rattle.mvo_hash.specs.Home.{shard_count};
 ghost use Rattle.mvo_hash.specs.Links.{beheaded};
 ghost use Rattle.mvo_hash.specs.Lists.{no_versions, numbers_of, with_numbers, newest_of, without};
-ghost use Rattle.mvo_hash.specs.Lists.{is_among, number, IsFresh, IsHeld, IsOlder, IsPastAll};
+ghost use Rattle.mvo_hash.specs.Lists.{is_among, number, IsFresh, IsHeld, IsOlder, IsNewer, IsPastAll};
 
 use crate::heads::Heads;
 use crate::link::{Link, NONE, UNHELD, or_none};
@@ -98,6 +98,18 @@ impl HashIndex {
         ensures { IsOlder self.now.versions version.0 (option_map (λ v. v.0) result) }
     {
         let number = self.links[version.index()].older;
+        if number == NONE {
+            return None;
+        }
+        Some(VersionNo(number))
+    }
+
+    /// The next newer version of the same key, whichever key the version has.
+    pub fn newer(&self, version: VersionNo) -> Option<VersionNo>
+        requires { IsHeld self.now.versions version.0 }
+        ensures { IsNewer self.now.versions version.0 (option_map (λ v. v.0) result) }
+    {
+        let number = self.links[version.index()].newer;
         if number == NONE {
             return None;
         }

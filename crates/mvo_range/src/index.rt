@@ -10,7 +10,7 @@ use std::marker::Model;
 use std::ops::Bound;
 
 /// The ordered index. It has one entry for a place, however many versions of that key have that
-/// sort; the entry holds a number that leads to them. Contracts see a finite map from places to
+/// sort; what its number says of them is the caller's. Contracts see a finite map from places to
 /// numbers, whose entries stand in the order of table, sort and key.
 #[derive(Drop)]
 pub struct RangeIndex {

@@ -28,6 +28,8 @@ mod rows;
 #[cfg(test)]
 mod serial;
 #[cfg(test)]
+mod sorts;
+#[cfg(test)]
 mod step;
 #[cfg(test)]
 mod stories;

@@ -1,6 +1,7 @@
--- The indexes stay right where a version is put, changes its words, comes to the front, or goes.
-use Rattle.std.proofs.Common.{◌≡◌, ℕ, ◌+◌, ◌<◌, ◌≤◌, suc, zero, Bool, true, false, cond, not, eqb, ◌||◌, List, [], ◌∷◌, ◌++◌, length, Option, None, Some, IsSome, refl, sym, ap, ◌∙◌, subst, arith, ◌⊎◌, inl, inr}
-use Rattle.std.specs.Prelude.{◌==◌, is_some, is_none, slice_index_or, slice_get, slice_set, count_by}
+-- The numbers of each key stay right where a version is put, changes its words, comes to the front,
+-- or goes; and a version stands at a place where a number of its key does.
+use Rattle.std.proofs.Common.{◌≡◌, ℕ, ◌+◌, ◌<◌, suc, zero, Bool, true, false, cond, not, eqb, ◌||◌, List, [], ◌∷◌, ◌++◌, length, Option, None, Some, refl, sym, ap, ◌∙◌, subst, arith, ◌⊎◌, inl, inr}
+use Rattle.std.specs.Prelude.{◌==◌, slice_index_or, slice_get, slice_set}
 use Rattle.std.specs.List.{list_any}
 use Rattle.std.specs.Ordering.{eq_by_cmp}
 use Rattle.std.specs.FinMap as fin
@@ -14,35 +15,26 @@ use Rattle.mvo_types.specs.Keys.{key_cmp}
 use Rattle.mvo_theory.specs.Sound.{how_many}
 use Rattle.mvo_chain.specs.declared.version.Version.{Version}
 use Rattle.mvo_chain.specs.declared.version.VersionNo.{VersionNo}
-use Rattle.mvo_chain.specs.Slots.{Slots, version_at, with_room, with_slot, with_change, hole_count, IsHole}
+use Rattle.mvo_chain.specs.Slots.{Slots, version_at, with_room, with_slot, with_change, hole_count}
 use Rattle.std.specs.Option.{option_map}
 use Rattle.mvo_hash.specs.Lists.{Lists, or_empty, numbers_of, with_numbers, without, is_among, IsFresh}
 use Rattle.mvo_range.specs.declared.place.Place.{Place}
-use Rattle.mvo_range.specs.Place.{Map as Places, place_cmp}
-use Rattle.mvo_range.proofs.Places.{places_total, exact_places}
+use Rattle.mvo_range.specs.Place.{Map as Places}
+use Rattle.mvo_range.proofs.Places.{exact_places}
 use Rattle.mvo_validate.specs.Entries.{key_at}
-use Rattle.mvo_visible.specs.Fronts.{with_new, with_front, with_less}
+use Rattle.mvo_visible.specs.Fronts.{with_front, with_less}
 use Rattle.mvo_representation.specs.Indexes.{all_versions, is_of_key, HasNumbers, place_of, is_at_place, HasPlaces}
-use Rattle.mvo_representation.specs.Steps.{IsOneMore, IsOneChanged}
-use Rattle.mvo_representation.proofs.Slots.{room_made, slot_filled, slot_emptied, slot_changed}
-use Rattle.mvo_representation.proofs.Numbers.{numbers_added, numbers_gone}
-use Rattle.mvo_representation.proofs.Indexed.{places_added, places_kept, places_gone, places_same}
+use Rattle.mvo_representation.specs.Steps.{IsOneChanged}
+use Rattle.mvo_representation.proofs.Slots.{room_made, slot_changed}
+use Rattle.mvo_representation.proofs.Numbers.{numbers_gone}
+use Rattle.mvo_representation.proofs.Indexed.{places_same}
 use Rattle.mvo_versions.specs.Data.{VersionsData, AreIndexed}
-use Rattle.mvo_versions.specs.Changes.{is_slot_at, is_number_at, and_place, less_place}
+use Rattle.mvo_versions.specs.Changes.{is_slot_at, is_number_at}
 
 abbrev one : Bool → ℕ
 one b = cond b 1 0
 
-there-at : (p : Place) (xs : List Version) (v : Version) (ys : List Version) → list_any (is_at_place p) (xs ++ v ∷ ys) ≡ (is_at_place p v || list_any (is_at_place p) (xs ++ ys))
-there-at p [] v ys = refl
-there-at p (x ∷ xs) v ys = ap (λ b. is_at_place p x || b) (there-at p xs v ys) ∙ or_swap (is_at_place p x) (is_at_place p v) (list_any (is_at_place p) (xs ++ ys))
-  where
-    or_swap : (a b c : Bool) → (a || (b || c)) ≡ (b || (a || c))
-    or_swap true true c = refl
-    or_swap true false c = refl
-    or_swap false b c = refl
-
-numbers_with : (lists : Lists) (k : RowKey) (ns : List ℕ) (q : RowKey) → numbers_of (with_numbers lists k ns) q ≡ cond (eq_by_cmp key_cmp q k) ns (numbers_of lists q)
+pub numbers_with : (lists : Lists) (k : RowKey) (ns : List ℕ) (q : RowKey) → numbers_of (with_numbers lists k ns) q ≡ cond (eq_by_cmp key_cmp q k) ns (numbers_of lists q)
 numbers_with lists k [] q = ap or_empty (fin.get-remove keys_total lists k q) ∙ go (eq_by_cmp key_cmp q k)
   where
     go : (b : Bool) → or_empty (cond b None (fin.get lists q)) ≡ cond b [] (numbers_of lists q)
@@ -55,7 +47,7 @@ numbers_with lists k (n ∷ ns) q = ap or_empty (fin.get-insert keys_total lists
     go false = refl
 
 -- ---- slots
-set_itself : (slots : Slots) (n : ℕ) → slice_set slots n (slice_index_or slots n None) ≡ slots
+pub set_itself : (slots : Slots) (n : ℕ) → slice_set slots n (slice_index_or slots n None) ≡ slots
 set_itself slots n = set-get_or slots n None
 
 -- what a hole is
@@ -100,7 +92,7 @@ emptied_again (x ∷ xs) zero v e = ap (λ (y : Option Version). y ∷ xs) (insi
     inside (Some w) q = absurd cc
 emptied_again (x ∷ xs) (suc n) v e = ap (λ ys. x ∷ ys) (emptied_again xs n v e)
 
-inside_of : (slots : Slots) (n : ℕ) (v : Version) → slice_index_or slots n None ≡ Some v → n < length slots
+pub inside_of : (slots : Slots) (n : ℕ) (v : Version) → slice_index_or slots n None ≡ Some v → n < length slots
 inside_of [] n v e = absurd cc
 inside_of (x ∷ xs) zero v e = omega arith
 inside_of (x ∷ xs) (suc n) v e = let h = inside_of xs n v e in omega (arith, h)
@@ -109,7 +101,7 @@ inside_of (x ∷ xs) (suc n) v e = let h = inside_of xs n v e in omega (arith, h
 pub room_numbers : (slots : Slots) (lists : Lists) → HasNumbers slots lists → HasNumbers (with_room slots) lists
 room_numbers slots lists h = record { at = λ k n. h.at k n ∙ ap (λ x. one (is_of_key k x)) (sym (room_same slots n)) }
 
-none_of : (n : ℕ) (ns : List ℕ) → how_many (λ m. m == n) ns ≡ 0 → is_among n ns ≡ false
+pub none_of : (n : ℕ) (ns : List ℕ) → how_many (λ m. m == n) ns ≡ 0 → is_among n ns ≡ false
 none_of n [] e = refl
 none_of n (m ∷ ns) e = go (cases_eq m n) (none_of n ns)
   where
@@ -133,7 +125,7 @@ some_of n (m ∷ ns) e = go (cases_eq m n) (some_of n ns)
 pub empty_fresh : (slots : Slots) (lists : Lists) (n : ℕ) → HasNumbers slots lists → slice_index_or slots n None ≡ None → IsFresh lists n
 empty_fresh slots lists n h e = record { at = λ k. none_of n (numbers_of lists k) (h.at k n ∙ ap (λ x. one (is_of_key k x)) e) }
 
-key_of_itself : (k : RowKey) → eq_by_cmp key_cmp k k ≡ true
+pub key_of_itself : (k : RowKey) → eq_by_cmp key_cmp k k ≡ true
 key_of_itself k = (eq_by_cmp_equiv keys_total).refl k
 
 -- a version stands under its key
@@ -142,7 +134,7 @@ number_among slots lists n v h e = some_of n (numbers_of lists v.row.key) (h.at 
 
 -- ---- words
 -- a version whose row stays counts under the same key
-reworded_numbers : (slots : Slots) (lists : Lists) (n : ℕ) (v w : Version) → slice_index_or slots n None ≡ Some v → v.row ≡ w.row → HasNumbers slots lists → HasNumbers (slice_set slots n (Some w)) lists
+pub reworded_numbers : (slots : Slots) (lists : Lists) (n : ℕ) (v w : Version) → slice_index_or slots n None ≡ Some v → v.row ≡ w.row → HasNumbers slots lists → HasNumbers (slice_set slots n (Some w)) lists
 reworded_numbers slots lists n v w e r h = record { at = λ k m. h.at k m ∙ ap one (go k m (cases_eq m n)) }
   where
     go : (k : RowKey) (m : ℕ) → (m ≡ n) ⊎ (m ≡ n → ⊥) → is_of_key k (slice_index_or slots m None) ≡ is_of_key k (slice_index_or (slice_set slots n (Some w)) m None)
@@ -193,7 +185,7 @@ without_others n j (m ∷ ns) d = go (cases_eq n m) (without_others n j ns d)
         ap (λ b. how_many (λ i. i == j) (cond (not b) (m ∷ without n ns) (without n ns))) (ne_eqb n m e)
         ∙ ap (λ x. one (m == j) + x) z
 
-front_numbers : (slots : Slots) (lists : Lists) (n : ℕ) (v : Version) → slice_index_or slots n None ≡ Some v → HasNumbers slots lists → HasNumbers slots (with_front lists v.row.key n)
+pub front_numbers : (slots : Slots) (lists : Lists) (n : ℕ) (v : Version) → slice_index_or slots n None ≡ Some v → HasNumbers slots lists → HasNumbers slots (with_front lists v.row.key n)
 front_numbers slots lists n v e h = record { at = λ q m. ap (how_many (λ i. i == m)) (numbers_with lists v.row.key (n ∷ without n (numbers_of lists v.row.key)) q) ∙ go q m (eq_by_cmp key_cmp q v.row.key) refl ∙ h.at q m }
   where
     same : (m : ℕ) → (m ≡ n) ⊎ (m ≡ n → ⊥) → how_many (λ i. i == m) (n ∷ without n (numbers_of lists v.row.key)) ≡ how_many (λ i. i == m) (numbers_of lists v.row.key)
@@ -212,59 +204,6 @@ front_numbers slots lists n v e h = record { at = λ q m. ap (how_many (λ i. i 
     go : (q : RowKey) (m : ℕ) (b : Bool) → eq_by_cmp key_cmp q v.row.key ≡ b → how_many (λ i. i == m) (cond b (n ∷ without n (numbers_of lists v.row.key)) (numbers_of lists q)) ≡ how_many (λ i. i == m) (numbers_of lists q)
     go q m true k = same m (cases_eq m n) ∙ ap (λ j. how_many (λ i. i == m) (numbers_of lists j)) (sym (tells_apart exact_keys q v.row.key k))
     go q m false k = refl
-
-pub in_front : (v : VersionsData) (n : VersionNo) (w : Version) → version_at v.slots n ≡ Some w → AreIndexed v → AreIndexed (record v { lists = with_front v.lists w.row.key n.0 })
-in_front v n w e h = record { numbers = front_numbers v.slots v.lists n.0 w e h.numbers; order = h.order }
-
--- ---- a version comes
-place_there : (xs : List Version) (v : Version) (ys : List Version) (places : Places) → HasPlaces (xs ++ ys) places → is_some (fin.get places (place_of v)) ≡ true → HasPlaces (xs ++ v ∷ ys) places
-place_there xs v ys places h e = record { at = λ p. h.at p ∙ go p (is_at_place p v) refl ∙ sym (there-at p xs v ys) }
-  where
-    go : (p : Place) (b : Bool) → is_at_place p v ≡ b → list_any (is_at_place p) (xs ++ ys) ≡ (b || list_any (is_at_place p) (xs ++ ys))
-    go p true q = ap (λ x. list_any (is_at_place x) (xs ++ ys)) (tells_apart exact_places p (place_of v) q) ∙ sym (h.at (place_of v)) ∙ e
-    go p false q = refl
-
-put_places : (v : Version) (old new : List Version) (places : Places) (n : ℕ) → IsOneMore v old new → HasPlaces old places → HasPlaces new (and_place places (place_of v) n)
-put_places v old new places n m h = go (is_some (fin.get places (place_of v))) refl
-  where
-    old' : HasPlaces (m.before ++ m.after) places
-    old' = subst (λ vs. HasPlaces vs places) (sym m.without) h
-
-    go : (b : Bool) → is_some (fin.get places (place_of v)) ≡ b → HasPlaces new (cond b places (fin.insert places (place_of v) n))
-    go true e = subst (λ vs. HasPlaces vs places) m.with' (place_there m.before v m.after places old' e)
-    go false e = subst (λ vs. HasPlaces vs (fin.insert places (place_of v) n)) m.with' (places_added m.before v m.after places n old')
-
-pub comes : (v : VersionsData) (n : VersionNo) (w : Version) (i : ℕ) → IsHole (with_room v.slots) n → AreIndexed v → AreIndexed (record { slots = with_slot (with_room v.slots) n (Some w); lists = with_new v.lists w.row.key n.0; places = and_place v.places (place_of w) i })
-comes v n w i hole h = record {
-  numbers = numbers_added (with_room v.slots) v.lists n.0 w (hole_inside (with_room v.slots) n.0 hole) (hole_empty (with_room v.slots) n.0 hole) (room_numbers v.slots v.lists h.numbers);
-  order = put_places w (all_versions (with_room v.slots)) (all_versions (slice_set (with_room v.slots) n.0 (Some w))) v.places i (slot_filled (with_room v.slots) n.0 w (hole_inside (with_room v.slots) n.0 hole) (hole_empty (with_room v.slots) n.0 hole)) (subst (λ vs. HasPlaces vs v.places) (sym (room_versions v.slots)) h.order);
-}
-
-pub fresh_number : (v : VersionsData) (n : VersionNo) → IsHole (with_room v.slots) n → AreIndexed v → IsFresh v.lists n.0
-fresh_number v n hole h = empty_fresh v.slots v.lists n.0 h.numbers (sym (room_same v.slots n.0) ∙ hole_empty (with_room v.slots) n.0 hole)
-
--- only room was made
-pub roomed : (v : VersionsData) → AreIndexed v → AreIndexed (record v { slots = with_room v.slots })
-roomed v h = record { numbers = room_numbers v.slots v.lists h.numbers; order = subst (λ vs. HasPlaces vs v.places) (sym (room_versions v.slots)) h.order }
-
-pub place_taken_back : (places : Places) (p : Place) (n : ℕ) → is_some (fin.get places p) ≡ false → fin.remove (fin.insert places p n) p ≡ places
-place_taken_back places p n e = fin.same_map places_total exact_places (fin.remove (fin.insert places p n) p) places (λ q. fin.get-remove places_total (fin.insert places p n) p q ∙ go q (eq_by_cmp place_cmp q p) refl)
-  where
-    none : (o : Option ℕ) → is_some o ≡ false → None ≡ o
-    none None f = refl
-    none (Some x) f = absurd (true≢false f)
-
-    go : (q : Place) (b : Bool) → eq_by_cmp place_cmp q p ≡ b → cond b None (fin.get (fin.insert places p n) q) ≡ fin.get places q
-    go q true f = none (fin.get places p) e ∙ ap (fin.get places) (sym (tells_apart exact_places q p f))
-    go q false f = fin.get-insert places_total places p n q ∙ ap (λ b. cond b (Some n) (fin.get places q)) f
-
--- what a place that was taken is given back leaves
-pub given_back : (places : Places) (p : Place) (n : ℕ) (b : Bool) → b ≡ not (is_some (fin.get places p)) → less_place (not b) (and_place places p n) p ≡ places
-given_back places p n b e = ap (λ c. less_place (not c) (and_place places p n) p) e ∙ go (is_some (fin.get places p)) refl
-  where
-    go : (c : Bool) → is_some (fin.get places p) ≡ c → less_place (not (not c)) (cond c places (fin.insert places p n)) p ≡ places
-    go true f = refl
-    go false f = place_taken_back places p n f
 
 -- ---- a version goes
 -- where a version stands at the place, one of the key's numbers does, and where one does, it does
@@ -315,7 +254,7 @@ any_of p (m ∷ ns) e = go (p m) refl e (any_of p ns)
     go true q f again = (m, q)
     go false q f again = again f
 
-at_key : (place : Place) (v : Version) → is_at_place place v ≡ true → v.row.key ≡ key_at place
+pub at_key : (place : Place) (v : Version) → is_at_place place v ≡ true → v.row.key ≡ key_at place
 at_key place v e = sym (ap key_at (tells_apart exact_places place (place_of v) e))
 
 pub found_at : (slots : Slots) (lists : Lists) (place : Place) → HasNumbers slots lists → list_any (is_number_at slots place) (numbers_of lists (key_at place)) ≡ list_any (is_at_place place) (all_versions slots)
@@ -331,21 +270,5 @@ found_at slots lists place h = go (list_any (is_number_at slots place) (numbers_
         (ap (λ k. is_among t.number (numbers_of lists k)) (sym (at_key place t.version t.place')) ∙ number_among slots lists t.number t.version h t.at)
         (ap (is_slot_at place) t.at ∙ t.place')
 
-pub less_numbers : (v : VersionsData) (n : VersionNo) (w : Version) → version_at v.slots n ≡ Some w → AreIndexed v → HasNumbers (with_slot v.slots n None) (with_less v.lists w.row.key n.0)
-less_numbers v n w e h = numbers_gone v.slots v.lists n.0 w (inside_of v.slots n.0 w e) e h.numbers
-
-pub goes : (v : VersionsData) (n : VersionNo) (w : Version) → version_at v.slots n ≡ Some w → AreIndexed v → AreIndexed (record { slots = with_slot v.slots n None; lists = with_less v.lists w.row.key n.0; places = less_place (list_any (is_at_place (place_of w)) (all_versions (with_slot v.slots n None))) v.places (place_of w) })
-goes v n w e h = record {
-  numbers = numbers_gone v.slots v.lists n.0 w (inside_of v.slots n.0 w e) e h.numbers;
-  order = go (list_any (is_at_place (place_of w)) (all_versions (slice_set v.slots n.0 None))) refl;
-}
-  where
-    m : IsOneMore w (all_versions (slice_set v.slots n.0 None)) (all_versions v.slots)
-    m = slot_emptied v.slots n.0 w e
-
-    old : HasPlaces (m.before ++ w ∷ m.after) v.places
-    old = subst (λ vs. HasPlaces vs v.places) (sym m.with') h.order
-
-    go : (b : Bool) → list_any (is_at_place (place_of w)) (all_versions (slice_set v.slots n.0 None)) ≡ b → HasPlaces (all_versions (slice_set v.slots n.0 None)) (less_place b v.places (place_of w))
-    go true f = subst (λ vs. HasPlaces vs v.places) m.without (places_kept m.before w m.after v.places old (ap (list_any (is_at_place (place_of w))) m.without ∙ f))
-    go false f = subst (λ vs. HasPlaces vs (fin.remove v.places (place_of w))) m.without (places_gone m.before w m.after v.places old (ap (list_any (is_at_place (place_of w))) m.without ∙ f))
+pub less_numbers : (slots : Slots) (lists : Lists) (n : VersionNo) (w : Version) → version_at slots n ≡ Some w → HasNumbers slots lists → HasNumbers (with_slot slots n None) (with_less lists w.row.key n.0)
+less_numbers slots lists n w e h = numbers_gone slots lists n.0 w (inside_of slots n.0 w e) e h

@@ -1,13 +1,12 @@
 -- What the calls do with the versions.
-use Rattle.std.specs.Prelude.{◌≡◌, ◌⊎◌, ℕ, ◌<◌, ◌≤◌, List, length, slice_index_or, is_some, cond, Bool, false, Option, None, Some}
+use Rattle.std.specs.Prelude.{◌≡◌, ◌⊎◌, ℕ, slice_index_or, is_some, Bool, false, Option, None, Some}
 use Rattle.std.specs.FinMap as fin
-use Rattle.mvo_types.specs.declared.row.RowKey.{RowKey}
 use Rattle.mvo_types.specs.RowData.{RowData}
 use Rattle.mvo_types.specs.Keys.{Map}
 use Rattle.mvo_chain.specs.declared.version.Version.{Version}
 use Rattle.mvo_chain.specs.declared.version.VersionNo.{VersionNo}
 use Rattle.mvo_chain.specs.Slots.{Slots, version_at, with_room, with_slot, with_change, IsHole}
-use Rattle.mvo_hash.specs.Lists.{Lists, numbers_of, IsFresh}
+use Rattle.mvo_hash.specs.Lists.{IsFresh}
 use Rattle.mvo_visible.specs.Fronts.{with_new, with_front, with_less}
 use Rattle.mvo_representation.specs.Steps.{fresh}
 use Rattle.mvo_range.specs.declared.place.Place.{Place}
@@ -40,12 +39,16 @@ pub record IsReworded (old new : VersionsData) (n : VersionNo)
   pub lists : new.lists ≡ old.lists
   pub places : new.places ≡ old.places
 
+-- each place has an entry in both, or in neither: an entry's number is for the versions alone
+pub record HaveSamePlaces (old new : Places) : Type 0 where
+  pub at : (p : Place) → is_some (fin.get new p) ≡ is_some (fin.get old p)
+
 -- the version comes to the front of its key
 pub record IsInFront (old new : VersionsData) (n : VersionNo) : Type 0 where
   pub slots : new.slots ≡ old.slots
   pub lists : (v : Version) → version_at old.slots n ≡ Some v
       → new.lists ≡ with_front old.lists v.row.key n.0
-  pub places : new.places ≡ old.places
+  pub places : HaveSamePlaces old.places new.places
 
 -- whether the version with the number stands at the place
 abbrev pub is_slot_at : Place → Option Version → Bool
@@ -65,11 +68,3 @@ pub record IsTakenOut (old new : VersionsData) (n : VersionNo) : Type 0 where
   pub slots : new.slots ≡ with_slot old.slots n None
   pub lists : (v : Version) → version_at old.slots n ≡ Some v
       → new.lists ≡ with_less old.lists v.row.key n.0
-
--- the places with one more, unless it is there
-abbrev pub and_place : Places → Place → ℕ → Places
-and_place places p n = cond (is_some (fin.get places p)) places (fin.insert places p n)
-
--- the places without one, unless another version stands there
-abbrev pub less_place : Bool → Places → Place → Places
-less_place other places p = cond other places (fin.remove places p)

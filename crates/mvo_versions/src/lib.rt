@@ -2,6 +2,7 @@
 #![tactic(auto)]
 
 mod looking;
+mod runs;
 mod versions;
 
 pub use versions::Versions;

@@ -1,15 +1,11 @@
-ghost use Rattle.std.specs.Prelude.{◌≡◌, not, is_some, true, IsSome, IfSome, IfOk, OnOk, OnErr};
-ghost use Rattle.std.specs.FinMap as map;
-ghost use Rattle.std.specs.List.{list_any};
+ghost use Rattle.std.specs.Prelude.{◌≡◌, IsSome, IfSome};
 ghost use Rattle.mvo_chain.specs.Slots.{version_at};
-ghost use Rattle.mvo_hash.specs.Lists.{numbers_of};
-ghost use Rattle.mvo_validate.specs.Entries.{key_at};
-ghost use Rattle.mvo_versions.specs.Changes.{is_number_at, is_one_at, and_place, less_place};
 
+use crate::runs::{enter, fits, give_back, joins, leave, place_of};
 use mvo_chain::{Chains, Version, VersionNo};
 use mvo_hash::HashIndex;
 use mvo_range::{Place, RangeIndex};
-use mvo_types::{Row, RowKey, Rows, Stamp, TxId};
+use mvo_types::{Row, Rows, Stamp, TxId};
 use mvo_word::Word;
 use std::alloc::{AllocError, Global};
 use std::marker::Model;
@@ -18,7 +14,8 @@ use std::marker::Model;
 /// and the places in the order of sorts.
 ///
 /// Each version stands under its key once, and the places are just those of the versions: an entry
-/// of the ordered index is shared by all versions of a key that have one sort.
+/// of the ordered index is shared by all versions of a key that have one sort, and says how many
+/// runs of them stand side by side.
 pub struct Versions {
     pub(crate) chains: Chains,
     pub(crate) index: HashIndex,
@@ -39,7 +36,8 @@ impl Model for Versions {
     ghost use Rattle.std.specs.Coded.{codes};
     ghost use Rattle.mvo_hash.specs.Lists.{coded_lists};
     ghost use Rattle.mvo_range.specs.Place.{coded_map};
-    ghost use Rattle.mvo_versions.specs.Data.{VersionsData, AreIndexed};
+    ghost use Rattle.mvo_versions.specs.Data.{VersionsData};
+    ghost use Rattle.mvo_versions.specs.Runs.{AreCounted};
 
     ghost Value = { VersionsData };
 
@@ -47,7 +45,7 @@ impl Model for Versions {
 
     ghost view = { λ v. record { slots = v.chains; lists = v.index.versions; places = v.order } };
 
-    ghost invariant = { λ v. AreIndexed (record {
+    ghost invariant = { λ v. AreCounted (record {
       slots = v.chains;
       lists = v.index.versions;
       places = v.order;
@@ -81,8 +79,10 @@ impl Versions {
             let key = row.row_key();
             let place = Place::new(key, row.sort);
             let number = chains.add(row, Word::stamp(mark))?;
+            fits(number);
             index.add(key, number)?;
-            places.push((place, number.0))?;
+            // No other row has this key, so the version is a run by itself.
+            places.push((place, 1))?;
         }
         let order = RangeIndex::from_entries(alloc, places)?;
         Ok(Versions {
@@ -102,9 +102,9 @@ impl Versions {
     }
 
     /// Puts the row as a version of the transaction, which nobody has ended, in front of those of
-    /// its key. Takes constant time, but for growth; an entry of the ordered index is made only
-    /// where no version of the key has that sort, and none is sought where the version `like` has
-    /// the row's key and sort. Refused, it changes nothing that is shown.
+    /// its key. Takes constant time, but for growth. The ordered index is left alone where the
+    /// newest version of the key has that sort, which is known at once where `like` is that
+    /// version. Refused, it changes nothing that is shown.
     pub fn put(
         &mut self,
         row: Row,
@@ -118,35 +118,37 @@ impl Versions {
     {
         let key = row.row_key();
         let place = Place::new(key, row.sort);
-        let stands = is_one_at(&self.chains, like, place);
+        let joins = joins(&self.chains, &self.index, like, place);
         let number = self.chains.add(row, Word::id(by))?;
-        let Ok(is_new) = take_place(&mut self.order, place, number, stands) else {
+        // There are no more slots than numbers, which the invariant asks for.
+        fits(number);
+        let Ok(()) = enter(&mut self.order, place, joins) else {
             let _ = self.chains.take_out(number);
             return Err(AllocError);
         };
         let Ok(()) = self.index.add(key, number) else {
-            give_back(&mut self.order, place, is_new);
+            give_back(&mut self.order, place, joins);
             let _ = self.chains.take_out(number);
             return Err(AllocError);
         };
         Ok(number)
     }
 
-    /// Takes the version out, and gives its row back. Takes no memory, and time by the number of
-    /// versions of the key up to one with the same sort.
+    /// Takes the version out, and gives its row back. Takes no memory, and constant time beside
+    /// that of the ordered index, which is left alone where a neighbour of the key has the same
+    /// sort.
     pub fn take_out(&mut self, number: VersionNo) -> Row
         requires { IsSome (version_at self.old.slots number) }
         ensures row { IfSome (version_at self.old.slots number) (λ v. result ≡ v.row) }
         ensures gone { IsTakenOut self.old self.new number }
         ensures indexed { AreIndexed self.new }
     {
-        let key = key_of(&self.chains, number);
-        self.index.remove(key, number);
-        let row = self.chains.take_out(number);
-        let place = Place::new(key, row.sort);
-        let is_empty = !has_place(&self.chains, &self.index, place);
-        give_back(&mut self.order, place, is_empty);
-        row
+        let place = place_of(&self.chains, number);
+        let newer = self.index.newer(number);
+        let older = self.index.older(number);
+        leave(&mut self.order, &self.chains, place, newer, older);
+        self.index.remove(place.row_key(), number);
+        self.chains.take_out(number)
     }
 
     /// Lets a transaction end the version.
@@ -174,82 +176,22 @@ impl Versions {
         self.chains.set_end(number, end);
     }
 
-    /// Brings the version to the front of those of its key.
+    /// Brings the version to the front of those of its key. Takes no memory, and constant time
+    /// beside that of the ordered index; it changes nothing where the version is the newest.
     pub fn bring_to_front(&mut self, number: VersionNo)
         requires { IsSome (version_at self.old.slots number) }
         ensures { IsInFront self.old self.new number }
     {
-        let key = key_of(&self.chains, number);
-        self.index.bring_to_front(key, number);
-    }
-}
-
-/// The key of the version.
-fn key_of(chains: &Chains, number: VersionNo) -> RowKey
-    requires { IsSome (version_at chains.now number) }
-    ensures { IfSome (version_at chains.now number) (λ v. result ≡ v.row.key) }
-{
-    chains.get(number).unwrap().row.row_key()
-}
-
-/// Makes an entry for the place, unless there is one. Answers whether there was none. It seeks none
-/// where it is known to stand.
-fn take_place(
-    order: &mut RangeIndex,
-    place: Place,
-    number: VersionNo,
-    stands: bool,
-) -> Result<bool, AllocError>
-    requires { stands ≡ true → is_some (map.get order.old place) ≡ true }
-    ensures ok { OnOk result (order.new ≡ and_place order.old place number.0) }
-    ensures is_new { IfOk result (λ b. b ≡ not (is_some (map.get order.old place))) }
-    ensures err { OnErr result (order.new ≡ order.old) }
-{
-    if stands || order.get(place).is_some() {
-        return Ok(false);
-    }
-    order.add(place, number.0)?;
-    Ok(true)
-}
-
-/// Removes the entry of the place, if no version stands there any more.
-fn give_back(order: &mut RangeIndex, place: Place, is_empty: bool)
-    ensures { order.new ≡ less_place (not is_empty) order.old place }
-{
-    if is_empty {
-        order.remove(place);
-    }
-}
-
-/// Whether the version stands at the place.
-fn is_at(chains: &Chains, number: VersionNo, place: Place) -> bool
-    ensures { result ≡ is_number_at chains.now place number.0 }
-{
-    match chains.get(number) {
-        Some(version) => Place::new(version.row.row_key(), version.row.sort) == place,
-        None => false,
-    }
-}
-
-/// Whether there is such a version, and it stands at the place.
-fn is_one_at(chains: &Chains, number: Option<VersionNo>, place: Place) -> bool
-    ensures { result ≡ is_one_at chains.now place number }
-{
-    match number {
-        Some(number) => is_at(chains, number, place),
-        None => false,
-    }
-}
-
-/// Whether a version of its key stands at the place.
-fn has_place(chains: &Chains, index: &HashIndex, place: Place) -> bool
-    ensures { result ≡ list_any (is_number_at chains.now place)
-        (numbers_of index.now.versions (key_at place)) }
-{
-    for number in index.walk(place.row_key()) {
-        if is_at(chains, number, place) {
-            return true;
+        let newer = self.index.newer(number);
+        if newer.is_none() {
+            return;
         }
+        let place = place_of(&self.chains, number);
+        let joins = joins(&self.chains, &self.index, None, place);
+        // The place has an entry, so counting a run takes no memory.
+        let _ = enter(&mut self.order, place, joins);
+        let older = self.index.older(number);
+        leave(&mut self.order, &self.chains, place, newer, older);
+        self.index.bring_to_front(place.row_key(), number);
     }
-    false
 }

@@ -106,7 +106,15 @@ fn fronted_in_both(
     }
 }
 
-// Whether the walk from version to version goes over these.
+// The version in front of the one at a place of the list.
+fn before(versions: &[VersionNo], at: usize) -> Option<VersionNo> {
+    if at == 0 {
+        return None;
+    }
+    versions.get(at - 1).copied()
+}
+
+// Whether the walk from version to version goes over these, and that back.
 fn walks_over(index: &HashIndex, versions: &[VersionNo]) -> bool {
     for (i, version) in versions.iter().enumerate() {
         let held = index.is_held(*version);
@@ -114,6 +122,9 @@ fn walks_over(index: &HashIndex, versions: &[VersionNo]) -> bool {
             return false;
         }
         if index.older(*version) != versions.get(i + 1).copied() {
+            return false;
+        }
+        if index.newer(*version) != before(versions, i) {
             return false;
         }
     }

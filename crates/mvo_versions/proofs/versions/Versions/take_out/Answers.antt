@@ -1,15 +1,27 @@
-use Rattle.mvo_types.specs.RowData.{RowData}
+use Rattle.std.proofs.Common.{IsSome, sym, ap, ◌∙◌, subst}
 use Rattle.mvo_chain.specs.Slots.{version_at}
-use Rattle.std.proofs.Common.{rules, IsSome, ◌≡◌, refl, sym, ap, ◌∙◌, subst}
-use Rattle.mvo_versions.specs.Data.{VersionsData, AreIndexed}
-use Rattle.mvo_versions.proofs.Going.{live_among, came_front, went}
+use Rattle.mvo_hash.specs.Lists.{numbers_of, is_among}
+use Rattle.mvo_versions.specs.Data.{VersionsData}
+use Rattle.mvo_versions.proofs.Counted.{indexed}
+use Rattle.mvo_versions.proofs.Going.{is_held, live_among, went}
 use Rattle.mvo_versions.proofs.versions.Versions.take_out.Goals as goal
 
+pub newer-newer-requires : goal.newer-newer-requires
+newer-newer-requires c = is_held (record { slots = c.self.inside.chains; lists = c.self.inside.index.versions; places = c.self.inside.order }) c.args.number (subst (λ (v : VersionsData). IsSome (version_at v.slots c.args.number)) (sym c.self.view_is) c.requires) c.self.invariant
+
+pub older-older-requires : goal.older-older-requires
+older-older-requires c = is_held (record { slots = c.self.inside.chains; lists = c.self.inside.index.versions; places = c.self.inside.order }) c.args.number (subst (λ (v : VersionsData). IsSome (version_at v.slots c.args.number)) (sym c.self.view_is) c.requires) c.self.invariant
+
 pub remove-requires : goal.remove-requires
-remove-requires c = live_among (record { slots = c.self.inside.chains; lists = c.self.inside.index.versions; places = c.self.inside.order }) c.args.number c.key_of-key.result (subst (λ (v : VersionsData). IsSome (version_at v.slots c.args.number)) (sym c.self.view_is) c.requires) c.key_of-key.ensures c.self.invariant
+remove-requires c =
+    ap (λ k. is_among c.args.number.0 (numbers_of c.self.inside.index.versions k)) c.row_key.ensures
+    ∙ live_among (record { slots = c.self.inside.chains; lists = c.self.inside.index.versions; places = c.self.inside.order }) c.args.number c.place_of-place.result (subst (λ (v : VersionsData). IsSome (version_at v.slots c.args.number)) (sym c.self.view_is) c.requires) c.place_of-place.ensures c.self.invariant
 
 pub invariant_of-self : goal.invariant_of-self
-invariant_of-self c = went (record { slots = c.self.inside.chains; lists = c.self.inside.index.versions; places = c.self.inside.order }) c.args.number c.key_of-key.result c.take_out-row.result c.new-place.result _ _ _ c.has_place-is_empty.result _ (subst (λ (v : VersionsData). IsSome (version_at v.slots c.args.number)) (sym c.self.view_is) c.requires) c.key_of-key.ensures c.take_out-row.ensures.row (c.new-place.ensures ∙ ap (λ (r : RowData). record { table = c.key_of-key.result.table; sort = r.sort; key = c.key_of-key.result.key }) c.row.view_is) c.take_out-row.ensures.emptied c.remove.ensures.gone c.has_place-is_empty.ensures refl c.give_back.ensures c.self.invariant
+invariant_of-self c =
+    went (record { slots = c.self.inside.chains; lists = c.self.inside.index.versions; places = c.self.inside.order }) c.args.number c.place_of-place.result c.row_key.result c.newer-newer.result c.older-older.result
+    (subst (λ (v : VersionsData). IsSome (version_at v.slots c.args.number)) (sym c.self.view_is) c.requires) c.place_of-place.ensures c.row_key.ensures c.newer-newer.ensures c.older-older.ensures c.self.invariant
+    c.take_out.new.self c.remove.new.self.versions c.leave.new.order c.take_out.ensures.emptied c.remove.ensures.gone c.leave.ensures
 
 pub returns-clause-indexed : goal.returns-clause-indexed
-returns-clause-indexed c = invariant_of-self c
+returns-clause-indexed c = indexed _ (invariant_of-self c)

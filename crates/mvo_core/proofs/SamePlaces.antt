@@ -1,0 +1,28 @@
+-- A core stands for a state by the places that have an entry, whatever the entries' numbers are.
+use Rattle.std.proofs.Common.{◌≡◌, List, refl, sym, ◌∙◌}
+use Rattle.mvo_types.specs.Keys.{Map}
+use Rattle.mvo_model.specs.Trace.{Step}
+use Rattle.mvo_theory.specs.State.{State}
+use Rattle.mvo_range.specs.Place.{Map as Places}
+use Rattle.mvo_versions.specs.Changes.{HaveSamePlaces}
+use Rattle.mvo_core.specs.Data.{CoreData}
+use Rattle.mvo_core.specs.Standing.{StandsFor}
+
+pub stands_by_places : (opening : Map) (steps : List Step) (s : State) (c : CoreData) (places : Places) → HaveSamePlaces c.versions.places places → StandsFor opening steps s c → StandsFor opening steps s (record c { versions = record c.versions { places = places } })
+stands_by_places opening steps s c places alike h = record {
+  versions = record {
+    kept = h.versions.kept;
+    versions = h.versions.versions;
+    numbers = h.versions.numbers;
+    order = record { at = λ p. alike.at p ∙ h.versions.order.at p };
+  };
+  dependencies = h.dependencies;
+  order = h.order;
+  works = h.works;
+  words = h.words;
+  tale = h.tale;
+  marks = h.marks;
+  grouped = h.grouped;
+  start = h.start;
+  over = h.over;
+}
