@@ -55,6 +55,9 @@ fn first_group(alloc: Global) -> Result<Group, Fail> {
 }
 
 fn append(store: &mut MemStore, group: Group) -> Result<(), Fail> {
+    if group.prev().0 != store.mark().0 {
+        return Err(Fail::from("the group follows the mark"));
+    }
     store.take_group(group).map_err(|refused| refused.0)?;
     store.append_body()?;
     store.append_open()?;
