@@ -14,8 +14,6 @@ mod full_segment;
 #[cfg(test)]
 mod lines;
 #[cfg(test)]
-mod logs;
-#[cfg(test)]
 mod merges;
 #[cfg(test)]
 mod rotations;
