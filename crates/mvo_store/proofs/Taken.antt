@@ -116,5 +116,5 @@ no_cause_of {D} {A} d old call a new h = go (why_not old call) h.refused
 
 -- so it is taken
 pub is_taken : {D A : Type 0} (d : Ghosts D) (s : StoreData D) (g : GroupData) (result : Result A (Refusal × GroupData)) (t : StoreData D) → why_not_take s ≡ None → IsStoreStep d s (Take g) (without_group result) t → IsStoreStep {A = Unit {0}} d s (Take g) (Ok tt) t
-is_taken d s g (Ok a) t none h = record { comes = accepted_by d s (Take g) a t h.comes; keeps = h.keeps }
+is_taken d s g (Ok a) t none h = record { comes = accepted_by d s (Take g) a t h.comes; keeps = h.keeps; others = h.others }
 is_taken {A = A} d s g (Err e) t none h = absurd (never_back A s g e.0 none h.comes.refused)

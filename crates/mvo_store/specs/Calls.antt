@@ -1,22 +1,29 @@
 -- The calls of a store: when each is refused, what it makes of the store, and what becomes of its
 -- rows.
-use Rattle.std.specs.Prelude.{◌≡◌, ◌≢◌, ◌⊎◌, ℕ, ◌+◌, true, false, Option, Some, None, Result, Ok, Err, OnOk, IfErr}
+use Rattle.std.specs.Prelude.{◌≡◌, ◌≢◌, ◌⊎◌, ℕ, ◌+◌, List, [], true, false, Option, Some, None, Result, Ok, Err, OnOk, IfErr}
 use Rattle.mvo_types.specs.declared.refusal.Refusal.{Refusal}
 use Rattle.mvo_types.specs.declared.refusal.Refusal.TheVariants.{DiskFault, OutOfMemory}
 use Rattle.mvo_types.specs.Keys.{Map}
 use Rattle.mvo_disk.specs.declared.disk.Disk.{Ghosts}
 use Rattle.mvo_group.specs.Data.{GroupData}
-use Rattle.mvo_store.specs.declared.due.Due.TheVariants.{Data, Delta, Close, Body, Open}
+use Rattle.mvo_manifest.specs.Data.{ManifestData}
+use Rattle.mvo_store.specs.declared.due.Due.{Due}
+use Rattle.mvo_store.specs.declared.due.Due.TheVariants.{Data, Delta, Install}
 use Rattle.mvo_store.specs.declared.due.Due.TheVariants.{MergeData as DataOfMerge}
 use Rattle.mvo_store.specs.declared.due.Due.TheVariants.{MergeDelta as DeltaOfMerge}
+use Rattle.mvo_store.specs.declared.step.Step.TheVariants.{Close, Body, Open}
+use Rattle.mvo_store.specs.declared.job.Job.{Job}
 use Rattle.mvo_store.specs.declared.progress.Progress.{Progress}
 use Rattle.mvo_store.specs.StoreData.{StoreData}
 use Rattle.mvo_store.specs.Standing.{IsKeeping, after_taken}
 use Rattle.mvo_store.specs.Causes.{why_not_take, why_not_append_body, why_not_append_open}
 use Rattle.mvo_store.specs.Causes.{why_not_rotate, why_not_checkpoint, why_not_merge}
-use Rattle.mvo_store.specs.Causes.{why_not_install, why_not_install_open, why_not_reclaim}
+use Rattle.mvo_store.specs.Causes.{why_not_due, why_not_install_open, why_not_reclaim}
+use Rattle.mvo_store.specs.Jobs.{with_step, progress_of}
 use Rattle.mvo_store.specs.Steps.{IsRotationOf, IsCheckpointOf, IsMergeOf, IsInstalledBy}
-use Rattle.mvo_store.specs.Steps.{with_due, with_delta, progress_of}
+use Rattle.mvo_store.specs.Files.{IsLeastFree}
+use Rattle.mvo_store.specs.Writing.{IsFileDue}
+use Rattle.mvo_store.specs.Reclaiming.{IsLeastDead}
 
 pub data StoreCall : Type 0 where
   Take : GroupData → StoreCall
@@ -34,6 +41,16 @@ pub data StoreCall : Type 0 where
   InstallOpen : StoreCall
   Reclaim : StoreCall
 
+-- the call that makes this step of a job
+abbrev pub call_of : Due → StoreCall
+call_of Data = CheckpointData
+call_of Delta = CheckpointDelta
+call_of DataOfMerge = MergeData
+call_of DeltaOfMerge = MergeDelta
+call_of (Install Close) = InstallClose
+call_of (Install Body) = InstallBody
+call_of (Install Open) = InstallOpen
+
 -- ---- when it is refused
 
 -- the first refusal of the call's list whose test is true
@@ -43,13 +60,13 @@ why_not s AppendBody = why_not_append_body s
 why_not s AppendOpen = why_not_append_open s
 why_not s RotateWrite = why_not_rotate s
 why_not s CheckpointRead = why_not_checkpoint s
-why_not s CheckpointData = why_not_install Data s
-why_not s CheckpointDelta = why_not_install Delta s
+why_not s CheckpointData = why_not_due Data s
+why_not s CheckpointDelta = why_not_due Delta s
 why_not s (MergeRead place) = why_not_merge place s
-why_not s MergeData = why_not_install DataOfMerge s
-why_not s MergeDelta = why_not_install DeltaOfMerge s
-why_not s InstallClose = why_not_install Close s
-why_not s InstallBody = why_not_install Body s
+why_not s MergeData = why_not_due DataOfMerge s
+why_not s MergeDelta = why_not_due DeltaOfMerge s
+why_not s InstallClose = why_not_due (Install Close) s
+why_not s InstallBody = why_not_due (Install Body) s
 why_not s InstallOpen = why_not_install_open s
 why_not s Reclaim = why_not_reclaim s
 
@@ -124,6 +141,11 @@ pub record IsReadToMerge {D : Type 0} (d : Ghosts D) (place : ℕ) (old new : St
     pub merge : IsMergeOf (d.content old.disk) old.manifest place new.job
     pub after : HasNewJob old new
 
+-- the job that runs has one step behind it
+abbrev pub HasStepped : {D : Type 0} → StoreData D → StoreData D → Type 0
+HasStepped old new =
+    new ≡ record old { disk = new.disk; job = with_step old.manifest old.job }
+
 -- what an accepted call makes of the store
 abbrev pub Makes : {D : Type 0} → Ghosts D → StoreCall → StoreData D → StoreData D → Type 0
 Makes d (Take g) old new = new ≡ record old { pending = Some g }
@@ -131,19 +153,13 @@ Makes d AppendBody old new = IsBodyWritten old new
 Makes d AppendOpen old new = IsDurable old new
 Makes d RotateWrite old new = IsRotated old new
 Makes d CheckpointRead old new = IsReadToCheckpoint d old new
-Makes d CheckpointData old new =
-    new ≡ record old { disk = new.disk; job = with_due Delta old.job }
-Makes d CheckpointDelta old new =
-    new ≡ record old { disk = new.disk; job = with_delta old.job }
+Makes d CheckpointData old new = HasStepped old new
+Makes d CheckpointDelta old new = HasStepped old new
 Makes d (MergeRead place) old new = IsReadToMerge d place old new
-Makes d MergeData old new =
-    new ≡ record old { disk = new.disk; job = with_due DeltaOfMerge old.job }
-Makes d MergeDelta old new =
-    new ≡ record old { disk = new.disk; job = with_due Close old.job }
-Makes d InstallClose old new =
-    new ≡ record old { disk = new.disk; job = with_due Body old.job }
-Makes d InstallBody old new =
-    new ≡ record old { disk = new.disk; job = with_due Open old.job }
+Makes d MergeData old new = HasStepped old new
+Makes d MergeDelta old new = HasStepped old new
+Makes d InstallClose old new = HasStepped old new
+Makes d InstallBody old new = HasStepped old new
 Makes d InstallOpen old new = IsInstalledBy old.job old new
 Makes d Reclaim old new = new ≡ record old { disk = new.disk }
 
@@ -207,8 +223,39 @@ abbrev pub rows_after : {D A : Type 0} → StoreData D → StoreCall → Result 
 rows_after s AppendOpen (Ok a) rows = after_taken rows s.pending
 rows_after s call result rows = rows
 
--- so it is, and a stop at any moment leaves the rows
+-- ---- the files
+
+-- the file of the next step of the job that runs
+abbrev pub IsFileOfJob : ManifestData → Option Job → ℕ → Type 0
+IsFileOfJob m None n = ⊥
+IsFileOfJob m (Some j) n = IsFileDue m j n
+
+-- The one file that a call may write, accepted or refused. None where it takes a group or reads.
+abbrev pub MayWrite : {D : Type 0} → Ghosts D → StoreData D → StoreCall → ℕ → Type 0
+MayWrite d s (Take g) n = ⊥
+MayWrite d s AppendBody n = n ≡ s.segment.file
+MayWrite d s AppendOpen n = n ≡ s.segment.file
+MayWrite d s RotateWrite n = IsLeastFree s.manifest [] n
+MayWrite d s CheckpointRead n = ⊥
+MayWrite d s (MergeRead place) n = ⊥
+MayWrite d s Reclaim n = IsLeastDead (d.content s.disk) s.manifest s.job n
+MayWrite d s call n = IsFileOfJob s.manifest s.job n
+
+-- All others keep their content and exactly their images.
+pub record KeepsOthers {D : Type 0} (d : Ghosts D) (call : StoreCall) (old new : StoreData D)
+    : Type 0 where
+  pub content : (n : ℕ) → (MayWrite d old call n → ⊥) →
+      d.content new.disk n ≡ d.content old.disk n
+  pub images : (n : ℕ) (c : List ℕ) → (MayWrite d old call n → ⊥) →
+      d.may_leave new.disk n c → d.may_leave old.disk n c
+  pub keeps : (n : ℕ) (c : List ℕ) → (MayWrite d old call n → ⊥) →
+      d.may_leave old.disk n c → d.may_leave new.disk n c
+
+-- ---- all of it
+
+-- So it is; a stop at any moment leaves the rows; and the other files stay.
 pub record IsStoreStep {D A : Type 0} (d : Ghosts D) (old : StoreData D) (call : StoreCall)
     (result : Result A Refusal) (new : StoreData D) : Type 0 where
   pub comes : ComesTo d old call result new
   pub keeps : IsKeeping d (rows_after old call result) old new
+  pub others : KeepsOthers d call old new

@@ -20,16 +20,17 @@ use Rattle.mvo_image.specs.Rows.{after_groups}
 use Rattle.mvo_recovery.specs.Parts.{Parts, rows_of_parts, mark_of_parts, IsLastFile}
 use Rattle.mvo_recovery.specs.Settled.{IsSettled, other_slot, GivesWithOrWithout}
 use Rattle.mvo_recovery.specs.Rotation.{rotated, IsFresh, MayRotate}
-use Rattle.mvo_store.specs.declared.due.Due.{Due}
-use Rattle.mvo_store.specs.declared.due.Due.TheVariants.{Data, Delta, MergeData, MergeDelta}
-use Rattle.mvo_store.specs.declared.due.Due.TheVariants.{Close, Body, Open}
+use Rattle.mvo_store.specs.declared.step.Step.{Step}
+use Rattle.mvo_store.specs.declared.step.Step.TheVariants.{Close, Body, Open}
+use Rattle.mvo_store.specs.declared.install.Install.{Install as InstallData}
+use Rattle.mvo_store.specs.declared.seen.Seen.{Seen}
 use Rattle.mvo_store.specs.declared.checkpointing.Checkpointing.{Checkpointing}
 use Rattle.mvo_store.specs.declared.merging.Merging.{Merging}
 use Rattle.mvo_store.specs.declared.job.Job.{Job}
-use Rattle.mvo_store.specs.declared.work.Work.{Work}
-use Rattle.mvo_store.specs.declared.work.Work.TheVariants.{Rotation, Checkpoint, Merge}
-use Rattle.mvo_store.specs.Checkpoint.{IsOfInstall, IsCheckpointing}
-use Rattle.mvo_store.specs.Merging.{IsMerging}
+use Rattle.mvo_store.specs.declared.job.Job.TheVariants.{Rotation, Checkpoint, Merge, MergeInstall}
+use Rattle.mvo_store.specs.Checkpoint.{IsCheckpointing}
+use Rattle.mvo_store.specs.Merging.{IsMerging, IsMergeWritten, IsMergeReady}
+use Rattle.mvo_store.specs.Jobs.{install_of}
 use Rattle.mvo_store.specs.StoreData.{StoreData, opening}
 
 -- ---- a group that is being appended
@@ -46,69 +47,76 @@ HasBody x (Some g) gate next bytes = IsWritten VERSION x.middle x.last g gate ne
 
 -- ---- a job that runs
 
--- how far the install of its manifest is, in the other slot
-abbrev pub HasInstall : Due → ManifestData → ℕ → List ℕ → Type 0
-HasInstall Data next slot bytes = Unit {0}
-HasInstall Delta next slot bytes = Unit {0}
-HasInstall MergeData next slot bytes = Unit {0}
-HasInstall MergeDelta next slot bytes = Unit {0}
+-- how far the install of a manifest is, in the other slot
+abbrev pub HasInstall : Step → ManifestData → ℕ → List ℕ → Type 0
 HasInstall Close next slot bytes = Unit {0}
 HasInstall Body next slot bytes = IsShut bytes
 HasInstall Open next slot bytes = IsStaged VERSION slot next bytes
 
+-- the install that is under way
+abbrev pub HasInstallOf : Option InstallData → ℕ → List ℕ → Type 0
+HasInstallOf None slot bytes = Unit {0}
+HasInstallOf (Some i) slot bytes = HasInstall i.step i.next slot bytes
+
 -- The segment is fresh in a file that isn't used, and the manifest names it last.
 pub record IsRotating (content : Image) (may : ℕ → List ℕ → Type 0) (m : ManifestData) (x : Parts)
-    (fresh : Segment) (next : ManifestData) (due : Due) : Type 0 where
+    (fresh : Segment) (next : ManifestData) : Type 0 where
   pub next_is : next ≡ rotated m fresh.file
   pub may_rotate : MayRotate m fresh.file
   pub some : x.last ≢ []
   pub is_fresh : IsFresh FIRST_FORMAT content may fresh.file
   pub gate : fresh.gate ≡ HEADER_LEN
-  pub step : IsOfInstall due
 
--- how the work stands for a manifest, while this step is due
-abbrev pub HasWork : Image → (ℕ → List ℕ → Type 0) → ManifestData → Parts → ManifestData → Due
-    → Work → Type 0
-HasWork content may m x next due (Rotation fresh) = IsRotating content may m x fresh next due
-HasWork content may m x next due (Checkpoint c) = IsCheckpointing content may m x c next due
-HasWork content may m x next due (Merge g) = IsMerging content may m x g next due
+-- a merge whose files aren't all written
+pub record IsMergingAt (content : Image) (may : ℕ → List ℕ → Type 0) (m : ManifestData) (x : Parts)
+    (g : Merging) : Type 0 where
+  pub merge : IsMerging m x g.seen
+  pub written : IsMergeWritten content may g.seen g.stage
+
+-- how what a job has made stands for a manifest
+abbrev pub HasWork : Image → (ℕ → List ℕ → Type 0) → ManifestData → Parts → Job → Type 0
+HasWork content may m x (Rotation fresh i) = IsRotating content may m x fresh i.next
+HasWork content may m x (Checkpoint c) = IsCheckpointing content may m x c
+HasWork content may m x (Merge g) = IsMergingAt content may m x g
+HasWork content may m x (MergeInstall g i) = IsMergeReady content may m x g i.next
 
 pub record IsRunning (content : Image) (may : ℕ → List ℕ → Type 0) (m : ManifestData) (x : Parts)
     (j : Job) : Type 0 where
-  pub work : HasWork content may m x j.next j.due j.work
-  pub install : HasInstall j.due j.next (other_slot m) (content (other_slot m))
+  pub work : HasWork content may m x j
+  pub install : HasInstallOf (install_of j) (other_slot m) (content (other_slot m))
 
 abbrev pub HasJob : Image → (ℕ → List ℕ → Type 0) → ManifestData → Parts → Option Job → Type 0
 HasJob content may m x None = Unit {0}
 HasJob content may m x (Some j) = IsRunning content may m x j
 
--- there is room for so many places
-abbrev pub WorkHasRoom : PlaceTable → Work → Type 0
-WorkHasRoom places (Rotation fresh) = Unit {0}
-WorkHasRoom places (Checkpoint c) = length c.made.records ≤ places.room
-WorkHasRoom places (Merge g) = Unit {0}
-
 -- there is room for the places of the records that the job installs
+abbrev pub JobHasRoom : PlaceTable → Job → Type 0
+JobHasRoom places (Rotation fresh i) = Unit {0}
+JobHasRoom places (Checkpoint c) = length c.made.records ≤ places.room
+JobHasRoom places (Merge g) = Unit {0}
+JobHasRoom places (MergeInstall g i) = Unit {0}
+
 abbrev pub HasRoom : PlaceTable → Option Job → Type 0
 HasRoom places None = Unit {0}
-HasRoom places (Some j) = WorkHasRoom places j.work
+HasRoom places (Some j) = JobHasRoom places j
 
--- the places of the work's records can be put there without memory
+-- the places of the checkpoint's records can be put there without memory
 pub record FitsRecords (places : PlaceTable) (c : Checkpointing) : Type 0 where
   pub file : c.pair.data_file ≤ MAX_FILE
   pub few : length c.made.records ≤ MAX_PAIR_RECORDS
   pub room : length c.made.records ≤ places.room
 
 -- the records of the merged pair may have their places in its data file
-pub record MovesRecords (g : Merging) : Type 0 where
+pub record MovesRecords (g : Seen) : Type 0 where
   pub file : g.pair.data_file ≤ MAX_FILE
   pub few : length g.made.records ≤ MAX_PAIR_RECORDS
   pub keys : HaveOwnKeys g.made.records
 
-abbrev pub MayTakeOver : PlaceTable → Work → Type 0
-MayTakeOver places (Rotation fresh) = Unit {0}
+abbrev pub MayTakeOver : PlaceTable → Job → Type 0
+MayTakeOver places (Rotation fresh i) = Unit {0}
 MayTakeOver places (Checkpoint c) = FitsRecords places c
-MayTakeOver places (Merge g) = MovesRecords g
+MayTakeOver places (Merge g) = Unit {0}
+MayTakeOver places (MergeInstall g i) = MovesRecords g
 
 -- ---- the store
 

@@ -1,0 +1,16 @@
+-- What a store holds, as contracts see it.
+use Rattle.mvo_store.specs.declared.store.Store.TheInside.{Inside}
+use Rattle.mvo_store.specs.StoreData.{StoreData}
+
+abbrev pub store_data : {D : Type 0} → Inside D → StoreData D
+store_data s = record {
+  disk = s.disk;
+  manifest = s.manifest;
+  places = s.places;
+  segment = s.segment;
+  mark = s.mark.0;
+  pending = s.pending;
+  written = s.written;
+  job = s.job;
+  down = s.down;
+}

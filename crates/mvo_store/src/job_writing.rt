@@ -1,0 +1,185 @@
+//! Writes the file of a job's next step.
+ghost use Rattle.std.specs.Prelude.{◌≡◌, ◌<◌, ◌+◌, ◌^◌, IfOk, OnOk, IfErr, OnErr};
+ghost use Rattle.mvo_store.specs.Jobs.{due_of, merge_due_of, step_due, merge_made_by, made_by};
+ghost use Rattle.mvo_store.specs.Writing.{StandsFor, WritesFor, HasMadeStep, IsStepRefusal};
+ghost use Rattle.mvo_store.specs.Writing.{InstallStandsFor, WritesSlot, HasMadeTurn, MayMake};
+ghost use Rattle.mvo_store.specs.declared.job.Job.TheVariants.{Checkpoint, Merge};
+ghost use Rattle.mvo_store.specs.declared.due.Due.TheVariants.{Install, MergeDelta};
+ghost use Rattle.mvo_store.specs.declared.step.Step.TheVariants.{Close, Body, Open};
+
+use crate::checkpoint_stage::CheckpointStage;
+use crate::checkpointing::Checkpointing;
+use crate::job::Job;
+use crate::merge_planning::merged;
+use crate::merge_stage::MergeStage;
+use crate::merge_writing::{write_merged_data, write_merged_delta};
+use crate::merging::Merging;
+use crate::step::Step;
+use crate::writing::{write_entries, write_next_delta};
+use mvo_disk::Disk;
+use mvo_format::VERSION;
+use mvo_manifest::{Manifest, close_slot, open_slot, write_slot};
+use mvo_types::Refusal;
+use std::alloc::{AllocError, Global};
+
+/// Closes the gate of the slot that a manifest is to have, and syncs.
+fn close_other<D: Disk>(disk: &mut D, next: &Manifest) -> Result<(), Refusal>
+    requires room { D.fault_count disk.old + 1 < 2 ^ 64 }
+    requires stands { InstallStandsFor D.Disk disk.old next.now Close }
+    ensures writes { WritesSlot D.Disk disk.old disk.new next.now Close }
+    ensures made { OnOk result (HasMadeTurn D.Disk disk.old disk.new next.now Close) }
+    ensures count { OnOk result (D.fault_count disk.new ≡ D.fault_count disk.old) }
+    ensures refused { IfErr result (IsStepRefusal D.fault_count (Install Close) disk.old
+        disk.new) }
+{
+    match close_slot(disk, next.slot()) {
+        Ok(()) => Ok(()),
+        Err(_) => Err(Refusal::DiskFault),
+    }
+}
+
+/// Writes the manifest behind it, and syncs.
+fn write_other<D: Disk>(alloc: Global, disk: &mut D, next: &Manifest) -> Result<(), Refusal>
+    requires room { D.fault_count disk.old + 1 < 2 ^ 64 }
+    requires stands { InstallStandsFor D.Disk disk.old next.now Body }
+    ensures writes { WritesSlot D.Disk disk.old disk.new next.now Body }
+    ensures made { OnOk result (HasMadeTurn D.Disk disk.old disk.new next.now Body) }
+    ensures count { OnOk result (D.fault_count disk.new ≡ D.fault_count disk.old) }
+    ensures refused { IfErr result (IsStepRefusal D.fault_count (Install Body) disk.old disk.new) }
+{
+    match write_slot(alloc, disk, VERSION, next) {
+        Ok(()) => Ok(()),
+        Err(refusal) => Err(refusal),
+    }
+}
+
+/// Opens the gate, and syncs.
+fn open_other<D: Disk>(disk: &mut D, next: &Manifest) -> Result<(), Refusal>
+    requires room { D.fault_count disk.old + 1 < 2 ^ 64 }
+    requires stands { InstallStandsFor D.Disk disk.old next.now Open }
+    ensures writes { WritesSlot D.Disk disk.old disk.new next.now Open }
+    ensures made { OnOk result (HasMadeTurn D.Disk disk.old disk.new next.now Open) }
+    ensures count { OnOk result (D.fault_count disk.new ≡ D.fault_count disk.old) }
+    ensures refused { IfErr result (IsStepRefusal D.fault_count (Install Open) disk.old disk.new) }
+{
+    match open_slot(disk, next.slot()) {
+        Ok(()) => Ok(()),
+        Err(_) => Err(Refusal::DiskFault),
+    }
+}
+
+/// Makes a step of the install of a manifest, in the other slot, and syncs it.
+fn write_install<D: Disk>(
+    alloc: Global,
+    disk: &mut D,
+    next: &Manifest,
+    step: Step,
+) -> Result<(), Refusal>
+    requires room { D.fault_count disk.old + 1 < 2 ^ 64 }
+    requires stands { InstallStandsFor D.Disk disk.old next.now step }
+    ensures writes { WritesSlot D.Disk disk.old disk.new next.now step }
+    ensures made { OnOk result (HasMadeTurn D.Disk disk.old disk.new next.now step) }
+    ensures count { OnOk result (D.fault_count disk.new ≡ D.fault_count disk.old) }
+    ensures refused { IfErr result (IsStepRefusal D.fault_count (Install step) disk.old disk.new) }
+{
+    match step {
+        Step::Close => close_other(disk, next),
+        Step::Body => write_other(alloc, disk, next),
+        Step::Open => open_other(disk, next),
+    }
+}
+
+/// Writes the next file of a checkpoint, and syncs it.
+fn write_checkpoint<D: Disk>(
+    alloc: Global,
+    disk: &mut D,
+    manifest: &Manifest,
+    checkpoint: &Checkpointing,
+) -> Result<(), Refusal>
+    requires room { D.fault_count disk.old + 1 < 2 ^ 64 }
+    requires stands { StandsFor D.Disk disk.old manifest.now (Checkpoint checkpoint.now) }
+    ensures writes { WritesFor D.Disk disk.old disk.new manifest.now (Checkpoint checkpoint.now) }
+    ensures made { OnOk result (HasMadeStep D.Disk disk.old disk.new manifest.now
+        (Checkpoint checkpoint.now) None) }
+    ensures count { OnOk result (D.fault_count disk.new ≡ D.fault_count disk.old) }
+    ensures refused { IfErr result (IsStepRefusal D.fault_count (due_of checkpoint.now.stage)
+        disk.old disk.new) }
+{
+    match checkpoint.stage {
+        CheckpointStage::Data => write_entries(alloc, disk, manifest, checkpoint),
+        CheckpointStage::Delta(written) => {
+            write_next_delta(alloc, disk, manifest, checkpoint, written)
+        }
+        CheckpointStage::Install(step) => write_install(alloc, disk, &checkpoint.next, step),
+    }
+}
+
+/// Writes the next file of a merge, and syncs it.
+fn write_merge<D: Disk>(
+    alloc: Global,
+    disk: &mut D,
+    manifest: &Manifest,
+    merge: &Merging,
+) -> Result<(), Refusal>
+    requires room { D.fault_count disk.old + 1 < 2 ^ 64 }
+    requires stands { StandsFor D.Disk disk.old manifest.now (Merge merge.now) }
+    ensures writes { WritesFor D.Disk disk.old disk.new manifest.now (Merge merge.now) }
+    ensures made { OnOk result (HasMadeStep D.Disk disk.old disk.new manifest.now
+        (Merge merge.now) (merge_made_by manifest.now merge.now.seen merge.now.stage)) }
+    ensures count { OnOk result (D.fault_count disk.new ≡ D.fault_count disk.old) }
+    ensures refused { IfErr result (IsStepRefusal D.fault_count (merge_due_of merge.now.stage)
+        disk.old disk.new) }
+{
+    match merge.stage {
+        MergeStage::Data => write_merged_data(alloc, disk, manifest, merge),
+        MergeStage::Delta => write_merged_delta(alloc, disk, manifest, merge),
+    }
+}
+
+/// Writes the file of the next step of a job, and syncs it: a file of its own, the delta file of
+/// an older pair, or the other slot.
+pub fn write_step<D: Disk>(
+    alloc: Global,
+    disk: &mut D,
+    manifest: &Manifest,
+    job: &Job,
+) -> Result<(), Refusal>
+    requires room { D.fault_count disk.old + 1 < 2 ^ 64 }
+    requires stands { StandsFor D.Disk disk.old manifest.now job.now }
+    ensures writes { WritesFor D.Disk disk.old disk.new manifest.now job.now }
+    ensures made { OnOk result (HasMadeStep D.Disk disk.old disk.new manifest.now job.now
+        (made_by manifest.now job.now)) }
+    ensures count { OnOk result (D.fault_count disk.new ≡ D.fault_count disk.old) }
+    ensures refused { IfErr result (IsStepRefusal D.fault_count (step_due job.now) disk.old
+        disk.new) }
+{
+    match job {
+        Job::Rotation(_, install) => write_install(alloc, disk, &install.next, install.step),
+        Job::Checkpoint(checkpoint) => write_checkpoint(alloc, disk, manifest, checkpoint),
+        Job::Merge(merge) => write_merge(alloc, disk, manifest, merge),
+        Job::MergeInstall(_, install) => write_install(alloc, disk, &install.next, install.step),
+    }
+}
+
+/// The manifest that the next step of a job makes: that of a merge with its last file, and none
+/// else.
+pub fn made_next(
+    alloc: Global,
+    manifest: &Manifest,
+    job: &Job,
+) -> Result<Option<Manifest>, AllocError>
+    requires { MayMake manifest.now job.now }
+    ensures made { IfOk result (λ made. made ≡ made_by manifest.now job.now) }
+    ensures last { OnErr result (step_due job.now ≡ MergeDelta) }
+{
+    let Job::Merge(merge) = job else {
+        return Ok(None);
+    };
+    match merge.stage {
+        MergeStage::Data => Ok(None),
+        MergeStage::Delta => {
+            let next = merged(alloc, manifest, merge.seen.place, merge.seen.pair)?;
+            Ok(Some(next))
+        }
+    }
+}
