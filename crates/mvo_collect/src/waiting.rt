@@ -1,8 +1,8 @@
 use crate::ended::Ended;
 use mvo_chain::VersionNo;
+use mvo_queue::Queue;
 use mvo_types::Stamp;
 use std::alloc::{AllocError, Global};
-use std::collections::VecDeque;
 use std::marker::Model;
 
 /// The versions that are garbage or may come to be: those that were ended, in the order of the end
@@ -14,8 +14,8 @@ use std::marker::Model;
 /// made when the word was written: `make_room` and `make_room_for_ended` alone take memory. What no
 /// longer is what it was stays, and is passed over when its turn comes.
 pub struct Waiting {
-    ended: VecDeque<Ended>,
-    dead: VecDeque<VersionNo>,
+    ended: Queue<Ended>,
+    dead: Queue<VersionNo>,
     owed: usize,
 }
 
@@ -30,8 +30,7 @@ impl Drop for Waiting {
 }
 
 impl Model for Waiting {
-    ghost use Rattle.std.specs.Prelude.{◌+◌, ◌-◌, ◌≤◌};
-    ghost use Rattle.std.specs.VecDeque.{deque_len, deque_capacity};
+    ghost use Rattle.std.specs.Prelude.{◌-◌, ◌^◌, ◌<◌, ◌≤◌};
     ghost use Rattle.mvo_collect.specs.Waiting.{WaitingData};
 
     ghost Value = { WaitingData };
@@ -40,11 +39,11 @@ impl Model for Waiting {
       ended = w.ended.items;
       dead = w.dead.items;
       owed = w.owed;
-      room = deque_capacity w.dead - (deque_len w.dead + w.owed);
-      ended_room = deque_capacity w.ended - deque_len w.ended;
+      room = w.dead.room - w.owed;
+      ended_room = w.ended.room;
     } };
 
-    ghost invariant = { λ w. deque_len w.dead + w.owed ≤ deque_capacity w.dead };
+    ghost invariant = { λ w. (w.owed ≤ w.dead.room) × (w.dead.room < 2 ^ 64) };
 }
 
 impl Waiting {
@@ -57,8 +56,8 @@ impl Waiting {
         ensures { IsNothing result }
     {
         Waiting {
-            ended: VecDeque::new(alloc),
-            dead: VecDeque::new(alloc),
+            ended: Queue::new(alloc),
+            dead: Queue::new(alloc),
             owed: 0,
         }
     }

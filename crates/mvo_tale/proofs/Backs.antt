@@ -1,6 +1,8 @@
 -- Empty places at the back go.
-use Rattle.std.proofs.Common.{◌≡◌, ℕ, ◌+◌, ◌-◌, ◌<◌, ◌≤◌, Bool, true, false, cond, List, [], ◌∷◌, ◌++◌, length, take, get_or, refl, sym, ap, ◌∙◌, arith}
-use Rattle.std.proofs.lemmas.List.{take_more}
+use Rattle.std.proofs.Common.{◌≡◌, ℕ, ◌+◌, ◌-◌, ◌<◌, Bool, true, false, cond, List, [], ◌∷◌, ◌++◌, length, take, get_or, None, Some, refl, sym, ap, ◌∙◌, arith}
+use Rattle.std.specs.Prelude.{slice_get, MatchBool}
+use Rattle.std.proofs.lemmas.List.{take_all, take_more}
+use Rattle.std.proofs.lemmas.Option.{slice_get_within, slice_get-get_or, get_or_from_slice_get}
 use Rattle.mvo_tale.specs.declared.slot.Slot.{Slot}
 use Rattle.mvo_tale.specs.declared.slot.Slot.TheVariants.{Open, Settled, Empty}
 use Rattle.mvo_tale.specs.Slots.{ends, is_empty, and_place, without_empty_back}
@@ -19,17 +21,33 @@ without_kept : (xs : List Slot) (x : Slot) → is_empty x ≡ false → without_
 without_kept [] x e = ap (λ (b : Bool). cond b [] (x ∷ [])) e
 without_kept (y ∷ ys) x e = ap (and_place y) (without_kept ys x e) ∙ and_kept y ys x
 
--- ---- up to a place
-last_taken : (xs : List Slot) (k : ℕ) (x : Slot) → 0 < k → k ≤ length xs → x ≡ get_or xs (k - 1) x → take k xs ≡ take (k - 1) xs ++ x ∷ []
-last_taken xs k x lt le is =
-    let n : k - 1 + 1 ≡ k = omega arith in
-    ap (λ (m : ℕ). take m xs) (sym n) ∙ take_more xs (k - 1) x (omega arith) ∙ ap (λ y. take (k - 1) xs ++ y ∷ []) (sym is)
+-- ---- up to the last place
+up_to_last : (xs : List Slot) (x : Slot) → slice_get xs (length xs - 1) ≡ Some x → xs ≡ take (length xs - 1) xs ++ x ∷ []
+up_to_last xs x last =
+    let lt : length xs - 1 < length xs = slice_get_within xs (length xs - 1) x last in
+    let n : length xs ≡ length xs - 1 + 1 = omega arith in
+    sym (take_all (length xs) xs (omega arith))
+    ∙ ap (λ (m : ℕ). take m xs) n
+    ∙ take_more xs (length xs - 1) x lt
+    ∙ ap (λ (y : Slot). take (length xs - 1) xs ++ y ∷ []) (get_or_from_slice_get xs (length xs - 1) x x last)
 
-pub one_less : (xs : List Slot) (k : ℕ) (x : Slot) → 0 < k → k ≤ length xs → x ≡ get_or xs (k - 1) x → is_empty x ≡ true → without_empty_back (take (k - 1) xs) ≡ without_empty_back (take k xs)
-one_less xs k x lt le is e = sym (ap without_empty_back (last_taken xs k x lt le is) ∙ without_push (take (k - 1) xs) x e)
+pub one_less : (xs : List Slot) (x : Slot) → slice_get xs (length xs - 1) ≡ Some x → is_empty x ≡ true → without_empty_back (take (length xs - 1) xs) ≡ without_empty_back xs
+one_less xs x last e = sym (ap without_empty_back (up_to_last xs x last) ∙ without_push (take (length xs - 1) xs) x e)
 
-pub all_kept : (xs : List Slot) (k : ℕ) (x : Slot) → 0 < k → k ≤ length xs → x ≡ get_or xs (k - 1) x → is_empty x ≡ false → take k xs ≡ without_empty_back (take k xs)
-all_kept xs k x lt le is e = let parts = last_taken xs k x lt le is in parts ∙ sym (ap without_empty_back parts ∙ without_kept (take (k - 1) xs) x e)
+pub all_kept : (xs : List Slot) (x : Slot) → slice_get xs (length xs - 1) ≡ Some x → is_empty x ≡ false → xs ≡ without_empty_back xs
+all_kept xs x last e =
+    let parts : xs ≡ take (length xs - 1) xs ++ x ∷ [] = up_to_last xs x last in
+    parts ∙ sym (ap without_empty_back parts ∙ without_kept (take (length xs - 1) xs) x e)
+
+pub ends_in : (xs : List Slot) (x : Slot) (b : Bool) → slice_get xs (length xs - 1) ≡ Some x → b ≡ is_empty x → MatchBool b (without_empty_back (take (length xs - 1) xs) ≡ without_empty_back xs) (xs ≡ without_empty_back xs)
+ends_in xs x true last is = one_less xs x last (sym is)
+ends_in xs x false last is = all_kept xs x last (sym is)
+
+pub last_there : (xs : List Slot) → 0 < length xs → slice_get xs (length xs - 1) ≡ None → ⊥
+last_there [] some none = omega (arith, some)
+last_there (x ∷ xs) some none =
+    let there : slice_get (x ∷ xs) (length (x ∷ xs) - 1) ≡ Some (get_or (x ∷ xs) (length (x ∷ xs) - 1) x) = slice_get-get_or (x ∷ xs) (length (x ∷ xs) - 1) x (omega arith) in
+    cc
 
 -- ---- the ends stay
 ends_and : (x : Slot) (ys : List Slot) → ends (and_place x ys) ≡ ends (x ∷ ys)

@@ -3,11 +3,10 @@ use Rattle.std.proofs.Common.{◌≡◌, ℕ, zero, suc, ◌+◌, ◌-◌, ◌<�
 use Rattle.std.specs.Prelude.{slice_get, slice_set, option_and_then, IsSome}
 use Rattle.std.proofs.lemmas.Bool.{false≢true}
 use Rattle.std.proofs.lemmas.Option.{get_or_from_slice_get, slice_get-get_or}
-use Rattle.std.proofs.lemmas.List.{length-take}
 use Rattle.mvo_tale.proofs.Backs.{ends_without}
 use Rattle.mvo_tale.specs.declared.slot.Slot.{Slot}
 use Rattle.mvo_tale.specs.declared.slot.Slot.TheVariants.{Open, Settled, Empty}
-use Rattle.mvo_tale.specs.Slots.{AreRising, ends, open_ends, commits, open_end_of, open_end_at, stored_of, stored_at, is_empty, and_place, without_empty_back, or_all, closed_up}
+use Rattle.mvo_tale.specs.Slots.{AreRising, ends, open_ends, commits, open_end_of, open_end_at, stored_of, stored_at, and_place, without_empty_back, or_all, closed_up}
 use Rattle.mvo_tale.specs.Next.{NoneIsDue, IsBehindStored, AreGroupedTo}
 use Rattle.mvo_tale.specs.Forgetting.{behind_gone, slot_or_empty, may_go, from_kept, forgotten}
 
@@ -140,10 +139,12 @@ or_filled xs [] lt = absurd (omega arith)
 or_filled xs (w ∷ ws) lt = refl
 
 -- some are left
-pub closed_kept : (xs : List Slot) (k : ℕ) → 0 < k → k ≤ length xs → take k xs ≡ without_empty_back xs → take k xs ≡ closed_up xs
-closed_kept xs k lt le e =
-    let some : 0 < length (without_empty_back xs) = omega (arith, ap length e, length-take k xs) in
-    e ∙ sym (or_filled xs (without_empty_back xs) some)
+pub closed_kept : (xs : List Slot) → 0 < length (without_empty_back xs) → without_empty_back xs ≡ closed_up xs
+closed_kept xs some = sym (or_filled xs (without_empty_back xs) some)
+
+pub no_places : (xs : List Slot) → length xs ≡ 0 → xs ≡ []
+no_places [] none = refl
+no_places (x ∷ xs) none = absurd (omega (arith, none))
 
 -- all go
 pub closed_whole : (xs : List Slot) → without_empty_back xs ≡ [] → behind_gone (length xs) [] ≡ closed_up xs

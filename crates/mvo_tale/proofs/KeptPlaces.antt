@@ -3,7 +3,7 @@ use Rattle.std.proofs.Common.{◌≡◌, ◌<◌, ◌≤◌, Bool, true, false, 
 use Rattle.std.specs.List.{AllByRecursion}
 use Rattle.mvo_theory.specs.State.{State, StampedTx}
 use Rattle.mvo_theory.specs.Sound.{IsStarted}
-use Rattle.mvo_theory.specs.Changes.{is_to, after_trim, after_close}
+use Rattle.mvo_theory.specs.Changes.{is_to}
 use Rattle.mvo_theory.proofs.Each.{each_weaker, each_append}
 use Rattle.mvo_theory.proofs.Trim.{is_after, parted}
 use Rattle.mvo_tale.specs.declared.slot.Slot.{Slot}
@@ -13,7 +13,7 @@ use Rattle.mvo_tale.specs.Timeline.{ArePlacesOf}
 use Rattle.std.specs.Prelude.{nat_le}
 use Rattle.std.proofs.lemmas.Bool.{leb-true}
 use Rattle.mvo_tale.specs.Forgetting.{forgotten}
-use Rattle.mvo_tale.specs.Kept.{MayGo, IsTale, HasTale, TrimKeepsTale, CloseKeepsTale, ForgettingKeepsTale, WholeIsTale}
+use Rattle.mvo_tale.specs.Kept.{MayGo, HasTale, TrimKeepsTale, CloseKeepsTale, ForgettingKeepsTale, WholeIsTale}
 
 -- ---- places of two lists one after another
 pub record ArePartedPlaces (slots : List Slot) (xs ys : List StampedTx) : Type 0 where

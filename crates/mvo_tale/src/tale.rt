@@ -1,5 +1,4 @@
-ghost use Rattle.std.specs.Prelude.{◌≡◌, ◌+◌, ◌≤◌, length, take, slice_get};
-ghost use Rattle.std.specs.Option.{option_copied};
+ghost use Rattle.std.specs.Prelude.{◌≡◌, ◌+◌, ◌-◌, ◌<◌, ◌≤◌, length, take, true, MatchBool};
 ghost use Rattle.mvo_tale.specs.Slots.{without_empty_back, closed_up};
 ghost use Rattle.mvo_tale.specs.Forgetting.{behind_gone, from_kept, goes_first};
 
@@ -7,9 +6,9 @@ use crate::next_records::NextRecords;
 use crate::slot::Slot;
 use crate::tale_entry::TaleEntry;
 use crate::walk::records_from;
+use mvo_queue::Queue;
 use mvo_types::{MAX_STAMP, Stamp};
 use std::alloc::{AllocError, Global};
-use std::collections::VecDeque;
 use std::marker::Model;
 
 /// The stored commits, in the order of their ends. Transactions draw their ends in order, and are
@@ -20,14 +19,13 @@ use std::marker::Model;
 /// only the number, how many they are: contracts see them as empty.
 #[derive(Drop)]
 pub struct Tale {
-    slots: VecDeque<Slot>,
+    slots: Queue<Slot>,
     /// How many places at the front are gone.
     gone: usize,
 }
 
 impl Model for Tale {
-    ghost use Rattle.std.specs.Prelude.{List, ◌+◌, ◌<◌, ◌^◌};
-    ghost use Rattle.std.specs.VecDeque.{deque_len};
+    ghost use Rattle.std.specs.Prelude.{List, length, ◌+◌, ◌<◌, ◌^◌};
     ghost use Rattle.mvo_tale.specs.declared.slot.Slot.{Slot as Place};
     ghost use Rattle.mvo_tale.specs.Slots.{AreRising, ends};
     ghost use Rattle.mvo_tale.specs.Forgetting.{behind_gone};
@@ -37,7 +35,7 @@ impl Model for Tale {
     ghost view = { λ t. behind_gone t.gone t.slots.items };
 
     ghost invariant = { λ t. AreRising (ends t.slots.items)
-        × (t.gone + deque_len t.slots < 2 ^ 64) };
+        × (t.gone + length t.slots.items < 2 ^ 64) };
 }
 
 impl Tale {
@@ -58,7 +56,7 @@ impl Tale {
         ensures { result ≡ [] }
     {
         Tale {
-            slots: VecDeque::new(alloc),
+            slots: Queue::new(alloc),
             gone: 0,
         }
     }
@@ -84,7 +82,7 @@ impl Tale {
         requires { open_end_at self.old place ≡ Some entry.end }
         ensures { self.new ≡ slice_set self.old place (Settled entry) }
     {
-        self.slots[place - self.gone] = Slot::Settled(entry);
+        self.slots.set(place - self.gone, Slot::Settled(entry));
     }
 
     /// Empties the open place of a transaction that was aborted. Empty places at the back go,
@@ -93,7 +91,7 @@ impl Tale {
         requires { IsSome (open_end_at self.old place) }
         ensures { self.new ≡ closed_up (slice_set self.old place Empty) }
     {
-        self.slots[place - self.gone] = Slot::Empty;
+        self.slots.set(place - self.gone, Slot::Empty);
         let gone = drop_back(&mut self.slots);
         self.gone += gone;
     }
@@ -123,7 +121,7 @@ impl Tale {
         if place < self.gone {
             return None;
         }
-        match nth(&self.slots, place - self.gone) {
+        match self.slots.get(place - self.gone) {
             Some(slot) => slot.stored(),
             None => None,
         }
@@ -137,7 +135,7 @@ impl Tale {
         if place < self.gone {
             return None;
         }
-        nth(&self.slots, place - self.gone)
+        self.slots.get(place - self.gone)
     }
 
     /// The records of the next group, above prev and up to the low-water: of the commits that
@@ -175,58 +173,62 @@ impl Tale {
     }
 }
 
-fn nth(slots: &VecDeque<Slot>, place: usize) -> Option<&Slot>
-    ensures { option_copied result ≡ slice_get slots.now.items place }
-{
-    slots.get(place)
-}
-
 /// Takes the empty places at the back off. Where all are empty, all go, and it answers how many
 /// they were.
-fn drop_back(slots: &mut VecDeque<Slot>) -> usize
+fn drop_back(slots: &mut Queue<Slot>) -> usize
     ensures same { behind_gone result slots.new.items ≡ closed_up slots.old.items }
     ensures few { result + length slots.new.items ≤ length slots.old.items }
 {
-    let kept = kept_len(slots);
-    if kept == 0 {
-        let gone = slots.len();
-        slots.clear();
-        return gone;
+    let count = slots.len();
+    drop_empty(slots);
+    if slots.len() == 0 {
+        return count;
     }
-    slots.truncate(kept);
     0
 }
 
-/// How many places are left without the empty ones at the back.
-fn kept_len(slots: &VecDeque<Slot>) -> usize
-    ensures kept { take result slots.now.items ≡ without_empty_back slots.now.items }
-    ensures within { result ≤ length slots.now.items }
+/// Takes the empty places at the back off.
+fn drop_empty(slots: &mut Queue<Slot>)
+    ensures kept { slots.new.items ≡ without_empty_back slots.old.items }
+    ensures within { length slots.new.items ≤ length slots.old.items }
 {
-    let mut kept = slots.len();
-    while kept > 0 {
-        if !slots[kept - 1].is_empty() {
-            return kept;
-        }
-        kept -= 1;
+    while ends_empty(slots) {
+        slots.pop_back();
     }
-    kept
+}
+
+/// Whether the last place is empty.
+fn ends_empty(slots: &Queue<Slot>) -> bool
+    ensures some { result ≡ true → 0 < length slots.now.items }
+    ensures kept { MatchBool result
+        (without_empty_back (take (length slots.now.items - 1) slots.now.items)
+        ≡ without_empty_back slots.now.items)
+        (slots.now.items ≡ without_empty_back slots.now.items) }
+{
+    let len = slots.len();
+    if len == 0 {
+        return false;
+    }
+    match slots.get(len - 1) {
+        Some(slot) => slot.is_empty(),
+        None => false,
+    }
 }
 
 /// Takes the places at the front off from which nothing is lost. Answers how many they were.
-fn drop_front(slots: &mut VecDeque<Slot>, upto: Stamp) -> usize
+fn drop_front(slots: &mut Queue<Slot>, upto: Stamp) -> usize
     ensures kept { slots.new.items ≡ from_kept upto.0 slots.old.items }
     ensures count { result + length slots.new.items ≡ length slots.old.items }
 {
-    let mut count = 0;
+    let before = slots.len();
     while goes_first(slots, upto) {
         slots.pop_front();
-        count += 1;
     }
-    count
+    before - slots.len()
 }
 
 /// Whether the first place goes.
-fn goes_first(slots: &VecDeque<Slot>, upto: Stamp) -> bool
+fn goes_first(slots: &Queue<Slot>, upto: Stamp) -> bool
     ensures { result ≡ goes_first upto.0 slots.now.items }
 {
     match slots.front() {

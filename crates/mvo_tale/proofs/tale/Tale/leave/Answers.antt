@@ -1,4 +1,4 @@
-use Rattle.std.proofs.Common.{◌≡◌, ℕ, ◌-◌, ◌≤◌, List, sym, ap, ◌∙◌, subst, arith}
+use Rattle.std.proofs.Common.{◌≡◌, ℕ, ◌-◌, List, length, sym, ap, ◌∙◌, subst, arith}
 use Rattle.std.specs.Prelude.{slice_set, IsSome}
 use Rattle.std.proofs.Math.ListN.{length-set}
 use Rattle.mvo_tale.specs.declared.slot.Slot.{Slot}
@@ -18,8 +18,8 @@ overflow_sub-place c =
     let xs = c.self.inside.slots.items in
     open_after g c.args.place xs (is_open (behind_gone g xs) c.args.self.now c.args.place c.self.view_is c.requires)
 
-pub index_mut-requires : goal.index_mut-requires
-index_mut-requires c =
+pub set-requires : goal.set-requires
+set-requires c =
     let g = c.self.inside.gone in
     let xs = c.self.inside.slots.items in
     let lt = open_there g c.args.place xs (is_open (behind_gone g xs) c.args.self.now c.args.place c.self.view_is c.requires) in
@@ -32,9 +32,10 @@ invariant_of-self c =
     let k = c.drop_back-gone.result in
     let ys = c.drop_back-gone.new.slots.items in
     let emptied = slice_set xs (c.args.place - g) Empty in
-    let same = sym (ends_gone k ys) ∙ ap ends c.drop_back-gone.ensures.same ∙ ends_closed emptied in
+    let items = ap (λ q. q.items) c.set.ensures in
+    let same = sym (ends_gone k ys) ∙ ap ends c.drop_back-gone.ensures.same ∙ ap (λ (zs : List Slot). ends (closed_up zs)) items ∙ ends_closed emptied in
     let few = c.drop_back-gone.ensures.few in
-    let len = length-set xs (c.args.place - g) Empty in
+    let len : length c.set.new.self.items ≡ length xs = ap length items ∙ length-set xs (c.args.place - g) Empty in
     let below = c.self.invariant.1 in
     (subst AreRising (sym same) (rising_emptied xs (c.args.place - g) c.self.invariant.0), omega arith)
 
@@ -47,7 +48,7 @@ returns c =
     let emptied = slice_set xs (c.args.place - g) Empty in
     let le = open_after g c.args.place xs (is_open (behind_gone g xs) c.args.self.now c.args.place c.self.view_is c.requires) in
     sym (gone_more g k ys)
-    ∙ ap (behind_gone g) c.drop_back-gone.ensures.same
+    ∙ ap (behind_gone g) (c.drop_back-gone.ensures.same ∙ ap (λ q. closed_up q.items) c.set.ensures)
     ∙ closed_gone g emptied
     ∙ ap closed_up (set_gone g c.args.place Empty xs le
     ∙ ap (λ (zs : List Slot). slice_set zs c.args.place Empty) c.self.view_is)

@@ -1,5 +1,6 @@
-use Rattle.std.proofs.Common.{◌≡◌, ℕ, ◌<◌, List, [], ◌∷◌, ◌++◌, length, refl, sym, ap, ◌∙◌, subst, arith}
+use Rattle.std.proofs.Common.{ℕ, ◌<◌, List, [], ◌∷◌, ◌++◌, length, refl, sym, ap, ◌∙◌, subst, arith}
 use Rattle.std.specs.List.{AllByRecursion}
+use Rattle.std.proofs.lemmas.List.{length-append}
 use Rattle.mvo_tale.specs.declared.slot.Slot.{Slot}
 use Rattle.mvo_tale.specs.declared.slot.Slot.TheVariants.{Open}
 use Rattle.mvo_tale.specs.Slots.{AreRising, ends}
@@ -13,7 +14,7 @@ invariant_of-self-2 c = (
   subst (λ (xs : List Slot). AreRising (ends xs)) (sym c.in_ok-push_back.ensures.items)
       (rising_opened c.self.inside.slots.items (Open c.args.end) c.args.end.0 refl c.self.invariant.0
       (subst (AllByRecursion (λ (e : ℕ). e < c.args.end.0)) (sym (ap ends c.self.view_is) ∙ ends_gone c.self.inside.gone c.self.inside.slots.items) c.requires)),
-  omega (arith, c.in_ok-push_back.ensures.len),
+  omega (arith, ap length c.in_ok-push_back.ensures.items, length-append c.self.inside.slots.items (Open c.args.end ∷ [])),
 )
 
 pub returns-clause-place : goal.returns-clause-place

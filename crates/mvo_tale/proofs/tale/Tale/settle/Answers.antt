@@ -1,8 +1,9 @@
-use Rattle.std.proofs.Common.{◌≡◌, ℕ, ◌-◌, ◌≤◌, List, Some, sym, ap, ◌∙◌, subst, arith}
-use Rattle.std.specs.Prelude.{is_some, slice_set, IsSome}
+use Rattle.std.proofs.Common.{◌≡◌, ℕ, ◌-◌, List, Some, length, sym, ap, ◌∙◌, subst, arith}
+use Rattle.std.specs.Prelude.{is_some, slice_set}
+use Rattle.std.proofs.Math.ListN.{length-set}
 use Rattle.mvo_tale.specs.declared.slot.Slot.{Slot}
 use Rattle.mvo_tale.specs.declared.slot.Slot.TheVariants.{Settled}
-use Rattle.mvo_tale.specs.Slots.{AreRising, open_end_at}
+use Rattle.mvo_tale.specs.Slots.{AreRising, ends, open_end_at}
 use Rattle.mvo_tale.specs.Forgetting.{behind_gone}
 use Rattle.mvo_tale.proofs.Rising.{ends_settled}
 use Rattle.mvo_tale.proofs.Gone.{open_after, open_moved, open_there, set_gone}
@@ -17,8 +18,8 @@ overflow_sub-place c =
     let xs = c.self.inside.slots.items in
     open_after g c.args.place xs (ap is_some (is_open (behind_gone g xs) c.args.self.now c.args.place c.args.entry.end c.self.view_is c.requires))
 
-pub index_mut-requires : goal.index_mut-requires
-index_mut-requires c =
+pub set-requires : goal.set-requires
+set-requires c =
     let g = c.self.inside.gone in
     let xs = c.self.inside.slots.items in
     let lt = open_there g c.args.place xs (ap is_some (is_open (behind_gone g xs) c.args.self.now c.args.place c.args.entry.end c.self.view_is c.requires)) in
@@ -31,7 +32,10 @@ invariant_of-self c =
     let h = is_open (behind_gone g xs) c.args.self.now c.args.place c.args.entry.end c.self.view_is c.requires in
     let le = open_after g c.args.place xs (ap is_some h) in
     let there = sym (open_moved g c.args.place xs le) ∙ h in
-    (subst AreRising (sym (ends_settled xs (c.args.place - g) c.args.entry there)) c.self.invariant.0, c.self.invariant.1)
+    let items = ap (λ q. q.items) c.set.ensures in
+    let len : length c.set.new.self.items ≡ length xs = ap length items ∙ length-set xs (c.args.place - g) (Settled c.args.entry) in
+    let below = c.self.invariant.1 in
+    (subst AreRising (sym (ap ends items ∙ ends_settled xs (c.args.place - g) c.args.entry there)) c.self.invariant.0, omega arith)
 
 pub returns : goal.returns
 returns c =
@@ -39,5 +43,6 @@ returns c =
     let xs = c.self.inside.slots.items in
     let h = is_open (behind_gone g xs) c.args.self.now c.args.place c.args.entry.end c.self.view_is c.requires in
     let le = open_after g c.args.place xs (ap is_some h) in
-    set_gone g c.args.place (Settled c.args.entry) xs le
+    ap (λ q. behind_gone g q.items) c.set.ensures
+    ∙ set_gone g c.args.place (Settled c.args.entry) xs le
     ∙ ap (λ (zs : List Slot). slice_set zs c.args.place (Settled c.args.entry)) c.self.view_is

@@ -1,4 +1,4 @@
-use Rattle.std.proofs.Common.{◌≡◌, ◌-◌, List, Some, length, arith, ap, sym, ◌∙◌}
+use Rattle.std.proofs.Common.{◌-◌, List, length, arith, ap, sym, ◌∙◌}
 use Rattle.std.specs.Prelude.{slice_get}
 use Rattle.std.specs.Option.{option_copied}
 use Rattle.mvo_tale.specs.declared.slot.Slot.{Slot}
@@ -16,4 +16,4 @@ returns c =
     let e = ap length c.self.view_is in
     ap (λ (xs : List Slot). slice_get xs c.args.place) (sym c.self.view_is)
     ∙ get_behind c.self.inside.gone c.args.place c.self.inside.slots.items c.if-place-self.false
-    ∙ slot_within c.self.inside.slots.items (c.args.place - c.self.inside.gone) (option_copied c.nth.result) c.nth.ensures (omega arith)
+    ∙ slot_within c.self.inside.slots.items (c.args.place - c.self.inside.gone) (option_copied c.get.result) c.get.ensures (omega arith)

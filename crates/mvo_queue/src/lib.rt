@@ -1,0 +1,10 @@
+//! A queue that grows in pieces.
+#![tactic(auto)]
+
+mod place;
+mod queue;
+
+pub use queue::Queue;
+
+#[cfg(test)]
+mod tests;

@@ -1,0 +1,145 @@
+ghost use Rattle.std.specs.Prelude.{◌≤◌};
+
+use crate::Queue;
+use std::alloc::{AllocError, Global};
+use std::collections::VecDeque;
+use std::fmt::Debug;
+use std::process::Abort;
+use std::test::Fail;
+
+/// Proved once: a call of it costs next to nothing, where the macro in its place costs seconds.
+fn same<T: PartialEq + Debug>(rt: &impl Abort, at: usize, left: &T, right: &T) {
+    assert_eq!(rt; *left, *right, "at {at}");
+}
+
+/// Looks whether both have the same in front and at a place.
+fn compare_at(rt: &impl Abort, queue: &Queue<u64>, list: &VecDeque<u64>, at: usize) {
+    same(rt, at, &queue.len(), &list.len());
+    same(rt, at, &queue.front().copied(), &list.front().copied());
+    same(rt, at, &queue.get(at).copied(), &list.get(at).copied());
+}
+
+/// Looks whether both have the same at each place, and nothing behind.
+fn compare(rt: &impl Abort, queue: &Queue<u64>, list: &VecDeque<u64>) {
+    for at in 0..list.len().saturating_add(2) {
+        compare_at(rt, queue, list, at);
+    }
+}
+
+/// Adds so many items to both.
+fn push(queue: &mut Queue<u64>, list: &mut VecDeque<u64>, count: u64) -> Result<(), AllocError> {
+    for item in 0..count {
+        queue.push_back(item)?;
+        list.push_back(item)?;
+    }
+    Ok(())
+}
+
+/// Takes so many items off both, from the front.
+fn pop_front(rt: &impl Abort, queue: &mut Queue<u64>, list: &mut VecDeque<u64>, count: usize) {
+    for at in 0..count {
+        same(rt, at, &queue.pop_front(), &list.pop_front());
+    }
+}
+
+/// Takes so many items off both, from the back.
+fn pop_back(rt: &impl Abort, queue: &mut Queue<u64>, list: &mut VecDeque<u64>, count: usize) {
+    for at in 0..count {
+        same(rt, at, &queue.pop_back(), &list.pop_back());
+    }
+}
+
+/// Puts other items in the places of so many, in both.
+fn replace(queue: &mut Queue<u64>, list: &mut VecDeque<u64>, count: usize) {
+    for at in 0..count {
+        if at < queue.len() && at < list.len() {
+            queue.set(at, at as u64 ^ 5);
+            list[at] = at as u64 ^ 5;
+        }
+    }
+}
+
+/// Whatever count of items is pushed, those and no others come out, from either end.
+fn fill_and_empty(rt: &impl Abort, alloc: Global, count: u64) -> Result<(), AllocError> {
+    let mut queue = Queue::new(alloc);
+    let mut list = VecDeque::new(alloc);
+    for _ in 0..2 {
+        push(&mut queue, &mut list, count)?;
+        compare(rt, &queue, &list);
+        let half = list.len() / 2;
+        pop_front(rt, &mut queue, &mut list, half);
+        compare(rt, &queue, &list);
+        pop_back(rt, &mut queue, &mut list, half);
+        compare(rt, &queue, &list);
+        pop_front(rt, &mut queue, &mut list, 3);
+        compare(rt, &queue, &list);
+    }
+    Ok(())
+}
+
+#[test]
+fn a_piece_less_one_and_one_and_one_more(rt: HostRuntime) -> Result<(), Fail> {
+    for count in [0, 1, 1023, 1024, 1025, 2047, 2048, 2049] {
+        fill_and_empty(&rt, rt.alloc(), count)?;
+    }
+    Ok(())
+}
+
+/// The first piece begins at each of its places in turn.
+#[test]
+fn a_queue_wanders_through_its_pieces(rt: HostRuntime) -> Result<(), Fail> {
+    let mut queue = Queue::new(rt.alloc());
+    let mut list = VecDeque::new(rt.alloc());
+    push(&mut queue, &mut list, 1500)?;
+    for step in 0..1300 {
+        push(&mut queue, &mut list, 3)?;
+        pop_front(&rt, &mut queue, &mut list, 2);
+        pop_back(&rt, &mut queue, &mut list, 1);
+        compare_at(&rt, &queue, &list, step);
+        compare_at(&rt, &queue, &list, list.len().saturating_sub(1));
+    }
+    replace(&mut queue, &mut list, 1100);
+    compare(&rt, &queue, &list);
+    Ok(())
+}
+
+/// Adds so many items, for which there is room.
+fn push_reserved(
+    queue: &mut Queue<u64>,
+    list: &mut VecDeque<u64>,
+    count: u64,
+) -> Result<(), AllocError>
+    requires { count ≤ queue.old.room }
+{
+    for item in 0..count {
+        queue.push_back_reserved(item);
+        list.push_back(item)?;
+    }
+    Ok(())
+}
+
+#[test]
+fn room_for_several_pieces(rt: HostRuntime) -> Result<(), Fail> {
+    let mut queue = Queue::new(rt.alloc());
+    let mut list = VecDeque::new(rt.alloc());
+    push(&mut queue, &mut list, 700)?;
+    pop_front(&rt, &mut queue, &mut list, 600);
+    queue.reserve(3000)?;
+    push_reserved(&mut queue, &mut list, 3000)?;
+    compare(&rt, &queue, &list);
+    pop_back(&rt, &mut queue, &mut list, 2000);
+    queue.reserve(5000)?;
+    push_reserved(&mut queue, &mut list, 5000)?;
+    compare(&rt, &queue, &list);
+    Ok(())
+}
+
+fn shared<T: Send + Sync>(value: T) -> T {
+    value
+}
+
+#[test]
+fn a_queue_may_be_shared_between_threads(rt: HostRuntime) {
+    let queue: Queue<u64> = shared(Queue::new(rt.alloc()));
+    assert_eq!(rt; queue.len(), 0);
+}
