@@ -17,4 +17,5 @@ mod trimming;
 
 pub use answers::{Closed, Finishing, Settlement, Validation};
 pub use engine::Core;
+pub use mvo_collect::Collection;
 pub use mvo_tale::Tale;

@@ -161,6 +161,8 @@ module _ {D : Type 0} (IsStep : WorldData D → Event → Reply → WorldData D 
       IsSomeAnd (bound_by d.names name.now) (λ b. IsCommit d name.now b.tx r d')
   IsAnswer d (line.Poll name) r d' =
       IsSomeAnd (bound_by d.names name.now) (λ b. IsPolled d b r d')
+  IsAnswer d line.Collect r d' = IsStepOf d event.Collect r d'
+  IsAnswer d (line.Trim upto) r d' = IsStepOf d (event.Trim upto) r d'
   IsAnswer d line.Group r d' = IsStepOf d event.CloseGroup r d'
   IsAnswer d line.Take r d' = IsStepOf d event.TakeGroup r d'
   IsAnswer d line.Body r d' = IsStepOf d event.AppendBody r d'

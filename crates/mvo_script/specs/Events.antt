@@ -53,6 +53,8 @@ job_event_of l = install_event_of l
 
 -- the step that a line of no transaction asks for, where it is one alone
 abbrev pub event_of : Line → Option Event
+event_of line.Collect = Some event.Collect
+event_of (line.Trim upto) = Some (event.Trim upto)
 event_of line.Group = Some event.CloseGroup
 event_of line.Take = Some event.TakeGroup
 event_of line.Body = Some event.AppendBody

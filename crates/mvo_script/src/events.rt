@@ -47,6 +47,8 @@ pub fn event_of(line: Line<'_>) -> Option<Event>
     ensures { result ≡ event_of line.entry }
 {
     match line {
+        Line::Collect => Some(Event::Collect),
+        Line::Trim(upto) => Some(Event::Trim(upto)),
         Line::Group => Some(Event::CloseGroup),
         Line::Take => Some(Event::TakeGroup),
         Line::Body => Some(Event::AppendBody),

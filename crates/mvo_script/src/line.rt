@@ -2,7 +2,7 @@ ghost use Rattle.std.specs.Prelude.{◌≡◌, ◌<◌, IfSome, length};
 ghost use Rattle.mvo_script.specs.Forms.{HasForm, IsData};
 
 use crate::words::{digits_of, name_of, number_of, place_of, table_of};
-use mvo_types::RowKey;
+use mvo_types::{RowKey, Stamp};
 use std::str;
 
 /// The most bytes of a line, its line feed not counted. A longer one is a bad line.
@@ -37,6 +37,10 @@ pub enum Line<'a> {
     Commit(&'a str),
     /// `poll NAME`
     Poll(&'a str),
+    /// `collect`
+    Collect,
+    /// `trim STAMP`
+    Trim(Stamp),
     /// `group`
     Group,
     /// `take`
@@ -118,6 +122,7 @@ fn line_of<'a>(first: &str, rest: &mut str::Split<'a, char>) -> Option<Line<'a>>
     ensures { IfSome result HasForm }
 {
     match first {
+        "collect" => Some(Line::Collect),
         "group" => Some(Line::Group),
         "take" => Some(Line::Take),
         "body" => Some(Line::Body),
@@ -133,15 +138,16 @@ fn line_of<'a>(first: &str, rest: &mut str::Split<'a, char>) -> Option<Line<'a>>
         "rotate" => Some(Line::Rotate),
         "checkpoint" => Some(Line::Checkpoint),
         "reclaim" => Some(Line::Reclaim),
-        _ => merge_line_of(first, rest),
+        _ => numbered_line_of(first, rest),
     }
 }
 
-/// The line of a merge or of a transaction with this first word, from the words after it.
-fn merge_line_of<'a>(first: &str, rest: &mut str::Split<'a, char>) -> Option<Line<'a>>
+/// The line of a trim, a merge or a transaction with this first word, from the words after it.
+fn numbered_line_of<'a>(first: &str, rest: &mut str::Split<'a, char>) -> Option<Line<'a>>
     ensures { IfSome result HasForm }
 {
     match first {
+        "trim" => Some(Line::Trim(Stamp(number_of(rest.next()?)?))),
         "merge-read" => Some(Line::MergeRead(place_of(rest.next()?)?)),
         "merge-data" => Some(Line::MergeData),
         "merge-delta" => Some(Line::MergeDelta),

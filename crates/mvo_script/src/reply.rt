@@ -1,4 +1,4 @@
-use mvo_core::{Closed, Finishing, Settlement, Validation};
+use mvo_core::{Closed, Collection, Finishing, Settlement, Validation};
 use mvo_store::{Generation, Progress, Reclaimed};
 use mvo_types::{Answer, Row};
 use mvo_world::Reply;
@@ -30,6 +30,7 @@ fn write_reply<W: fmt::Write>(f: &mut fmt::Formatter<W>, reply: &Reply) -> fmt::
         Reply::Prepared(end) => write!(f, "preparing {end}"),
         Reply::Settled(Settlement::Committed(end)) => write!(f, "committed {end}"),
         Reply::Settled(Settlement::Waiting(id)) => write!(f, "waiting {id}"),
+        Reply::Trimmed(start) => write!(f, "trimmed {start}"),
         Reply::Closed(Closed { prev, mark }) => write!(f, "closed {prev} {mark}"),
         Reply::Durable(mark) => write!(f, "durable {mark}"),
         Reply::Installed(Generation(count)) => write!(f, "installed {count}"),
@@ -44,6 +45,8 @@ fn words_of(reply: &Reply) -> &'static str {
         Reply::Validated(Validation::Valid) => "valid",
         Reply::RolledBack => "rolled back",
         Reply::Finished(Finishing::Done) | Reply::Reclaimed(Reclaimed::Done) => "done",
+        Reply::Collected(Collection::Collected) => "collected",
+        Reply::Collected(Collection::Nothing) => "nothing",
         Reply::Taken => "taken",
         Reply::Written => "written",
         Reply::Polled(true) => "yes",
@@ -58,6 +61,7 @@ fn words_of(reply: &Reply) -> &'static str {
         | Reply::Answered(_)
         | Reply::Prepared(_)
         | Reply::Settled(_)
+        | Reply::Trimmed(_)
         | Reply::Closed(_)
         | Reply::Durable(_)
         | Reply::Installed(_)

@@ -14,6 +14,8 @@ mod full_segment;
 #[cfg(test)]
 mod lines;
 #[cfg(test)]
+mod logs;
+#[cfg(test)]
 mod merges;
 #[cfg(test)]
 mod rotations;

@@ -5,7 +5,7 @@ use std::alloc::AllocError;
 use std::test::Fail;
 
 /// Lines that are none of a script, where t1 was begun.
-const BAD_LINES: [&[u8]; 87] = [
+const BAD_LINES: [&[u8]; 94] = [
     b"",
     b" ",
     b"begin",
@@ -63,6 +63,13 @@ const BAD_LINES: [&[u8]; 87] = [
     b"poll",
     b"poll t2",
     b"poll t1 0",
+    b"collect t1",
+    b"collect ",
+    b"trim",
+    b"trim ",
+    b"trim t1",
+    b"trim 01",
+    b"trim 4 4",
     b"group t1",
     b"group ",
     b"take t1",

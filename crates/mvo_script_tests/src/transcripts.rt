@@ -123,6 +123,47 @@ fn what_is_put_and_deleted_again_is_gone(rt: HostRuntime) -> Result<(), Fail> {
     assert_session(&rt, rt.alloc(), &session)
 }
 
+#[test]
+fn a_replaced_row_is_collected_behind_a_trim(rt: HostRuntime) -> Result<(), Fail> {
+    let session = [
+        ("begin t0", "began 1"),
+        ("insert t0 0 1 10 61", "inserted"),
+        ("commit t0", "committed 2"),
+        ("begin t1", "began 3"),
+        ("update t1 0 1 10 62", "updated"),
+        ("commit t1", "committed 4"),
+        ("collect", "nothing"),
+        ("trim 5", "refused 56"),
+        ("trim 4", "trimmed 4"),
+        ("collect", "collected"),
+        ("collect", "nothing"),
+        ("trim 4", "refused 56"),
+    ];
+    assert_session(&rt, rt.alloc(), &session)
+}
+
+#[test]
+fn what_a_preparing_transaction_deletes_isnt_collected(rt: HostRuntime) -> Result<(), Fail> {
+    let session = behind_setup(
+        rt.alloc(),
+        &[
+            ("begin t1", "began 3"),
+            ("update t1 0 1 10 63", "updated"),
+            ("precommit t1", "preparing 4"),
+            ("begin t2", "began 5"),
+            ("delete t2 0 1", "deleted"),
+            ("precommit t2", "preparing 6"),
+            ("rollback t1", "rolled back"),
+            ("finish t1", "more"),
+            ("finish t1", "done"),
+            ("collect", "nothing"),
+            ("begin t3", "began 7"),
+            ("read t3 0 1", "none"),
+        ],
+    )?;
+    assert_session(&rt, rt.alloc(), session.as_slice())
+}
+
 /// A transaction reads what another has put that is Preparing.
 const SPECULATES: [Exchange; 8] = [
     ("begin t1", "began 1"),

@@ -20,6 +20,7 @@ use Rattle.mvo_theory.specs.Calls as theory
 use Rattle.mvo_theory.specs.Calls.{Call, after_call, steps_of}
 use Rattle.mvo_theory.proofs.Each.{each_weaker, each_append}
 use Rattle.mvo_theory.proofs.Stays.{stays_after_call}
+use Rattle.mvo_collect.specs.declared.collection.Collection.{Collection}
 use Rattle.mvo_core.specs.declared.answers.Closed as closing
 use Rattle.mvo_core.specs.Standing.{StandsFor}
 use Rattle.mvo_core.proofs.Begun.{still_closed}
@@ -37,12 +38,12 @@ use Rattle.mvo_world.specs.WorldData.{WorldData, waiting, Follow, IsLinked, HasB
 use Rattle.mvo_world.specs.Past.{Past, happened, acknowledged_by, closed_by, with_event, opened_over}
 use Rattle.mvo_core.specs.Groups.{AreGroupsOf}
 use Rattle.mvo_world.specs.Standing.{IsAfter, RecoversPrefix, LeavesPrefix}
-use Rattle.mvo_world.specs.Replies.{IsReplyTo, IsAsked, IsStored, HasComeTo, HasRow}
+use Rattle.mvo_world.specs.Replies.{IsReplyTo, IsAsked, IsStored, HasCollected, HasComeTo, HasRow}
 use Rattle.mvo_world.specs.Steps.{IsStepBy, IsStep}
 use Rattle.mvo_world.specs.declared.event.Event.{Event}
-use Rattle.mvo_world.specs.declared.event.Event.TheVariants.{Begin, Read, Scan, Insert, Update, Delete, Precommit, Validate, Settle, Rollback, Finish, CloseGroup, TakeGroup, AppendBody, AppendOpen, Poll, RotateWrite, CheckpointRead, CheckpointData, CheckpointDelta, MergeRead, MergeData, MergeDelta, InstallClose, InstallBody, InstallOpen, Reclaim}
+use Rattle.mvo_world.specs.declared.event.Event.TheVariants.{Begin, Read, Scan, Insert, Update, Delete, Precommit, Validate, Settle, Rollback, Finish, Collect, Trim, CloseGroup, TakeGroup, AppendBody, AppendOpen, Poll, RotateWrite, CheckpointRead, CheckpointData, CheckpointDelta, MergeRead, MergeData, MergeDelta, InstallClose, InstallBody, InstallOpen, Reclaim}
 use Rattle.mvo_world.specs.declared.reply.Reply.{Reply}
-use Rattle.mvo_world.specs.declared.reply.Reply.TheVariants.{Closed, Durable, Polled, Refused}
+use Rattle.mvo_world.specs.declared.reply.Reply.TheVariants.{Collected, Closed, Durable, Polled, Refused}
 use Rattle.mvo_world.proofs.Chain.{groups_stay}
 use Rattle.mvo_world.proofs.Closed.{group_of_next}
 use Rattle.mvo_world.proofs.Standing.{mark_after-append, groups_front, groups_back, groups_push, marks_rise, follow_to, prefix_image}
@@ -97,6 +98,8 @@ silent_refused (Validate t) r is = record { steps = is; acknowledged = refl; clo
 silent_refused (Settle t) r is = record { steps = is; acknowledged = refl; closed = refl }
 silent_refused (Rollback t) r is = record { steps = is; acknowledged = refl; closed = refl }
 silent_refused (Finish t) r is = record { steps = is; acknowledged = refl; closed = refl }
+silent_refused Collect r is = record { steps = is; acknowledged = refl; closed = refl }
+silent_refused (Trim upto) r is = record { steps = is; acknowledged = refl; closed = refl }
 silent_refused CloseGroup r is = record { steps = is; acknowledged = refl; closed = refl }
 silent_refused TakeGroup r is = record { steps = is; acknowledged = refl; closed = refl }
 silent_refused AppendBody r is = record { steps = is; acknowledged = refl; closed = refl }
@@ -127,6 +130,8 @@ silent_copy (Validate t) h = absurd h
 silent_copy (Settle t) h = absurd h
 silent_copy (Rollback t) h = absurd h
 silent_copy (Finish t) h = absurd h
+silent_copy Collect h = absurd h
+silent_copy (Trim upto) h = absurd h
 silent_copy CloseGroup h = absurd h
 silent_copy TakeGroup h = absurd h
 silent_copy AppendBody h = absurd h
@@ -259,6 +264,29 @@ module _ {D : Type 0} (d : Ghosts D) where
               marks = h.marks;
               covers = h.covers;
             })
+
+    -- a collection, over which the state stays
+    pub collected_step : (w w' : WorldData D) (c : Collection) → HasCollected w c w' → IsStep d w Collect (Collected c) w'
+    collected_step w w' c reply = record {
+      reply = reply;
+      after = λ p h. subst (λ (v : WorldData D). IsAfter d (with_event p Collect (Collected c)) v) (sym reply.rest) (after p h);
+      any_moment = λ p h. subst (λ (v : WorldData D). LeavesPrefix d p (disk_of w.store) (disk_of v.store)) (sym reply.rest) (meanwhile p w (record w { core = w'.core }) h ((refused_keeps d only_now w.store).any_moment (after_groups p.rows h.sent) h.store));
+    }
+      where
+        after : (p : Past) → IsAfter d p w → IsAfter d (with_event p Collect (Collected c)) (record w { core = w'.core })
+        after p h = subst (λ (q : Past). IsAfter d q (record w { core = w'.core })) (silent_past p Collect (Collected c) (record { steps = refl; acknowledged = refl; closed = refl })) (record {
+          sent = h.sent;
+          state = h.state;
+          core = reply.stands p.rows p.steps h.state h.core;
+          closed = h.closed;
+          before = h.before;
+          none = h.none;
+          store = h.store;
+          mark = h.mark;
+          groups = h.groups;
+          marks = h.marks;
+          covers = h.covers;
+        })
 
     -- a group is closed
     pub closed_step : (w w' : WorldData D) (c : closing.Closed) → IsLinked w → HasComeTo w (Ok c) w' → IsStep d w CloseGroup (Closed c) w'

@@ -12,6 +12,7 @@ use Rattle.mvo_core.specs.declared.answers.Closed as closing
 use Rattle.mvo_core.specs.Data.{CoreData}
 use Rattle.mvo_core.specs.Standing.{OpensAs}
 use Rattle.mvo_core.specs.Steps.{came, IsStep}
+use Rattle.mvo_core.specs.Collecting.{StandsAsBefore}
 use Rattle.mvo_core.proofs.Begun.{stands_on}
 use Rattle.mvo_world.specs.Ring.{IsClosingInto}
 use Rattle.mvo_world.specs.WorldData.{WorldData, waiting, Follow, IsSound}
@@ -33,6 +34,19 @@ module _ {D : Type 0} (w : WorldData D) (i : IsSound w) where
         core = stands_on i.core c (came result) core l;
         linked = subst (λ (n : ℕ). Follow (mark_of w.store) (waiting w) n) (sym (same_closed i.core c (came result) none l)) i.linked;
       }
+
+  -- over a collection
+  pub sound_collected : (core : CoreData) → StandsAsBefore w.core core → core ≡ record w.core { versions = core.versions } → IsSound (record w { core = core })
+  sound_collected core stands rest = record {
+    core = record {
+      opening = i.core.opening;
+      steps = i.core.steps;
+      state = i.core.state;
+      stands = stands i.core.opening i.core.steps i.core.state i.core.stands;
+      closed = i.core.closed;
+    };
+    linked = subst (λ (n : ℕ). Follow (mark_of w.store) (waiting w) n) (sym (ap (λ (c : CoreData). c.closed) rest)) i.linked;
+  }
 
   -- over one that is to close a group
   pub sound_closed : (result : Result closing.Closed Refusal) (core : CoreData) (ring : List GroupData) → IsClosingInto w.core w.ring result core ring → IsSound (record w { core = core; ring = ring })

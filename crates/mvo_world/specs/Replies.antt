@@ -11,11 +11,14 @@ use Rattle.mvo_types.specs.Keys.{Map}
 use Rattle.mvo_model.specs.Trace.{Step}
 use Rattle.mvo_theory.specs.State.{State}
 use Rattle.mvo_theory.specs.Calls as theory
-use Rattle.mvo_theory.specs.Calls.Call.{Begin as BeginCall, Precommit as PrecommitCall, Validate as ValidateCall, Settle as SettleCall, Rollback as RollbackCall, Finish as FinishCall, Do}
+use Rattle.mvo_theory.specs.Calls.Call.{Begin as BeginCall, Precommit as PrecommitCall, Validate as ValidateCall, Settle as SettleCall, Rollback as RollbackCall, Finish as FinishCall, Trim as TrimCall, Do}
 use Rattle.mvo_theory.specs.Calls.Result.{Accepted, Refused as RefusedCall}
+use Rattle.mvo_collect.specs.declared.collection.Collection.{Collection}
 use Rattle.mvo_core.specs.declared.answers.Closed as closing
 use Rattle.mvo_core.specs.Standing.{StandsFor}
 use Rattle.mvo_core.specs.Steps.{LeadsOn, InEach, IsAnswered, IsValidation, IsSettlement, IsFinishing}
+use Rattle.mvo_core.specs.Collecting.{StandsAsBefore, AreFewer}
+use Rattle.mvo_core.specs.Trimming.{HasForgotten}
 use Rattle.mvo_store.specs.Seen.{mark_of}
 use Rattle.mvo_store.specs.declared.progress.Progress.TheVariants.{More, Ready as AllWritten}
 use Rattle.mvo_store.specs.Causes.{why_not_take}
@@ -25,9 +28,9 @@ use Rattle.mvo_store.specs.Reclaiming.{HasReclaimed}
 use Rattle.mvo_world.specs.Ring.{oldest, IsClosingInto}
 use Rattle.mvo_world.specs.WorldData.{WorldData}
 use Rattle.mvo_world.specs.declared.event.Event.{Event}
-use Rattle.mvo_world.specs.declared.event.Event.TheVariants.{Begin, Read, Scan, Insert, Update, Delete, Precommit, Validate, Settle, Rollback, Finish, CloseGroup, TakeGroup, AppendBody, AppendOpen, Poll, RotateWrite, CheckpointRead, CheckpointData, CheckpointDelta, MergeRead, MergeData, MergeDelta, InstallClose, InstallBody, InstallOpen, Reclaim}
+use Rattle.mvo_world.specs.declared.event.Event.TheVariants.{Begin, Read, Scan, Insert, Update, Delete, Precommit, Validate, Settle, Rollback, Finish, Collect, Trim, CloseGroup, TakeGroup, AppendBody, AppendOpen, Poll, RotateWrite, CheckpointRead, CheckpointData, CheckpointDelta, MergeRead, MergeData, MergeDelta, InstallClose, InstallBody, InstallOpen, Reclaim}
 use Rattle.mvo_world.specs.declared.reply.Reply.{Reply}
-use Rattle.mvo_world.specs.declared.reply.Reply.TheVariants.{Began, Answered, Prepared, Validated, Settled, RolledBack, Finished, Closed, Taken, Written, Durable, Polled, Ready, Progress as Progressed, Shut, Installed, Reclaimed, Refused}
+use Rattle.mvo_world.specs.declared.reply.Reply.TheVariants.{Began, Answered, Prepared, Validated, Settled, RolledBack, Finished, Collected, Trimmed, Closed, Taken, Written, Durable, Polled, Ready, Progress as Progressed, Shut, Installed, Reclaimed, Refused}
 
 -- ---- the first refusal whose cause stands
 
@@ -57,6 +60,21 @@ IsDone w t op a w' = IsAsked w (Do t op) Accepted w' × IsAnswered w.core t op a
 -- it is the next timestamp
 abbrev pub IsDrawn : {D : Type 0} → WorldData D → ℕ → Type 0
 IsDrawn w n = InEach w.core (λ s. n ≡ s.clock + 1)
+
+-- A collection came to this: of the core's versions one that is garbage is fewer, or none was. It
+-- stands for each state that it stood for. All else stays.
+pub record HasCollected {D : Type 0} (w : WorldData D) (c : Collection) (w' : WorldData D) :
+    Type 0 where
+  pub counts : AreFewer w.core c w'.core
+  pub stands : StandsAsBefore w.core w'.core
+  pub versions : w'.core ≡ record w.core { versions = w'.core.versions }
+  pub rest : w' ≡ record w { core = w'.core }
+
+-- the tale starts at the stamp, and what is trimmed and in a closed group is forgotten
+pub record HasTrimmed {D : Type 0} (w : WorldData D) (upto : ℕ) (w' : WorldData D) :
+    Type 0 where
+  pub asked : IsAsked w (TrimCall upto) Accepted w'
+  pub forgets : HasForgotten upto w.core.closed w.core w'.core
 
 -- Closing a group came to this: the next group is in the ring, or what is refused leaves all.
 -- The store stays.
@@ -114,6 +132,10 @@ IsReplyTo d w (Rollback t) (Refused r) w' = IsAsked w (RollbackCall t.0) (Refuse
 IsReplyTo d w (Finish t) (Finished a) w' =
     IsAsked w (FinishCall t.0) Accepted w' × IsFinishing w.core t.0 a
 IsReplyTo d w (Finish t) (Refused r) w' = IsAsked w (FinishCall t.0) (RefusedCall r) w'
+IsReplyTo d w Collect (Collected c) w' = HasCollected w c w'
+IsReplyTo d w (Trim upto) (Trimmed stamp) w' = (stamp ≡ upto) × HasTrimmed w upto.0 w'
+IsReplyTo d w (Trim upto) (Refused r) w' =
+    (r ≡ NothingToDo) × IsAsked w (TrimCall upto.0) (RefusedCall r) w'
 IsReplyTo d w CloseGroup (Closed c) w' = HasComeTo w (Ok c) w'
 IsReplyTo d w CloseGroup (Refused r) w' = HasComeTo w (Err r) w'
 IsReplyTo d w TakeGroup Taken w' = (why_not_taken w ≡ None) × IsTaken d w w'

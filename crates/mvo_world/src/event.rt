@@ -1,7 +1,7 @@
 use mvo_types::{Row, RowKey, Stamp, TxId};
 use std::alloc::AllocError;
 
-/// A step that is asked for: of a transaction, of the log, or a poll.
+/// A step that is asked for: of a transaction, of what memory keeps, of the log, or a poll.
 #[derive(Drop)]
 pub enum Event {
     /// A transaction is to begin.
@@ -26,6 +26,10 @@ pub enum Event {
     Rollback(TxId),
     /// A word of a transaction that is Committed or Aborted is replaced.
     Finish(TxId),
+    /// A version that nobody can be shown any more is taken out of memory, if there is one.
+    Collect,
+    /// The stored commits up to this timestamp are forgotten.
+    Trim(Stamp),
     /// The next group of commits is closed into the ring.
     CloseGroup,
     /// The store takes the oldest closed group.
@@ -82,6 +86,8 @@ impl Event {
             Event::Settle(tx) => Ok(Event::Settle(*tx)),
             Event::Rollback(tx) => Ok(Event::Rollback(*tx)),
             Event::Finish(tx) => Ok(Event::Finish(*tx)),
+            Event::Collect => Ok(Event::Collect),
+            Event::Trim(upto) => Ok(Event::Trim(*upto)),
             Event::CloseGroup => Ok(Event::CloseGroup),
             Event::TakeGroup => Ok(Event::TakeGroup),
             Event::AppendBody => Ok(Event::AppendBody),

@@ -1,4 +1,4 @@
-use mvo_core::{Closed, Finishing, Settlement, Validation};
+use mvo_core::{Closed, Collection, Finishing, Settlement, Validation};
 use mvo_store::{Generation, Progress, Reclaimed};
 use mvo_types::{Answer, Refusal, Stamp, TxId};
 
@@ -19,6 +19,10 @@ pub enum Reply {
     RolledBack,
     /// Whether words that name the transaction are left.
     Finished(Finishing),
+    /// Whether a version was taken out of memory, or there was none to take.
+    Collected(Collection),
+    /// The tale starts at this timestamp.
+    Trimmed(Stamp),
     /// The group that was closed.
     Closed(Closed),
     /// The store took the group.

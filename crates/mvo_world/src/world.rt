@@ -1,3 +1,4 @@
+mod forgetting;
 mod log;
 mod running;
 mod steps;
@@ -182,6 +183,8 @@ impl<D: Disk> World<D> {
             Event::Settle(tx) => self.settle(tx),
             Event::Rollback(tx) => self.roll_back(tx),
             Event::Finish(tx) => self.finish(tx),
+            Event::Collect => self.collect(),
+            Event::Trim(upto) => self.trim(upto),
             Event::CloseGroup => self.close_group(),
             Event::TakeGroup => self.take_group(),
             Event::AppendBody => self.append_body(),

@@ -1,9 +1,11 @@
 mod answers;
 mod calls;
 mod checked;
+mod collections;
 mod draws;
 mod events;
 mod faults;
+mod forgetting;
 mod images;
 mod observed;
 mod openings;

@@ -76,10 +76,22 @@ impl Draws {
         match self.below(32) {
             0..=1 => Ok(self.event_of_groups(observed)),
             2..=7 if is_settling(observed) => Ok(self.event_of_groups(observed)),
+            26 => Ok(self.event_of_memory(observed)),
             27 => self.any_step(observed, key),
             28 => Ok(Event::Poll(self.stamp(observed))),
             29..=31 => Ok(self.event_of_jobs(&observed.known)),
             _ => self.due_step(observed, key),
+        }
+    }
+
+    /// A collection, or a trim up to about as far as one goes.
+    fn event_of_memory(&mut self, observed: &Observed) -> Event {
+        match self.below(4) {
+            0 => {
+                let above = observed.oldest_begin().saturating_add(2);
+                Event::Trim(Stamp(above.saturating_sub(self.below(4))))
+            }
+            _ => Event::Collect,
         }
     }
 

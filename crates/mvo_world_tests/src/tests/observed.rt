@@ -98,6 +98,13 @@ pub struct Counts {
     pub early: u64,
     pub rolled_back: u64,
     pub out_of_turn: u64,
+    /// Garbage versions that were taken out, of them while a transaction was unfinished, and
+    /// collections that found none.
+    pub collected: u64,
+    pub collected_beside: u64,
+    pub nothing: u64,
+    pub trimmed: u64,
+    pub untrimmed: u64,
     pub groups: u64,
     /// Groups that were closed while one was Preparing.
     pub beside_preparing: u64,
@@ -128,6 +135,11 @@ impl Counts {
             early: 0,
             rolled_back: 0,
             out_of_turn: 0,
+            collected: 0,
+            collected_beside: 0,
+            nothing: 0,
+            trimmed: 0,
+            untrimmed: 0,
             groups: 0,
             beside_preparing: 0,
             queued: 0,
@@ -150,6 +162,8 @@ pub struct Observed {
     pub events: usize,
     /// The greatest timestamp that was told.
     pub latest: u64,
+    /// Where the tale starts.
+    pub tale_start: Stamp,
     pub open: Vec<Open>,
     /// By end timestamp.
     pub commits: Vec<Commit>,
@@ -172,6 +186,7 @@ impl Observed {
             alloc,
             events: 0,
             latest: mark.0,
+            tale_start: mark,
             open: Vec::new(alloc),
             commits: Vec::new(alloc),
             groups: Vec::new(alloc),
@@ -200,10 +215,12 @@ impl Observed {
         Ok(())
     }
 
-    /// A reply to a begin, to a step of the log or to a poll.
+    /// A reply to a begin, to a collection, a trim or a poll, or to a step of the log.
     fn note_reply(&mut self, event: &Event, reply: Reply) -> Result<(), AllocError> {
         match reply {
             Reply::Began(id) => self.note_begin(id)?,
+            Reply::Collected(collection) => self.note_collection(collection),
+            Reply::Trimmed(start) => self.note_trim(event, start),
             Reply::Closed(closed) => self.note_closed(closed.mark)?,
             Reply::Taken => self.known.taken = self.waiting.pop_front(),
             Reply::Written => self.note_written(event),
@@ -221,10 +238,18 @@ impl Observed {
                 count(&mut self.known.emptied);
             }
             Reply::Reclaimed(Reclaimed::Done) => {}
-            Reply::Refused(refusal) => self.note_refusal(refusal),
+            Reply::Refused(refusal) => self.note_other_refusal(event, refusal),
             _ => count(&mut self.counts.strange),
         }
         Ok(())
+    }
+
+    /// A refusal to what is no step of a transaction.
+    fn note_other_refusal(&mut self, event: &Event, refusal: Refusal) {
+        match event {
+            Event::Trim(upto) => self.note_untrimmed(*upto, refusal),
+            _ => self.note_refusal(refusal),
+        }
     }
 
     fn note_closed(&mut self, mark: Stamp) -> Result<(), AllocError> {

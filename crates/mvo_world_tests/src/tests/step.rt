@@ -6,7 +6,7 @@ use mvo_world::Event;
 use std::alloc::{AllocError, Global};
 
 /// A step of a world. A number is the id of a transaction, but for a poll, which asks for a
-/// timestamp, and a merge. All rows have one key.
+/// timestamp, a trim, which goes up to one, and a merge. All rows have one key.
 #[derive(Clone, Copy)]
 pub enum Step {
     Begin,
@@ -25,6 +25,8 @@ pub enum Step {
     Settle(u64),
     Rollback(u64),
     Finish(u64),
+    Collect,
+    Trim(u64),
     CloseGroup,
     TakeGroup,
     AppendBody,
@@ -72,15 +74,17 @@ impl Step {
             Step::Settle(tx) => Event::Settle(TxId(tx)),
             Step::Rollback(tx) => Event::Rollback(TxId(tx)),
             Step::Finish(tx) => Event::Finish(TxId(tx)),
+            Step::Trim(stamp) => Event::Trim(Stamp(stamp)),
             Step::Poll(stamp) => Event::Poll(Stamp(stamp)),
             Step::MergeRead(place) => Event::MergeRead(place),
             step => step.of_store(),
         }
     }
 
-    /// The event of a step without a number, which is a begin or a step of the store.
+    /// The event of a step without a number, which is a begin, a collection or a step of the store.
     fn of_store(self) -> Event {
         match self {
+            Step::Collect => Event::Collect,
             Step::CloseGroup => Event::CloseGroup,
             Step::TakeGroup => Event::TakeGroup,
             Step::AppendBody => Event::AppendBody,

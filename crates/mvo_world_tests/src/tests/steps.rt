@@ -2,9 +2,9 @@
 
 use super::step::Step::{
     self, AppendBody, AppendOpen, Begin, CheckpointData, CheckpointDelta, CheckpointRead,
-    CloseGroup, Delete, Finish, Insert, InstallBody, InstallClose, InstallOpen, MergeData,
+    CloseGroup, Collect, Delete, Finish, Insert, InstallBody, InstallClose, InstallOpen, MergeData,
     MergeDelta, MergeRead, Poll, Precommit, Read, Reclaim, Replace, Rollback, RotateWrite, Scan,
-    Settle, TakeGroup, Update, Validate,
+    Settle, TakeGroup, Trim, Update, Validate,
 };
 
 /// A transaction that begins at 1 and puts the row at 2, up to the body of its group.
@@ -112,6 +112,37 @@ pub const REPLACE: [(Step, &str); 11] = [
     (TakeGroup, "Taken"),
     (AppendBody, "Written"),
     (AppendOpen, "Durable(Stamp(4))"),
+];
+
+/// The tale is trimmed up to the replacement, and then the version that was replaced is garbage.
+pub const TRIM_AND_COLLECT: [(Step, &str); 8] = [
+    (Collect, "Collected(Nothing)"),
+    (Trim(5), "Refused(NothingToDo)"),
+    (Trim(4), "Trimmed(Stamp(4))"),
+    (Collect, "Collected(Collected)"),
+    (Collect, "Collected(Nothing)"),
+    (Trim(4), "Refused(NothingToDo)"),
+    (Trim(2), "Refused(NothingToDo)"),
+    (Poll(4), "Polled(true)"),
+];
+
+/// What a Preparing transaction deletes was put by another one, which is rolled back then. The
+/// version stays, since the deletion may still come to be.
+pub const DELETED_OF_ONE_THAT_FELL: [(Step, &str); 14] = [
+    (Begin, "Began(TxId(3))"),
+    (Update(3), "Answered(Updated)"),
+    (Precommit(3), "Prepared(Stamp(4))"),
+    (Begin, "Began(TxId(5))"),
+    (Delete(5), "Answered(Deleted)"),
+    (Precommit(5), "Prepared(Stamp(6))"),
+    (Rollback(3), "RolledBack"),
+    (Finish(3), "Finished(More)"),
+    (Finish(3), "Finished(Done)"),
+    (Collect, "Collected(Nothing)"),
+    (Begin, "Began(TxId(7))"),
+    (Read(7), "Answered(Found(None))"),
+    (Trim(4), "Trimmed(Stamp(4))"),
+    (Collect, "Collected(Nothing)"),
 ];
 
 /// The segment with the row that was replaced becomes a second pair, and the row's record of the

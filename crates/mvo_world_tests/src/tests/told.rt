@@ -36,7 +36,8 @@ pub fn op_of(event: &Event) -> Result<Option<Op>, AllocError> {
 /// Whether the event is a step of the store.
 pub fn is_of_store(event: &Event) -> bool {
     match event {
-        Event::Begin | Event::CloseGroup | Event::Poll(_) => false,
+        Event::Begin | Event::Collect | Event::Trim(_) | Event::CloseGroup | Event::Poll(_) =>
+            false,
         _ => tx_of(event).is_none(),
     }
 }
