@@ -1,5 +1,6 @@
 -- The command line.
 use Rattle.std.specs.Prelude.{◌≡◌, ◌-◌, ◌^◌, List, Bool, Some, [], true, false, codes, pos, IsSomeAnd}
+use Rattle.clap.specs.Lexer.{usize_max}
 use Rattle.clap.specs.Words.{App, Rule, Text, new_app, new_rule, subcommand_of, with_rule, with_subcommand}
 use Rattle.clap.specs.declared.builder.value_parser.ValueParser.TheVariants as parser
 use Rattle.mvo_cli.specs.Tasks.{IsTask}
@@ -23,6 +24,26 @@ with_folder name required = with_rule (new_app name) (folder_rule required)
 -- the command that prints the rows of a table
 abbrev pub rows_command : App
 rows_command = with_rule (with_folder (codes "rows") true) table_rule
+
+-- the number of workers, which must be there
+abbrev pub workers_rule : Rule
+workers_rule = record (new_rule (codes "workers")) {
+  long = Some (codes "workers");
+  value_names = 1;
+  required = true;
+  parser = Some (parser.Signed (pos 1) (pos 64));
+}
+
+-- the paths of the scripts, of which one must be there
+abbrev pub files_rule : Rule
+files_rule = record (new_rule (codes "FILE")) {
+  required = true;
+  range = Some (record { start_inclusive = 1; end_inclusive = usize_max });
+}
+
+-- the command that runs jobs
+abbrev pub work_command : App
+work_command = with_rule (with_rule (with_folder (codes "work") true) workers_rule) files_rule
 
 -- the path of a script, which must be there
 abbrev pub script_rule : Rule
@@ -54,7 +75,8 @@ commands =
     let runs = with_subcommand formats (with_folder (codes "run") false).top in
     let rows = with_subcommand runs rows_command.top in
     let checks = with_subcommand rows (with_folder (codes "check") true).top in
-    with_subcommand checks stops_command.top
+    let works = with_subcommand checks work_command.top in
+    with_subcommand works stops_command.top
 
 -- the words ask for the task
 abbrev pub AsksFor : List Text → Task → Type 0

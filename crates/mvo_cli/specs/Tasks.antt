@@ -1,7 +1,8 @@
 -- What a command asks for, by the words behind it.
-use Rattle.std.specs.Prelude.{◌≡◌, ℕ, List, Some, None, codes}
+use Rattle.std.specs.Prelude.{◌≡◌, ◌<◌, ◌≤◌, ℕ, List, Some, None, codes, map, vec_len}
 use Rattle.std.specs.Str.Parse.{digits_value, without_leading_plus}
-use Rattle.clap.specs.Words.{Row, Text, first_of}
+use Rattle.clap.specs.Words.{Row, Text, all_of, first_of}
+use Rattle.mvo_front.specs.declared.workers.TheConstants.{MAX_WORKERS}
 use Rattle.mvo_cli.specs.declared.task.Task.{Task}
 use Rattle.mvo_cli.specs.declared.task.Task.TheVariants as task
 
@@ -14,6 +15,16 @@ abbrev pub HasTable : List Row → ℕ → Type 0
 HasTable rows table =
     (text : Text) × (first_of (codes "TABLE") rows ≡ Some text)
     × (table ≡ digits_value 10 (without_leading_plus text))
+
+-- so many workers, from 1 to 64
+abbrev pub HasWorkers : List Row → ℕ → Type 0
+HasWorkers rows count =
+    (text : Text) × (first_of (codes "workers") rows ≡ Some text)
+    × (count ≡ digits_value 10 (without_leading_plus text)) × (1 ≤ count) × (count ≤ MAX_WORKERS)
+
+-- the paths of the scripts are these
+abbrev pub HasFiles : List Row → List Text → Type 0
+HasFiles rows files = all_of (codes "FILE") rows ≡ Some files
 
 -- the path of the script is this one
 abbrev pub HasScript : List Row → Text → Type 0
@@ -33,6 +44,9 @@ IsTask name rows (task.RunIn folder) = (name ≡ codes "run") × HasFolder rows 
 IsTask name rows (task.Rows folder table) =
     (name ≡ codes "rows") × HasFolder rows folder.now × HasTable rows table
 IsTask name rows (task.Check folder) = (name ≡ codes "check") × HasFolder rows folder.now
+IsTask name rows (task.Work t) =
+    (name ≡ codes "work") × HasFolder rows t.folder.now × HasWorkers rows t.workers.count
+    × HasFiles rows (map (λ f. f.now) t.files.items) × (0 < vec_len t.files)
 IsTask name rows (task.Stops script) =
     (name ≡ codes "stops") × HasScript rows script.now × (first_of (codes "explain") rows ≡ None)
 IsTask name rows (task.Explain number script) =

@@ -2,10 +2,11 @@ ghost use Rattle.std.specs.Prelude.{◌≡◌, ◌∷◌, [], List, ℕ, Some, f
 ghost use Rattle.std.specs.Prelude.{codes, map, option_map};
 ghost use Rattle.clap.specs.Words.{Text, app_of, kind_of, rule_of, subcommand_rows_of, with_subcommand};
 ghost use Rattle.clap.specs.declared.Command.TheViews.{out-Command};
-ghost use Rattle.mvo_cli.specs.Asked.{AsksFor, commands, folder_rule, no_command, rows_command, table_rule, with_folder};
+ghost use Rattle.mvo_cli.specs.Asked.{AsksFor, commands, folder_rule, no_command, rows_command, table_rule, with_folder, work_command};
 ghost use Rattle.mvo_cli.specs.Asked.{stops_command};
 ghost use Rattle.mvo_cli.specs.Tasks.{IsTask};
 
+use crate::asked_work::{WORK, work_command, work_task_of};
 use crate::stops_words::stops_command;
 use crate::task::{FOLDER, TABLE, Task, task_of};
 use clap::builder::ValueParser;
@@ -21,11 +22,15 @@ pub fn command<'a>(alloc: Global, words: &'a [&'a str]) -> Result<Task<'a>, Erro
         IfErr result (λ e. kind_of e ≡ ErrorKind.OutOfMemory) }
 {
     let mut mvo = command_line(alloc)?;
-    task_by(&mut mvo, words)
+    task_by(alloc, &mut mvo, words)
 }
 
 /// The task that the words ask for, by the program's commands.
-fn task_by<'a>(mvo: &mut Command<'a>, words: &'a [&'a str]) -> Result<Task<'a>, Error>
+fn task_by<'a>(
+    alloc: Global,
+    mvo: &mut Command<'a>,
+    words: &'a [&'a str],
+) -> Result<Task<'a>, Error>
     ensures asked { app_of mvo.old ≡ commands →
         IfOk result (λ t. AsksFor (map (λ w. w.now) words.entry.now) t) }
     ensures run { app_of mvo.old ≡ commands → (name : Text) →
@@ -33,23 +38,25 @@ fn task_by<'a>(mvo: &mut Command<'a>, words: &'a [&'a str]) -> Result<Task<'a>, 
         IfErr result (λ e. kind_of e ≡ ErrorKind.OutOfMemory) }
 {
     // What was matched is let go of here, before the ways part.
-    let task = task_among(&mvo.try_get_matches_from_mut(words)?);
+    let task = task_among(alloc, &mvo.try_get_matches_from_mut(words)?);
     match task {
-        Some(task) => Ok(task),
-        None => Err(mvo.error(ErrorKind::InvalidSubcommand, "no such command")?),
+        Ok(Some(task)) => Ok(task),
+        Ok(None) => Err(mvo.error(ErrorKind::InvalidSubcommand, "no such command")?),
+        Err(error) => Err(error.into()),
     }
 }
 
 /// The task that was matched, if one was.
-fn task_among<'a>(matches: &ArgMatches<'a>) -> Option<Task<'a>>
-    ensures task { IfSome result (λ t.
-        IsSomeAnd (subcommand_rows_of matches.now) (λ p. IsTask p.0 p.1 t)) }
+fn task_among<'a>(alloc: Global, matches: &ArgMatches<'a>) -> Result<Option<Task<'a>>, AllocError>
+    ensures task { IfOk result (λ o. IfSome o (λ t.
+        IsSomeAnd (subcommand_rows_of matches.now) (λ p. IsTask p.0 p.1 t))) }
     ensures run { option_map (λ p. p.0) (subcommand_rows_of matches.now) ≡ Some (codes "run") →
-        IsSome result }
+        IfOk result IsSome }
 {
     match matches.subcommand() {
-        Some((name, found)) => task_of(name, found),
-        None => None,
+        Some((WORK, found)) => work_task_of(alloc, found),
+        Some((name, found)) => Ok(task_of(name, found)),
+        None => Ok(None),
     }
 }
 
@@ -75,7 +82,7 @@ fn table_arg<'a>(alloc: Global) -> Arg<'a>
 }
 
 /// A command with the path of a folder.
-fn with_folder<'a>(
+pub fn with_folder<'a>(
     alloc: Global,
     name: &'a str,
     about: &'a str,
@@ -110,6 +117,13 @@ fn add_rows<'a>(mvo: Command<'a>, alloc: Global) -> Result<Command<'a>, AllocErr
     ensures { IfOk result (λ c. app_of c ≡ with_subcommand (app_of mvo.entry) rows_command.top) }
 {
     mvo.subcommand(rows_command(alloc)?)
+}
+
+/// Adds the command that runs jobs.
+fn add_work<'a>(mvo: Command<'a>, alloc: Global) -> Result<Command<'a>, AllocError>
+    ensures { IfOk result (λ c. app_of c ≡ with_subcommand (app_of mvo.entry) work_command.top) }
+{
+    mvo.subcommand(work_command(alloc)?)
 }
 
 /// The command that prints the rows of a table.
@@ -165,5 +179,6 @@ fn command_line<'a>(alloc: Global) -> Result<Command<'a>, AllocError>
         "Opens the store in a folder and counts",
         true,
     )?;
+    let mvo = add_work(mvo, alloc)?;
     add_stops(mvo, alloc)
 }

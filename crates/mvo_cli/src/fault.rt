@@ -30,9 +30,9 @@ pub enum Fault {
     /// The script isn't run to its end.
     #[error("error: {0}\n")]
     Script(ScriptError),
-    /// The file with the script can't be read.
-    #[error("error: can't read the script: {0}\n")]
-    ScriptFile(io::Error),
+    /// A file with a script can't be read.
+    #[error("error: can't read {0}: {1}\n")]
+    ScriptFile(String, io::Error),
     /// Nothing can be said of a script, or it has no such call.
     #[error("error: {0}\n")]
     Stops(StopsError),
@@ -72,7 +72,7 @@ impl Fault {
             Fault::Refused(_) | Fault::InUse | Fault::Found(_) => 1,
             Fault::Seed(_)
             | Fault::Script(_)
-            | Fault::ScriptFile(_)
+            | Fault::ScriptFile(_, _)
             | Fault::Stops(_)
             | Fault::Print(_)
             | Fault::OutOfMemory => 3,

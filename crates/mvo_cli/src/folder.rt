@@ -21,7 +21,7 @@ fn fault_of(refusal: FolderRefusal) -> Fault {
 }
 
 /// The disk in a folder. Its reading is shown on standard error where that is a terminal.
-fn open_disk<R: AllocGlobal + Eprint + Files<File = File> + Clone + Drop>(
+pub fn open_disk<R: AllocGlobal + Eprint + Files<File = File> + Clone + Drop>(
     rt: &R,
     folder: &str,
     is_terminal: bool,

@@ -2,17 +2,27 @@
 #![tactic(auto)]
 
 mod asked;
+mod asked_work;
 mod fault;
 mod folder;
+mod folders;
 mod listing;
 mod program;
+mod script_file;
 mod seed;
 mod shown;
+mod shown_jobs;
 mod stops;
 mod stops_words;
 mod task;
+mod work;
+mod work_task;
+mod workers;
 
 pub use asked::command;
 pub use fault::Fault;
+pub use folders::Folders;
 pub use program::run_program;
 pub use task::Task;
+pub use work_task::WorkTask;
+pub use workers::Workers;

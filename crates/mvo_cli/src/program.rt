@@ -1,10 +1,12 @@
 use crate::asked::command;
 use crate::fault::Fault;
 use crate::folder::{format_folder, open_held, open_world};
+use crate::folders::Folders;
 use crate::listing::{write_counts, write_rows};
 use crate::seed::draw_seed;
 use crate::stops::{print_call, print_stops};
 use crate::task::Task;
+use crate::work::work_in;
 use mvo_disk::Disk;
 use mvo_script::{run_over, run_script};
 use mvo_world::World;
@@ -13,7 +15,9 @@ use std::io::Write;
 use std::process::ExitCode;
 use std::random::RandomSource;
 use std::rt::Env;
+use std::sync::Wait;
 use std::thread::Threads;
+use std::time::Clock;
 use std::{env, io};
 
 /// Runs the program on its words, standard input and standard output. Its exit status is 0 where
@@ -30,7 +34,10 @@ where
         + Eprint
         + Files<File = File>
         + RandomSource
+        + Clock
+        + Folders
         + Threads
+        + Wait
         + Sync
         + Clone
         + Drop,
@@ -51,7 +58,10 @@ where
         + Eprint
         + Files<File = File>
         + RandomSource
+        + Clock
+        + Folders
         + Threads
+        + Wait
         + Sync
         + Clone
         + Drop,
@@ -78,7 +88,10 @@ where
         + Eprint
         + Files<File = File>
         + RandomSource
+        + Clock
+        + Folders
         + Threads
+        + Wait
         + Sync
         + Clone
         + Drop,
@@ -100,7 +113,10 @@ where
         + Eprint
         + Files<File = File>
         + RandomSource
+        + Clock
+        + Folders
         + Threads
+        + Wait
         + Sync
         + Clone
         + Drop,
@@ -111,6 +127,7 @@ where
         Task::RunIn(folder) => run_in(rt, folder, is_terminal),
         Task::Rows(folder, table) => print_rows(rt, folder, table, is_terminal),
         Task::Check(folder) => print_counts(rt, folder, is_terminal),
+        Task::Work(task) => work_in(rt, &task, is_terminal),
         Task::Stops(script) => print_stops(rt, script, is_terminal),
         Task::Explain(number, script) => print_call(rt, number, script),
     }

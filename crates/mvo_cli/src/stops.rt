@@ -1,12 +1,12 @@
 //! `mvo stops`: what a stop or a fault at any call of a script leaves.
 use crate::fault::Fault;
+use crate::script_file::read_script;
 use crate::seed::draw_seed;
 use mvo_stops::{Recorded, Report, Start, Watch, check_stops, explain_call, lines_of};
 use std::fs::{File, Files};
-use std::io::Write;
+use std::io::{self, Write};
 use std::random::RandomSource;
 use std::thread::Threads;
-use std::{fs, io};
 
 /// Shows on standard error, where that is a terminal, how far the calls are looked at.
 #[derive(Drop)]
@@ -30,10 +30,7 @@ where
     R: AllocGlobal + Files<File = File> + RandomSource + Threads + Sync,
 {
     let alloc = rt.alloc();
-    let text = match fs::read(rt, path) {
-        Ok(text) => text,
-        Err(error) => return Err(Fault::ScriptFile(error)),
-    };
+    let text = read_script(rt, path)?;
     let lines = lines_of(alloc, &text)?;
     recorded_of(rt, lines)
 }

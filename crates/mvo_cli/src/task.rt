@@ -2,6 +2,7 @@ ghost use Rattle.std.specs.Prelude.{◌≡◌, IfSome, IsSome, codes};
 ghost use Rattle.clap.specs.Words.{found_of, rows_of};
 ghost use Rattle.mvo_cli.specs.Tasks.{IsTask};
 
+use crate::work_task::WorkTask;
 use clap::ArgMatches;
 
 /// The name of the word that is the path of a folder.
@@ -17,7 +18,7 @@ pub const SCRIPT: &str = "FILE";
 pub const EXPLAIN: &str = "explain";
 
 /// What the program is asked to do.
-#[derive(Clone, Copy, Debug)]
+#[derive(Debug, Drop)]
 pub enum Task<'a> {
     /// `mvo format DIR`: a new store in a folder.
     Format(&'a str),
@@ -29,6 +30,8 @@ pub enum Task<'a> {
     Rows(&'a str, u8),
     /// `mvo check DIR`: whether the store in a folder can be opened.
     Check(&'a str),
+    /// `mvo work DIR --workers N FILE..`: each file's script as a job over the store in a folder.
+    Work(WorkTask<'a>),
     /// `mvo stops FILE`: whether a stop or a fault at any call leaves what a script was promised.
     Stops(&'a str),
     /// `mvo stops --explain N FILE`: what that call is, and what each image at it opens as.

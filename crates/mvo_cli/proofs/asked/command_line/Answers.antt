@@ -1,7 +1,7 @@
 use Rattle.std.proofs.Common.{ap, codes, false, true, ◌∙◌}
 use Rattle.std.proofs.lemmas.Result.{IfOk-weaker}
 use Rattle.clap.specs.Words.{App, app_of, with_subcommand}
-use Rattle.mvo_cli.specs.Asked.{commands, rows_command, stops_command, with_folder}
+use Rattle.mvo_cli.specs.Asked.{commands, rows_command, stops_command, with_folder, work_command}
 use Rattle.mvo_cli.proofs.asked.command_line.Goals as goal
 
 -- one more command
@@ -14,4 +14,5 @@ returns c =
     let runs = c.in_ok-mvo-2.ensures ∙ ap (with_one (with_folder (codes "run") false)) formats in
     let rows = c.in_ok-mvo-3.ensures ∙ ap (with_one rows_command) runs in
     let checks = c.in_ok-mvo-4.ensures ∙ ap (with_one (with_folder (codes "check") true)) rows in
-    IfOk-weaker c.add_stops.result _ _ (λ r adds. adds ∙ ap (with_one stops_command) checks) c.add_stops.ensures
+    let works = c.in_ok-mvo-5.ensures ∙ ap (with_one work_command) checks in
+    IfOk-weaker c.add_stops.result _ _ (λ r adds. adds ∙ ap (with_one stops_command) works) c.add_stops.ensures

@@ -1,5 +1,5 @@
-use Rattle.std.proofs.Common.{rules, ap, ap₂, refl, subst, codes, true, false, map, List, Option, Some, None, [], ◌∷◌, ◌≡◌, ◌∙◌, sym, option_map}
-use Rattle.std.specs.Prelude.{IsSome, IfSome, IsSomeAnd}
+use Rattle.std.proofs.Common.{rules, ap, ap₂, refl, subst, codes, true, false, map, List, Option, Some, None, Result, Ok, Err, [], ◌∷◌, ◌≡◌, ◌∙◌, sym, option_map}
+use Rattle.std.specs.Prelude.{IfOk, IsSome, IfSome, IsSomeAnd}
 use Rattle.std.specs.Borrow.{Bor}
 use Rattle.clap.specs.Words.{App, HasMatchesOf, Row, Text, found_of, is_simple, rows_of, subcommand_of, subcommand_name_of, subcommand_rows_of, takes}
 use Rattle.clap.specs.declared.ArgMatches.{ArgMatches}
@@ -37,9 +37,10 @@ asks : (words : List Text) (o : Option (Text × List Row)) (r : Option Task) (t 
 asks words o r t e some is =
     subst (λ o. IsSomeAnd o (λ (p : Text × List Row). IsTask p.0 p.1 t)) e (subst (λ x. IfSome x (λ t. IsSomeAnd o (λ (p : Text × List Row). IsTask p.0 p.1 t))) is some)
 
-not_some : {A : Type 0} (o : Option A) → o ≡ None → IsSome o → ⊥
-not_some None e is = cc
-not_some (Some y) e is = cc
+not_some : {A E : Type 0} (r : Result (Option A) E) → r ≡ Ok None → IfOk r IsSome → ⊥
+not_some (Ok None) e is = cc
+not_some (Ok (Some y)) e is = cc
+not_some (Err y) e is = cc
 
 -- the command that the words name, where they are a name and run
 run_of : (words : List Text) (name : Text) → words ≡ name ∷ codes "run" ∷ [] → option_map (λ p. p.0) (subcommand_of commands words) ≡ Some (codes "run")
@@ -50,8 +51,8 @@ returns-in_err-try_get_matches_from_mut-clause-run c = λ is name e.
     let spent = c.in_err-try_get_matches_from_mut.ensures.passes (ap₂ takes is e ∙ runs name) in
     search (rules, spent)
 
-pub returns-in_ok-error-in-None-clause-run : goal.returns-in_ok-error-in-None-clause-run
-returns-in_ok-error-in-None-clause-run c = λ is name e.
+pub returns-in_ok-error-in-Ok-None-clause-run : goal.returns-in_ok-error-in-Ok-None-clause-run
+returns-in_ok-error-in-Ok-None-clause-run c = λ is name e.
     let rows = same_rows c.in_ok-try_get_matches_from_mut.field-0 _ _ is c.in_ok-try_get_matches_from_mut.ensures.ok.2 in
     let run = ap (option_map (λ (p : Text × List Row). p.0)) rows ∙ run_of _ name e in
-    absurd (not_some c.task_among-task.result c.in-None.is (c.task_among-task.ensures.run run))
+    absurd (not_some c.task_among-task.result (c.in-Ok-None.is ∙ ap (λ (o : Option Task). Ok o) c.in-Ok-None.field-0-is) (c.task_among-task.ensures.run run))

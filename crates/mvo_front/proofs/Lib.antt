@@ -1,0 +1,4 @@
+mod Answered
+mod Gathered
+mod Moves
+mod Waiting

@@ -1,0 +1,10 @@
+use Rattle.std.proofs.Common.{rules}
+use Rattle.std.proofs.lemmas.Result.{IfOk-weaker}
+use Rattle.mvo_front.proofs.Gathered.{answered}
+use Rattle.mvo_front.proofs.workers.run_in.Goals as goal
+
+pub returns : goal.returns
+returns g c =
+    IfOk-weaker c.gather.result _ _
+    (λ os. answered c.join-pushed.result.0 c.hire_all.new.ticket c.args.jobs.items os.items (search (rules, c.join-pushed.ensures.first)) c.in_ok-hired.ensures.0)
+    c.gather.ensures

@@ -1,0 +1,14 @@
+use Rattle.std.proofs.Common.{◌≡◌, ◌+◌, vec_len}
+use Rattle.mvo_front.specs.Outcomes.{AreOutcomes}
+use Rattle.mvo_front.proofs.workers.take_back.Given as goal
+
+abbrev pub invariant-loop-one : goal.invariant-loop-one
+invariant-loop-one g l = record {
+  each : AreOutcomes l.outcomes.items l.ticket.taken;
+  parts : l.ticket.parts + vec_len l.done ≡ l.fn.ticket.parts + vec_len l.fn.done;
+  pushes : l.ticket.pushes ≡ l.fn.ticket.pushes;
+  put : l.ticket.put ≡ l.fn.ticket.put;
+}
+
+abbrev pub decreases-loop-one : goal.decreases-loop-one
+decreases-loop-one g l = vec_len l.done

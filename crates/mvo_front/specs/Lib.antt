@@ -1,0 +1,5 @@
+pub mod Job
+pub mod Named
+pub mod Outcomes
+pub mod Queue
+pub mod Tickets

@@ -1,0 +1,175 @@
+//! Workers in threads, and the jobs that are pushed to them.
+ghost use Rattle.std.specs.Prelude.{◌≡◌, ◌+◌, ◌++◌, [], true, IfOk, IfSome, IsSomeAnd, OnOk, vec_len};
+ghost use Rattle.mvo_front.specs.Named.{IsQueueNamedBy};
+ghost use Rattle.mvo_front.specs.Outcomes.{AreAnswered, AreOutcomes};
+ghost use Rattle.mvo_front.specs.Queue.{first_hand, hand};
+
+use crate::done::Done;
+use crate::front::Front;
+use crate::hired::Hired;
+use crate::job::Job;
+use crate::new_queue::NewQueue;
+use crate::outcome::Outcome;
+use crate::queue::Queue;
+use crate::serving::serve;
+use crate::ticket::Ticket;
+use crate::work::Work;
+use std::alloc::{AllocError, Global};
+use std::marker::Brand;
+use std::sync::Wait;
+use std::thread;
+use std::thread::Threads;
+
+/// The most workers of a run.
+pub const MAX_WORKERS: usize = 64;
+
+/// Runs the jobs, as many at once as there are workers (`MAX_WORKERS` at most), and pushes them
+/// while they work. Each job is run once: each number has as many outcomes as there are jobs with
+/// it, in any order.
+pub fn run<W: Work + Sync, R: Threads + Wait + Sync>(
+    rt: &R,
+    alloc: Global,
+    jobs: Vec<Job>,
+    workers: usize,
+    work: &W,
+) -> Result<Vec<Outcome>, AllocError>
+    ensures { IfOk result (λ outcomes. AreAnswered jobs.items outcomes.items) }
+{
+    let opened = NewQueue::open(alloc)?;
+    run_in::<Brand, W, R>(rt, alloc, opened, jobs, workers, work)
+}
+
+/// The same for every queue, which its parts name.
+fn run_in<L: Queue + Send + Sync, W: Work + Sync, R: Threads + Wait + Sync>(
+    rt: &R,
+    alloc: Global,
+    opened: NewQueue,
+    jobs: Vec<Job>,
+    workers: usize,
+    work: &W,
+) -> Result<Vec<Outcome>, AllocError>
+    requires { IsQueueNamedBy L.table L.keys opened }
+    ensures { IfOk result (λ outcomes. AreAnswered jobs.items outcomes.items) }
+{
+    let (front, mut ticket) = Front::<L>::new(opened);
+    let hired = hire_all(alloc, &front, &mut ticket, workers, jobs.len())?;
+    let shared = &front;
+    let (pushed, done) = thread::join(
+        rt,
+        move || push_all(rt, shared, ticket, jobs),
+        move || thread::map_vec(
+            rt,
+            hired,
+            &|mine: Hired<L>| serve_hired(rt, work, shared, mine),
+        ),
+    );
+    gather(rt, alloc, &front, pushed, done?)
+}
+
+/// Hires so many workers, `MAX_WORKERS` at most, each with room for what comes of so many jobs.
+fn hire_all<L: Queue>(
+    alloc: Global,
+    front: &Front<L>,
+    ticket: &mut Ticket<L>,
+    workers: usize,
+    jobs: usize,
+) -> Result<Vec<Hired<L>>, AllocError>
+    requires { ticket.old ≡ first_hand }
+    ensures { IfOk result (λ hired. (ticket.new ≡ hand true [] ticket.new.parts [])
+        × (ticket.new.parts + vec_len hired ≡ 1024)) }
+{
+    let mut hired = Vec::new(alloc);
+    let count = if workers < MAX_WORKERS {
+        workers
+    } else {
+        MAX_WORKERS
+    };
+    for k in 0..count {
+        let outcomes = Vec::with_capacity(alloc, jobs)?;
+        let mine = front.hire(ticket);
+        hired.push(Hired::new(mine, outcomes))?;
+    }
+    Ok(hired)
+}
+
+/// Pushes the jobs in order, and closes the queue. None where a job came back.
+fn push_all<L: Queue, R: Wait>(
+    rt: &R,
+    front: &Front<L>,
+    ticket: Ticket<L>,
+    jobs: Vec<Job>,
+) -> Option<Ticket<L>>
+    requires { ticket.pushes ≡ true }
+    ensures { IfSome result (λ t.
+        t ≡ hand true (ticket.put ++ jobs.items) ticket.parts ticket.taken) }
+{
+    let mut ticket = ticket;
+    for job in jobs {
+        if front.push(rt, &mut ticket, job).is_err() {
+            front.close();
+            return None;
+        }
+    }
+    front.close();
+    Some(ticket)
+}
+
+fn serve_hired<L: Queue, W: Work, R: Wait>(
+    rt: &R,
+    work: &W,
+    front: &Front<L>,
+    hired: Hired<L>,
+) -> Done<L> {
+    let Hired { ticket, outcomes } = hired;
+    serve(rt, work, front, ticket, outcomes)
+}
+
+/// What came of all jobs, with the tickets of all workers taken back. Out of memory where a worker
+/// ended before all jobs were taken, which it does for want of memory alone.
+fn gather<L: Queue, R: Wait>(
+    rt: &R,
+    alloc: Global,
+    front: &Front<L>,
+    pushed: Option<Ticket<L>>,
+    done: Vec<Done<L>>,
+) -> Result<Vec<Outcome>, AllocError>
+    requires { IfSome pushed (λ t. (t ≡ hand true t.put t.parts [])
+        × (t.parts + vec_len done ≡ 1024)) }
+    ensures { IfOk result (λ outcomes.
+        IsSomeAnd pushed (λ t. AreAnswered t.put outcomes.items)) }
+{
+    let Some(mut ticket) = pushed else {
+        return Err(AllocError);
+    };
+    let mut outcomes = Vec::new(alloc);
+    take_back(front, &mut ticket, done, &mut outcomes)?;
+    match front.try_take(rt, &mut ticket) {
+        None => Ok(outcomes),
+        Some(_) => Err(AllocError),
+    }
+}
+
+/// Takes back the tickets of the workers, and adds up what came of their jobs.
+fn take_back<L: Queue>(
+    front: &Front<L>,
+    ticket: &mut Ticket<L>,
+    done: Vec<Done<L>>,
+    outcomes: &mut Vec<Outcome>,
+) -> Result<(), AllocError>
+    requires { AreOutcomes outcomes.old.items ticket.old.taken }
+    ensures each { OnOk result (AreOutcomes outcomes.new.items ticket.new.taken) }
+    ensures parts { OnOk result (ticket.new.parts ≡ ticket.old.parts + vec_len done) }
+    ensures same { OnOk result ((ticket.new.pushes ≡ ticket.old.pushes)
+        × (ticket.new.put ≡ ticket.old.put)) }
+{
+    let mut done = done;
+    while let Some(one) = done.pop() {
+        let Done {
+            ticket: theirs,
+            outcomes: mut more,
+        } = one;
+        front.dismiss(ticket, theirs);
+        outcomes.append(&mut more)?;
+    }
+    Ok(())
+}

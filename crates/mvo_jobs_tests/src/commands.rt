@@ -1,0 +1,33 @@
+use crate::equal::{holds, same};
+use mvo_cli::{Task, WorkTask, Workers, command};
+use std::process::Abort;
+use std::test::*;
+
+/// Command lines of `mvo work` with 8 workers, the folder d, and the scripts f and g.
+const LINES: [[&str; 7]; 3] = [
+    ["mvo", "work", "d", "--workers", "8", "f", "g"],
+    ["mvo", "work", "--workers", "8", "d", "f", "g"],
+    ["mvo", "work", "d", "f", "g", "--workers", "8"],
+];
+
+#[test]
+fn jobs_are_asked_for(rt: HostRuntime) -> Result<(), Fail> {
+    for line in LINES {
+        match command(rt.alloc(), &line) {
+            Ok(Task::Work(task)) => asks_for(&rt, &task),
+            _ => return Err(Fail::from("no jobs are asked for")),
+        }
+    }
+    same(&rt, &Workers::new(0).is_some(), &false);
+    same(&rt, &Workers::new(1).is_some(), &true);
+    same(&rt, &Workers::new(64).is_some(), &true);
+    same(&rt, &Workers::new(65).is_some(), &false);
+    Ok(())
+}
+
+fn asks_for(rt: &impl Abort, task: &WorkTask<'_>) {
+    holds(rt, task.folder == "d");
+    same(rt, &task.workers.count(), &8);
+    let files = task.files();
+    holds(rt, files.len() == 2 && files[0] == "f" && files[1] == "g");
+}
