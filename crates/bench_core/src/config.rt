@@ -1,8 +1,9 @@
+use crate::part::Part;
 use anyhow::{Result, bail};
 use std::alloc::Global;
 use std::env;
 
-/// A workload beside the load, which always runs.
+/// A workload.
 #[derive(Clone, Copy, PartialEq, Eq)]
 pub enum Work {
     Load,
@@ -14,13 +15,20 @@ pub enum Work {
     Crowd,
     Stalls,
     Threads,
+    Steady,
+    Worn,
 }
+
+/// Those that load rows of their own.
+const APART: [Work; 4] = [Work::Stalls, Work::Threads, Work::Steady, Work::Worn];
 
 /// What is run, and how much of it.
 #[derive(Drop)]
 pub struct Config {
     /// How many rows are loaded.
     pub rows: u64,
+    /// How many bytes of data a row has.
+    pub data: u64,
     /// Transactions of one or two rows.
     pub transactions: u64,
     /// Transactions of ten or a hundred rows, and reads of an old reader.
@@ -29,18 +37,27 @@ pub struct Config {
     pub hot: u64,
     /// Transactions that stay open.
     pub open: u64,
+    /// Updates of few keys.
+    pub steady: u64,
+    /// So many rows are read or put from one turn of the upkeep to the next; 0 for none.
+    pub upkeep: u64,
     works: Vec<Work>,
+    parts: Vec<Part>,
 }
 
 impl Config {
     fn new(alloc: Global) -> Config {
         Config {
             rows: 1_000_000,
+            data: 100,
             transactions: 300_000,
             fewer: 10_000,
             hot: 100_000,
             open: 1_000,
+            steady: 10_000_000,
+            upkeep: 64,
             works: Vec::new(alloc),
+            parts: Vec::new(alloc),
         }
     }
 
@@ -53,12 +70,29 @@ impl Config {
         if config.rows % 2 != 0 || config.rows <= config.open.max(8) {
             bail!("rows has to be even, and more than 8 and than open");
         }
+        if config.data > 1_024 {
+            bail!("data has to be at most 1024");
+        }
         Ok(config)
+    }
+
+    /// Whether rows are to be loaded: for all workloads but those that load their own.
+    pub fn loads(&self) -> bool {
+        self.runs_all() || self.works.iter().any(|work| !APART.contains(work))
     }
 
     /// Whether the workload is to run.
     pub fn has(&self, work: Work) -> bool {
-        self.works.is_empty() || self.works.contains(&work)
+        self.runs_all() || self.works.contains(&work)
+    }
+
+    /// Whether the part is to be made.
+    pub fn has_part(&self, part: Part) -> bool {
+        self.runs_all() || self.parts.contains(&part)
+    }
+
+    fn runs_all(&self) -> bool {
+        self.works.is_empty() && self.parts.is_empty()
     }
 
     fn take(&mut self, word: &str) -> Result<()> {
@@ -71,17 +105,30 @@ impl Config {
     fn set(&mut self, name: &str, value: u64) -> Result<()> {
         match name {
             "rows" => self.rows = value,
+            "data" => self.data = value,
             "transactions" => self.transactions = value,
             "fewer" => self.fewer = value,
             "hot" => self.hot = value,
             "open" => self.open = value,
+            "steady" => self.steady = value,
+            "upkeep" => self.upkeep = value,
             _ => bail!("no number has this name"),
         }
         Ok(())
     }
 
     fn add(&mut self, word: &str) -> Result<()> {
-        let work = match word {
+        match Work::named(word) {
+            Some(work) => self.works.push(work)?,
+            None => self.parts.push(Part::named(word)?)?,
+        }
+        Ok(())
+    }
+}
+
+impl Work {
+    fn named(word: &str) -> Option<Work> {
+        Some(match word {
             "load" => Work::Load,
             "reads" => Work::Reads,
             "updates" => Work::Updates,
@@ -91,9 +138,9 @@ impl Config {
             "open" => Work::Crowd,
             "stalls" => Work::Stalls,
             "threads" => Work::Threads,
-            _ => bail!("no workload has this name"),
-        };
-        self.works.push(work)?;
-        Ok(())
+            "steady" => Work::Steady,
+            "worn" => Work::Worn,
+            _ => return None,
+        })
     }
 }

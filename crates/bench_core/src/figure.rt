@@ -54,6 +54,35 @@ impl<'a> Figure<'a> {
         Ok(())
     }
 
+    /// Prints how many of so many bytes of memory there are for one of the rows, each of which has
+    /// so many bytes of data.
+    pub fn tell_part(&self, rt: &impl Eprint, data: u64, bytes: u64) -> Result<()> {
+        let (name, rows) = (self.name, self.rows);
+        let each = bytes.checked_div(rows).unwrap_or(0);
+        eprintln!(rt;
+            "{{\"engine\":\"ravundi\",\"name\":\"{name}\",\"rows\":{rows},\"data\":{data},\"bytes_a_row\":{each}}}"
+        )?;
+        Ok(())
+    }
+
+    /// Prints how much memory there is after so many operations, and by how many parts of a
+    /// thousand that is more than it was first.
+    pub fn tell_memory(
+        &self,
+        rt: &impl Eprint,
+        operations: u64,
+        bytes: u64,
+        first: u64,
+    ) -> Result<()> {
+        let (name, rows) = (self.name, self.rows);
+        let more = bytes.saturating_sub(first).saturating_mul(1_000);
+        let more = more.checked_div(first).unwrap_or(0);
+        eprintln!(rt;
+            "{{\"engine\":\"ravundi\",\"name\":\"{name}\",\"rows\":{rows},\"operations\":{operations},\"bytes\":{bytes},\"grown_by_thousandths\":{more}}}"
+        )?;
+        Ok(())
+    }
+
     /// How many nanoseconds one of so many operations has taken.
     pub fn nanos(&self, rt: &impl Clock, operations: u64) -> Result<u128> {
         let nanos = self.start.elapsed(rt)?.as_nanos();

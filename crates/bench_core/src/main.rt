@@ -12,6 +12,8 @@ mod hot;
 mod keys;
 mod load;
 mod mixed;
+mod part;
+mod parts;
 mod power;
 mod reads;
 mod resident;
@@ -20,14 +22,18 @@ mod scans;
 mod session;
 mod shared;
 mod stalls;
+mod steady;
 mod stopped;
 mod threads;
 mod times;
 mod updates;
+mod upkeep;
+mod worn;
 mod zipf;
 
 use anyhow::Result;
 use config::{Config, Work};
+use part::PARTS;
 use session::Session;
 use std::rt::Runtime;
 use std::sync::Wait;
@@ -35,16 +41,24 @@ use std::thread::Threads;
 
 fn main(rt: HostRuntime) -> Result<()> {
     let config = Config::given(&rt)?;
-    let mut session = Session::new(rt.alloc())?;
-    run_on(&rt, &config, &mut session)?;
-    run_apart(&rt, &rt, &config)
+    if config.loads() {
+        run_on(&rt, &config)?;
+    }
+    run_apart(&rt, &rt, &config)?;
+    for part in PARTS {
+        if config.has_part(part) {
+            parts::run(&rt, &config, part)?;
+        }
+    }
+    Ok(())
 }
 
 /// What runs on one core, which is loaded first.
-fn run_on(rt: &HostRuntime, config: &Config, session: &mut Session) -> Result<()> {
-    load::run(rt, config, session)?;
-    run_plain(rt, config, session)?;
-    run_beside_old(rt, config, session)
+fn run_on(rt: &HostRuntime, config: &Config) -> Result<()> {
+    let mut session = Session::new(rt.alloc(), config.upkeep)?;
+    load::run(rt, config, &mut session)?;
+    run_plain(rt, config, &mut session)?;
+    run_beside_old(rt, config, &mut session)
 }
 
 /// What loads rows of its own.
@@ -58,6 +72,12 @@ fn run_apart<R: Runtime + Threads + Wait + Sync>(
     }
     if config.has(Work::Threads) {
         threads::run(threads, rt.alloc(), config)?;
+    }
+    if config.has(Work::Steady) {
+        steady::run(rt, config)?;
+    }
+    if config.has(Work::Worn) {
+        worn::run(rt, config)?;
     }
     Ok(())
 }

@@ -1,5 +1,6 @@
 use crate::rows::{TABLE, key_of};
 use crate::stopped::Stopped;
+use crate::upkeep::{MOST as MOST_COLLECTED, Upkeep};
 use mvo_core::{Core, Finishing, Settlement, Validation};
 use mvo_types::{Answer, Row, Rows, Stamp, TxId};
 use std::alloc::Global;
@@ -7,18 +8,24 @@ use std::alloc::Global;
 /// More checks and more words than a transaction has.
 pub const MOST: u64 = 10_000;
 
-/// A core, whose transactions are all to be committed: what is refused ends the run.
+/// A core, whose transactions are all to be committed: what is refused ends the run. Between two of
+/// them it does what is due of the upkeep.
 #[derive(Drop)]
 pub struct Session {
     alloc: Global,
     core: Core,
+    upkeep: Upkeep,
 }
 
 impl Session {
-    /// No rows yet.
-    pub fn new(alloc: Global) -> Result<Session, Stopped> {
+    /// No rows yet. The upkeep has its turn after every so many rows that are read or put.
+    pub fn new(alloc: Global, every: u64) -> Result<Session, Stopped> {
         let core = Core::open(alloc, 7, Rows::new(alloc), Stamp(0))?;
-        Ok(Session { alloc, core })
+        Ok(Session {
+            alloc,
+            core,
+            upkeep: Upkeep::new(alloc, every)?,
+        })
     }
 
     pub fn alloc(&self) -> Global {
@@ -26,11 +33,14 @@ impl Session {
     }
 
     pub fn begin(&mut self) -> Result<TxId, Stopped> {
-        Ok(self.core.begin_tx()?)
+        let tx = self.core.begin_tx()?;
+        self.upkeep.begun(tx)?;
+        Ok(tx)
     }
 
     /// The row at a key, which has one.
     pub fn read(&mut self, tx: TxId, key: u64) -> Result<Row, Stopped> {
+        self.upkeep.count(1);
         match self.core.read(tx, key_of(key))? {
             Answer::Found(Some(row)) => Ok(row),
             _ => Err(Stopped::Unexpected),
@@ -38,6 +48,7 @@ impl Session {
     }
 
     pub fn insert(&mut self, tx: TxId, row: Row) -> Result<(), Stopped> {
+        self.upkeep.count(1);
         match self.core.insert(tx, row)? {
             Answer::Inserted => Ok(()),
             _ => Err(Stopped::Unexpected),
@@ -45,6 +56,7 @@ impl Session {
     }
 
     pub fn update(&mut self, tx: TxId, row: Row) -> Result<(), Stopped> {
+        self.upkeep.count(1);
         match self.core.update(tx, row)? {
             Answer::Updated => Ok(()),
             _ => Err(Stopped::Unexpected),
@@ -53,17 +65,21 @@ impl Session {
 
     pub fn scan(&mut self, tx: TxId, low: u64, high: u64) -> Result<Vec<Row>, Stopped> {
         match self.core.scan(tx, TABLE, low, high)? {
-            Answer::Rows(rows) => Ok(rows),
+            Answer::Rows(rows) => {
+                self.upkeep.count(rows.len() as u64);
+                Ok(rows)
+            }
             _ => Err(Stopped::Unexpected),
         }
     }
 
-    /// The whole end of a transaction.
+    /// The whole end of a transaction, and what is due then.
     pub fn commit(&mut self, tx: TxId) -> Result<(), Stopped> {
         self.precommit(tx)?;
         self.validate(tx)?;
         self.settle(tx)?;
-        self.finish(tx)
+        self.finish(tx)?;
+        self.keep_up()
     }
 
     pub fn precommit(&mut self, tx: TxId) -> Result<(), Stopped> {
@@ -85,13 +101,58 @@ impl Session {
 
     /// One word, and whether it was the last.
     pub fn finish_one(&mut self, tx: TxId) -> Result<bool, Stopped> {
-        Ok(self.core.finish_one(tx)? == Finishing::Done)
+        let is_done = self.core.finish_one(tx)? == Finishing::Done;
+        if is_done {
+            self.upkeep.ended(tx);
+        }
+        Ok(is_done)
     }
 
-    /// Takes a transaction back.
+    /// Takes a transaction back, and does what is due then.
     pub fn roll_back(&mut self, tx: TxId) -> Result<(), Stopped> {
         self.core.rollback_tx(tx)?;
-        self.finish(tx)
+        self.finish(tx)?;
+        self.keep_up()
+    }
+
+    /// Whether the upkeep is to have its turn.
+    pub fn is_due(&mut self) -> bool {
+        self.upkeep.is_due()
+    }
+
+    /// The first step of a turn: what was committed goes into a group.
+    pub fn close_group(&mut self) -> Result<(), Stopped> {
+        self.upkeep.close_group(&mut self.core)
+    }
+
+    /// The second: the tale is trimmed.
+    pub fn trim(&mut self) -> Result<(), Stopped> {
+        self.upkeep.trim(&mut self.core)
+    }
+
+    /// One of those behind: a version is collected. Whether there was one.
+    pub fn collect_one(&mut self) -> bool {
+        self.upkeep.collect_one(&mut self.core)
+    }
+
+    /// Whether versions are to be collected from now on.
+    pub fn collect(&mut self, collects: bool) {
+        self.upkeep.collect(collects);
+    }
+
+    /// A turn of the upkeep, if one is due.
+    fn keep_up(&mut self) -> Result<(), Stopped> {
+        if !self.is_due() {
+            return Ok(());
+        }
+        self.close_group()?;
+        self.trim()?;
+        for _ in 0..MOST_COLLECTED {
+            if !self.collect_one() {
+                break;
+            }
+        }
+        Ok(())
     }
 
     fn validate(&mut self, tx: TxId) -> Result<(), Stopped> {

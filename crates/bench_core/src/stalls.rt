@@ -3,8 +3,9 @@ use crate::figure::Figure;
 use crate::rows::loaded;
 use crate::session::{MOST, Session};
 use crate::times::Times;
+use crate::upkeep::MOST as MOST_COLLECTED;
 use anyhow::{Result, bail};
-use mvo_types::TxId;
+use mvo_types::{Row, TxId};
 use std::time::Instant;
 
 /// Each call is made in so many rounds, and the least of its times counts: other programs stop a
@@ -14,25 +15,35 @@ const ROUNDS: usize = 5;
 /// So many rows a transaction.
 const EACH: u64 = 100;
 
-/// The longest single call of the core while the rows are inserted into one that has none.
+/// The longest single call of the core while the rows are inserted into one that has none, those of
+/// the upkeep among them.
 pub fn run(rt: &HostRuntime, config: &Config) -> Result<()> {
     let mut times = Times::new(rt.alloc());
     for _ in 0..ROUNDS {
         times.restart();
-        let mut session = Session::new(rt.alloc())?;
-        insert_all(rt, config.rows, &mut session, &mut times)?;
+        let mut session = Session::new(rt.alloc(), config.upkeep)?;
+        insert_all(rt, config, &mut session, &mut times)?;
     }
     Figure::start(rt, config, "longest_call")?.tell_nanos(rt, times.calls(), times.longest())
 }
 
-fn insert_all(rt: &HostRuntime, rows: u64, session: &mut Session, times: &mut Times) -> Result<()> {
-    for batch in 0..rows / EACH {
+fn insert_all(
+    rt: &HostRuntime,
+    config: &Config,
+    session: &mut Session,
+    times: &mut Times,
+) -> Result<()> {
+    for batch in 0..config.rows / EACH {
         let from = batch.saturating_mul(EACH);
         let tx = begin(rt, session, times)?;
         for key in from..from.saturating_add(EACH) {
-            insert(rt, session, times, tx, key)?;
+            let row = loaded(session.alloc(), key, config.data)?;
+            insert(rt, session, times, tx, row)?;
         }
         commit(rt, session, times, tx)?;
+        if session.is_due() {
+            keep_up(rt, session, times)?;
+        }
     }
     Ok(())
 }
@@ -49,9 +60,8 @@ fn insert(
     session: &mut Session,
     times: &mut Times,
     tx: TxId,
-    key: u64,
+    row: Row,
 ) -> Result<()> {
-    let row = loaded(session.alloc(), key)?;
     let start = Instant::now(rt)?;
     session.insert(tx, row)?;
     times.note(start.elapsed(rt)?)
@@ -108,4 +118,27 @@ fn finish_one(
     let is_done = session.finish_one(tx)?;
     times.note(start.elapsed(rt)?)?;
     Ok(is_done)
+}
+
+/// A turn of the upkeep, call by call.
+fn keep_up(rt: &HostRuntime, session: &mut Session, times: &mut Times) -> Result<()> {
+    let start = Instant::now(rt)?;
+    session.close_group()?;
+    times.note(start.elapsed(rt)?)?;
+    let start = Instant::now(rt)?;
+    session.trim()?;
+    times.note(start.elapsed(rt)?)?;
+    for _ in 0..MOST_COLLECTED {
+        if !collect_one(rt, session, times)? {
+            return Ok(());
+        }
+    }
+    Ok(())
+}
+
+fn collect_one(rt: &HostRuntime, session: &mut Session, times: &mut Times) -> Result<bool> {
+    let start = Instant::now(rt)?;
+    let is_collected = session.collect_one();
+    times.note(start.elapsed(rt)?)?;
+    Ok(is_collected)
 }

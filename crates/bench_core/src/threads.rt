@@ -1,4 +1,5 @@
-//! Two reads and two updates a transaction, through sessions of an engine, in several threads.
+//! Two reads and two updates a transaction, through sessions of an engine, in several threads. No
+//! guard of an engine trims or collects, so this workload alone has no upkeep.
 ghost use Rattle.mvo_engine.specs.Opened.{IsNamedBy};
 
 use crate::checksum::Checksum;
@@ -30,6 +31,7 @@ const EACH: u64 = 100;
 #[derive(Clone, Copy)]
 struct Task<'a> {
     rows: u64,
+    data: u64,
     keys: &'a Keys,
     count: u64,
     threads: usize,
@@ -55,6 +57,7 @@ pub fn run<R: Runtime + Threads + Wait + Sync>(
     for (threads, name) in [(1, "threads_1"), (2, "threads_2"), (4, "threads_4")] {
         let task = Task {
             rows,
+            data: config.data,
             keys: &keys,
             count,
             threads,
@@ -113,7 +116,7 @@ fn on_engine<L: Run + Send + Sync, D: Disk + Send, R: Clock + Threads + Wait + S
     engine: &Engine<L, D, OpenGate>,
     task: Task<'_>,
 ) -> Result<Done, Stopped> {
-    load(rt, alloc, engine, task.rows)?;
+    load(rt, alloc, engine, task)?;
     let Ok(start) = Instant::now(rt) else {
         return Err(Stopped::Unexpected);
     };
@@ -169,18 +172,13 @@ fn load<L: Run, D: Disk, G: Gate + Drop, R: Wait>(
     rt: &R,
     alloc: Global,
     engine: &Engine<L, D, G>,
-    rows: u64,
+    task: Task<'_>,
 ) -> Result<(), Refusal> {
     let mut session = engine.session(rt)?;
-    for batch in 0..rows.saturating_add(EACH - 1) / EACH {
+    for batch in 0..task.rows.saturating_add(EACH - 1) / EACH {
         let from = batch.saturating_mul(EACH);
-        put(
-            rt,
-            alloc,
-            &mut session,
-            from,
-            from.saturating_add(EACH).min(rows),
-        )?;
+        let to = from.saturating_add(EACH).min(task.rows);
+        put(rt, alloc, &mut session, (from, to), task.data)?;
     }
     Ok(())
 }
@@ -190,12 +188,12 @@ fn put<L: Run, D: Disk, G: Gate + Drop, R: Wait>(
     rt: &R,
     alloc: Global,
     session: &mut Session<'_, L, D, G>,
-    from: u64,
-    to: u64,
+    (from, to): (u64, u64),
+    data: u64,
 ) -> Result<(), Refusal> {
     session.begin_tx(rt)?;
     for key in from..to {
-        session.insert(rt, loaded(alloc, key)?)?;
+        session.insert(rt, loaded(alloc, key, data)?)?;
     }
     session.commit_tx(rt)?;
     Ok(())

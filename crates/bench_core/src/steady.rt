@@ -1,0 +1,35 @@
+use crate::checksum::Checksum;
+use crate::config::Config;
+use crate::figure::Figure;
+use crate::keys::mixed;
+use crate::load::insert_all;
+use crate::mixed::update_one;
+use crate::resident::anonymous;
+use crate::session::Session;
+use anyhow::Result;
+
+/// So many rows, of which each update takes one.
+pub const KEYS: u64 = 1_000;
+
+/// The memory is looked at so many times.
+const PARTS: u64 = 10;
+
+/// Updates few rows again and again, and prints how much memory there is after each part: it is to
+/// stay what it was after the first.
+pub fn run(rt: &HostRuntime, config: &Config) -> Result<()> {
+    let mut session = Session::new(rt.alloc(), config.upkeep)?;
+    let mut sum = insert_all(&mut session, KEYS, config.data)?;
+    let figure = Figure::start(rt, config, "steady_update")?;
+    let each = config.steady / PARTS;
+    let mut first = 0;
+    for part in 0..PARTS {
+        let from = part.wrapping_mul(each);
+        for at in from..from.saturating_add(each) {
+            update_one(&mut session, mixed(at) % KEYS, &mut sum)?;
+        }
+        let bytes = anonymous(rt);
+        first = if part == 0 { bytes } else { first };
+        figure.tell_memory(rt, from.saturating_add(each), bytes, first)?;
+    }
+    figure.tell(rt, each.saturating_mul(PARTS), sum)
+}

@@ -1,0 +1,103 @@
+use crate::checksum::Checksum;
+use crate::config::Config;
+use crate::figure::Figure;
+use crate::load::insert_all;
+use crate::mixed::{read_one, update_one};
+use crate::session::Session;
+use crate::steady::KEYS;
+use crate::stopped::Stopped;
+use anyhow::Result;
+
+const KEY: u64 = 7;
+
+/// Each is timed in so many rounds, and the least time counts, since other programs take time too.
+const ROUNDS: u64 = 5;
+
+/// What an update and a new read of a key and collecting one of its versions take, after none, a
+/// tenth and all of so many of its versions were written and collected.
+pub fn run(rt: &HostRuntime, config: &Config) -> Result<()> {
+    let mut session = Session::new(rt.alloc(), config.upkeep)?;
+    insert_all(&mut session, KEYS, config.data)?;
+    let mut written = 0;
+    for upto in [0, config.steady / 10, config.steady] {
+        update_all(&mut session, upto.saturating_sub(written))?;
+        written = upto;
+        measure(rt, config, &mut session, upto)?;
+    }
+    Ok(())
+}
+
+/// The least nanoseconds of an update, a read and a collection, and what was read.
+#[derive(Clone, Copy)]
+struct Least {
+    update: u128,
+    read: u128,
+    collection: u128,
+    sum: Checksum,
+}
+
+/// Times the rounds, and prints the least times.
+fn measure(rt: &HostRuntime, config: &Config, session: &mut Session, upto: u64) -> Result<()> {
+    let mut least = Least {
+        update: u128::MAX,
+        read: u128::MAX,
+        collection: u128::MAX,
+        sum: Checksum(0),
+    };
+    for _ in 0..ROUNDS {
+        run_round(rt, config, session, &mut least)?;
+    }
+    let alloc = session.alloc();
+    let name = format!(in alloc; "worn_update_after_{upto}")?;
+    Figure::start(rt, config, name.as_str())?.tell_nanos(rt, config.hot, least.update)?;
+    let name = format!(in alloc; "worn_collection_after_{upto}")?;
+    Figure::start(rt, config, name.as_str())?.tell_nanos(rt, config.hot, least.collection)?;
+    let name = format!(in alloc; "worn_read_after_{upto}")?;
+    let figure = Figure::start(rt, config, name.as_str())?;
+    figure.tell_sum(rt, least.sum)?;
+    figure.tell_nanos(rt, config.hot, least.read)
+}
+
+/// Updates the key, reads it, and has as many of its versions come together as it then collects.
+fn run_round(
+    rt: &HostRuntime,
+    config: &Config,
+    session: &mut Session,
+    least: &mut Least,
+) -> Result<()> {
+    let figure = Figure::start(rt, config, "worn")?;
+    update_all(session, config.hot)?;
+    least.update = least.update.min(figure.nanos(rt, config.hot)?);
+    let figure = Figure::start(rt, config, "worn")?;
+    for _ in 0..config.hot {
+        read_one(session, KEY, &mut least.sum)?;
+    }
+    least.read = least.read.min(figure.nanos(rt, config.hot)?);
+    session.collect(false);
+    update_all(session, config.hot)?;
+    session.close_group()?;
+    session.trim()?;
+    session.collect(true);
+    let figure = Figure::start(rt, config, "worn")?;
+    let count = collect_all(session);
+    least.collection = least.collection.min(figure.nanos(rt, count)?);
+    Ok(())
+}
+
+fn update_all(session: &mut Session, count: u64) -> Result<(), Stopped> {
+    let mut sum = Checksum(0);
+    for _ in 0..count {
+        update_one(session, KEY, &mut sum)?;
+    }
+    Ok(())
+}
+
+/// Collects all that there is, and answers how many versions that was.
+fn collect_all(session: &mut Session) -> u64 {
+    for count in 0..u64::MAX {
+        if !session.collect_one() {
+            return count;
+        }
+    }
+    u64::MAX
+}

@@ -1,0 +1,127 @@
+//! Durable commits of many sessions of one engine, with one thread that flushes.
+ghost use Rattle.mvo_engine.specs.Opened.{IsNamedBy};
+
+use anyhow::{Result, bail};
+use mvo_disk::Disk;
+use mvo_engine::{Engine, Fresh, OpenGate, Run, Session};
+use mvo_types::{Refusal, Row, RowKey, Stamp};
+use std::alloc::{AllocError, Global};
+use std::marker::Brand;
+use std::sync::Wait;
+use std::sync::atomic::{AtomicUsize, Ordering};
+use std::thread;
+use std::thread::Threads;
+
+/// The seed of the store's tables.
+const SEED: u64 = 7;
+
+/// So many sessions over the store on the disk, each of which commits a transaction of one row of
+/// 100 bytes and waits until it is durable, so many times. Answers the mark at the end.
+pub fn run<D: Disk + Drop + Send, R: Threads + Wait + Sync>(
+    rt: &R,
+    alloc: Global,
+    disk: D,
+    sessions: usize,
+    commits: u64,
+) -> Result<Stamp> {
+    let told = match Fresh::open(rt, alloc, SEED, disk) {
+        Ok(fresh) => run_in::<Brand, D, R>(rt, alloc, fresh, sessions, commits),
+        Err((refusal, _disk)) => Err(refusal),
+    };
+    match told {
+        Ok(mark) => Ok(mark),
+        Err(refusal) => bail!("the sessions are stopped: {refusal}"),
+    }
+}
+
+/// The same for every run, which its parts name.
+fn run_in<L: Run + Send + Sync, D: Disk + Drop + Send, R: Threads + Wait + Sync>(
+    rt: &R,
+    alloc: Global,
+    fresh: Fresh<D>,
+    sessions: usize,
+    commits: u64,
+) -> Result<Stamp, Refusal>
+    requires { IsNamedBy D.Disk L.image L.marks L.ring fresh }
+{
+    let engine = Engine::<L, D, OpenGate>::new(fresh, OpenGate);
+    let shared = &engine;
+    let ended = AtomicUsize::new(0);
+    let (flushed, done) = thread::join(
+        rt,
+        || flush_until(rt, shared, &ended, sessions),
+        || {
+            thread::map_indices(
+                rt,
+                alloc,
+                sessions,
+                &|session| work(rt, alloc, shared, &ended, session, commits),
+            )
+        },
+    );
+    for one in done? {
+        one?;
+    }
+    flushed
+}
+
+/// Flushes until so many sessions have ended.
+fn flush_until<L: Run, D: Disk, R: Wait>(
+    rt: &R,
+    engine: &Engine<L, D, OpenGate>,
+    ended: &AtomicUsize,
+    sessions: usize,
+) -> Result<Stamp, Refusal> {
+    for _ in rt.forever() {
+        let mark = engine.flush(rt)?;
+        if ended.load(Ordering::SeqCst) >= sessions {
+            return Ok(mark);
+        }
+    }
+    unreachable!()
+}
+
+/// The commits of one session.
+fn work<L: Run, D: Disk, R: Wait>(
+    rt: &R,
+    alloc: Global,
+    engine: &Engine<L, D, OpenGate>,
+    ended: &AtomicUsize,
+    session: usize,
+    commits: u64,
+) -> Result<(), Refusal> {
+    let result = commit_all(rt, alloc, engine, session, commits);
+    ended.fetch_add(1, Ordering::SeqCst);
+    result
+}
+
+fn commit_all<L: Run, D: Disk, R: Wait>(
+    rt: &R,
+    alloc: Global,
+    engine: &Engine<L, D, OpenGate>,
+    session: usize,
+    commits: u64,
+) -> Result<(), Refusal> {
+    let first = (session as u64).wrapping_mul(commits);
+    let mut session = engine.session(rt)?;
+    for number in 0..commits {
+        let end = commit_one(rt, alloc, &mut session, first.wrapping_add(number))?;
+        session.wait_durable(rt, end)?;
+    }
+    Ok(())
+}
+
+fn commit_one<L: Run, D: Disk, R: Wait>(
+    rt: &R,
+    alloc: Global,
+    session: &mut Session<'_, L, D, OpenGate>,
+    key: u64,
+) -> Result<Stamp, Refusal> {
+    session.begin_tx(rt)?;
+    session.insert(rt, row_of(alloc, key)?)?;
+    session.commit_tx(rt)
+}
+
+fn row_of(alloc: Global, key: u64) -> Result<Row, AllocError> {
+    Row::new(RowKey { table: 0, key }, key, vec![in alloc; 0x5au8; 100]?)
+}
