@@ -362,7 +362,7 @@ fn assert_met(rt: &impl Abort, counts: &Counts, met: &Met) {
         (met.in_install, 87),
         (met.slot_left_open, 36),
         (met.slot_left_closed, 6),
-        (met.in_reclaim, 35),
+        (met.in_reclaim, 25),
         (met.torn, 275),
         (met.rows, 2_000),
         (met.old_answers, 3),
