@@ -1,20 +1,13 @@
 ghost use Rattle.std.specs.Prelude.{◌≡◌, IfOk, length};
 
-use smallvec::SmallVec;
+use crate::block::Block;
 use std::alloc::{AllocError, Global};
 use std::fmt;
 use std::marker::Model;
-use std::sync::Arc;
 
-/// As many bytes as lie beside the count of their owners: the block then takes 136 bytes, and an
-/// allocator that keeps 8 bytes of its own for each block and goes by 16 gives just that.
-const BESIDE: usize = 112;
-
-/// Bytes whose copies share them. Up to 112 lie in one block with the count of their owners, so who
-/// counts as an owner has fetched them; more than that lie in a block of their own. Contracts see
-/// the list.
+/// Bytes whose copies share them. Contracts see the list.
 pub(crate) struct SharedBytes {
-    block: Arc<SmallVec<u8, BESIDE>>,
+    block: Block,
 }
 
 impl Drop for SharedBytes {
@@ -25,11 +18,13 @@ impl Drop for SharedBytes {
 
 impl Model for SharedBytes {
     ghost use Rattle.std.specs.Prelude.{ℕ, List};
-    ghost use Rattle.std.specs.Arc.{arc_value};
+    ghost use Rattle.mvo_types.specs.Blocks.{block_bytes, IsBlock};
 
     ghost Value = { List ℕ };
 
-    ghost view = { λ b. (arc_value b.block).items };
+    ghost view = { λ b. block_bytes b.block };
+
+    ghost invariant = { λ b. IsBlock b.block };
 }
 
 impl SharedBytes {
@@ -37,7 +32,7 @@ impl SharedBytes {
     pub(crate) fn from_slice(alloc: Global, bytes: &[u8]) -> Result<SharedBytes, AllocError>
         ensures { IfOk result (λ b. b ≡ bytes.now) }
     {
-        let block = Arc::new(alloc, SmallVec::from_slice(alloc, bytes)?)?;
+        let block = Block::from_slice(alloc, bytes)?;
         Ok(SharedBytes { block })
     }
 
@@ -60,7 +55,7 @@ impl SharedBytes {
         ensures { IfOk result (λ b. b ≡ self.now) }
     {
         Ok(SharedBytes {
-            block: self.block.clone()?,
+            block: self.block.share()?,
         })
     }
 }
