@@ -16,6 +16,7 @@ use Rattle.mvo_theory.proofs.Each.{each_append, each_weaker}
 use Rattle.mvo_theory.proofs.Stays.{stays_after_call}
 use Rattle.mvo_core.specs.declared.answers.Closed as closing
 use Rattle.mvo_core.specs.Data.{CoreData}
+use Rattle.mvo_core.specs.Seen.{clock_of}
 use Rattle.mvo_core.specs.Standing.{Stands, StandsFor}
 use Rattle.mvo_core.specs.Groups.{AreGroupsOf}
 use Rattle.mvo_core.specs.Steps.{came, IsStep}
@@ -103,8 +104,8 @@ module _ {image : Image} {c : CoreData} {sent : List GroupData} (i : IsSoundCore
     ends =
         let is = i.stands.dependencies.stands.clock in
         let started = i.stands.versions.kept.started in
-        each_append (λ (x : StampedTx). x.end ≤ c.table.clock) i.state.past i.state.stamped
-        (each_weaker (IsPast i.state.start) (λ (x : StampedTx). x.end ≤ c.table.clock) (λ x p. let le = p.until in let drawn = started.drawn in omega (arith, is, le, drawn)) i.state.past started.past)
-        (each_weaker (IsPlaced i.state.stamped i.state.clock) (λ (x : StampedTx). x.end ≤ c.table.clock) (λ x p. let le = p.drawn in omega (arith, is, le)) i.state.stamped i.stands.versions.kept.sound.placed);
+        each_append (λ (x : StampedTx). x.end ≤ clock_of c) i.state.past i.state.stamped
+        (each_weaker (IsPast i.state.start) (λ (x : StampedTx). x.end ≤ clock_of c) (λ x p. let le = p.until in let drawn = started.drawn in omega (arith, is, le, drawn)) i.state.past started.past)
+        (each_weaker (IsPlaced i.state.stamped i.state.clock) (λ (x : StampedTx). x.end ≤ clock_of c) (λ x p. let le = p.drawn in omega (arith, is, le)) i.state.stamped i.stands.versions.kept.sound.placed);
     groups = i.groups;
   }

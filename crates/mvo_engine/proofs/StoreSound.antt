@@ -1,5 +1,5 @@
 -- The store under its lock stays sound, and what a stop leaves of it.
-use Rattle.std.proofs.Common.{◌≡◌, inl, inr, ℕ, ◌≤◌, Bool, true, false, cond, List, [], ◌∷◌, ◌++◌, Option, None, Some, Result, Ok, Err, refl, sym, ap, ◌∙◌, subst, arith, append-nil}
+use Rattle.std.proofs.Common.{◌≡◌, inl, inr, ℕ, ◌≤◌, List, [], ◌∷◌, ◌++◌, Option, None, Some, Result, Ok, Err, refl, sym, ap, ◌∙◌, subst, arith, append-nil}
 use Rattle.std.specs.Prelude.{OnOk}
 use Rattle.std.specs.Option.{option_to_list}
 use Rattle.mvo_types.specs.declared.refusal.Refusal.{Refusal}
@@ -15,7 +15,7 @@ use Rattle.mvo_store.specs.StoreData.{StoreData, opening}
 use Rattle.mvo_store.specs.Standing.{Gives, GivesOr, FollowsMark, HasSlots, KeepsRows, Keeps, IsKeeping, after_taken}
 use Rattle.mvo_store.specs.Calls.{StoreCall, IsStoreStep}
 use Rattle.mvo_store.proofs.Taken.{KeepsTaken, IsQuiet, quiet_taken, quiet_rows}
-use Rattle.mvo_world.proofs.Standing.{mark_after-append}
+use Rattle.mvo_world.proofs.Standing.{mark_after-append, opening_pending}
 use Rattle.mvo_engine.specs.Sound.{IsSoundStore, GivesReceived, last_mark}
 
 pub on_ok : {A E : Type 0} (result : Result A E) (P : Type 0) → P → OnOk result P
@@ -48,7 +48,7 @@ module _ {D : Type 0} (d : Ghosts D) {image : Image} {s : StoreData D} {received
   next_follows none g is = is ∙ ap last_mark (received_all none) ∙ sym i.mark_is
 
   -- over the taking of a group
-  pub taken_in : (t : StoreData D) (received' : List GroupData) (g : GroupData) → IsGroup g → pending_of s ≡ None → received' ≡ received ++ g ∷ [] → pending_of t ≡ Some g → mark_of t ≡ (mark_of s) → g.prev ≡ (mark_of s) → Keeps d s t → IsSoundStore d image t received'
+  pub taken_in : (t : StoreData D) (received' : List GroupData) (g : GroupData) → IsGroup g → pending_of s ≡ None → received' ≡ received ++ g ∷ [] → pending_of t ≡ Some g → mark_of t ≡ mark_of s → g.prev ≡ mark_of s → Keeps d s t → IsSoundStore d image t received'
   taken_in t received' g is none there pending mark prev keeps = record {
     rows = i.rows;
     mark = i.mark;
@@ -105,12 +105,6 @@ module _ {D : Type 0} (d : Ghosts D) {image : Image} {s : StoreData D} {received
           covers = omega (arith, last, up);
         }
 
-    pub with_or_without : (b : Bool) (o : Option GroupData) → pending_of s ≡ o → ((g : GroupData) → pending_of s ≡ Some g → mark_of s ≤ g.mark) → GivesOr (after_groups i.rows i.durable) (mark_of s) (cond b o None) left → GivesReceived image received (mark_of s) left
-    with_or_without false o e up gives = without gives
-    with_or_without true None e up gives = without gives
-    with_or_without true (Some g) e up (inl gives) = without gives
-    with_or_without true (Some g) e up (inr gives) = with_opening g e (up g e) gives
-
   pub above : (g : GroupData) → pending_of s ≡ Some g → mark_of s ≤ g.mark
   above g there =
       let f : FollowsMark (mark_of s) (Some g) = subst (FollowsMark (mark_of s)) there i.follows in
@@ -118,7 +112,14 @@ module _ {D : Type 0} (d : Ghosts D) {image : Image} {s : StoreData D} {received
       let lt = f.1.rules.above in
       omega (arith, prev, lt)
 
+  with_or_without : (left : Image) → HasSlots left → (o : Option GroupData) → opening s ≡ o → GivesOr (after_groups i.rows i.durable) (mark_of s) o left → GivesReceived image received (mark_of s) left
+  with_or_without left slots None e gives = without left slots gives
+  with_or_without left slots (Some g) e (inl gives) = without left slots gives
+  with_or_without left slots (Some g) e (inr gives) =
+      let there = opening_pending s g e in
+      with_opening left slots g there (above g there) gives
+
   pub received_image : HasSlots image → (left : Image) → AllOf (d.may_leave (disk_of s)) left → GivesReceived image received (mark_of s) left
   received_image slots left of =
       let may = (i.keeps slots).images left of in
-      with_or_without left may.slots s.written (pending_of s) refl above may.gives
+      with_or_without left may.slots (opening s) refl may.gives

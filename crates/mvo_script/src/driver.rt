@@ -82,7 +82,7 @@ impl<D: Disk> Driver<D> {
 
     /// The mark of its world.
     pub fn mark(&self) -> Stamp
-        ensures { result.0 ≡ self.now.world.store.mark }
+        ensures { result.0 ≡ mark_of self.now.world.store }
     {
         self.world.mark()
     }

@@ -22,6 +22,7 @@ use Rattle.mvo_theory.proofs.Each.{each_weaker, each_append}
 use Rattle.mvo_theory.proofs.Stays.{stays_after_call}
 use Rattle.mvo_collect.specs.declared.collection.Collection.{Collection}
 use Rattle.mvo_core.specs.declared.answers.Closed as closing
+use Rattle.mvo_core.specs.Seen.{closed_mark_of}
 use Rattle.mvo_core.specs.Standing.{StandsFor}
 use Rattle.mvo_core.proofs.Begun.{still_closed}
 use Rattle.mvo_store.specs.Frames.{mark_after}
@@ -53,8 +54,8 @@ follow_push : (m last : ℕ) (gs : List GroupData) (g : GroupData) → Follow m 
 follow_push m last [] g h e = (e ∙ sym h, refl)
 follow_push m last (x ∷ gs) g h e = (h.0, follow_push x.mark last gs g h.1 e)
 
-pub linked_closed : {D : Type 0} (w : WorldData D) (g : GroupData) → g.prev ≡ w.core.closed → IsLinked w → Follow (mark_of w.store) (option_to_list (pending_of w.store) ++ (w.ring ++ g ∷ [])) g.mark
-linked_closed w g e h = subst (λ gs. Follow (mark_of w.store) gs g.mark) (append_assoc (option_to_list (pending_of w.store)) w.ring (g ∷ [])) (follow_push (mark_of w.store) w.core.closed (waiting w) g h e)
+pub linked_closed : {D : Type 0} (w : WorldData D) (g : GroupData) → g.prev ≡ closed_mark_of w.core → IsLinked w → Follow (mark_of w.store) (option_to_list (pending_of w.store) ++ (w.ring ++ g ∷ [])) g.mark
+linked_closed w g e h = subst (λ gs. Follow (mark_of w.store) gs g.mark) (append_assoc (option_to_list (pending_of w.store)) w.ring (g ∷ [])) (follow_push (mark_of w.store) (closed_mark_of w.core) (waiting w) g h e)
 
 pub groups_closed : (s : State) (n m : ℕ) (gs : List GroupData) → AreGroupsOf s m gs → AreGroupsOf (after_close s n) m gs
 groups_closed s n m [] h = tt
@@ -65,8 +66,8 @@ pub group_there : (o : Option GroupData) (P : GroupData → Type 0) → is_some 
 group_there None P e h = absurd (false≢true e)
 group_there (Some g) P e h = (g, refl, h)
 
-pub nothing_taken : {D : Type 0} (s : StoreData D) → why_not_take s ≡ None → s.pending ≡ None
-nothing_taken {D} s e = go s.down s.pending e
+pub nothing_taken : {D : Type 0} (s : StoreData D) → why_not_take s ≡ None → pending_of s ≡ None
+nothing_taken s e = go _ _ e
   where
     go : (b : Bool) (o : Option GroupData) → cond b (Some Down) (cond (is_some o) (Some Busy) None) ≡ None → o ≡ None
     go true o f = absurd cc
@@ -158,7 +159,7 @@ module _ {D : Type 0} (d : Ghosts D) where
   meanwhile p w w' h only = weaker d.moment d.left_since (disk_of w.store) (disk_of w'.store) (MayBeLeft (after_groups p.rows h.sent) (mark_of w.store) (opening w.store)) (RecoversPrefix p) (λ image gives. prefix_image d p w h image gives) only
 
   -- ---- the store goes on, and no group becomes durable
-  moved_after : (p : Past) (w w' : WorldData D) → w'.core ≡ w.core → waiting w' ≡ waiting w → mark_of w'.store ≡ (mark_of w.store) → (h : IsAfter d p w) → KeepsRows d w'.store (after_groups p.rows h.sent) → IsAfter d p w'
+  moved_after : (p : Past) (w w' : WorldData D) → w'.core ≡ w.core → waiting w' ≡ waiting w → mark_of w'.store ≡ mark_of w.store → (h : IsAfter d p w) → KeepsRows d w'.store (after_groups p.rows h.sent) → IsAfter d p w'
   moved_after p w w' core wait mark h keeps = record {
     sent = h.sent;
     state = h.state;
@@ -173,7 +174,7 @@ module _ {D : Type 0} (d : Ghosts D) where
     covers = subst (λ m. AllByRecursion (λ n. n ≤ m) p.acknowledged) (sym mark) h.covers;
   }
 
-  pub moved : (IsReply : WorldData D → Event → Reply → WorldData D → Type 0) (w w' : WorldData D) (e : Event) (r : Reply) → IsSilent e r → IsReply w e r w' → w'.core ≡ w.core → waiting w' ≡ waiting w → mark_of w'.store ≡ (mark_of w.store) → Keeps d w.store w'.store
+  pub moved : (IsReply : WorldData D → Event → Reply → WorldData D → Type 0) (w w' : WorldData D) (e : Event) (r : Reply) → IsSilent e r → IsReply w e r w' → w'.core ≡ w.core → waiting w' ≡ waiting w → mark_of w'.store ≡ mark_of w.store → Keeps d w.store w'.store
       → IsStepBy IsReply d w e r w'
   moved IsReply w w' e r silent reply core wait mark keeps = record {
     reply = reply;
@@ -307,11 +308,11 @@ module _ {D : Type 0} (d : Ghosts D) where
             let now = came.1.2 in
             let is = group_of_next p.rows p.steps s g now.commits h.core.versions.kept h.closed now.next now.records now.rules in
             let up : IsClosedAt c.mark.0 s = subst (λ (m : ℕ). IsClosedAt m s) now.mark is.closed in
-            let wait : waiting w' ≡ waiting w ++ g ∷ [] = ap (λ (t : StoreData D). option_to_list t.pending ++ w'.ring) store ∙ ap (λ (gs : List GroupData). option_to_list (pending_of w.store) ++ gs) ring ∙ sym (append_assoc (option_to_list (pending_of w.store)) w.ring (g ∷ [])) in
+            let wait : waiting w' ≡ waiting w ++ g ∷ [] = ap (λ (t : StoreData D). option_to_list (pending_of t) ++ w'.ring) store ∙ ap (λ (gs : List GroupData). option_to_list (pending_of w.store) ++ gs) ring ∙ sym (append_assoc (option_to_list (pending_of w.store)) w.ring (g ∷ [])) in
             let list : (h.sent ++ waiting w) ++ g ∷ [] ≡ h.sent ++ waiting w' = append_assoc h.sent (waiting w) (g ∷ []) ∙ ap (λ gs. h.sent ++ gs) (sym wait) in
             let prev_is : g.prev ≡ mark_after first (h.sent ++ waiting w) =
             now.next.prev ∙ ap (λ (m : Marks). m.closed) h.core.marks
-            ∙ sym (follow_to (mark_of w.store) w.core.closed (waiting w) linked)
+            ∙ sym (follow_to (mark_of w.store) (closed_mark_of w.core) (waiting w) linked)
             ∙ ap (λ (m : ℕ). mark_after m (waiting w)) h.mark
             ∙ sym (mark_after-append first h.sent (waiting w)) in
             subst (λ (q : Past). IsAfter d q w') (past_is p CloseGroup (Closed c) p.steps p.acknowledged (p.closed ++ g.mark ∷ []) (append-nil p.steps) (append-nil p.acknowledged) (ap (λ n. p.closed ++ n ∷ []) (sym now.mark))) (record {
@@ -322,10 +323,10 @@ module _ {D : Type 0} (d : Ghosts D) where
               before = record { drawn = h.before.drawn; above = h.before.above };
               none = h.none;
               store = subst (λ (t : StoreData D). KeepsRows d t (after_groups p.rows h.sent)) (sym store) h.store;
-              mark = ap (λ (t : StoreData D). t.mark) store ∙ h.mark;
+              mark = ap (λ (t : StoreData D). mark_of t) store ∙ h.mark;
               groups = subst (AreGroupsOf (after_close s c.mark.0) first) list (groups_closed s c.mark.0 first ((h.sent ++ waiting w) ++ g ∷ []) (groups_push s first (h.sent ++ waiting w) g h.groups prev_is is));
               marks = ap (map (λ x. x.mark)) (sym list) ∙ map-append (λ x. x.mark) (h.sent ++ waiting w) (g ∷ []) ∙ ap (λ ms. ms ++ g.mark ∷ []) h.marks;
-              covers = subst (λ (t : StoreData D). AllByRecursion (λ m. m ≤ t.mark) p.acknowledged) (sym store) h.covers;
+              covers = subst (λ (t : StoreData D). AllByRecursion (λ m. m ≤ mark_of t) p.acknowledged) (sym store) h.covers;
             })
 
     -- closing a group is refused
@@ -340,7 +341,7 @@ module _ {D : Type 0} (d : Ghosts D) where
         after p h =
             let store = reply.store in
             let came = reply.closing p.rows p.steps h.state h.core in
-            let wait : waiting w' ≡ waiting w = ap (λ (t : StoreData D). option_to_list t.pending ++ w'.ring) store ∙ ap (λ (gs : List GroupData). option_to_list (pending_of w.store) ++ gs) came.1 in
+            let wait : waiting w' ≡ waiting w = ap (λ (t : StoreData D). option_to_list (pending_of t) ++ w'.ring) store ∙ ap (λ (gs : List GroupData). option_to_list (pending_of w.store) ++ gs) came.1 in
             subst (λ (q : Past). IsAfter d q w') (silent_past p CloseGroup (Refused r) (silent_refused CloseGroup r refl)) (record {
               sent = h.sent;
               state = h.state;
@@ -349,10 +350,10 @@ module _ {D : Type 0} (d : Ghosts D) where
               before = h.before;
               none = h.none;
               store = subst (λ (t : StoreData D). KeepsRows d t (after_groups p.rows h.sent)) (sym store) h.store;
-              mark = ap (λ (t : StoreData D). t.mark) store ∙ h.mark;
+              mark = ap (λ (t : StoreData D). mark_of t) store ∙ h.mark;
               groups = subst (λ gs. AreGroupsOf h.state p.mark (h.sent ++ gs)) (sym wait) h.groups;
               marks = ap (λ gs. map (λ x. x.mark) (h.sent ++ gs)) wait ∙ h.marks;
-              covers = subst (λ (t : StoreData D). AllByRecursion (λ m. m ≤ t.mark) p.acknowledged) (sym store) h.covers;
+              covers = subst (λ (t : StoreData D). AllByRecursion (λ m. m ≤ mark_of t) p.acknowledged) (sym store) h.covers;
             })
 
     -- a poll

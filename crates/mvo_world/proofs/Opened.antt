@@ -4,7 +4,7 @@ use Rattle.mvo_types.specs.declared.refusal.Refusal.TheVariants.{OutOfMemory}
 use Rattle.mvo_types.specs.Keys.{Map}
 use Rattle.mvo_disk.specs.declared.disk.Disk.{Ghosts}
 use Rattle.mvo_disk.specs.Disk.{Image}
-use Rattle.mvo_store.specs.Seen.{mark_of}
+use Rattle.mvo_store.specs.Seen.{disk_of, mark_of}
 use Rattle.mvo_store.specs.StoreData.{StoreData}
 use Rattle.mvo_store.specs.Standing.{Gives, HasSlots, KeepsRows}
 use Rattle.mvo_store.specs.Opening.{IsAnswer, HasBegun as StoreHasBegun, IsNotOpened}
@@ -21,7 +21,7 @@ answer_prefix content rows mark answer past h =
 
 module _ {D : Type 0} (d : Ghosts D) where
   -- memory for the rest of the world was refused
-  pub memory_refused : (old : D) (s : StoreData D) (mark : ℕ) → StoreHasBegun d old s mark → IsNotOpened d old OutOfMemory s.disk
+  pub memory_refused : (old : D) (s : StoreData D) (mark : ℕ) → StoreHasBegun d old s mark → IsNotOpened d old OutOfMemory (disk_of s)
   memory_refused old s mark begun = inr (record { few = begun.few; why = inl (inl refl); count = begun.count })
 
   -- the rows that the store answered are those that the world is opened over

@@ -10,6 +10,7 @@ use Rattle.mvo_theory.specs.Changes.{after_close}
 use Rattle.mvo_theory.specs.Calls.{Call, group_of}
 use Rattle.mvo_core.specs.declared.answers.Closed as closing
 use Rattle.mvo_core.specs.Data.{CoreData}
+use Rattle.mvo_core.specs.Seen.{closed_mark_of, HasNewVersions}
 use Rattle.mvo_core.specs.Standing.{OpensAs}
 use Rattle.mvo_core.specs.Steps.{came, IsStep}
 use Rattle.mvo_core.specs.Collecting.{StandsAsBefore}
@@ -36,7 +37,7 @@ module _ {D : Type 0} (w : WorldData D) (i : IsSound w) where
       }
 
   -- over a collection
-  pub sound_collected : (core : CoreData) → StandsAsBefore w.core core → core ≡ record w.core { versions = core.versions } → IsSound (record w { core = core })
+  pub sound_collected : (core : CoreData) → StandsAsBefore w.core core → HasNewVersions w.core core → IsSound (record w { core = core })
   sound_collected core stands rest = record {
     core = record {
       opening = i.core.opening;
@@ -45,7 +46,7 @@ module _ {D : Type 0} (w : WorldData D) (i : IsSound w) where
       stands = stands i.core.opening i.core.steps i.core.state i.core.stands;
       closed = i.core.closed;
     };
-    linked = subst (λ (n : ℕ). Follow (mark_of w.store) (waiting w) n) (sym (ap (λ (c : CoreData). c.closed) rest)) i.linked;
+    linked = subst (λ (n : ℕ). Follow (mark_of w.store) (waiting w) n) (sym (ap (λ (c : CoreData). closed_mark_of c) rest)) i.linked;
   }
 
   -- over one that is to close a group
@@ -58,8 +59,8 @@ module _ {D : Type 0} (w : WorldData D) (i : IsSound w) where
       let now = told.1.2 in
       let is = group_of_next i.core.opening i.core.steps s g now.commits i.core.stands.versions.kept i.core.closed now.next now.records now.rules in
       let up : IsClosedAt c.mark.0 s = subst (λ (m : ℕ). IsClosedAt m s) now.mark is.closed in
-      let at : g.mark ≡ core.closed = now.mark ∙ ap (λ (m : Marks). m.closed) now.stands.marks in
-      let prev : g.prev ≡ w.core.closed = now.next.prev ∙ ap (λ (m : Marks). m.closed) i.core.stands.marks in
+      let at : g.mark ≡ closed_mark_of core = now.mark ∙ ap (λ (m : Marks). m.closed) now.stands.marks in
+      let prev : g.prev ≡ closed_mark_of w.core = now.next.prev ∙ ap (λ (m : Marks). m.closed) i.core.stands.marks in
       record {
         core = record {
           opening = i.core.opening;
@@ -68,7 +69,7 @@ module _ {D : Type 0} (w : WorldData D) (i : IsSound w) where
           stands = now.stands;
           closed = record { drawn = up.drawn; above = up.above };
         };
-        linked = subst (λ (gs : List GroupData). Follow (mark_of w.store) (option_to_list (pending_of w.store) ++ gs) core.closed) (sym there)
+        linked = subst (λ (gs : List GroupData). Follow (mark_of w.store) (option_to_list (pending_of w.store) ++ gs) (closed_mark_of core)) (sym there)
             (subst (λ (n : ℕ). Follow (mark_of w.store) (option_to_list (pending_of w.store) ++ (w.ring ++ g ∷ [])) n) at (linked_closed w g prev i.linked));
       }
   sound_closed (Err r) core ring step =
@@ -76,7 +77,7 @@ module _ {D : Type 0} (w : WorldData D) (i : IsSound w) where
       let told = step i.core.opening i.core.steps s i.core.stands in
       record {
         core = record { opening = i.core.opening; steps = i.core.steps; state = s; stands = told.0.stands; closed = i.core.closed };
-        linked = subst (λ (gs : List GroupData). Follow (mark_of w.store) (option_to_list (pending_of w.store) ++ gs) core.closed) (sym told.1)
+        linked = subst (λ (gs : List GroupData). Follow (mark_of w.store) (option_to_list (pending_of w.store) ++ gs) (closed_mark_of core)) (sym told.1)
             (subst (λ (n : ℕ). Follow (mark_of w.store) (waiting w) n) (sym (same_mark w.core.opening core.opening s.marks i.core.stands.marks told.0.stands.marks)) i.linked);
       }
 
@@ -84,5 +85,5 @@ module _ {D : Type 0} (w : WorldData D) (i : IsSound w) where
 pub sound_opened : {D : Type 0} (rows : Map) (mark : ℕ) (w : WorldData D) → OpensAs rows mark w.core → mark_of w.store ≡ mark → pending_of w.store ≡ None → w.ring ≡ [] → IsSound w
 sound_opened rows mark w core at pending ring = record {
   core = record { opening = rows; steps = []; state = opened rows mark; stands = core; closed = record { drawn = omega arith; above = tt } };
-  linked = subst (λ (gs : List GroupData). Follow (mark_of w.store) gs w.core.closed) (sym (ap (λ (o : Option GroupData). option_to_list o ++ w.ring) pending ∙ ring)) (at ∙ ap (λ (m : Marks). m.closed) core.marks);
+  linked = subst (λ (gs : List GroupData). Follow (mark_of w.store) gs (closed_mark_of w.core)) (sym (ap (λ (o : Option GroupData). option_to_list o ++ w.ring) pending ∙ ring)) (at ∙ ap (λ (m : Marks). m.closed) core.marks);
 }

@@ -13,7 +13,7 @@ use Rattle.mvo_store.specs.Frames.{mark_after}
 use Rattle.mvo_store.specs.Rows.{after_groups}
 use Rattle.mvo_store.proofs.Grown.{after_groups-append}
 use Rattle.mvo_store.specs.Seen.{mark_of, pending_of}
-use Rattle.mvo_store.specs.StoreData.{opening}
+use Rattle.mvo_store.specs.StoreData.{StoreData, opening}
 use Rattle.mvo_store.specs.Standing.{Gives, GivesOr, HasSlots, MayBeLeft}
 use Rattle.mvo_world.specs.Past.{Past}
 use Rattle.mvo_world.specs.WorldData.{WorldData, waiting, Follow}
@@ -53,6 +53,14 @@ follow_to m last [] h = h
 follow_to m last (g ∷ gs) h = follow_to g.mark last gs h.1
 
 -- ---- what a stop leaves
+-- the group that is being opened is the pending one
+pub opening_pending : {D : Type 0} (s : StoreData D) (g : GroupData) → opening s ≡ Some g → pending_of s ≡ Some g
+opening_pending s g e = go _ _ e
+  where
+    go : (b : Bool) (o : Option GroupData) → cond b o None ≡ Some g → o ≡ Some g
+    go true o f = f
+    go false o f = absurd cc
+
 module _ {D : Type 0} (d : Ghosts D) (p : Past) (w : WorldData D) (h : IsAfter d p w) where
   prefix_of : (image : Image) → HasSlots image → (gs hs : List GroupData) → AreGroupsOf h.state p.mark (gs ++ hs) → map (λ g. g.mark) (gs ++ hs) ≡ p.closed → AllByRecursion (λ m. m ≤ mark_after p.mark gs) p.acknowledged → Gives (after_groups p.rows gs) (mark_after p.mark gs) image → RecoversPrefix p image
   prefix_of image slots gs hs groups marks covers gives = record {
@@ -86,12 +94,10 @@ module _ {D : Type 0} (d : Ghosts D) (p : Past) (w : WorldData D) (h : IsAfter d
       (subst (λ (m : ℕ). Gives (after_groups p.rows (h.sent ++ g ∷ [])) m image) (sym last)
       (subst (λ (rows : Map). Gives rows g.mark image) (sym (after_groups-append p.rows h.sent (g ∷ []))) gives))
 
-  -- the group that is being opened is the pending one
-  with_or_without : (image : Image) → HasSlots image → (b : Bool) (o : Option GroupData) → pending_of w.store ≡ o → GivesOr (after_groups p.rows h.sent) (mark_of w.store) (cond b o None) image → RecoversPrefix p image
-  with_or_without image slots false o e gives = without image slots gives
-  with_or_without image slots true None e gives = without image slots gives
-  with_or_without image slots true (Some g) e (inl gives) = without image slots gives
-  with_or_without image slots true (Some g) e (inr gives) = with_opening image slots g e gives
+  with_or_without : (image : Image) → HasSlots image → (o : Option GroupData) → opening w.store ≡ o → GivesOr (after_groups p.rows h.sent) (mark_of w.store) o image → RecoversPrefix p image
+  with_or_without image slots None e gives = without image slots gives
+  with_or_without image slots (Some g) e (inl gives) = without image slots gives
+  with_or_without image slots (Some g) e (inr gives) = with_opening image slots g (opening_pending w.store g e) gives
 
   pub prefix_image : (image : Image) → MayBeLeft (after_groups p.rows h.sent) (mark_of w.store) (opening w.store) image → RecoversPrefix p image
-  prefix_image image left = with_or_without image left.slots w.store.written (pending_of w.store) refl left.gives
+  prefix_image image left = with_or_without image left.slots (opening w.store) refl left.gives

@@ -15,6 +15,7 @@ use Rattle.mvo_theory.specs.Calls.Call.{Begin as BeginCall, Precommit as Precomm
 use Rattle.mvo_theory.specs.Calls.Result.{Accepted, Refused as RefusedCall}
 use Rattle.mvo_collect.specs.declared.collection.Collection.{Collection}
 use Rattle.mvo_core.specs.declared.answers.Closed as closing
+use Rattle.mvo_core.specs.Seen.{closed_mark_of, HasNewVersions}
 use Rattle.mvo_core.specs.Standing.{StandsFor}
 use Rattle.mvo_core.specs.Steps.{LeadsOn, InEach, IsAnswered, IsValidation, IsSettlement, IsFinishing}
 use Rattle.mvo_core.specs.Collecting.{StandsAsBefore, AreFewer}
@@ -67,14 +68,14 @@ pub record HasCollected {D : Type 0} (w : WorldData D) (c : Collection) (w' : Wo
     Type 0 where
   pub counts : AreFewer w.core c w'.core
   pub stands : StandsAsBefore w.core w'.core
-  pub versions : w'.core ≡ record w.core { versions = w'.core.versions }
+  pub versions : HasNewVersions w.core w'.core
   pub rest : w' ≡ record w { core = w'.core }
 
 -- the tale starts at the stamp, and what is trimmed and in a closed group is forgotten
 pub record HasTrimmed {D : Type 0} (w : WorldData D) (upto : ℕ) (w' : WorldData D) :
     Type 0 where
   pub asked : IsAsked w (TrimCall upto) Accepted w'
-  pub forgets : HasForgotten upto w.core.closed w.core w'.core
+  pub forgets : HasForgotten upto (closed_mark_of w.core) w.core w'.core
 
 -- Closing a group came to this: the next group is in the ring, or what is refused leaves all.
 -- The store stays.

@@ -1,4 +1,5 @@
 use Rattle.std.proofs.Common.{refl, sym, ap, ◌∙◌}
+use Rattle.mvo_store.specs.Seen.{mark_of, pending_of}
 use Rattle.mvo_store.specs.StoreData.{StoreData}
 use Rattle.mvo_store.specs.Calls.StoreCall.{AppendOpen as AppendOpenCall}
 use Rattle.mvo_world.specs.WorldData.{WorldData}
@@ -17,11 +18,11 @@ returns g c =
       | in-Ok w ↦ rw (w.result-is, ← c.self.view_is) (
           let f = w.in-Ok.ensures in
           let made = f.step.comes.made.makes in
-          let at = ap (λ (s : StoreData _). s.mark) made.after in
+          let at = ap (λ (s : StoreData _). mark_of s) made.after in
           let is = w.mark.ensures ∙ f.mark in
           durable d before after w.mark.result made.group
           (stored d before new AppendOpenCall w.in-Ok.durable f.step.comes, is)
-          refl refl made.there (ap (λ (s : StoreData _). s.pending) made.after) at (is ∙ at) f.step.keeps)
+          refl refl made.there (ap (λ (s : StoreData _). pending_of s) made.after) at (is ∙ at) f.step.keeps)
       | in-Err w ↦ rw (w.result-is, ← c.self.view_is) (
           refused_step d _ before new AppendOpenCall w.in-Err.refusal AppendOpen refl (λ h. h) w.in-Err.ensures.step)
     ]

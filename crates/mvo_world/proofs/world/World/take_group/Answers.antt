@@ -2,6 +2,7 @@ use Rattle.std.proofs.Common.{◌≡◌, ◌++◌, ◌∷◌, List, Option, Some
 use Rattle.std.specs.Option.{option_to_list}
 use Rattle.mvo_group.specs.Data.{GroupData}
 use Rattle.mvo_types.specs.declared.refusal.Refusal.TheVariants.{NothingToDo}
+use Rattle.mvo_store.specs.Seen.{mark_of, pending_of}
 use Rattle.mvo_store.specs.StoreData.{StoreData}
 use Rattle.mvo_store.specs.Causes.{why_not_take}
 use Rattle.mvo_world.specs.Ring.{oldest}
@@ -38,7 +39,7 @@ returns g c =
     let before : WorldData _ = record { core = c.self.inside.core; ring = c.self.inside.ring; store = old } in
     let after : WorldData _ = record { core = c.self.inside.core; ring = c.take.new.self; store = new } in
     let why : why_not_take old ≡ None = sym c.can_take.ensures ∙ c.in_default.is in
-    let none : old.pending ≡ None = nothing_taken old why in
+    let none : pending_of old ≡ None = nothing_taken old why in
     let there = c.in-Some-take.ensures in
     elim c.match-take_group.branch [
       | in-Ok w ↦
@@ -47,7 +48,7 @@ returns g c =
           rw (w.result-is, ← c.self.view_is) (moved d (IsReplyTo d) before after TakeGroup Taken (record { steps = refl; acknowledged = refl; closed = refl })
           (ap (λ r. or_nothing r (oldest c.self.inside.ring)) why ∙ ap (λ (gs : List GroupData). or_nothing None (oldest gs)) there, record { group = group; there = there; comes = step.comes; core = refl })
           refl
-          (ap (λ (s : StoreData _). option_to_list s.pending ++ c.take.new.self) ok ∙ sym there ∙ sym (ap (λ p. option_to_list p ++ c.self.inside.ring) none))
-          (ap (λ (s : StoreData _). s.mark) ok) step.keeps)
+          (ap (λ (s : StoreData _). option_to_list (pending_of s) ++ c.take.new.self) ok ∙ sym there ∙ sym (ap (λ p. option_to_list p ++ c.self.inside.ring) none))
+          (ap (λ (s : StoreData _). mark_of s) ok) step.keeps)
       | in-Err w ↦ absurd (never_back (Unit {0}) old group _ why w.in-Err.ensures.step.comes.refused)
     ]
