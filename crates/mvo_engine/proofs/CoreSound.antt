@@ -1,6 +1,5 @@
 -- The core under its lock stays sound.
 use Rattle.std.proofs.Common.{◌≡◌, ℕ, ◌≤◌, List, [], ◌∷◌, ◌++◌, Result, Ok, Err, sym, ap, ◌∙◌, subst, arith}
-use Rattle.std.specs.List.{AllByRecursion}
 use Rattle.rtrb.specs.declared.producer.Producer.{Producer}
 use Rattle.rtrb.specs.Ring.{sent as ring_sent}
 use Rattle.mvo_types.specs.declared.refusal.Refusal.{Refusal}
@@ -22,7 +21,6 @@ use Rattle.mvo_core.specs.Groups.{AreGroupsOf}
 use Rattle.mvo_core.specs.Steps.{came, IsStep}
 use Rattle.mvo_core.specs.Closing.{IsClosedNow, HasClosed}
 use Rattle.mvo_core.proofs.Begun.{still_closed}
-use Rattle.mvo_store.specs.Frames.{mark_after}
 use Rattle.mvo_world.proofs.Asked.{same_closed, stands_serial}
 use Rattle.mvo_world.proofs.Chain.{groups_stay}
 use Rattle.mvo_world.proofs.Closed.{group_of_next}
@@ -109,3 +107,8 @@ module _ {image : Image} {c : CoreData} {sent : List GroupData} (i : IsSoundCore
         (each_weaker (IsPlaced i.state.stamped i.state.clock) (λ (x : StampedTx). x.end ≤ clock_of c) (λ x p. let le = p.drawn in omega (arith, is, le)) i.state.stamped i.stands.versions.kept.sound.placed);
     groups = i.groups;
   }
+
+-- what stands beside it stays over a step that closes no group
+pub stays_sound : {image : Image} {c : CoreData} {sent : List GroupData} {A P Q : Type 0} {call : Call} {new : CoreData} → IsSoundCore image c sent × P × Q → (result : Result A Refusal) → IsStep c call result new → group_of call (came result) ≡ []
+    → IsSoundCore image new sent × P × Q
+stays_sound {call = call} {new = new} i result step none = (stepped i.0 call result new none step, i.1, i.2)

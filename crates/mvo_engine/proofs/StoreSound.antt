@@ -14,7 +14,7 @@ use Rattle.mvo_store.specs.Seen.{disk_of, mark_of, pending_of}
 use Rattle.mvo_store.specs.StoreData.{StoreData, opening}
 use Rattle.mvo_store.specs.Standing.{Gives, GivesOr, FollowsMark, HasSlots, KeepsRows, Keeps, IsKeeping, after_taken}
 use Rattle.mvo_store.specs.Calls.{StoreCall, IsStoreStep}
-use Rattle.mvo_store.proofs.Taken.{KeepsTaken, IsQuiet, quiet_taken, quiet_rows}
+use Rattle.mvo_store.proofs.Taken.{KeepsTaken, IsQuiet, left_taken, quiet_taken, quiet_rows, refused_rows}
 use Rattle.mvo_world.proofs.Standing.{mark_after-append, opening_pending}
 use Rattle.mvo_engine.specs.Sound.{IsSoundStore, GivesReceived, last_mark}
 
@@ -24,7 +24,7 @@ on_ok (Err e) P p = tt
 
 module _ {D : Type 0} (d : Ghosts D) {image : Image} {s : StoreData D} {received : List GroupData} (i : IsSoundStore d image s received) where
   -- over a step that takes no group and makes none durable
-  pub kept : (t : StoreData D) → KeepsTaken s t → Keeps d s t → IsSoundStore d image t received
+  kept : (t : StoreData D) → KeepsTaken s t → Keeps d s t → IsSoundStore d image t received
   kept t taken keeps = record {
     rows = i.rows;
     mark = i.mark;
@@ -35,9 +35,6 @@ module _ {D : Type 0} (d : Ghosts D) {image : Image} {s : StoreData D} {received
     follows = subst (λ (o : Option GroupData). FollowsMark (mark_of t) o) (sym taken.pending) (subst (λ (m : ℕ). FollowsMark m (pending_of s)) (sym taken.mark) i.follows);
     keeps = λ slots. keeps.keeps (after_groups i.rows i.durable) (i.keeps slots);
   }
-
-  pub kept_by : {A : Type 0} (call : StoreCall) (result : Result A Refusal) (t : StoreData D) → IsQuiet call → IsStoreStep d s call result t → IsSoundStore d image t received
-  kept_by call result t quiet h = kept t (quiet_taken d s call result t quiet h.comes) (quiet_rows d s call result t quiet h)
 
   -- the groups that were received are those that are durable, where none is being appended
   received_all : pending_of s ≡ None → received ≡ i.durable
@@ -123,3 +120,17 @@ module _ {D : Type 0} (d : Ghosts D) {image : Image} {s : StoreData D} {received
   received_image slots left of =
       let may = (i.keeps slots).images left of in
       with_or_without left may.slots (opening s) refl may.gives
+
+-- the seat and the ring beside it stay over a step that takes no group and makes none durable
+module _ {D : Type 0} (d : Ghosts D) {image : Image} {s t : StoreData D} {received : List GroupData} {published : ℕ} {P Q : Type 0} (i : IsSoundStore d image s received × P × (published ≤ mark_of s) × Q) where
+  stays_kept : KeepsTaken s t → Keeps d s t → IsSoundStore d image t received × P × (published ≤ mark_of t) × Q
+  stays_kept taken keeps =
+      let p = i.2 in
+      let m = taken.mark in
+      (kept d i.0 t taken keeps, i.1, omega (arith, m, p), i.3)
+
+  pub stays_quiet : {A : Type 0} {call : StoreCall} {result : Result A Refusal} → IsStoreStep d s call result t → IsQuiet call → IsSoundStore d image t received × P × (published ≤ mark_of t) × Q
+  stays_quiet {A} {call} {result} h quiet = stays_kept (quiet_taken d s call result t quiet h.comes) (quiet_rows d s call result t quiet h)
+
+  pub stays_refused : {A : Type 0} {call : StoreCall} {e : Refusal} → IsStoreStep {A = A} d s call (Err e) t → IsSoundStore d image t received × P × (published ≤ mark_of t) × Q
+  stays_refused {A} {call} {e} h = stays_kept (left_taken d call e s t h.comes.left) (refused_rows A d s call e t h)

@@ -28,8 +28,8 @@ same_mark opening opening' m a b = sym (ap (λ (x : Marks). x.closed) b) ∙ ap 
 
 module _ {D : Type 0} (w : WorldData D) (i : IsSound w) where
   -- over one that closes no group
-  pub sound_asked : {A : Type 0} (c : Call) (result : Result A Refusal) (core : CoreData) → group_of c (came result) ≡ [] → IsStep w.core c result core → IsSound (record w { core = core })
-  sound_asked c result core none step =
+  pub sound_asked : {A : Type 0} {c : Call} (result : Result A Refusal) {core : CoreData} → IsStep w.core c result core → group_of c (came result) ≡ [] → IsSound (record w { core = core })
+  sound_asked {A} {c} result {core} step none =
       let l = step i.core.opening i.core.steps i.core.state i.core.stands in
       record {
         core = stands_on i.core c (came result) core l;

@@ -45,6 +45,7 @@ impl<D: Disk> Model for World<D> {
     ghost use Rattle.mvo_types.specs.Keys.{coded_map as coded_rows};
     ghost use Rattle.mvo_store.specs.Places.{coded_places};
     ghost use Rattle.mvo_world.specs.WorldData.{WorldData, IsSound};
+    ghost use Rattle.mvo_world.specs.View.{world_data};
 
     ghost Value = { WorldData D };
 
@@ -55,13 +56,9 @@ impl<D: Disk> Model for World<D> {
       coded_places,
     ) };
 
-    ghost view = { λ w. record { core = w.core; ring = w.ring; store = w.store } };
+    ghost view = { world_data };
 
-    ghost invariant = { λ w. IsSound {D = D} (record {
-      core = w.core;
-      ring = w.ring;
-      store = w.store;
-    }) };
+    ghost invariant = { λ w. IsSound (world_data w) };
 }
 
 impl<D: Disk> World<D> {
