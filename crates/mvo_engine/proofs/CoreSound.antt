@@ -17,7 +17,7 @@ use Rattle.mvo_core.specs.declared.answers.Closed as closing
 use Rattle.mvo_core.specs.Data.{CoreData}
 use Rattle.mvo_core.specs.Seen.{clock_of}
 use Rattle.mvo_core.specs.Standing.{Stands, StandsFor}
-use Rattle.mvo_core.specs.Groups.{AreGroupsOf}
+use Rattle.mvo_core.specs.Groups.{HaveRecordsOf}
 use Rattle.mvo_core.specs.Steps.{came, IsStep}
 use Rattle.mvo_core.specs.Closing.{IsClosedNow, HasClosed}
 use Rattle.mvo_core.proofs.Begun.{still_closed}
@@ -66,7 +66,7 @@ module _ {image : Image} {c : CoreData} {sent : List GroupData} (i : IsSoundCore
         state = after_close s x.mark.0;
         stands = now.stands;
         closed = record { drawn = up.drawn; above = up.above };
-        groups = subst (AreGroupsOf (after_close s x.mark.0) 0) (sym there) (groups_closed s x.mark.0 0 (sent ++ g ∷ []) (groups_push s 0 sent g i.groups prev is));
+        groups = subst (HaveRecordsOf (after_close s x.mark.0) 0) (sym there) (groups_closed s x.mark.0 0 (sent ++ g ∷ []) (groups_push s 0 sent g i.groups prev is));
         last = ap last_mark there ∙ mark_after-append 0 sent (g ∷ []) ∙ now.mark ∙ ap (λ (m : Marks). m.closed) now.stands.marks;
       }
 
@@ -80,7 +80,7 @@ module _ {image : Image} {c : CoreData} {sent : List GroupData} (i : IsSoundCore
     state = i.state;
     stands = stands;
     closed = i.closed;
-    groups = subst (AreGroupsOf i.state 0) (sym same) i.groups;
+    groups = subst (HaveRecordsOf i.state 0) (sym same) i.groups;
     last = ap last_mark same ∙ i.last ∙ sym (ap (λ (m : Marks). m.closed) i.stands.marks) ∙ ap (λ (m : Marks). m.closed) stands.marks;
   }
 

@@ -39,13 +39,13 @@ use Rattle.mvo_store.specs.Calls.{StoreCall, ComesTo, IsStoreStep}
 use Rattle.mvo_store.specs.Calls.StoreCall.{Take, AppendOpen as AppendOpenCall}
 use Rattle.mvo_store.proofs.Taken.{KeepsTaken, IsQuiet, left_taken, quiet_taken, quiet_rows, refused_rows, accepted_by, refused_by}
 use Rattle.mvo_store.proofs.Keeping.{OnlyNow, refused_keeps}
-use Rattle.mvo_world.specs.WorldData.{WorldData, waiting, Follow, IsLinked, IsSound, HasBegun}
+use Rattle.mvo_world.specs.WorldData.{WorldData, waiting, Follow, IsLinked, IsSoundWorld, IsJustOpened}
 use Rattle.mvo_world.specs.Past.{Past, happened, acknowledged_by, closed_by, with_event, opened_over}
-use Rattle.mvo_core.specs.Groups.{AreGroupsOf}
+use Rattle.mvo_core.specs.Groups.{HaveRecordsOf}
 use Rattle.mvo_world.specs.Standing.{IsAfter, RecoversPrefix, LeavesPrefix}
 use Rattle.mvo_world.specs.Ring.{oldest, IsClosingInto}
 use Rattle.mvo_world.specs.Replies.{IsReplyTo, IsAsked, IsStored, HasRow, or_nothing}
-use Rattle.mvo_world.specs.Steps.{IsStepBy, IsStep}
+use Rattle.mvo_world.specs.Steps.{IsStepBy, IsWorldStep}
 use Rattle.mvo_world.specs.declared.event.Event.{Event}
 use Rattle.mvo_world.specs.declared.event.Event.TheVariants.{Insert, Update, Collect, CloseGroup, TakeGroup, AppendOpen, Poll}
 use Rattle.mvo_world.specs.declared.reply.Reply.{Reply}
@@ -62,7 +62,7 @@ follow_push m last (x ∷ gs) g h e = (h.0, follow_push x.mark last gs g h.1 e)
 pub linked_closed : {D : Type 0} (w : WorldData D) (g : GroupData) → g.prev ≡ closed_mark_of w.core → IsLinked w → Follow (mark_of w.store) (option_to_list (pending_of w.store) ++ (w.ring ++ g ∷ [])) g.mark
 linked_closed w g e h = subst (λ gs. Follow (mark_of w.store) gs g.mark) (append_assoc (option_to_list (pending_of w.store)) w.ring (g ∷ [])) (follow_push (mark_of w.store) (closed_mark_of w.core) (waiting w) g h e)
 
-pub groups_closed : (s : State) (n m : ℕ) (gs : List GroupData) → AreGroupsOf s m gs → AreGroupsOf (after_close s n) m gs
+pub groups_closed : (s : State) (n m : ℕ) (gs : List GroupData) → HaveRecordsOf s m gs → HaveRecordsOf (after_close s n) m gs
 groups_closed s n m [] h = tt
 groups_closed s n m (g ∷ gs) h = (h.0, record { closed = record { drawn = h.1.closed.drawn; above = h.1.closed.above }; records = h.1.records; rules = h.1.rules }, groups_closed s n g.mark gs h.2)
 
@@ -135,7 +135,7 @@ module _ {D : Type 0} (d : Ghosts D) where
     none = (stays p.mark h.before).1 ∙ h.none;
     store = store;
     mark = mark ∙ h.mark;
-    groups = subst (λ gs. AreGroupsOf s p.mark (h.sent ++ gs)) (sym wait) (groups_stay h.state s p.mark (h.sent ++ waiting w) stays h.groups);
+    groups = subst (λ gs. HaveRecordsOf s p.mark (h.sent ++ gs)) (sym wait) (groups_stay h.state s p.mark (h.sent ++ waiting w) stays h.groups);
     marks = ap (λ gs. map (λ x. x.mark) (h.sent ++ gs)) wait ∙ h.marks;
     covers = subst (λ m. AllByRecursion (λ n. n ≤ m) p.acknowledged) (sym mark) h.covers;
   }
@@ -148,7 +148,7 @@ module _ {D : Type 0} (d : Ghosts D) where
       subst (λ (q : Past). IsAfter d q w') (silent_past p e r silent) (goes_on p w w' h p.steps h.state (core p h) h.closed (unchanged h.state) wait mark store))
 
   -- ---- a call of the store that takes no group and makes none durable
-  store_moved : (w : WorldData D) (store : StoreData D) (e : Event) (r : Reply) → IsSilent e r → IsReplyTo d w e r (record w { store = store }) → KeepsTaken w.store store → Keeps d w.store store → IsStep d w e r (record w { store = store })
+  store_moved : (w : WorldData D) (store : StoreData D) (e : Event) (r : Reply) → IsSilent e r → IsReplyTo d w e r (record w { store = store }) → KeepsTaken w.store store → Keeps d w.store store → IsWorldStep d w e r (record w { store = store })
   store_moved w store e r silent reply taken keeps =
       moved (IsReplyTo d) w (record w { store = store }) e r silent reply (λ p h. h.core) (ap (λ (q : Option GroupData). option_to_list q ++ w.ring) taken.pending) taken.mark keeps
 
@@ -156,18 +156,18 @@ module _ {D : Type 0} (d : Ghosts D) where
   stored w store call a h = record { comes = accepted_by d w.store call a store h; rest = refl }
 
   pub done : {A : Type 0} (w : WorldData D) {store : StoreData D} {call : StoreCall} {a : A} {e : Event} {r : Reply} → IsStoreStep d w.store call (Ok a) store → IsQuiet call → IsSilent e r
-      → (IsStored d w call (Ok tt) (record w { store = store }) → IsReplyTo d w e r (record w { store = store })) → IsStep d w e r (record w { store = store })
+      → (IsStored d w call (Ok tt) (record w { store = store }) → IsReplyTo d w e r (record w { store = store })) → IsWorldStep d w e r (record w { store = store })
   done w {store} {call} {a} {e} {r} h quiet silent reply =
       store_moved w store e r silent (reply (stored w store call a h.comes)) (quiet_taken d w.store call (Ok a) store quiet h.comes) (quiet_rows d w.store call (Ok a) store quiet h)
 
   -- and one that is refused
   pub refused : {A : Type 0} (w : WorldData D) {store : StoreData D} {call : StoreCall} {why : Refusal} {e : Event} → IsStoreStep {A = A} d w.store call (Err why) store → happened e (Refused why) ≡ []
-      → (IsStored d w call (Err why) (record w { store = store }) → IsReplyTo d w e (Refused why) (record w { store = store })) → IsStep d w e (Refused why) (record w { store = store })
+      → (IsStored d w call (Err why) (record w { store = store }) → IsReplyTo d w e (Refused why) (record w { store = store })) → IsWorldStep d w e (Refused why) (record w { store = store })
   refused {A} w {store} {call} {why} {e} h silent reply =
       store_moved w store e (Refused why) (silent_refused e why silent) (reply (record { comes = refused_by A d w.store call why store h.comes; rest = refl })) (left_taken d call why w.store store h.comes.left) (refused_rows A d w.store call why store h)
 
   -- ---- a group is taken
-  pub taken : (w : WorldData D) {ring : List GroupData} {store : StoreData D} (g : GroupData) → why_not_take w.store ≡ None → w.ring ≡ g ∷ ring → IsStoreStep {A = Unit {0}} d w.store (Take g) (Ok tt) store → IsStep d w TakeGroup Taken (record w { ring = ring; store = store })
+  pub taken : (w : WorldData D) {ring : List GroupData} {store : StoreData D} (g : GroupData) → why_not_take w.store ≡ None → w.ring ≡ g ∷ ring → IsStoreStep {A = Unit {0}} d w.store (Take g) (Ok tt) store → IsWorldStep d w TakeGroup Taken (record w { ring = ring; store = store })
   taken w {ring} {store} g why there h =
       let made = h.comes.made.makes in
       let before : waiting w ≡ g ∷ ring = ap (λ (o : Option GroupData). option_to_list o ++ w.ring) (nothing_taken w.store why) ∙ there in
@@ -177,7 +177,7 @@ module _ {D : Type 0} (d : Ghosts D) where
       (λ p a. a.core) (later ∙ sym before) (ap (λ (s : StoreData D). mark_of s) made) h.keeps
 
   -- ---- a group becomes durable
-  pub durable : {A : Type 0} (w : WorldData D) {store : StoreData D} {a : A} (mark : Stamp) → IsStoreStep d w.store AppendOpenCall (Ok a) store → mark.0 ≡ mark_of store → IsStep d w AppendOpen (Durable mark) (record w { store = store })
+  pub durable : {A : Type 0} (w : WorldData D) {store : StoreData D} {a : A} (mark : Stamp) → IsStoreStep d w.store AppendOpenCall (Ok a) store → mark.0 ≡ mark_of store → IsWorldStep d w AppendOpen (Durable mark) (record w { store = store })
   durable w {store} {a} mark h is =
       stepped (IsReplyTo d) w w' AppendOpen (Durable mark) (λ rows. after_taken rows (pending_of w.store)) (stored w store AppendOpenCall a h.comes, is) h.keeps after
     where
@@ -195,7 +195,7 @@ module _ {D : Type 0} (d : Ghosts D) where
           let before : waiting w ≡ g ∷ w.ring = ap (λ (q : Option GroupData). option_to_list q ++ w.ring) pending in
           let later : waiting w' ≡ w.ring = ap (λ (q : Option GroupData). option_to_list q ++ w.ring) none in
           let list : b.sent ++ waiting w ≡ (b.sent ++ g ∷ []) ++ waiting w' = ap (λ gs. b.sent ++ gs) before ∙ sym (append_assoc b.sent (g ∷ []) w.ring) ∙ ap (λ gs. (b.sent ++ g ∷ []) ++ gs) (sym later) in
-          let groups = subst (AreGroupsOf b.state first) list b.groups in
+          let groups = subst (HaveRecordsOf b.state first) list b.groups in
           let up : mark_after first b.sent ≤ g.mark = marks_rise b.state (mark_after first b.sent) (g ∷ []) (groups_back b.state first b.sent (g ∷ []) (groups_front b.state first (b.sent ++ g ∷ []) (waiting w') groups)) in
           subst (λ (q : Past). IsAfter d q w') (past_is p AppendOpen (Durable mark) p.steps (p.acknowledged ++ mark.0 ∷ []) p.closed (append-nil p.steps) refl (append-nil p.closed)) (record {
             sent = b.sent ++ g ∷ [];
@@ -221,7 +221,7 @@ module _ {D : Type 0} (d : Ghosts D) where
         → ((opening : Map) (steps : List Step) (s : State) → StandsFor opening steps s w.core → LeadsOn opening steps s c result core)
         → (IsAsked w c result (record w { core = core }) → IsReplyTo d w e r (record w { core = core }))
         → ((opening : Map) (steps : List Step) (s : State) → StandsFor opening steps s w.core → happened e r ≡ steps_of s c result)
-        → (acknowledged_by e r ≡ []) × (closed_by e r ≡ []) → IsStep d w e r (record w { core = core })
+        → (acknowledged_by e r ≡ []) × (closed_by e r ≡ []) → IsWorldStep d w e r (record w { core = core })
     told w {core} {c} {result} {e} {r} leads reply is silent =
         stepped (IsReplyTo d) w w' e r (λ rows. rows) (reply (record { leads = leads; rest = refl })) (refused_keeps d only_now w.store) (λ p h store.
         let l = leads p.rows p.steps h.state h.core in
@@ -235,14 +235,14 @@ module _ {D : Type 0} (d : Ghosts D) where
         w' = record w { core = core }
 
     -- a collection, over which the state stays
-    pub collected : (w : WorldData D) {core : CoreData} (c : Collection) → AreFewer w.core c core → StandsAsBefore w.core core → HasNewVersions w.core core → IsStep d w Collect (Collected c) (record w { core = core })
+    pub collected : (w : WorldData D) {core : CoreData} (c : Collection) → AreFewer w.core c core → StandsAsBefore w.core core → HasNewVersions w.core core → IsWorldStep d w Collect (Collected c) (record w { core = core })
     collected w {core} c counts stands versions =
         moved (IsReplyTo d) w (record w { core = core }) Collect (Collected c) (refl, refl, refl)
         (record { counts = counts; stands = stands; versions = versions; rest = refl })
         (λ p h. stands p.rows p.steps h.state h.core) refl refl (refused_keeps d only_now w.store)
 
     -- a group is closed
-    pub closed_step : (w : WorldData D) {core : CoreData} {ring : List GroupData} (c : closing.Closed) → IsLinked w → IsClosingInto w.core w.ring (Ok c) core ring → IsStep d w CloseGroup (Closed c) (record w { core = core; ring = ring })
+    pub closed_step : (w : WorldData D) {core : CoreData} {ring : List GroupData} (c : closing.Closed) → IsLinked w → IsClosingInto w.core w.ring (Ok c) core ring → IsWorldStep d w CloseGroup (Closed c) (record w { core = core; ring = ring })
     closed_step w {core} {ring} c linked step =
         stepped (IsReplyTo d) w w' CloseGroup (Closed c) (λ rows. rows) (record { closing = step; store = refl }) (refused_keeps d only_now w.store) after
       where
@@ -275,20 +275,20 @@ module _ {D : Type 0} (d : Ghosts D) where
               none = h.none;
               store = store;
               mark = h.mark;
-              groups = subst (AreGroupsOf (after_close s c.mark.0) first) list (groups_closed s c.mark.0 first ((h.sent ++ waiting w) ++ g ∷ []) (groups_push s first (h.sent ++ waiting w) g h.groups prev_is is));
+              groups = subst (HaveRecordsOf (after_close s c.mark.0) first) list (groups_closed s c.mark.0 first ((h.sent ++ waiting w) ++ g ∷ []) (groups_push s first (h.sent ++ waiting w) g h.groups prev_is is));
               marks = ap (map (λ x. x.mark)) (sym list) ∙ map-append (λ x. x.mark) (h.sent ++ waiting w) (g ∷ []) ∙ ap (λ ms. ms ++ g.mark ∷ []) h.marks;
               covers = h.covers;
             })
 
     -- closing a group is refused
-    pub unclosed_step : (w : WorldData D) {core : CoreData} {ring : List GroupData} (r : Refusal) → IsSound w → IsClosingInto w.core w.ring (Err r) core ring → IsStep d w CloseGroup (Refused r) (record w { core = core; ring = ring })
+    pub unclosed_step : (w : WorldData D) {core : CoreData} {ring : List GroupData} (r : Refusal) → IsSoundWorld w → IsClosingInto w.core w.ring (Err r) core ring → IsWorldStep d w CloseGroup (Refused r) (record w { core = core; ring = ring })
     unclosed_step w {core} {ring} r i step =
         let same = (step i.core.opening i.core.steps i.core.state i.core.stands).1 in
         moved (IsReplyTo d) w (record w { core = core; ring = ring }) CloseGroup (Refused r) (refl, refl, refl) (record { closing = step; store = refl })
         (λ p h. (step p.rows p.steps h.state h.core).0.stands) (ap (λ (gs : List GroupData). option_to_list (pending_of w.store) ++ gs) same) refl (refused_keeps d only_now w.store)
 
     -- a poll
-    pub polled_step : (w : WorldData D) (stamp : Stamp) (answer : Bool) → answer ≡ nat_le stamp.0 (mark_of w.store) → IsStep d w (Poll stamp) (Polled answer) w
+    pub polled_step : (w : WorldData D) (stamp : Stamp) (answer : Bool) → answer ≡ nat_le stamp.0 (mark_of w.store) → IsWorldStep d w (Poll stamp) (Polled answer) w
     polled_step w stamp false is = still (IsReplyTo d) w (Poll stamp) (Polled false) (refl, refl, refl) (is, refl)
     polled_step w stamp true is =
         stepped (IsReplyTo d) w w (Poll stamp) (Polled true) (λ rows. rows) (is, refl) (refused_keeps d only_now w.store) (λ p h store.
@@ -307,7 +307,7 @@ module _ {D : Type 0} (d : Ghosts D) where
         }))
 
   -- ---- a world that was just opened
-  pub begun : (rows : Map) (w : WorldData D) → HasBegun rows w → KeepsRows d w.store rows → IsAfter d (opened_over rows (mark_of w.store)) w
+  pub begun : (rows : Map) (w : WorldData D) → IsJustOpened rows w → KeepsRows d w.store rows → IsAfter d (opened_over rows (mark_of w.store)) w
   begun rows w is keeps =
       let wait : waiting w ≡ [] = ap (λ (q : Option GroupData). option_to_list q ++ w.ring) is.store.pending ∙ is.ring in
       record {
@@ -319,7 +319,7 @@ module _ {D : Type 0} (d : Ghosts D) where
         none = refl;
         store = keeps;
         mark = refl;
-        groups = subst (AreGroupsOf (opened rows (mark_of w.store)) (mark_of w.store)) (sym wait) tt;
+        groups = subst (HaveRecordsOf (opened rows (mark_of w.store)) (mark_of w.store)) (sym wait) tt;
         marks = ap (map (λ x. x.mark)) wait;
         covers = (omega arith, tt);
       }

@@ -16,7 +16,7 @@ use Rattle.mvo_core.specs.Steps.{came, IsStep}
 use Rattle.mvo_core.specs.Collecting.{StandsAsBefore}
 use Rattle.mvo_core.proofs.Begun.{stands_on}
 use Rattle.mvo_world.specs.Ring.{IsClosingInto}
-use Rattle.mvo_world.specs.WorldData.{WorldData, waiting, Follow, IsSound}
+use Rattle.mvo_world.specs.WorldData.{WorldData, waiting, Follow, IsSoundWorld}
 use Rattle.mvo_world.proofs.Asked.{same_closed}
 use Rattle.mvo_world.proofs.Closed.{group_of_next}
 use Rattle.mvo_store.specs.Seen.{mark_of, pending_of}
@@ -26,9 +26,9 @@ use Rattle.mvo_world.proofs.Moves.{linked_closed}
 same_mark : {old new : ℕ} (opening opening' : ℕ) (m : Marks) → m ≡ record { opening = opening; closed = old } → m ≡ record { opening = opening'; closed = new } → new ≡ old
 same_mark opening opening' m a b = sym (ap (λ (x : Marks). x.closed) b) ∙ ap (λ (x : Marks). x.closed) a
 
-module _ {D : Type 0} (w : WorldData D) (i : IsSound w) where
+module _ {D : Type 0} (w : WorldData D) (i : IsSoundWorld w) where
   -- over one that closes no group
-  pub sound_asked : {A : Type 0} {c : Call} (result : Result A Refusal) {core : CoreData} → IsStep w.core c result core → group_of c (came result) ≡ [] → IsSound (record w { core = core })
+  pub sound_asked : {A : Type 0} {c : Call} (result : Result A Refusal) {core : CoreData} → IsStep w.core c result core → group_of c (came result) ≡ [] → IsSoundWorld (record w { core = core })
   sound_asked {A} {c} result {core} step none =
       let l = step i.core.opening i.core.steps i.core.state i.core.stands in
       record {
@@ -37,7 +37,7 @@ module _ {D : Type 0} (w : WorldData D) (i : IsSound w) where
       }
 
   -- over a collection
-  pub sound_collected : (core : CoreData) → StandsAsBefore w.core core → HasNewVersions w.core core → IsSound (record w { core = core })
+  pub sound_collected : (core : CoreData) → StandsAsBefore w.core core → HasNewVersions w.core core → IsSoundWorld (record w { core = core })
   sound_collected core stands rest = record {
     core = record {
       opening = i.core.opening;
@@ -50,7 +50,7 @@ module _ {D : Type 0} (w : WorldData D) (i : IsSound w) where
   }
 
   -- over one that is to close a group
-  pub sound_closed : (result : Result closing.Closed Refusal) (core : CoreData) (ring : List GroupData) → IsClosingInto w.core w.ring result core ring → IsSound (record w { core = core; ring = ring })
+  pub sound_closed : (result : Result closing.Closed Refusal) (core : CoreData) (ring : List GroupData) → IsClosingInto w.core w.ring result core ring → IsSoundWorld (record w { core = core; ring = ring })
   sound_closed (Ok c) core ring step =
       let s = i.core.state in
       let told = step i.core.opening i.core.steps s i.core.stands in
@@ -82,7 +82,7 @@ module _ {D : Type 0} (w : WorldData D) (i : IsSound w) where
       }
 
 -- just opened
-pub sound_opened : {D : Type 0} (rows : Map) (mark : ℕ) (w : WorldData D) → OpensAs rows mark w.core → mark_of w.store ≡ mark → pending_of w.store ≡ None → w.ring ≡ [] → IsSound w
+pub sound_opened : {D : Type 0} (rows : Map) (mark : ℕ) (w : WorldData D) → OpensAs rows mark w.core → mark_of w.store ≡ mark → pending_of w.store ≡ None → w.ring ≡ [] → IsSoundWorld w
 sound_opened rows mark w core at pending ring = record {
   core = record { opening = rows; steps = []; state = opened rows mark; stands = core; closed = record { drawn = omega arith; above = tt } };
   linked = subst (λ (gs : List GroupData). Follow (mark_of w.store) gs (closed_mark_of w.core)) (sym (ap (λ (o : Option GroupData). option_to_list o ++ w.ring) pending ∙ ring)) (at ∙ ap (λ (m : Marks). m.closed) core.marks);

@@ -29,12 +29,12 @@ abbrev pub IsLinked : {D : Type 0} → WorldData D → Type 0
 IsLinked w = Follow (mark_of w.store) (waiting w) (closed_mark_of w.core)
 
 -- the core stands for a state, whatever steps led there, and the groups that wait are linked
-pub record IsSound {D : Type 0} (w : WorldData D) : Type 0 where
+pub record IsSoundWorld {D : Type 0} (w : WorldData D) : Type 0 where
   pub core : Stands w.core
   pub linked : IsLinked w
 
 -- nothing happened since the opening over these rows
-pub record HasBegun {D : Type 0} (rows : Map) (w : WorldData D) : Type 0 where
+pub record IsJustOpened {D : Type 0} (rows : Map) (w : WorldData D) : Type 0 where
   pub core : OpensAs rows (mark_of w.store) w.core
   pub ring : w.ring ≡ []
   pub store : IsAtRest w.store
