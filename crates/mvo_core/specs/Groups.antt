@@ -9,12 +9,12 @@ use Rattle.mvo_tale.specs.Records.{AreRecordsOf}
 
 -- The group has the records of the commits that wrote with an end above its prev and at most its
 -- mark; no other will end there.
-pub record IsGroupOf (s : State) (g : GroupData) : Type 0 where
+pub record HasRecordsOf (s : State) (g : GroupData) : Type 0 where
   pub closed : IsClosedAt g.mark s
   pub records : AreRecordsOf (filter (is_due g.prev) (settled_to g.mark (timeline s))) g.records
   pub rules : KeepsRules g
 
 -- one after another from a mark on
-abbrev pub AreGroupsOf : State → ℕ → List GroupData → Type 0
-AreGroupsOf s mark [] = Unit {0}
-AreGroupsOf s mark (g ∷ gs) = (g.prev ≡ mark) × IsGroupOf s g × AreGroupsOf s g.mark gs
+abbrev pub HaveRecordsOf : State → ℕ → List GroupData → Type 0
+HaveRecordsOf s mark [] = Unit {0}
+HaveRecordsOf s mark (g ∷ gs) = (g.prev ≡ mark) × HasRecordsOf s g × HaveRecordsOf s g.mark gs

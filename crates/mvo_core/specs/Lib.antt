@@ -1,5 +1,6 @@
 pub use Rattle.mvo_tale.specs.Records
 pub mod Data
+pub mod Seen
 pub mod Causes
 pub mod Standing
 pub mod View

@@ -12,13 +12,13 @@ use Rattle.mvo_disk.specs.Disk.{Image}
 use Rattle.mvo_group.specs.Data.{GroupData, group_of}
 use Rattle.mvo_theory.specs.State.{Marks, opened}
 use Rattle.mvo_core.specs.Data.{CoreData}
-use Rattle.mvo_core.specs.Groups.{AreGroupsOf}
+use Rattle.mvo_core.specs.Groups.{HaveRecordsOf}
 use Rattle.mvo_store.specs.Rows.{after_groups}
 use Rattle.mvo_store.specs.Seen.{disk_of, mark_of}
 use Rattle.mvo_store.specs.StoreData.{StoreData}
 use Rattle.mvo_store.specs.Standing.{Gives, HasSlots, KeepsRows, FollowsMark}
 use Rattle.mvo_store.specs.Opening.{KeepsContent}
-use Rattle.mvo_world.specs.WorldData.{WorldData, HasBegun, waiting}
+use Rattle.mvo_world.specs.WorldData.{WorldData, IsJustOpened, waiting}
 use Rattle.mvo_world.specs.Past.{opened_over}
 use Rattle.mvo_world.specs.Standing.{IsAfter}
 use Rattle.mvo_store.proofs.Marked.{gives_stamp}
@@ -34,7 +34,7 @@ opened_rows : (mark : ℕ) (rows : Map) (b : Bool) → after_groups rows (if b t
 opened_rows mark rows true = refl
 opened_rows mark rows false = refl
 
-opened_of : (rows : Map) (mark : ℕ) → mark ≤ MAX_STAMP → (b : Bool) → (mark == 0) ≡ b → AreGroupsOf (opened rows mark) 0 (if b then [] else group_of 0 mark [] ∷ [])
+opened_of : (rows : Map) (mark : ℕ) → mark ≤ MAX_STAMP → (b : Bool) → (mark == 0) ≡ b → HaveRecordsOf (opened rows mark) 0 (if b then [] else group_of 0 mark [] ∷ [])
 opened_of rows mark le true e = tt
 opened_of rows mark le false e =
     let ne = eqb-false mark 0 e in (
@@ -52,7 +52,7 @@ none_sent : (gs hs : List GroupData) → map (λ g. g.mark) (gs ++ hs) ≡ [] �
 none_sent [] hs e = refl
 none_sent (g ∷ gs) hs e = absurd cc
 
-pub opened_world : {D : Type 0} (d : Ghosts D) (old : D) (w : WorldData D) → KeepsContent d old (disk_of w.store) → (rows : Map) → Gives rows (mark_of w.store) (d.content old) → HasBegun rows w
+pub opened_world : {D : Type 0} (d : Ghosts D) (old : D) (w : WorldData D) → KeepsContent d old (disk_of w.store) → (rows : Map) → Gives rows (mark_of w.store) (d.content old) → IsJustOpened rows w
     → (HasSlots (d.content old) → IsAfter d (opened_over rows (mark_of w.store)) w) → HasOpened d (d.content (disk_of w.store)) w.core w.store
 opened_world {D} d old w content rows gives begun after = record {
   rows = rows;
@@ -77,7 +77,7 @@ module _ {D : Type 0} (d : Ghosts D) (image : Image) (c : CoreData) (s : StoreDa
     state = opened h.rows (mark_of s);
     stands = h.core;
     closed = record { drawn = omega arith; above = tt };
-    groups = subst (AreGroupsOf (opened h.rows (mark_of s)) 0) (sym is) (opened_of h.rows (mark_of s) (gives_stamp image h.rows (mark_of s) h.gives) (mark_of s == 0) refl);
+    groups = subst (HaveRecordsOf (opened h.rows (mark_of s)) 0) (sym is) (opened_of h.rows (mark_of s) (gives_stamp image h.rows (mark_of s) h.gives) (mark_of s == 0) refl);
     last = ap last_mark is ∙ opened_mark (mark_of s) (mark_of s == 0) refl ∙ ap (λ (m : Marks). m.closed) h.core.marks;
   }
 

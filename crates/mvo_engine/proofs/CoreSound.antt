@@ -1,6 +1,5 @@
 -- The core under its lock stays sound.
 use Rattle.std.proofs.Common.{◌≡◌, ℕ, ◌≤◌, List, [], ◌∷◌, ◌++◌, Result, Ok, Err, sym, ap, ◌∙◌, subst, arith}
-use Rattle.std.specs.List.{AllByRecursion}
 use Rattle.rtrb.specs.declared.producer.Producer.{Producer}
 use Rattle.rtrb.specs.Ring.{sent as ring_sent}
 use Rattle.mvo_types.specs.declared.refusal.Refusal.{Refusal}
@@ -16,12 +15,12 @@ use Rattle.mvo_theory.proofs.Each.{each_append, each_weaker}
 use Rattle.mvo_theory.proofs.Stays.{stays_after_call}
 use Rattle.mvo_core.specs.declared.answers.Closed as closing
 use Rattle.mvo_core.specs.Data.{CoreData}
+use Rattle.mvo_core.specs.Seen.{clock_of}
 use Rattle.mvo_core.specs.Standing.{Stands, StandsFor}
-use Rattle.mvo_core.specs.Groups.{AreGroupsOf}
+use Rattle.mvo_core.specs.Groups.{HaveRecordsOf}
 use Rattle.mvo_core.specs.Steps.{came, IsStep}
 use Rattle.mvo_core.specs.Closing.{IsClosedNow, HasClosed}
 use Rattle.mvo_core.proofs.Begun.{still_closed}
-use Rattle.mvo_store.specs.Frames.{mark_after}
 use Rattle.mvo_world.proofs.Asked.{same_closed, stands_serial}
 use Rattle.mvo_world.proofs.Chain.{groups_stay}
 use Rattle.mvo_world.proofs.Closed.{group_of_next}
@@ -67,7 +66,7 @@ module _ {image : Image} {c : CoreData} {sent : List GroupData} (i : IsSoundCore
         state = after_close s x.mark.0;
         stands = now.stands;
         closed = record { drawn = up.drawn; above = up.above };
-        groups = subst (AreGroupsOf (after_close s x.mark.0) 0) (sym there) (groups_closed s x.mark.0 0 (sent ++ g ∷ []) (groups_push s 0 sent g i.groups prev is));
+        groups = subst (HaveRecordsOf (after_close s x.mark.0) 0) (sym there) (groups_closed s x.mark.0 0 (sent ++ g ∷ []) (groups_push s 0 sent g i.groups prev is));
         last = ap last_mark there ∙ mark_after-append 0 sent (g ∷ []) ∙ now.mark ∙ ap (λ (m : Marks). m.closed) now.stands.marks;
       }
 
@@ -81,7 +80,7 @@ module _ {image : Image} {c : CoreData} {sent : List GroupData} (i : IsSoundCore
     state = i.state;
     stands = stands;
     closed = i.closed;
-    groups = subst (AreGroupsOf i.state 0) (sym same) i.groups;
+    groups = subst (HaveRecordsOf i.state 0) (sym same) i.groups;
     last = ap last_mark same ∙ i.last ∙ sym (ap (λ (m : Marks). m.closed) i.stands.marks) ∙ ap (λ (m : Marks). m.closed) stands.marks;
   }
 
@@ -103,8 +102,13 @@ module _ {image : Image} {c : CoreData} {sent : List GroupData} (i : IsSoundCore
     ends =
         let is = i.stands.dependencies.stands.clock in
         let started = i.stands.versions.kept.started in
-        each_append (λ (x : StampedTx). x.end ≤ c.table.clock) i.state.past i.state.stamped
-        (each_weaker (IsPast i.state.start) (λ (x : StampedTx). x.end ≤ c.table.clock) (λ x p. let le = p.until in let drawn = started.drawn in omega (arith, is, le, drawn)) i.state.past started.past)
-        (each_weaker (IsPlaced i.state.stamped i.state.clock) (λ (x : StampedTx). x.end ≤ c.table.clock) (λ x p. let le = p.drawn in omega (arith, is, le)) i.state.stamped i.stands.versions.kept.sound.placed);
+        each_append (λ (x : StampedTx). x.end ≤ clock_of c) i.state.past i.state.stamped
+        (each_weaker (IsPast i.state.start) (λ (x : StampedTx). x.end ≤ clock_of c) (λ x p. let le = p.until in let drawn = started.drawn in omega (arith, is, le, drawn)) i.state.past started.past)
+        (each_weaker (IsPlaced i.state.stamped i.state.clock) (λ (x : StampedTx). x.end ≤ clock_of c) (λ x p. let le = p.drawn in omega (arith, is, le)) i.state.stamped i.stands.versions.kept.sound.placed);
     groups = i.groups;
   }
+
+-- what stands beside it stays over a step that closes no group
+pub stays_sound : {image : Image} {c : CoreData} {sent : List GroupData} {A P Q : Type 0} {call : Call} {new : CoreData} → IsSoundCore image c sent × P × Q → (result : Result A Refusal) → IsStep c call result new → group_of call (came result) ≡ []
+    → IsSoundCore image new sent × P × Q
+stays_sound {call = call} {new = new} i result step none = (stepped i.0 call result new none step, i.1, i.2)

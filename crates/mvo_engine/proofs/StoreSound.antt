@@ -1,5 +1,5 @@
 -- The store under its lock stays sound, and what a stop leaves of it.
-use Rattle.std.proofs.Common.{◌≡◌, inl, inr, ℕ, ◌≤◌, Bool, true, false, cond, List, [], ◌∷◌, ◌++◌, Option, None, Some, Result, Ok, Err, refl, sym, ap, ◌∙◌, subst, arith, append-nil}
+use Rattle.std.proofs.Common.{◌≡◌, inl, inr, ℕ, ◌≤◌, List, [], ◌∷◌, ◌++◌, Option, None, Some, Result, Ok, Err, refl, sym, ap, ◌∙◌, subst, arith, append-nil}
 use Rattle.std.specs.Prelude.{OnOk}
 use Rattle.std.specs.Option.{option_to_list}
 use Rattle.mvo_types.specs.declared.refusal.Refusal.{Refusal}
@@ -14,8 +14,8 @@ use Rattle.mvo_store.specs.Seen.{disk_of, mark_of, pending_of}
 use Rattle.mvo_store.specs.StoreData.{StoreData, opening}
 use Rattle.mvo_store.specs.Standing.{Gives, GivesOr, FollowsMark, HasSlots, KeepsRows, Keeps, IsKeeping, after_taken}
 use Rattle.mvo_store.specs.Calls.{StoreCall, IsStoreStep}
-use Rattle.mvo_store.proofs.Taken.{KeepsTaken, IsQuiet, quiet_taken, quiet_rows}
-use Rattle.mvo_world.proofs.Standing.{mark_after-append}
+use Rattle.mvo_store.proofs.Taken.{KeepsTaken, IsQuiet, left_taken, quiet_taken, quiet_rows, refused_rows}
+use Rattle.mvo_world.proofs.Standing.{mark_after-append, opening_pending}
 use Rattle.mvo_engine.specs.Sound.{IsSoundStore, GivesReceived, last_mark}
 
 pub on_ok : {A E : Type 0} (result : Result A E) (P : Type 0) → P → OnOk result P
@@ -24,7 +24,7 @@ on_ok (Err e) P p = tt
 
 module _ {D : Type 0} (d : Ghosts D) {image : Image} {s : StoreData D} {received : List GroupData} (i : IsSoundStore d image s received) where
   -- over a step that takes no group and makes none durable
-  pub kept : (t : StoreData D) → KeepsTaken s t → Keeps d s t → IsSoundStore d image t received
+  kept : (t : StoreData D) → KeepsTaken s t → Keeps d s t → IsSoundStore d image t received
   kept t taken keeps = record {
     rows = i.rows;
     mark = i.mark;
@@ -36,9 +36,6 @@ module _ {D : Type 0} (d : Ghosts D) {image : Image} {s : StoreData D} {received
     keeps = λ slots. keeps.keeps (after_groups i.rows i.durable) (i.keeps slots);
   }
 
-  pub kept_by : {A : Type 0} (call : StoreCall) (result : Result A Refusal) (t : StoreData D) → IsQuiet call → IsStoreStep d s call result t → IsSoundStore d image t received
-  kept_by call result t quiet h = kept t (quiet_taken d s call result t quiet h.comes) (quiet_rows d s call result t quiet h)
-
   -- the groups that were received are those that are durable, where none is being appended
   received_all : pending_of s ≡ None → received ≡ i.durable
   received_all none = i.received_is ∙ ap (λ (o : Option GroupData). i.durable ++ option_to_list o) none ∙ append-nil i.durable
@@ -48,7 +45,7 @@ module _ {D : Type 0} (d : Ghosts D) {image : Image} {s : StoreData D} {received
   next_follows none g is = is ∙ ap last_mark (received_all none) ∙ sym i.mark_is
 
   -- over the taking of a group
-  pub taken_in : (t : StoreData D) (received' : List GroupData) (g : GroupData) → IsGroup g → pending_of s ≡ None → received' ≡ received ++ g ∷ [] → pending_of t ≡ Some g → mark_of t ≡ (mark_of s) → g.prev ≡ (mark_of s) → Keeps d s t → IsSoundStore d image t received'
+  pub taken_in : (t : StoreData D) (received' : List GroupData) (g : GroupData) → IsGroup g → pending_of s ≡ None → received' ≡ received ++ g ∷ [] → pending_of t ≡ Some g → mark_of t ≡ mark_of s → g.prev ≡ mark_of s → Keeps d s t → IsSoundStore d image t received'
   taken_in t received' g is none there pending mark prev keeps = record {
     rows = i.rows;
     mark = i.mark;
@@ -105,12 +102,6 @@ module _ {D : Type 0} (d : Ghosts D) {image : Image} {s : StoreData D} {received
           covers = omega (arith, last, up);
         }
 
-    pub with_or_without : (b : Bool) (o : Option GroupData) → pending_of s ≡ o → ((g : GroupData) → pending_of s ≡ Some g → mark_of s ≤ g.mark) → GivesOr (after_groups i.rows i.durable) (mark_of s) (cond b o None) left → GivesReceived image received (mark_of s) left
-    with_or_without false o e up gives = without gives
-    with_or_without true None e up gives = without gives
-    with_or_without true (Some g) e up (inl gives) = without gives
-    with_or_without true (Some g) e up (inr gives) = with_opening g e (up g e) gives
-
   pub above : (g : GroupData) → pending_of s ≡ Some g → mark_of s ≤ g.mark
   above g there =
       let f : FollowsMark (mark_of s) (Some g) = subst (FollowsMark (mark_of s)) there i.follows in
@@ -118,7 +109,28 @@ module _ {D : Type 0} (d : Ghosts D) {image : Image} {s : StoreData D} {received
       let lt = f.1.rules.above in
       omega (arith, prev, lt)
 
+  with_or_without : (left : Image) → HasSlots left → (o : Option GroupData) → opening s ≡ o → GivesOr (after_groups i.rows i.durable) (mark_of s) o left → GivesReceived image received (mark_of s) left
+  with_or_without left slots None e gives = without left slots gives
+  with_or_without left slots (Some g) e (inl gives) = without left slots gives
+  with_or_without left slots (Some g) e (inr gives) =
+      let there = opening_pending s g e in
+      with_opening left slots g there (above g there) gives
+
   pub received_image : HasSlots image → (left : Image) → AllOf (d.may_leave (disk_of s)) left → GivesReceived image received (mark_of s) left
   received_image slots left of =
       let may = (i.keeps slots).images left of in
-      with_or_without left may.slots s.written (pending_of s) refl above may.gives
+      with_or_without left may.slots (opening s) refl may.gives
+
+-- the seat and the ring beside it stay over a step that takes no group and makes none durable
+module _ {D : Type 0} (d : Ghosts D) {image : Image} {s t : StoreData D} {received : List GroupData} {published : ℕ} {P Q : Type 0} (i : IsSoundStore d image s received × P × (published ≤ mark_of s) × Q) where
+  stays_kept : KeepsTaken s t → Keeps d s t → IsSoundStore d image t received × P × (published ≤ mark_of t) × Q
+  stays_kept taken keeps =
+      let p = i.2 in
+      let m = taken.mark in
+      (kept d i.0 t taken keeps, i.1, omega (arith, m, p), i.3)
+
+  pub stays_quiet : {A : Type 0} {call : StoreCall} {result : Result A Refusal} → IsStoreStep d s call result t → IsQuiet call → IsSoundStore d image t received × P × (published ≤ mark_of t) × Q
+  stays_quiet {A} {call} {result} h quiet = stays_kept (quiet_taken d s call result t quiet h.comes) (quiet_rows d s call result t quiet h)
+
+  pub stays_refused : {A : Type 0} {call : StoreCall} {e : Refusal} → IsStoreStep {A = A} d s call (Err e) t → IsSoundStore d image t received × P × (published ≤ mark_of t) × Q
+  stays_refused {A} {call} {e} h = stays_kept (left_taken d call e s t h.comes.left) (refused_rows A d s call e t h)

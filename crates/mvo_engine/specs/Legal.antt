@@ -7,8 +7,9 @@ use Rattle.mvo_disk.specs.Disk.{Image}
 use Rattle.mvo_group.specs.Data.{GroupData}
 use Rattle.mvo_theory.specs.State.{State, timeline}
 use Rattle.mvo_core.specs.Data.{CoreData}
+use Rattle.mvo_core.specs.Seen.{clock_of}
 use Rattle.mvo_core.specs.Standing.{StandsFor}
-use Rattle.mvo_core.specs.Groups.{AreGroupsOf}
+use Rattle.mvo_core.specs.Groups.{HaveRecordsOf}
 use Rattle.mvo_store.specs.Standing.{Gives}
 
 -- The core stands for a state to which steps over the opening rows led. The committed transactions
@@ -22,5 +23,5 @@ pub record IsLegalCore (image : Image) (c : CoreData) (sent : List GroupData) : 
   pub state : State
   pub stands : StandsFor rows steps state c
   pub serial : IsSerial rows steps
-  pub ends : AllByRecursion (λ x. x.end ≤ c.table.clock) (timeline state)
-  pub groups : AreGroupsOf state 0 sent
+  pub ends : AllByRecursion (λ x. x.end ≤ clock_of c) (timeline state)
+  pub groups : HaveRecordsOf state 0 sent

@@ -54,9 +54,13 @@ pub record FreshData (D : Type 0) : Type 0 where
   pub marks : TableId
   pub ring : RingName
 
+-- what its disk holds
+abbrev pub image_of : {D : Type 0} → Ghosts D → FreshData D → Image
+image_of d f = d.content (disk_of f.store)
+
 -- what names the run is fixed by its parts
 pub record IsNamedBy {D : Type 0} (d : Ghosts D) (image : Image) (marks : TableId)
     (ring : RingName) (f : FreshData D) : Type 0 where
-  pub image_is : d.content (disk_of f.store) ≡ image
+  pub image_is : image_of d f ≡ image
   pub marks_are : f.marks ≡ marks
   pub ring_is : f.ring ≡ ring

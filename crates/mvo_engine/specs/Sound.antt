@@ -9,8 +9,9 @@ use Rattle.mvo_group.specs.Data.{GroupData}
 use Rattle.mvo_theory.specs.State.{State}
 use Rattle.mvo_theory.specs.Marks.{IsClosedAt}
 use Rattle.mvo_core.specs.Data.{CoreData}
+use Rattle.mvo_core.specs.Seen.{closed_mark_of}
 use Rattle.mvo_core.specs.Standing.{StandsFor}
-use Rattle.mvo_core.specs.Groups.{AreGroupsOf}
+use Rattle.mvo_core.specs.Groups.{HaveRecordsOf}
 use Rattle.mvo_store.specs.Frames.{mark_after}
 use Rattle.mvo_store.specs.Rows.{after_groups}
 use Rattle.mvo_store.specs.Seen.{disk_of, mark_of, pending_of}
@@ -32,8 +33,8 @@ pub record IsSoundCore (image : Image) (c : CoreData) (sent : List GroupData) : 
   pub state : State
   pub stands : StandsFor rows steps state c
   pub closed : IsClosedAt state.marks.closed state
-  pub groups : AreGroupsOf state 0 sent
-  pub last : last_mark sent ≡ c.closed
+  pub groups : HaveRecordsOf state 0 sent
+  pub last : last_mark sent ≡ closed_mark_of c
 
 -- The groups that were received are durable, but for the one that is being appended. Where the disk
 -- was formatted, a stop now leaves the opening rows followed by the durable ones, or also by that

@@ -79,7 +79,7 @@ impl<L: Run, D: Disk> LockedStore<L, D> {
     ) -> LockedStore<L, D>
         requires sound { IsSoundStore D.Disk L.image store (received ring) }
         requires marks { publisher.marks ≡ L.marks }
-        requires published { publisher.known.published ≤ store.mark }
+        requires published { publisher.known.published ≤ mark_of store }
         requires ring { ring_from ring ≡ L.ring }
         ensures store { result.store ≡ store }
         ensures received { result.received ≡ received ring }

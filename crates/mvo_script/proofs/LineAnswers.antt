@@ -8,10 +8,10 @@ use Rattle.mvo_world.specs.WorldData.{WorldData}
 use Rattle.mvo_world.specs.declared.event.Event.{Event}
 use Rattle.mvo_world.specs.declared.event.Event.TheVariants as event
 use Rattle.mvo_world.specs.declared.reply.Reply.{Reply}
-use Rattle.mvo_script.specs.Answers.{IsAnswer, IsAnswerBy, IsCommit, IsStepOf}
+use Rattle.mvo_script.specs.Answers.{IsAnswerTo, IsAnswerBy, IsCommit, IsStepOf}
 use Rattle.mvo_script.specs.Bound.{bound_by}
 use Rattle.mvo_script.specs.Flushing.{IsFlush, IsFlushed}
-use Rattle.mvo_script.specs.Events.{event_by, event_of, name_in}
+use Rattle.mvo_script.specs.Events.{event_by, event_of_line, name_in}
 use Rattle.mvo_script.specs.declared.bound.BoundTx.{BoundTx}
 use Rattle.mvo_script.specs.declared.driver.Driver.{Driver}
 use Rattle.mvo_script.specs.declared.line.Line.{Line}
@@ -92,7 +92,7 @@ has_event line.Reclaim tx is i u s c p = absurd (not_some None refl is)
 
 -- that of a line of no transaction, which is none of these
 pub has_step : (l : Line) → name_in l ≡ None → ((n : Bor (List ℕ)) → l ≢ line.Begin n) → l ≢ line.Flush → l ≢ line.Rotate →
-    l ≢ line.Checkpoint → ((i : ℕ) → l ≢ line.Merge i) → (e : Event) × (event_of l ≡ Some e)
+    l ≢ line.Checkpoint → ((i : ℕ) → l ≢ line.Merge i) → (e : Event) × (event_of_line l ≡ Some e)
 has_step (line.Begin n) is b f r c m = absurd (b n refl)
 has_step (line.Read n k) is b f r c m = absurd (cc)
 has_step (line.Scan n k) is b f r c m = absurd (cc)
@@ -130,7 +130,7 @@ has_step line.Reclaim is b f r c m = (event.Reclaim, refl)
 
 module _ {D : Type 0} (P : WorldData D → Event → Reply → WorldData D → Type 0) where
   by_text : (d : Driver D) (l : Line) (b : BoundTx) (r : Reply) (d' : Driver D) → bound_by d.names (text_of (name_in l)) ≡ Some b →
-      IsAnswerBy P d l (text_of (name_in l)) b r d' → IsAnswer P d l r d'
+      IsAnswerBy P d l (text_of (name_in l)) b r d' → IsAnswerTo P d l r d'
   unfolding text_of
   by_text d (line.Begin n) b r d' bound it = absurd it
   by_text d (line.Read n k) b r d' bound it = given _ b (λ b. IsAnswerBy P d (line.Read n k) n.now b r d') bound it
@@ -169,7 +169,7 @@ module _ {D : Type 0} (P : WorldData D → Event → Reply → WorldData D → T
 
   -- what is answered for the transaction that the name is bound to answers the line
   pub by_bound : (d : Driver D) (l : Line) (name : List ℕ) (b : BoundTx) (r : Reply) (d' : Driver D) → name_in l ≡ Some name →
-      bound_by d.names name ≡ Some b → IsAnswerBy P d l name b r d' → IsAnswer P d l r d'
+      bound_by d.names name ≡ Some b → IsAnswerBy P d l name b r d' → IsAnswerTo P d l r d'
   unfolding text_of
   by_bound d l name b r d' is bound it =
       let e : text_of (name_in l) ≡ name = ap text_of is in
@@ -214,7 +214,7 @@ module _ {D : Type 0} (P : WorldData D → Event → Reply → WorldData D → T
   by_event d line.Reclaim name b e r d' is it = absurd (cc)
 
   -- the one step that a line of no transaction asks for
-  pub by_step : (d : Driver D) (l : Line) (e : Event) (r : Reply) (d' : Driver D) → event_of l ≡ Some e → IsStepOf P d e r d' → IsAnswer P d l r d'
+  pub by_step : (d : Driver D) (l : Line) (e : Event) (r : Reply) (d' : Driver D) → event_of_line l ≡ Some e → IsStepOf P d e r d' → IsAnswerTo P d l r d'
   by_step d (line.Begin n) e r d' is it = absurd (cc)
   by_step d (line.Read n k) e r d' is it = absurd (cc)
   by_step d (line.Scan n k) e r d' is it = absurd (cc)
@@ -257,5 +257,5 @@ module _ {D : Type 0} (P : WorldData D → Event → Reply → WorldData D → T
 
   -- a flush of the driver's world
   pub by_flush : (d : Driver D) (l : Line) (r : Reply) (d' : Driver D) → l ≡ line.Flush → IsFlush P d.world r d'.world → IsFlushed d'.world r →
-      d'.names ≡ d.names → IsAnswer P d l r d'
-  by_flush d l r d' is steps flushed names = subst (λ (x : Line). IsAnswer P d x r d') (sym is) (steps, flushed, names)
+      d'.names ≡ d.names → IsAnswerTo P d l r d'
+  by_flush d l r d' is steps flushed names = subst (λ (x : Line). IsAnswerTo P d x r d') (sym is) (steps, flushed, names)

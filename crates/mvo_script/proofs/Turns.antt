@@ -8,7 +8,7 @@ use Rattle.mvo_group.specs.Data.{GroupData}
 use Rattle.mvo_core.specs.declared.answers.Closed.{Closed as ClosedGroup}
 use Rattle.mvo_disk.specs.declared.disk.Disk.{Ghosts}
 use Rattle.mvo_store.specs.Seen.{pending_of}
-use Rattle.mvo_store.specs.Causes.{first_cause}
+use Rattle.mvo_store.specs.Causes.{first_cause, why_not_take}
 use Rattle.mvo_store.specs.Calls.{StoreCall}
 use Rattle.mvo_store.specs.Calls.StoreCall.{AppendBody as AppendBodyCall, RotateWrite as RotateWriteCall, InstallClose as InstallCloseCall, InstallBody as InstallBodyCall, InstallOpen as InstallOpenCall}
 use Rattle.mvo_store.specs.declared.log_step.LogStep.{LogStep}
@@ -62,8 +62,8 @@ nothing_left {D} d w v it = go it.0 it.1 it.2
     go : (r : Reply) → IsReplyTo d w event.TakeGroup r v → ◌≡◌ {A = Result (Unit {0}) Refusal} (Err NothingToDo) (result_of r) → (v.ring ≡ []) × (pending_of v.store ≡ None)
     go (Refused why) asked e =
         let is : why ≡ NothingToDo = cc e in
-        let cause = subst (λ (x : Refusal). or_nothing (first_cause ((w.store.down, Down) ∷ (is_some (pending_of w.store), Busy) ∷ [])) (oldest w.ring) ≡ Some x) is asked.0 in
-        let none = emptied w.store.down (pending_of w.store) w.ring cause in
+        let cause = subst (λ (x : Refusal). or_nothing (why_not_take w.store) (oldest w.ring) ≡ Some x) is asked.0 in
+        let none = emptied _ _ w.ring cause in
         (ap (λ (x : WorldData D). x.ring) asked.1 ∙ none.0, ap (λ (x : WorldData D). pending_of x.store) asked.1 ∙ none.1)
     go Taken asked e = cc
     go _ asked e = absurd asked
@@ -135,7 +135,7 @@ module _ {D : Type 0} (d : Ghosts D) where
 
   taken_count : (w v : WorldData D) (r : Reply) → IsReplyTo d w event.TakeGroup r v → turn_goes_on Take (result_of r) ≡ true → count v ≡ count w
   taken_count w v Taken it h =
-      let none = none_pending w.store.down (pending_of w.store) (oldest w.ring) it.0 in
+      let none = none_pending _ _ (oldest w.ring) it.0 in
       let before : count w ≡ length (it.1.group ∷ v.ring) = same_length (pending_of w.store) None w.ring (it.1.group ∷ v.ring) none it.1.there in
       let taken = ap (λ (s : StoreData D). pending_of s) it.1.comes.made.makes in
       let after : count v ≡ length (it.1.group ∷ v.ring) = same_length (pending_of v.store) (Some it.1.group) v.ring v.ring taken refl in

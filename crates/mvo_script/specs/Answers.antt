@@ -13,7 +13,7 @@ use Rattle.mvo_world.specs.declared.event.Event.{Event}
 use Rattle.mvo_world.specs.declared.event.Event.TheVariants as event
 use Rattle.mvo_world.specs.declared.reply.Reply.{Reply}
 use Rattle.mvo_world.specs.declared.reply.Reply.TheVariants.{Prepared, Validated, Settled, Finished, Polled, Refused}
-use Rattle.mvo_script.specs.Bound.{bound_by, BindsBegun, Ends, KeepsBound, is_covered}
+use Rattle.mvo_script.specs.Bound.{bound_by, BindsBegun, BindsEnd, KeepsBound, is_covered}
 use Rattle.mvo_script.specs.Flushing.{IsFlush, IsFlushed}
 use Rattle.mvo_script.specs.Rotating.{rotation}
 use Rattle.mvo_script.specs.Stopping.{AreToRefusal}
@@ -45,7 +45,7 @@ IsOfNoName names _ = ⊥
 
 -- a settled transaction's end is noted for the name; where it isn't settled, the names stay
 abbrev pub NotesEnd : Names → Names → List ℕ → Reply → Type 0
-NotesEnd old new name (Settled (Committed end')) = Ends old new name end'
+NotesEnd old new name (Settled (Committed end')) = BindsEnd old new name end'
 NotesEnd old new name _ = new ≡ old
 
 -- the row that a line gives, with its data
@@ -64,8 +64,8 @@ module _ {D : Type 0} (IsStep : WorldData D → Event → Reply → WorldData D 
     pub names : d'.names ≡ d.names
 
   -- begun, as a transaction that the name is bound to; or refused without memory for the name
-  abbrev pub IsBegun : Driver D → List ℕ → Reply → Driver D → Type 0
-  IsBegun d name r d' =
+  abbrev pub IsBeginStep : Driver D → List ℕ → Reply → Driver D → Type 0
+  IsBeginStep d name r d' =
       (IsStep d.world event.Begin r d'.world × BindsBegun d.names d'.names name r)
       ⊎ ((r ≡ Refused OutOfMemory) × (d'.world ≡ d.world) × KeepsBound d.names d'.names)
 
@@ -78,7 +78,7 @@ module _ {D : Type 0} (IsStep : WorldData D → Event → Reply → WorldData D 
   IsRowStep d e text r d' = TakesRow d e text r d' ⊎ ((r ≡ Refused OutOfMemory) × (d' ≡ d))
 
   -- the transaction is settled, and its end is noted for the name
-  pub record IsSettled (d : Driver D) (name : List ℕ) (tx : TxId) (r : Reply) (d' : Driver D)
+  pub record IsSettleStep (d : Driver D) (name : List ℕ) (tx : TxId) (r : Reply) (d' : Driver D)
       : Type 0 where
     pub step : IsStep d.world (event.Settle tx) r d'.world
     pub names : NotesEnd d.names d'.names name r
@@ -120,12 +120,12 @@ module _ {D : Type 0} (IsStep : WorldData D → Event → Reply → WorldData D 
           → IsStepOf d (event.Precommit tx) (Prepared stop) v
           → AreChecks v tx r d' → IsCommit d name tx r d'
       AtSettle : (v : Driver D) → ((end' : Stamp) → r ≢ Settled (Committed end'))
-          → IsValidated d tx v → IsSettled v name tx r d' → IsCommit d name tx r d'
+          → IsValidated d tx v → IsSettleStep v name tx r d' → IsCommit d name tx r d'
       AtFinish : (v u : Driver D) (end' : Stamp) → r ≢ Finished finishing.Done
-          → IsValidated d tx v → IsSettled v name tx (Settled (Committed end')) u
+          → IsValidated d tx v → IsSettleStep v name tx (Settled (Committed end')) u
           → AreFinishes u tx r d' → IsCommit d name tx r d'
       AtEnd : (v u : Driver D) (end' : Stamp) → r ≡ Settled (Committed end')
-          → IsValidated d tx v → IsSettled v name tx r u
+          → IsValidated d tx v → IsSettleStep v name tx r u
           → AreFinishes u tx (Finished finishing.Done) d' → IsCommit d name tx r d'
 
   -- one step of the transaction that the name is bound to
@@ -143,49 +143,49 @@ module _ {D : Type 0} (IsStep : WorldData D → Event → Reply → WorldData D 
   IsPolled d b r d' = (r ≡ Polled (is_covered (mark_of d.world.store) b.end)) × (d' ≡ d)
 
   -- a line is answered
-  abbrev pub IsAnswer : Driver D → Line → Reply → Driver D → Type 0
-  IsAnswer d (line.Begin name) r d' = IsBegun d name.now r d'
-  IsAnswer d (line.Read name key) r d' = IsTxStep d name.now (λ tx. event.Read tx key) r d'
-  IsAnswer d (line.Scan name range) r d' =
+  abbrev pub IsAnswerTo : Driver D → Line → Reply → Driver D → Type 0
+  IsAnswerTo d (line.Begin name) r d' = IsBeginStep d name.now r d'
+  IsAnswerTo d (line.Read name key) r d' = IsTxStep d name.now (λ tx. event.Read tx key) r d'
+  IsAnswerTo d (line.Scan name range) r d' =
       IsTxStep d name.now (λ tx. event.Scan tx range.table range.lo range.hi) r d'
-  IsAnswer d (line.Insert name text) r d' = IsTxRowStep d name.now event.Insert text r d'
-  IsAnswer d (line.Update name text) r d' = IsTxRowStep d name.now event.Update text r d'
-  IsAnswer d (line.Delete name key) r d' = IsTxStep d name.now (λ tx. event.Delete tx key) r d'
-  IsAnswer d (line.Precommit name) r d' = IsTxStep d name.now event.Precommit r d'
-  IsAnswer d (line.Validate name) r d' = IsTxStep d name.now event.Validate r d'
-  IsAnswer d (line.Settle name) r d' =
-      IsSomeAnd (bound_by d.names name.now) (λ b. IsSettled d name.now b.tx r d')
-  IsAnswer d (line.Rollback name) r d' = IsTxStep d name.now event.Rollback r d'
-  IsAnswer d (line.Finish name) r d' = IsTxStep d name.now event.Finish r d'
-  IsAnswer d (line.Commit name) r d' =
+  IsAnswerTo d (line.Insert name text) r d' = IsTxRowStep d name.now event.Insert text r d'
+  IsAnswerTo d (line.Update name text) r d' = IsTxRowStep d name.now event.Update text r d'
+  IsAnswerTo d (line.Delete name key) r d' = IsTxStep d name.now (λ tx. event.Delete tx key) r d'
+  IsAnswerTo d (line.Precommit name) r d' = IsTxStep d name.now event.Precommit r d'
+  IsAnswerTo d (line.Validate name) r d' = IsTxStep d name.now event.Validate r d'
+  IsAnswerTo d (line.Settle name) r d' =
+      IsSomeAnd (bound_by d.names name.now) (λ b. IsSettleStep d name.now b.tx r d')
+  IsAnswerTo d (line.Rollback name) r d' = IsTxStep d name.now event.Rollback r d'
+  IsAnswerTo d (line.Finish name) r d' = IsTxStep d name.now event.Finish r d'
+  IsAnswerTo d (line.Commit name) r d' =
       IsSomeAnd (bound_by d.names name.now) (λ b. IsCommit d name.now b.tx r d')
-  IsAnswer d (line.Poll name) r d' =
+  IsAnswerTo d (line.Poll name) r d' =
       IsSomeAnd (bound_by d.names name.now) (λ b. IsPolled d b r d')
-  IsAnswer d line.Collect r d' = IsStepOf d event.Collect r d'
-  IsAnswer d (line.Trim upto) r d' = IsStepOf d (event.Trim upto) r d'
-  IsAnswer d line.Group r d' = IsStepOf d event.CloseGroup r d'
-  IsAnswer d line.Take r d' = IsStepOf d event.TakeGroup r d'
-  IsAnswer d line.Body r d' = IsStepOf d event.AppendBody r d'
-  IsAnswer d line.Open r d' = IsStepOf d event.AppendOpen r d'
-  IsAnswer d line.Flush r d' =
+  IsAnswerTo d line.Collect r d' = IsStepOf d event.Collect r d'
+  IsAnswerTo d (line.Trim upto) r d' = IsStepOf d (event.Trim upto) r d'
+  IsAnswerTo d line.Group r d' = IsStepOf d event.CloseGroup r d'
+  IsAnswerTo d line.Take r d' = IsStepOf d event.TakeGroup r d'
+  IsAnswerTo d line.Body r d' = IsStepOf d event.AppendBody r d'
+  IsAnswerTo d line.Open r d' = IsStepOf d event.AppendOpen r d'
+  IsAnswerTo d line.Flush r d' =
       IsFlush IsStep d.world r d'.world × IsFlushed d'.world r × (d'.names ≡ d.names)
-  IsAnswer d line.RotateWrite r d' = IsStepOf d event.RotateWrite r d'
-  IsAnswer d line.CheckpointRead r d' = IsStepOf d event.CheckpointRead r d'
-  IsAnswer d line.CheckpointData r d' = IsStepOf d event.CheckpointData r d'
-  IsAnswer d line.CheckpointDelta r d' = IsStepOf d event.CheckpointDelta r d'
-  IsAnswer d (line.MergeRead place) r d' = IsStepOf d (event.MergeRead place) r d'
-  IsAnswer d line.MergeData r d' = IsStepOf d event.MergeData r d'
-  IsAnswer d line.MergeDelta r d' = IsStepOf d event.MergeDelta r d'
-  IsAnswer d line.InstallClose r d' = IsStepOf d event.InstallClose r d'
-  IsAnswer d line.InstallBody r d' = IsStepOf d event.InstallBody r d'
-  IsAnswer d line.InstallOpen r d' = IsStepOf d event.InstallOpen r d'
-  IsAnswer d line.Rotate r d' =
+  IsAnswerTo d line.RotateWrite r d' = IsStepOf d event.RotateWrite r d'
+  IsAnswerTo d line.CheckpointRead r d' = IsStepOf d event.CheckpointRead r d'
+  IsAnswerTo d line.CheckpointData r d' = IsStepOf d event.CheckpointData r d'
+  IsAnswerTo d line.CheckpointDelta r d' = IsStepOf d event.CheckpointDelta r d'
+  IsAnswerTo d (line.MergeRead place) r d' = IsStepOf d (event.MergeRead place) r d'
+  IsAnswerTo d line.MergeData r d' = IsStepOf d event.MergeData r d'
+  IsAnswerTo d line.MergeDelta r d' = IsStepOf d event.MergeDelta r d'
+  IsAnswerTo d line.InstallClose r d' = IsStepOf d event.InstallClose r d'
+  IsAnswerTo d line.InstallBody r d' = IsStepOf d event.InstallBody r d'
+  IsAnswerTo d line.InstallOpen r d' = IsStepOf d event.InstallOpen r d'
+  IsAnswerTo d line.Rotate r d' =
       AreToRefusal IsStep rotation d.world r d'.world × (d'.names ≡ d.names)
-  IsAnswer d line.Checkpoint r d' =
+  IsAnswerTo d line.Checkpoint r d' =
       IsCheckpoint IsStep d.world r d'.world × (d'.names ≡ d.names)
-  IsAnswer d (line.Merge place) r d' =
+  IsAnswerTo d (line.Merge place) r d' =
       AreToRefusal IsStep (merge place) d.world r d'.world × (d'.names ≡ d.names)
-  IsAnswer d line.Reclaim r d' = IsStepOf d event.Reclaim r d'
+  IsAnswerTo d line.Reclaim r d' = IsStepOf d event.Reclaim r d'
 
   -- a line is answered, for the transaction that its name is bound to
   abbrev pub IsAnswerBy : Driver D → Line → List ℕ → BoundTx → Reply → Driver D → Type 0
@@ -197,7 +197,7 @@ module _ {D : Type 0} (IsStep : WorldData D → Event → Reply → WorldData D 
   IsAnswerBy d (line.Delete _ key) name b r d' = IsStepOf d (event.Delete b.tx key) r d'
   IsAnswerBy d (line.Precommit _) name b r d' = IsStepOf d (event.Precommit b.tx) r d'
   IsAnswerBy d (line.Validate _) name b r d' = IsStepOf d (event.Validate b.tx) r d'
-  IsAnswerBy d (line.Settle _) name b r d' = IsSettled d name b.tx r d'
+  IsAnswerBy d (line.Settle _) name b r d' = IsSettleStep d name b.tx r d'
   IsAnswerBy d (line.Rollback _) name b r d' = IsStepOf d (event.Rollback b.tx) r d'
   IsAnswerBy d (line.Finish _) name b r d' = IsStepOf d (event.Finish b.tx) r d'
   IsAnswerBy d (line.Commit _) name b r d' = IsCommit d name b.tx r d'

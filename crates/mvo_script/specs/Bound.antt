@@ -34,17 +34,17 @@ BindsBegun old new name (Began tx) = Binds old new name tx
 BindsBegun old new name _ = KeepsBound old new
 
 -- a transaction that is Committed with this end
-abbrev pub ended : Stamp → BoundTx → BoundTx
-ended end' b = record b { end = Some end' }
+abbrev pub with_its_end : Stamp → BoundTx → BoundTx
+with_its_end end' b = record b { end = Some end' }
 
 -- one transaction with its end noted, if it is there and the name is its own
-abbrev pub with_end : Stamp → Bool → Option BoundTx → Option BoundTx
-with_end end' is_its b = if is_its then option_map (ended end') b else b
+abbrev pub with_end_if : Stamp → Bool → Option BoundTx → Option BoundTx
+with_end_if end' is_its b = if is_its then option_map (with_its_end end') b else b
 
 -- the transaction that the name is bound to has this end, and all others stay
-abbrev pub Ends : Names → Names → List ℕ → Stamp → Type 0
-Ends old new name end' =
-    (q : List ℕ) → bound_by new q ≡ with_end end' (bytes_eq q name) (bound_by old q)
+abbrev pub BindsEnd : Names → Names → List ℕ → Stamp → Type 0
+BindsEnd old new name end' =
+    (q : List ℕ) → bound_by new q ≡ with_end_if end' (bytes_eq q name) (bound_by old q)
 
 -- an end is there, and the mark is at least it
 abbrev pub is_covered : ℕ → Option Stamp → Bool

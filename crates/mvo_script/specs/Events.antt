@@ -52,12 +52,12 @@ job_event_of line.MergeDelta = Some event.MergeDelta
 job_event_of l = install_event_of l
 
 -- the step that a line of no transaction asks for, where it is one alone
-abbrev pub event_of : Line → Option Event
-event_of line.Collect = Some event.Collect
-event_of (line.Trim upto) = Some (event.Trim upto)
-event_of line.Group = Some event.CloseGroup
-event_of line.Take = Some event.TakeGroup
-event_of line.Body = Some event.AppendBody
-event_of line.Open = Some event.AppendOpen
-event_of line.RotateWrite = Some event.RotateWrite
-event_of l = job_event_of l
+abbrev pub event_of_line : Line → Option Event
+event_of_line line.Collect = Some event.Collect
+event_of_line (line.Trim upto) = Some (event.Trim upto)
+event_of_line line.Group = Some event.CloseGroup
+event_of_line line.Take = Some event.TakeGroup
+event_of_line line.Body = Some event.AppendBody
+event_of_line line.Open = Some event.AppendOpen
+event_of_line line.RotateWrite = Some event.RotateWrite
+event_of_line l = job_event_of l

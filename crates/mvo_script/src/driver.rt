@@ -4,7 +4,7 @@ ghost use Rattle.mvo_script.specs.Fresh.{IsFreshWorld};
 
 use crate::bound::BoundTx;
 use crate::checkpoint::checkpoint;
-use crate::events::{event_by, event_of, name_in};
+use crate::events::{event_by, event_of_line, name_in};
 use crate::flush::flush;
 use crate::line::{Line, RowText, SortRange};
 use crate::merge::merge;
@@ -58,8 +58,8 @@ impl Driver<MemDisk> {
 impl<D: Disk> Driver<D> {
     ghost use Rattle.std.specs.Prelude.{◌≡◌, IsSome, IsSomeAnd, MatchOption, None, Some};
     ghost use Rattle.mvo_store.specs.Seen.{mark_of};
-    ghost use Rattle.mvo_script.specs.Answers.{AreStepsOf, IsAnswer, IsAnswerBy, IsBegun, IsCommit, IsOfNoName, IsRowStep};
-    ghost use Rattle.mvo_script.specs.Answers.{IsSettled, IsStepOf};
+    ghost use Rattle.mvo_script.specs.Answers.{AreStepsOf, IsAnswerTo, IsAnswerBy, IsBeginStep, IsCommit, IsOfNoName, IsRowStep};
+    ghost use Rattle.mvo_script.specs.Answers.{IsSettleStep, IsStepOf};
     ghost use Rattle.mvo_script.specs.Bound.{bound_by, is_covered, BindsNone};
     ghost use Rattle.mvo_script.specs.Events.{name_in};
     ghost use Rattle.mvo_script.specs.Forms.{HasForm};
@@ -82,7 +82,7 @@ impl<D: Disk> Driver<D> {
 
     /// The mark of its world.
     pub fn mark(&self) -> Stamp
-        ensures { result.0 ≡ self.now.world.store.mark }
+        ensures { result.0 ≡ mark_of self.now.world.store }
     {
         self.world.mark()
     }
@@ -105,7 +105,7 @@ impl<D: Disk> Driver<D> {
         ensures bad { result ≡ LineReply.BadLine → self.new ≡ self.old }
         ensures answered { let step = IsReplyTo D.Disk in
             (r : Reply) → result ≡ LineReply.Answered r →
-            (line : Line) × HasForm line × IsAnswer step self.old line r self.new }
+            (line : Line) × HasForm line × IsAnswerTo step self.old line r self.new }
     {
         let Some(line) = Line::parse(bytes) else {
             return LineReply::BadLine;
@@ -120,7 +120,7 @@ impl<D: Disk> Driver<D> {
     fn reply_to(&mut self, line: Line<'_>) -> Option<Reply>
         ensures { let step = IsReplyTo D.Disk in
             MatchOption result (IsOfNoName self.old.names line.entry × (self.new ≡ self.old))
-            (λ r. IsAnswer step self.old line.entry r self.new) }
+            (λ r. IsAnswerTo step self.old line.entry r self.new) }
     {
         match name_in(line) {
             Some(name) => self.reply_for(line, name),
@@ -132,7 +132,7 @@ impl<D: Disk> Driver<D> {
     fn reply_for(&mut self, line: Line<'_>, name: &str) -> Option<Reply>
         ensures { let step = IsReplyTo D.Disk in name_in line.entry ≡ Some name.now →
             MatchOption result ((bound_by self.old.names name.now ≡ None) × (self.new ≡ self.old))
-            (λ r. IsAnswer step self.old line.entry r self.new) }
+            (λ r. IsAnswerTo step self.old line.entry r self.new) }
     {
         match self.bound(name) {
             Some(bound) => self.reply_by(line, name, bound),
@@ -158,7 +158,7 @@ impl<D: Disk> Driver<D> {
     /// The reply to a line that asks nothing of a transaction by its name. None to another line.
     fn reply_without(&mut self, line: Line<'_>) -> Option<Reply>
         ensures { let step = IsReplyTo D.Disk in name_in line.entry ≡ None →
-            IsSomeAnd result (λ r. IsAnswer step self.old line.entry r self.new) }
+            IsSomeAnd result (λ r. IsAnswerTo step self.old line.entry r self.new) }
     {
         match line {
             Line::Begin(name) => Some(self.begin(name)),
@@ -166,7 +166,7 @@ impl<D: Disk> Driver<D> {
             Line::Rotate => Some(rotate(&mut self.world)),
             Line::Checkpoint => Some(checkpoint(&mut self.world)),
             Line::Merge(place) => Some(merge(&mut self.world, place)),
-            _ => self.ask_if(event_of(line)),
+            _ => self.ask_if(event_of_line(line)),
         }
     }
 
@@ -198,7 +198,7 @@ impl<D: Disk> Driver<D> {
 
     fn begin(&mut self, name: &str) -> Reply
         ensures { let step = IsReplyTo D.Disk in
-            IsBegun step self.old name.now result self.new }
+            IsBeginStep step self.old name.now result self.new }
     {
         match self.names.begin(name, &mut self.world) {
             Ok(reply) => reply,
@@ -237,7 +237,7 @@ impl<D: Disk> Driver<D> {
     /// Settles the transaction that the name is bound to, and notes its end for the name.
     fn settle(&mut self, name: &str, tx: TxId) -> Reply
         ensures { let step = IsReplyTo D.Disk in
-            IsSettled step self.old name.now tx result self.new }
+            IsSettleStep step self.old name.now tx result self.new }
     {
         let settled = self.ask(Event::Settle(tx));
         if let Reply::Settled(Settlement::Committed(end)) = settled {

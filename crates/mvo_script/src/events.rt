@@ -1,5 +1,5 @@
 ghost use Rattle.std.specs.Prelude.{◌≡◌, option_map};
-ghost use Rattle.mvo_script.specs.Events.{event_by, event_of, install_event_of, job_event_of, name_in};
+ghost use Rattle.mvo_script.specs.Events.{event_by, event_of_line, install_event_of, job_event_of, name_in};
 
 use crate::line::{Line, SortRange};
 use mvo_types::TxId;
@@ -43,8 +43,8 @@ pub fn event_by(line: Line<'_>, tx: TxId) -> Option<Event>
 }
 
 /// The step that a line of no transaction asks for, where it is one alone.
-pub fn event_of(line: Line<'_>) -> Option<Event>
-    ensures { result ≡ event_of line.entry }
+pub fn event_of_line(line: Line<'_>) -> Option<Event>
+    ensures { result ≡ event_of_line line.entry }
 {
     match line {
         Line::Collect => Some(Event::Collect),

@@ -1,6 +1,6 @@
 ghost use Rattle.std.specs.Prelude.{◌≡◌, IfOk, OnErr};
 ghost use Rattle.mvo_world.specs.Replies.{IsReplyTo};
-ghost use Rattle.mvo_script.specs.Bound.{bound_by, BindsNone, BindsBegun, Ends, KeepsBound};
+ghost use Rattle.mvo_script.specs.Bound.{bound_by, BindsNone, BindsBegun, BindsEnd, KeepsBound};
 
 use crate::bound::BoundTx;
 use mvo_disk::Disk;
@@ -60,7 +60,7 @@ impl Names {
 
     /// Notes the end timestamp of the transaction that the name is bound to, which is Committed.
     pub fn note_end(&mut self, name: &str, end: Stamp)
-        ensures { Ends self.old self.new name.now end }
+        ensures { BindsEnd self.old self.new name.now end }
     {
         if let Some(place) = self.bound.get_mut(name) {
             if let Some(BoundTx { tx, .. }) = *place {

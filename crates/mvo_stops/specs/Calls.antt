@@ -5,5 +5,5 @@ use Rattle.mvo_disk.specs.Record.{calls_of as calls_on}
 use Rattle.mvo_stops.specs.declared.recorded.Recorded.{Recorded}
 
 -- those behind the opening
-abbrev pub calls_of : Recorded → List Call
-calls_of r = drop r.opening (calls_on r.disk)
+abbrev pub calls_in : Recorded → List Call
+calls_in r = drop r.opening (calls_on r.disk)

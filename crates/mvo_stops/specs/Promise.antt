@@ -18,8 +18,8 @@ abbrev pub up_to : ℕ → List Commit → List (List Op)
 up_to mark commits = map (λ c. c.ops.items) (filter (λ c. nat_le c.end.0 mark) commits)
 
 -- the rows after the commits up to a mark, from the rows at the start
-abbrev pub rows_up_to : ℕ → List Commit → List RowData → Map
-rows_up_to mark commits start =
+abbrev pub rows_of_commits : ℕ → List Commit → List RowData → Map
+rows_of_commits mark commits start =
     rows_after_transactions (up_to mark commits) (with_rows start fin.empty)
 
 -- All that was acknowledged is there, nothing is there that can't have been drawn, and the rows are
@@ -28,4 +28,4 @@ pub record IsPromised (least most : ℕ) (commits : List Commit) (start : List R
     (mark : ℕ) : Type 0 where
   pub acknowledged : least ≤ mark
   pub drawn : mark ≤ most
-  pub rows : rows_by_key held ≡ rows_by_key (rows_up_to mark commits start)
+  pub rows : rows_by_key held ≡ rows_by_key (rows_of_commits mark commits start)

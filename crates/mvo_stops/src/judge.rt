@@ -2,7 +2,7 @@
 ghost use Rattle.std.specs.Prelude.{◌≡◌, ◌↔◌, IsTrue, IfOk};
 ghost use Rattle.std.specs.FinMap as map;
 ghost use Rattle.mvo_types.specs.RowLists.{rows_by_key};
-ghost use Rattle.mvo_stops.specs.Promise.{rows_up_to, with_rows};
+ghost use Rattle.mvo_stops.specs.Promise.{rows_of_commits, with_rows};
 
 use crate::commit::Commit;
 use crate::counts::Counts;
@@ -118,7 +118,7 @@ impl Judge {
         if self.history.clock().0 < mark.0 {
             return Err(Ended::Wrong(Wrong::MarkTooHigh(mark)));
         }
-        let wanted = rows_up_to(recorded, self.history.commits(), mark)?;
+        let wanted = rows_of_commits(recorded, self.history.commits(), mark)?;
         let rows = rows.into_rows(recorded.alloc)?;
         if same_rows(&wanted, &rows) {
             Ok(mark)
@@ -157,9 +157,13 @@ fn rows_of(alloc: Global, list: &[Row]) -> Result<Rows, AllocError>
 }
 
 /// The rows, by their keys, after one map has run the commits up to a mark one after another.
-fn rows_up_to(recorded: &Recorded, commits: &[Commit], mark: Stamp) -> Result<Vec<Row>, AllocError>
+fn rows_of_commits(
+    recorded: &Recorded,
+    commits: &[Commit],
+    mark: Stamp,
+) -> Result<Vec<Row>, AllocError>
     ensures { IfOk result (λ v. v.items ≡
-        rows_by_key (rows_up_to mark.0 commits.now recorded.now.rows.items)) }
+        rows_by_key (rows_of_commits mark.0 commits.now recorded.now.rows.items)) }
 {
     let alloc = recorded.alloc;
     let mut serial = Serial::new(alloc, rows_of(alloc, &recorded.rows)?);

@@ -45,7 +45,7 @@ impl Drop for Recorded {
 
 impl Recorded {
     ghost use Rattle.std.specs.Prelude.{◌≡◌, true};
-    ghost use Rattle.mvo_stops.specs.Calls.{calls_of};
+    ghost use Rattle.mvo_stops.specs.Calls.{calls_in};
 
     /// Runs the lines over what the disk holds as they begin. No line need be a good one.
     pub fn of(
@@ -72,7 +72,7 @@ impl Recorded {
 
     /// The calls of the device that the lines make, in order.
     pub fn calls(&self) -> &[Call]
-        ensures { result.now ≡ calls_of self.now }
+        ensures { result.now ≡ calls_in self.now }
     {
         match self.disk.calls().get(self.opening..) {
             Some(calls) => calls,

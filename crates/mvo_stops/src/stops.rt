@@ -1,5 +1,5 @@
 ghost use Rattle.std.specs.Prelude.{◌≡◌, ◌≤◌, ◌<◌, ◌+◌, ◌-◌, ◌^◌, length, IfOk, None};
-ghost use Rattle.mvo_stops.specs.Calls.{calls_of};
+ghost use Rattle.mvo_stops.specs.Calls.{calls_in};
 ghost use Rattle.mvo_stops.specs.Counting.{IsReportOf, IsReportWith};
 
 use crate::check::{Found, check_call};
@@ -25,7 +25,7 @@ pub fn check_stops(
     recorded: &Recorded,
     watch: &mut impl Watch,
 ) -> Result<Report, StopsError>
-    ensures { IfOk result (IsReportOf (length (calls_of recorded.now))) }
+    ensures { IfOk result (IsReportOf (length (calls_in recorded.now))) }
 {
     let all = recorded.calls().len();
     let mut report = nothing_yet();

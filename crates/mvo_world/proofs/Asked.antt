@@ -8,13 +8,14 @@ use Rattle.mvo_theory.specs.Calls.{Call, Result, after_call, group_of}
 use Rattle.mvo_theory.proofs.Chain.{chained_after_call}
 use Rattle.mvo_theory.proofs.Tales.{serial_after_trace}
 use Rattle.mvo_core.specs.Data.{CoreData}
+use Rattle.mvo_core.specs.Seen.{clock_of, closed_mark_of}
 use Rattle.mvo_core.specs.Standing.{StandsFor, Stands}
 use Rattle.mvo_core.specs.Steps.{LeadsOn}
 use Rattle.mvo_world.specs.WorldData.{WorldData}
 use Rattle.mvo_world.specs.Replies.{IsDrawn}
 
 -- the mark of the group that was closed last stays
-pub same_closed : {old new : CoreData} (i : Stands old) (c : Call) (r : Result) → group_of c r ≡ [] → LeadsOn i.opening i.steps i.state c r new → new.closed ≡ old.closed
+pub same_closed : {old new : CoreData} (i : Stands old) (c : Call) (r : Result) → group_of c r ≡ [] → LeadsOn i.opening i.steps i.state c r new → closed_mark_of new ≡ closed_mark_of old
 same_closed {old} {new} i c r none l =
     let s = i.state in
     let chained = chained_after_call i.opening i.steps s.marks.closed [] s c r l.may i.stands.versions.kept (record { closed = i.closed; groups = refl }) in
@@ -22,7 +23,7 @@ same_closed {old} {new} i c r none l =
     sym (ap (λ (m : Marks). m.closed) l.stands.marks) ∙ sym same ∙ ap (λ (m : Marks). m.closed) i.stands.marks
 
 -- the timestamp behind the clock is the next one in each state
-pub next_stamp : {D : Type 0} (w : WorldData D) (n : ℕ) → n ≡ w.core.table.clock + 1 → IsDrawn w n
+pub next_stamp : {D : Type 0} (w : WorldData D) (n : ℕ) → n ≡ clock_of w.core + 1 → IsDrawn w n
 next_stamp w n e = λ opening steps s h. e ∙ ap (λ (m : ℕ). m + 1) h.dependencies.stands.clock
 
 -- what a core stands for is serial

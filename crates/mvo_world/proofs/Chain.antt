@@ -18,7 +18,7 @@ use Rattle.mvo_core.specs.Records.{AreRecordsOf}
 use Rattle.mvo_store.specs.Frames.{mark_after}
 use Rattle.mvo_store.specs.Rows.{after_record, after_groups}
 use Rattle.mvo_store.proofs.Grown.{after_groups-append}
-use Rattle.mvo_core.specs.Groups.{AreGroupsOf}
+use Rattle.mvo_core.specs.Groups.{HaveRecordsOf}
 use Rattle.mvo_world.proofs.Rows.{left_by_all, left_by_all-append, is_after, records_rows}
 
 -- ---- rows up to a mark, by the line
@@ -95,7 +95,7 @@ parts m n (x ∷ xs) le h = go (nat_le x.end m) refl (parts m n xs le h.1)
                 split false t = absurd (true≢false (sym (le-leb x.end m (ltb-false m x.end t)) ∙ g))
 
 -- ---- the rows that the groups leave
-pub chain_rows : (s : State) (mark : ℕ) (gs : List GroupData) (rows : Map) → IsRising (timeline s) → AreGroupsOf s mark gs → after_groups (left_by_all (settled_to mark (timeline s)) rows) gs ≡ left_by_all (settled_to (mark_after mark gs) (timeline s)) rows
+pub chain_rows : (s : State) (mark : ℕ) (gs : List GroupData) (rows : Map) → IsRising (timeline s) → HaveRecordsOf s mark gs → after_groups (left_by_all (settled_to mark (timeline s)) rows) gs ≡ left_by_all (settled_to (mark_after mark gs) (timeline s)) rows
 chain_rows s mark [] rows h gs = refl
 chain_rows s mark (g ∷ more) rows h gs =
     let prev = gs.0 in
@@ -113,7 +113,7 @@ chain_rows s mark (g ∷ more) rows h gs =
     ∙ chain_rows s g.mark more rows h gs.2
 
 -- ---- what stays
-pub groups_stay : (s s' : State) (mark : ℕ) (gs : List GroupData) → StaysBelow s s' → AreGroupsOf s mark gs → AreGroupsOf s' mark gs
+pub groups_stay : (s s' : State) (mark : ℕ) (gs : List GroupData) → StaysBelow s s' → HaveRecordsOf s mark gs → HaveRecordsOf s' mark gs
 groups_stay s s' mark [] stays h = tt
 groups_stay s s' mark (g ∷ gs) stays h =
     let kept = stays g.mark h.1.closed in

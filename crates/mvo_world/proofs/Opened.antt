@@ -4,13 +4,13 @@ use Rattle.mvo_types.specs.declared.refusal.Refusal.TheVariants.{OutOfMemory}
 use Rattle.mvo_types.specs.Keys.{Map}
 use Rattle.mvo_disk.specs.declared.disk.Disk.{Ghosts}
 use Rattle.mvo_disk.specs.Disk.{Image}
-use Rattle.mvo_store.specs.Seen.{mark_of}
+use Rattle.mvo_store.specs.Seen.{disk_of, mark_of}
 use Rattle.mvo_store.specs.StoreData.{StoreData}
 use Rattle.mvo_store.specs.Standing.{Gives, HasSlots, KeepsRows}
-use Rattle.mvo_store.specs.Opening.{IsAnswer, HasBegun as StoreHasBegun, IsNotOpened}
+use Rattle.mvo_store.specs.Opening.{IsAnswer, HasBegun, IsNotOpened}
 use Rattle.mvo_store.proofs.Answered.{same_answer, same_rows}
 use Rattle.mvo_core.specs.Standing.{OpensAs}
-use Rattle.mvo_world.specs.WorldData.{WorldData, HasBegun}
+use Rattle.mvo_world.specs.WorldData.{WorldData, IsJustOpened}
 use Rattle.mvo_world.specs.Past.{Past, opened_over}
 use Rattle.mvo_world.specs.Standing.{IsAfter, IsPrefix, RecoversPrefix}
 use Rattle.mvo_world.proofs.Moves.{begun}
@@ -21,15 +21,15 @@ answer_prefix content rows mark answer past h =
 
 module _ {D : Type 0} (d : Ghosts D) where
   -- memory for the rest of the world was refused
-  pub memory_refused : (old : D) (s : StoreData D) (mark : ℕ) → StoreHasBegun d old s mark → IsNotOpened d old OutOfMemory s.disk
+  pub memory_refused : (old : D) (s : StoreData D) (mark : ℕ) → HasBegun d old s mark → IsNotOpened d old OutOfMemory (disk_of s)
   memory_refused old s mark begun = inr (record { few = begun.few; why = inl (inl refl); count = begun.count })
 
   -- the rows that the store answered are those that the world is opened over
-  module _ (old : D) (w : WorldData D) (rows : Map) (mark : ℕ) (answer : IsAnswer (d.content old) (Ok (rows, mark))) (begins : StoreHasBegun d old w.store mark) (core : OpensAs rows mark w.core) (none : w.ring ≡ []) where
+  module _ (old : D) (w : WorldData D) (rows : Map) (mark : ℕ) (answer : IsAnswer (d.content old) (Ok (rows, mark))) (begins : HasBegun d old w.store mark) (core : OpensAs rows mark w.core) (none : w.ring ≡ []) where
     pub answer_here : IsAnswer (d.content old) (Ok (rows, mark_of w.store))
     answer_here = subst (λ (m : ℕ). IsAnswer (d.content old) (Ok (rows, m))) (sym begins.mark_is) answer
 
-    begins_here : HasBegun rows w
+    begins_here : IsJustOpened rows w
     begins_here = record {
       core = subst (λ (m : ℕ). OpensAs rows m w.core) (sym begins.mark_is) core;
       ring = none;
@@ -41,8 +41,8 @@ module _ {D : Type 0} (d : Ghosts D) where
       };
     }
 
-    pub world_begins : (given : Map) → Gives given (mark_of w.store) (d.content old) → HasBegun given w
-    world_begins given gives = subst (λ (m : Map). HasBegun m w) (sym (same_rows (d.content old) rows (mark_of w.store) answer_here given gives)) begins_here
+    pub world_begins : (given : Map) → Gives given (mark_of w.store) (d.content old) → IsJustOpened given w
+    world_begins given gives = subst (λ (m : Map). IsJustOpened m w) (sym (same_rows (d.content old) rows (mark_of w.store) answer_here given gives)) begins_here
 
     pub world_after : (HasSlots (d.content old) → KeepsRows d w.store rows) → (given : Map) → Gives given (mark_of w.store) (d.content old) → HasSlots (d.content old) → IsAfter d (opened_over given (mark_of w.store)) w
     world_after keeps given gives slots =

@@ -10,12 +10,13 @@ use Rattle.mvo_theory.specs.Changes.{after_close}
 use Rattle.mvo_theory.specs.Calls.{Call, group_of}
 use Rattle.mvo_core.specs.declared.answers.Closed as closing
 use Rattle.mvo_core.specs.Data.{CoreData}
+use Rattle.mvo_core.specs.Seen.{closed_mark_of, HasNewVersions}
 use Rattle.mvo_core.specs.Standing.{OpensAs}
 use Rattle.mvo_core.specs.Steps.{came, IsStep}
 use Rattle.mvo_core.specs.Collecting.{StandsAsBefore}
 use Rattle.mvo_core.proofs.Begun.{stands_on}
 use Rattle.mvo_world.specs.Ring.{IsClosingInto}
-use Rattle.mvo_world.specs.WorldData.{WorldData, waiting, Follow, IsSound}
+use Rattle.mvo_world.specs.WorldData.{WorldData, waiting, Follow, IsSoundWorld}
 use Rattle.mvo_world.proofs.Asked.{same_closed}
 use Rattle.mvo_world.proofs.Closed.{group_of_next}
 use Rattle.mvo_store.specs.Seen.{mark_of, pending_of}
@@ -25,10 +26,10 @@ use Rattle.mvo_world.proofs.Moves.{linked_closed}
 same_mark : {old new : ℕ} (opening opening' : ℕ) (m : Marks) → m ≡ record { opening = opening; closed = old } → m ≡ record { opening = opening'; closed = new } → new ≡ old
 same_mark opening opening' m a b = sym (ap (λ (x : Marks). x.closed) b) ∙ ap (λ (x : Marks). x.closed) a
 
-module _ {D : Type 0} (w : WorldData D) (i : IsSound w) where
+module _ {D : Type 0} (w : WorldData D) (i : IsSoundWorld w) where
   -- over one that closes no group
-  pub sound_asked : {A : Type 0} (c : Call) (result : Result A Refusal) (core : CoreData) → group_of c (came result) ≡ [] → IsStep w.core c result core → IsSound (record w { core = core })
-  sound_asked c result core none step =
+  pub sound_asked : {A : Type 0} {c : Call} (result : Result A Refusal) {core : CoreData} → IsStep w.core c result core → group_of c (came result) ≡ [] → IsSoundWorld (record w { core = core })
+  sound_asked {A} {c} result {core} step none =
       let l = step i.core.opening i.core.steps i.core.state i.core.stands in
       record {
         core = stands_on i.core c (came result) core l;
@@ -36,7 +37,7 @@ module _ {D : Type 0} (w : WorldData D) (i : IsSound w) where
       }
 
   -- over a collection
-  pub sound_collected : (core : CoreData) → StandsAsBefore w.core core → core ≡ record w.core { versions = core.versions } → IsSound (record w { core = core })
+  pub sound_collected : (core : CoreData) → StandsAsBefore w.core core → HasNewVersions w.core core → IsSoundWorld (record w { core = core })
   sound_collected core stands rest = record {
     core = record {
       opening = i.core.opening;
@@ -45,11 +46,11 @@ module _ {D : Type 0} (w : WorldData D) (i : IsSound w) where
       stands = stands i.core.opening i.core.steps i.core.state i.core.stands;
       closed = i.core.closed;
     };
-    linked = subst (λ (n : ℕ). Follow (mark_of w.store) (waiting w) n) (sym (ap (λ (c : CoreData). c.closed) rest)) i.linked;
+    linked = subst (λ (n : ℕ). Follow (mark_of w.store) (waiting w) n) (sym (ap (λ (c : CoreData). closed_mark_of c) rest)) i.linked;
   }
 
   -- over one that is to close a group
-  pub sound_closed : (result : Result closing.Closed Refusal) (core : CoreData) (ring : List GroupData) → IsClosingInto w.core w.ring result core ring → IsSound (record w { core = core; ring = ring })
+  pub sound_closed : (result : Result closing.Closed Refusal) (core : CoreData) (ring : List GroupData) → IsClosingInto w.core w.ring result core ring → IsSoundWorld (record w { core = core; ring = ring })
   sound_closed (Ok c) core ring step =
       let s = i.core.state in
       let told = step i.core.opening i.core.steps s i.core.stands in
@@ -58,8 +59,8 @@ module _ {D : Type 0} (w : WorldData D) (i : IsSound w) where
       let now = told.1.2 in
       let is = group_of_next i.core.opening i.core.steps s g now.commits i.core.stands.versions.kept i.core.closed now.next now.records now.rules in
       let up : IsClosedAt c.mark.0 s = subst (λ (m : ℕ). IsClosedAt m s) now.mark is.closed in
-      let at : g.mark ≡ core.closed = now.mark ∙ ap (λ (m : Marks). m.closed) now.stands.marks in
-      let prev : g.prev ≡ w.core.closed = now.next.prev ∙ ap (λ (m : Marks). m.closed) i.core.stands.marks in
+      let at : g.mark ≡ closed_mark_of core = now.mark ∙ ap (λ (m : Marks). m.closed) now.stands.marks in
+      let prev : g.prev ≡ closed_mark_of w.core = now.next.prev ∙ ap (λ (m : Marks). m.closed) i.core.stands.marks in
       record {
         core = record {
           opening = i.core.opening;
@@ -68,7 +69,7 @@ module _ {D : Type 0} (w : WorldData D) (i : IsSound w) where
           stands = now.stands;
           closed = record { drawn = up.drawn; above = up.above };
         };
-        linked = subst (λ (gs : List GroupData). Follow (mark_of w.store) (option_to_list (pending_of w.store) ++ gs) core.closed) (sym there)
+        linked = subst (λ (gs : List GroupData). Follow (mark_of w.store) (option_to_list (pending_of w.store) ++ gs) (closed_mark_of core)) (sym there)
             (subst (λ (n : ℕ). Follow (mark_of w.store) (option_to_list (pending_of w.store) ++ (w.ring ++ g ∷ [])) n) at (linked_closed w g prev i.linked));
       }
   sound_closed (Err r) core ring step =
@@ -76,13 +77,13 @@ module _ {D : Type 0} (w : WorldData D) (i : IsSound w) where
       let told = step i.core.opening i.core.steps s i.core.stands in
       record {
         core = record { opening = i.core.opening; steps = i.core.steps; state = s; stands = told.0.stands; closed = i.core.closed };
-        linked = subst (λ (gs : List GroupData). Follow (mark_of w.store) (option_to_list (pending_of w.store) ++ gs) core.closed) (sym told.1)
+        linked = subst (λ (gs : List GroupData). Follow (mark_of w.store) (option_to_list (pending_of w.store) ++ gs) (closed_mark_of core)) (sym told.1)
             (subst (λ (n : ℕ). Follow (mark_of w.store) (waiting w) n) (sym (same_mark w.core.opening core.opening s.marks i.core.stands.marks told.0.stands.marks)) i.linked);
       }
 
 -- just opened
-pub sound_opened : {D : Type 0} (rows : Map) (mark : ℕ) (w : WorldData D) → OpensAs rows mark w.core → mark_of w.store ≡ mark → pending_of w.store ≡ None → w.ring ≡ [] → IsSound w
+pub sound_opened : {D : Type 0} (rows : Map) (mark : ℕ) (w : WorldData D) → OpensAs rows mark w.core → mark_of w.store ≡ mark → pending_of w.store ≡ None → w.ring ≡ [] → IsSoundWorld w
 sound_opened rows mark w core at pending ring = record {
   core = record { opening = rows; steps = []; state = opened rows mark; stands = core; closed = record { drawn = omega arith; above = tt } };
-  linked = subst (λ (gs : List GroupData). Follow (mark_of w.store) gs w.core.closed) (sym (ap (λ (o : Option GroupData). option_to_list o ++ w.ring) pending ∙ ring)) (at ∙ ap (λ (m : Marks). m.closed) core.marks);
+  linked = subst (λ (gs : List GroupData). Follow (mark_of w.store) gs (closed_mark_of w.core)) (sym (ap (λ (o : Option GroupData). option_to_list o ++ w.ring) pending ∙ ring)) (at ∙ ap (λ (m : Marks). m.closed) core.marks);
 }

@@ -1,6 +1,7 @@
 pub mod Ends
 pub mod Ring
 pub mod WorldData
+pub mod View
 pub mod Past
 pub mod Standing
 pub mod Replies

@@ -15,6 +15,7 @@ use Rattle.mvo_theory.specs.Calls.Call.{Begin as BeginCall, Precommit as Precomm
 use Rattle.mvo_theory.specs.Calls.Result.{Accepted, Refused as RefusedCall}
 use Rattle.mvo_collect.specs.declared.collection.Collection.{Collection}
 use Rattle.mvo_core.specs.declared.answers.Closed as closing
+use Rattle.mvo_core.specs.Seen.{closed_mark_of, HasNewVersions}
 use Rattle.mvo_core.specs.Standing.{StandsFor}
 use Rattle.mvo_core.specs.Steps.{LeadsOn, InEach, IsAnswered, IsValidation, IsSettlement, IsFinishing}
 use Rattle.mvo_core.specs.Collecting.{StandsAsBefore, AreFewer}
@@ -54,8 +55,8 @@ pub record IsAsked {D : Type 0} (w : WorldData D) (c : theory.Call) (r : theory.
   pub rest : w' ≡ record w { core = w'.core }
 
 -- an operation was answered: as the serial step answers on the transaction's snapshot
-abbrev pub IsDone : {D : Type 0} → WorldData D → ℕ → Op → Answer → WorldData D → Type 0
-IsDone w t op a w' = IsAsked w (Do t op) Accepted w' × IsAnswered w.core t op a
+abbrev pub IsOpAnswered : {D : Type 0} → WorldData D → ℕ → Op → Answer → WorldData D → Type 0
+IsOpAnswered w t op a w' = IsAsked w (Do t op) Accepted w' × IsAnswered w.core t op a
 
 -- it is the next timestamp
 abbrev pub IsDrawn : {D : Type 0} → WorldData D → ℕ → Type 0
@@ -67,14 +68,14 @@ pub record HasCollected {D : Type 0} (w : WorldData D) (c : Collection) (w' : Wo
     Type 0 where
   pub counts : AreFewer w.core c w'.core
   pub stands : StandsAsBefore w.core w'.core
-  pub versions : w'.core ≡ record w.core { versions = w'.core.versions }
+  pub versions : HasNewVersions w.core w'.core
   pub rest : w' ≡ record w { core = w'.core }
 
 -- the tale starts at the stamp, and what is trimmed and in a closed group is forgotten
 pub record HasTrimmed {D : Type 0} (w : WorldData D) (upto : ℕ) (w' : WorldData D) :
     Type 0 where
   pub asked : IsAsked w (TrimCall upto) Accepted w'
-  pub forgets : HasForgotten upto w.core.closed w.core w'.core
+  pub forgets : HasForgotten upto (closed_mark_of w.core) w.core w'.core
 
 -- Closing a group came to this: the next group is in the ring, or what is refused leaves all.
 -- The store stays.
@@ -90,7 +91,7 @@ pub record IsStored {D : Type 0} (d : Ghosts D) (w : WorldData D) (call : StoreC
   pub rest : w' ≡ record w { store = w'.store }
 
 -- the store has the oldest group of the ring
-pub record IsTaken {D : Type 0} (d : Ghosts D) (w w' : WorldData D) : Type 0 where
+pub record IsGroupTaken {D : Type 0} (d : Ghosts D) (w w' : WorldData D) : Type 0 where
   pub group : GroupData
   pub there : w.ring ≡ group ∷ w'.ring
   pub comes : ComesTo {A = Unit {0}} d w.store (Take group) (Ok tt) w'.store
@@ -103,19 +104,19 @@ pub record IsTaken {D : Type 0} (d : Ghosts D) (w w' : WorldData D) : Type 0 whe
 abbrev pub IsReplyTo : {D : Type 0} → Ghosts D → WorldData D → Event → Reply → WorldData D → Type 0
 IsReplyTo d w Begin (Began t) w' = IsAsked w BeginCall Accepted w' × IsDrawn w t.0
 IsReplyTo d w Begin (Refused r) w' = IsAsked w BeginCall (RefusedCall r) w'
-IsReplyTo d w (Read t k) (Answered a) w' = IsDone w t.0 (op.Read k) a w'
+IsReplyTo d w (Read t k) (Answered a) w' = IsOpAnswered w t.0 (op.Read k) a w'
 IsReplyTo d w (Read t k) (Refused r) w' =
     IsAsked w (Do t.0 (op.Read k)) (RefusedCall r) w'
-IsReplyTo d w (Scan t table lo hi) (Answered a) w' = IsDone w t.0 (op.Scan table lo hi) a w'
+IsReplyTo d w (Scan t table lo hi) (Answered a) w' = IsOpAnswered w t.0 (op.Scan table lo hi) a w'
 IsReplyTo d w (Scan t table lo hi) (Refused r) w' =
     IsAsked w (Do t.0 (op.Scan table lo hi)) (RefusedCall r) w'
-IsReplyTo d w (Insert t row) (Answered a) w' = IsDone w t.0 (op.Insert row) a w'
+IsReplyTo d w (Insert t row) (Answered a) w' = IsOpAnswered w t.0 (op.Insert row) a w'
 IsReplyTo d w (Insert t row) (Refused r) w' =
     IsAsked w (Do t.0 (op.Insert row)) (RefusedCall r) w'
-IsReplyTo d w (Update t row) (Answered a) w' = IsDone w t.0 (op.Update row) a w'
+IsReplyTo d w (Update t row) (Answered a) w' = IsOpAnswered w t.0 (op.Update row) a w'
 IsReplyTo d w (Update t row) (Refused r) w' =
     IsAsked w (Do t.0 (op.Update row)) (RefusedCall r) w'
-IsReplyTo d w (Delete t k) (Answered a) w' = IsDone w t.0 (op.Delete k) a w'
+IsReplyTo d w (Delete t k) (Answered a) w' = IsOpAnswered w t.0 (op.Delete k) a w'
 IsReplyTo d w (Delete t k) (Refused r) w' =
     IsAsked w (Do t.0 (op.Delete k)) (RefusedCall r) w'
 IsReplyTo d w (Precommit t) (Prepared e) w' =
@@ -138,7 +139,7 @@ IsReplyTo d w (Trim upto) (Refused r) w' =
     (r ≡ NothingToDo) × IsAsked w (TrimCall upto.0) (RefusedCall r) w'
 IsReplyTo d w CloseGroup (Closed c) w' = HasComeTo w (Ok c) w'
 IsReplyTo d w CloseGroup (Refused r) w' = HasComeTo w (Err r) w'
-IsReplyTo d w TakeGroup Taken w' = (why_not_taken w ≡ None) × IsTaken d w w'
+IsReplyTo d w TakeGroup Taken w' = (why_not_taken w ≡ None) × IsGroupTaken d w w'
 IsReplyTo d w TakeGroup (Refused r) w' = (why_not_taken w ≡ Some r) × (w' ≡ w)
 IsReplyTo d w (Poll stamp) (Polled answer) w' =
     (answer ≡ nat_le stamp.0 (mark_of w.store)) × (w' ≡ w)

@@ -36,6 +36,6 @@ IsClosingInto old ring result new ring' = (opening : Map) (steps : List Step) (s
     → StandsFor opening steps s old → HasClosedInto opening steps s ring result new ring'
 
 -- the oldest group left the ring, or there was none
-abbrev pub HasTaken : List GroupData → Option GroupData → List GroupData → Type 0
-HasTaken ring None ring' = (ring ≡ []) × (ring' ≡ [])
-HasTaken ring (Some g) ring' = ring ≡ g ∷ ring'
+abbrev pub IsOldestTaken : List GroupData → Option GroupData → List GroupData → Type 0
+IsOldestTaken ring None ring' = (ring ≡ []) × (ring' ≡ [])
+IsOldestTaken ring (Some g) ring' = ring ≡ g ∷ ring'

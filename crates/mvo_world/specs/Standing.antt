@@ -15,7 +15,7 @@ use Rattle.mvo_store.specs.Seen.{mark_of}
 use Rattle.mvo_store.specs.Standing.{Gives, KeepsRows, HasSlots}
 use Rattle.mvo_world.specs.Past.{Past}
 use Rattle.mvo_world.specs.WorldData.{WorldData, waiting}
-use Rattle.mvo_core.specs.Groups.{AreGroupsOf}
+use Rattle.mvo_core.specs.Groups.{HaveRecordsOf}
 
 -- it is one of these
 abbrev pub IsOneOf : ℕ → List ℕ → Type 0
@@ -51,7 +51,7 @@ pub record IsAfter {D : Type 0} (d : Ghosts D) (p : Past) (w : WorldData D) : Ty
   pub none : settled_to p.mark (timeline state) ≡ []
   pub store : KeepsRows d w.store (after_groups p.rows sent)
   pub mark : mark_of w.store ≡ mark_after p.mark sent
-  pub groups : AreGroupsOf state p.mark (sent ++ waiting w)
+  pub groups : HaveRecordsOf state p.mark (sent ++ waiting w)
   pub marks : map (λ g. g.mark) (sent ++ waiting w) ≡ p.closed
   pub covers : AllByRecursion (λ m. m ≤ mark_of w.store) p.acknowledged
 

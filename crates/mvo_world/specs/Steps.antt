@@ -18,8 +18,9 @@ pub record IsStepBy {D : Type 0} (IsReply : WorldData D → Event → Reply → 
   pub any_moment : (p : Past) → IsAfter d p w →
       LeavesPrefix d p (disk_of w.store) (disk_of w'.store)
 
-abbrev pub IsStep : {D : Type 0} → Ghosts D → WorldData D → Event → Reply → WorldData D → Type 0
-IsStep d = IsStepBy (IsReplyTo d) d
+abbrev pub IsWorldStep : {D : Type 0} →
+    Ghosts D → WorldData D → Event → Reply → WorldData D → Type 0
+IsWorldStep d = IsStepBy (IsReplyTo d) d
 
 -- a step of a run, whose event is copied first
 abbrev pub IsRunStep : {D : Type 0} → Ghosts D → WorldData D → Event → Reply → WorldData D → Type 0

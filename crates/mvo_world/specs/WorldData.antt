@@ -4,6 +4,7 @@ use Rattle.std.specs.Option.{option_to_list}
 use Rattle.mvo_types.specs.Keys.{Map}
 use Rattle.mvo_group.specs.Data.{GroupData}
 use Rattle.mvo_core.specs.Data.{CoreData}
+use Rattle.mvo_core.specs.Seen.{closed_mark_of}
 use Rattle.mvo_core.specs.Standing.{Stands, OpensAs}
 use Rattle.mvo_store.specs.Seen.{mark_of, pending_of, IsAtRest}
 use Rattle.mvo_store.specs.StoreData.{StoreData}
@@ -25,15 +26,15 @@ Follow mark (g ∷ gs) last = (g.prev ≡ mark) × Follow g.mark gs last
 
 -- the groups that wait lead from the store's mark to that of the last closed group
 abbrev pub IsLinked : {D : Type 0} → WorldData D → Type 0
-IsLinked w = Follow (mark_of w.store) (waiting w) w.core.closed
+IsLinked w = Follow (mark_of w.store) (waiting w) (closed_mark_of w.core)
 
 -- the core stands for a state, whatever steps led there, and the groups that wait are linked
-pub record IsSound {D : Type 0} (w : WorldData D) : Type 0 where
+pub record IsSoundWorld {D : Type 0} (w : WorldData D) : Type 0 where
   pub core : Stands w.core
   pub linked : IsLinked w
 
 -- nothing happened since the opening over these rows
-pub record HasBegun {D : Type 0} (rows : Map) (w : WorldData D) : Type 0 where
+pub record IsJustOpened {D : Type 0} (rows : Map) (w : WorldData D) : Type 0 where
   pub core : OpensAs rows (mark_of w.store) w.core
   pub ring : w.ring ≡ []
   pub store : IsAtRest w.store

@@ -32,7 +32,7 @@ impl Model for Ring {
 
 impl Ring {
     ghost use Rattle.mvo_world.specs.Ends.{in_ring, AreEnds};
-    ghost use Rattle.mvo_world.specs.Ring.{IsClosingInto, HasTaken};
+    ghost use Rattle.mvo_world.specs.Ring.{IsClosingInto, IsOldestTaken};
 
     /// A ring with no group.
     pub fn new(alloc: Global) -> Result<Ring, AllocError>
@@ -57,7 +57,7 @@ impl Ring {
 
     /// Takes the oldest group out, if there is one.
     pub fn take(&mut self) -> Option<Group>
-        ensures { HasTaken self.old result self.new }
+        ensures { IsOldestTaken self.old result self.new }
     {
         if self.consumer.slots_beside(&mut self.producer) == 0 {
             return None;

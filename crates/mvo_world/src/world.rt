@@ -44,7 +44,8 @@ impl<D: Disk> Model for World<D> {
     ghost use Rattle.mvo_core.specs.contracts.engine.Core.{the_row as core_row};
     ghost use Rattle.mvo_types.specs.Keys.{coded_map as coded_rows};
     ghost use Rattle.mvo_store.specs.Places.{coded_places};
-    ghost use Rattle.mvo_world.specs.WorldData.{WorldData, IsSound};
+    ghost use Rattle.mvo_world.specs.WorldData.{WorldData, IsSoundWorld};
+    ghost use Rattle.mvo_world.specs.View.{world_data};
 
     ghost Value = { WorldData D };
 
@@ -55,13 +56,9 @@ impl<D: Disk> Model for World<D> {
       coded_places,
     ) };
 
-    ghost view = { λ w. record { core = w.core; ring = w.ring; store = w.store } };
+    ghost view = { world_data };
 
-    ghost invariant = { λ w. IsSound {D = D} (record {
-      core = w.core;
-      ring = w.ring;
-      store = w.store;
-    }) };
+    ghost invariant = { λ w. IsSoundWorld (world_data w) };
 }
 
 impl<D: Disk> World<D> {
@@ -71,10 +68,10 @@ impl<D: Disk> World<D> {
     ghost use Rattle.mvo_store.specs.Opening.{IsAnswer, KeepsContent, LeavesAsBefore};
     ghost use Rattle.mvo_store.specs.Opening.{IsNotOpened, IsNotOfFiles};
     ghost use Rattle.mvo_store.specs.Seen.{disk_of, mark_of};
-    ghost use Rattle.mvo_world.specs.WorldData.{HasBegun};
+    ghost use Rattle.mvo_world.specs.WorldData.{IsJustOpened};
     ghost use Rattle.mvo_world.specs.Past.{Past, opened_over, with_events, IsSerialPast};
     ghost use Rattle.mvo_world.specs.Standing.{IsAfter, IsPrefix, RecoversPrefix, MayLeavePrefix};
-    ghost use Rattle.mvo_world.specs.Steps.{IsStep, IsRunStep, AreSteps};
+    ghost use Rattle.mvo_world.specs.Steps.{IsWorldStep, IsRunStep, AreSteps};
 
     /// A world over what is on the disk. It writes and cuts nothing. Refused as `Store::open` is,
     /// or with OutOfMemory; the disk comes back. Who chooses the keys of rows must not know the
@@ -99,7 +96,7 @@ impl<D: Disk> World<D> {
             Gives rows (mark_of w.store) (D.content disk) → (past : Past) →
             RecoversPrefix past (D.content disk) → IsPrefix past rows (mark_of w.store)) }
         ensures begins { IfOk result (λ w. (rows : Map) →
-            Gives rows (mark_of w.store) (D.content disk) → HasBegun rows w) }
+            Gives rows (mark_of w.store) (D.content disk) → IsJustOpened rows w) }
         ensures content { IfOk result (λ w. KeepsContent D.Disk disk (disk_of w.store)) }
         ensures any_moment { IfOk result (λ w. LeavesAsBefore D.Disk disk (disk_of w.store)) }
         ensures refused { IfErr result (λ e. IsNotOpened D.Disk disk e.0 e.1) }
@@ -169,7 +166,7 @@ impl<D: Disk> World<D> {
     /// answer; a step of the store that is not refused so may still meet out of memory or a fault
     /// of the disk.
     pub fn step(&mut self, event: Event) -> Reply
-        ensures { IsStep D.Disk self.old event result self.new }
+        ensures { IsWorldStep D.Disk self.old event result self.new }
     {
         match event {
             Event::Begin => self.begin(),

@@ -7,16 +7,16 @@ use mvo_disk::Disk;
 use mvo_types::Stamp;
 
 impl<D: Disk> World<D> {
-    ghost use Rattle.mvo_world.specs.Steps.{IsStep};
+    ghost use Rattle.mvo_world.specs.Steps.{IsWorldStep};
 
     pub(super) fn collect(&mut self) -> Reply
-        ensures { IsStep D.Disk self.old Event.Collect result self.new }
+        ensures { IsWorldStep D.Disk self.old Event.Collect result self.new }
     {
         Reply::Collected(self.core.collect_one())
     }
 
     pub(super) fn trim(&mut self, upto: Stamp) -> Reply
-        ensures { IsStep D.Disk self.old (Event.Trim upto) result self.new }
+        ensures { IsWorldStep D.Disk self.old (Event.Trim upto) result self.new }
     {
         match self.core.trim_tale(upto) {
             Ok(()) => Reply::Trimmed(upto),

@@ -8,10 +8,10 @@ use mvo_store::Progress;
 use mvo_types::{Refusal, Stamp};
 
 impl<D: Disk> World<D> {
-    ghost use Rattle.mvo_world.specs.Steps.{IsStep};
+    ghost use Rattle.mvo_world.specs.Steps.{IsWorldStep};
 
     pub(super) fn close_group(&mut self) -> Reply
-        ensures { IsStep D.Disk self.old Event.CloseGroup result self.new }
+        ensures { IsWorldStep D.Disk self.old Event.CloseGroup result self.new }
     {
         match self.ring.close(&mut self.core) {
             Ok(closed) => Reply::Closed(closed),
@@ -20,7 +20,7 @@ impl<D: Disk> World<D> {
     }
 
     pub(super) fn take_group(&mut self) -> Reply
-        ensures { IsStep D.Disk self.old Event.TakeGroup result self.new }
+        ensures { IsWorldStep D.Disk self.old Event.TakeGroup result self.new }
     {
         if let Some(refusal) = self.store.can_take() {
             return Reply::Refused(refusal);
@@ -35,7 +35,7 @@ impl<D: Disk> World<D> {
     }
 
     pub(super) fn append_body(&mut self) -> Reply
-        ensures { IsStep D.Disk self.old Event.AppendBody result self.new }
+        ensures { IsWorldStep D.Disk self.old Event.AppendBody result self.new }
     {
         match self.store.append_body() {
             Ok(()) => Reply::Written,
@@ -44,7 +44,7 @@ impl<D: Disk> World<D> {
     }
 
     pub(super) fn append_open(&mut self) -> Reply
-        ensures { IsStep D.Disk self.old Event.AppendOpen result self.new }
+        ensures { IsWorldStep D.Disk self.old Event.AppendOpen result self.new }
     {
         match self.store.append_open() {
             Ok(durable) => Reply::Durable(durable.mark()),
@@ -53,7 +53,7 @@ impl<D: Disk> World<D> {
     }
 
     pub(super) fn rotate_write(&mut self) -> Reply
-        ensures { IsStep D.Disk self.old Event.RotateWrite result self.new }
+        ensures { IsWorldStep D.Disk self.old Event.RotateWrite result self.new }
     {
         match self.store.rotate_write() {
             Ok(()) => Reply::Ready,
@@ -62,7 +62,7 @@ impl<D: Disk> World<D> {
     }
 
     pub(super) fn checkpoint_read(&mut self) -> Reply
-        ensures { IsStep D.Disk self.old Event.CheckpointRead result self.new }
+        ensures { IsWorldStep D.Disk self.old Event.CheckpointRead result self.new }
     {
         match self.store.checkpoint_read() {
             Ok(()) => Reply::Progress(Progress::More),
@@ -71,7 +71,7 @@ impl<D: Disk> World<D> {
     }
 
     pub(super) fn checkpoint_data(&mut self) -> Reply
-        ensures { IsStep D.Disk self.old Event.CheckpointData result self.new }
+        ensures { IsWorldStep D.Disk self.old Event.CheckpointData result self.new }
     {
         match self.store.checkpoint_data() {
             Ok(()) => Reply::Progress(Progress::More),
@@ -80,7 +80,7 @@ impl<D: Disk> World<D> {
     }
 
     pub(super) fn checkpoint_delta(&mut self) -> Reply
-        ensures { IsStep D.Disk self.old Event.CheckpointDelta result self.new }
+        ensures { IsWorldStep D.Disk self.old Event.CheckpointDelta result self.new }
     {
         match self.store.checkpoint_delta() {
             Ok(progress) => Reply::Progress(progress),
@@ -89,7 +89,7 @@ impl<D: Disk> World<D> {
     }
 
     pub(super) fn merge_read(&mut self, place: usize) -> Reply
-        ensures { IsStep D.Disk self.old (Event.MergeRead place) result self.new }
+        ensures { IsWorldStep D.Disk self.old (Event.MergeRead place) result self.new }
     {
         match self.store.merge_read(place) {
             Ok(()) => Reply::Progress(Progress::More),
@@ -98,7 +98,7 @@ impl<D: Disk> World<D> {
     }
 
     pub(super) fn merge_data(&mut self) -> Reply
-        ensures { IsStep D.Disk self.old Event.MergeData result self.new }
+        ensures { IsWorldStep D.Disk self.old Event.MergeData result self.new }
     {
         match self.store.merge_data() {
             Ok(()) => Reply::Progress(Progress::More),
@@ -107,7 +107,7 @@ impl<D: Disk> World<D> {
     }
 
     pub(super) fn merge_delta(&mut self) -> Reply
-        ensures { IsStep D.Disk self.old Event.MergeDelta result self.new }
+        ensures { IsWorldStep D.Disk self.old Event.MergeDelta result self.new }
     {
         match self.store.merge_delta() {
             Ok(()) => Reply::Progress(Progress::Ready),
@@ -116,7 +116,7 @@ impl<D: Disk> World<D> {
     }
 
     pub(super) fn install_close(&mut self) -> Reply
-        ensures { IsStep D.Disk self.old Event.InstallClose result self.new }
+        ensures { IsWorldStep D.Disk self.old Event.InstallClose result self.new }
     {
         match self.store.install_close() {
             Ok(()) => Reply::Shut,
@@ -125,7 +125,7 @@ impl<D: Disk> World<D> {
     }
 
     pub(super) fn install_body(&mut self) -> Reply
-        ensures { IsStep D.Disk self.old Event.InstallBody result self.new }
+        ensures { IsWorldStep D.Disk self.old Event.InstallBody result self.new }
     {
         match self.store.install_body() {
             Ok(()) => Reply::Written,
@@ -134,7 +134,7 @@ impl<D: Disk> World<D> {
     }
 
     pub(super) fn install_open(&mut self) -> Reply
-        ensures { IsStep D.Disk self.old Event.InstallOpen result self.new }
+        ensures { IsWorldStep D.Disk self.old Event.InstallOpen result self.new }
     {
         match self.store.install_open() {
             Ok(generation) => Reply::Installed(generation),
@@ -143,7 +143,7 @@ impl<D: Disk> World<D> {
     }
 
     pub(super) fn reclaim(&mut self) -> Reply
-        ensures { IsStep D.Disk self.old Event.Reclaim result self.new }
+        ensures { IsWorldStep D.Disk self.old Event.Reclaim result self.new }
     {
         match self.store.reclaim() {
             Ok(reclaimed) => Reply::Reclaimed(reclaimed),
@@ -152,7 +152,7 @@ impl<D: Disk> World<D> {
     }
 
     pub(super) fn poll(&self, stamp: Stamp) -> Reply
-        ensures { IsStep D.Disk self.now (Event.Poll stamp) result self.now }
+        ensures { IsWorldStep D.Disk self.now (Event.Poll stamp) result self.now }
     {
         Reply::Polled(self.store.mark() >= stamp)
     }

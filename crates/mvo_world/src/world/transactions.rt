@@ -7,10 +7,10 @@ use mvo_disk::Disk;
 use mvo_types::{Row, RowKey, TxId};
 
 impl<D: Disk> World<D> {
-    ghost use Rattle.mvo_world.specs.Steps.{IsStep};
+    ghost use Rattle.mvo_world.specs.Steps.{IsWorldStep};
 
     pub(super) fn begin(&mut self) -> Reply
-        ensures { IsStep D.Disk self.old Event.Begin result self.new }
+        ensures { IsWorldStep D.Disk self.old Event.Begin result self.new }
     {
         match self.core.begin_tx() {
             Ok(tx) => Reply::Began(tx),
@@ -19,7 +19,7 @@ impl<D: Disk> World<D> {
     }
 
     pub(super) fn read(&mut self, tx: TxId, key: RowKey) -> Reply
-        ensures { IsStep D.Disk self.old (Event.Read tx key) result self.new }
+        ensures { IsWorldStep D.Disk self.old (Event.Read tx key) result self.new }
     {
         match self.core.read(tx, key) {
             Ok(answer) => Reply::Answered(answer),
@@ -28,7 +28,7 @@ impl<D: Disk> World<D> {
     }
 
     pub(super) fn scan(&mut self, tx: TxId, table: u8, lo: u64, hi: u64) -> Reply
-        ensures { IsStep D.Disk self.old (Event.Scan tx table lo hi) result self.new }
+        ensures { IsWorldStep D.Disk self.old (Event.Scan tx table lo hi) result self.new }
     {
         match self.core.scan(tx, table, lo, hi) {
             Ok(answer) => Reply::Answered(answer),
@@ -37,7 +37,7 @@ impl<D: Disk> World<D> {
     }
 
     pub(super) fn insert(&mut self, tx: TxId, row: Row) -> Reply
-        ensures { IsStep D.Disk self.old (Event.Insert tx row) result self.new }
+        ensures { IsWorldStep D.Disk self.old (Event.Insert tx row) result self.new }
     {
         match self.core.insert(tx, row) {
             Ok(answer) => Reply::Answered(answer),
@@ -46,7 +46,7 @@ impl<D: Disk> World<D> {
     }
 
     pub(super) fn update(&mut self, tx: TxId, row: Row) -> Reply
-        ensures { IsStep D.Disk self.old (Event.Update tx row) result self.new }
+        ensures { IsWorldStep D.Disk self.old (Event.Update tx row) result self.new }
     {
         match self.core.update(tx, row) {
             Ok(answer) => Reply::Answered(answer),
@@ -55,7 +55,7 @@ impl<D: Disk> World<D> {
     }
 
     pub(super) fn delete(&mut self, tx: TxId, key: RowKey) -> Reply
-        ensures { IsStep D.Disk self.old (Event.Delete tx key) result self.new }
+        ensures { IsWorldStep D.Disk self.old (Event.Delete tx key) result self.new }
     {
         match self.core.delete(tx, key) {
             Ok(answer) => Reply::Answered(answer),
@@ -64,7 +64,7 @@ impl<D: Disk> World<D> {
     }
 
     pub(super) fn precommit(&mut self, tx: TxId) -> Reply
-        ensures { IsStep D.Disk self.old (Event.Precommit tx) result self.new }
+        ensures { IsWorldStep D.Disk self.old (Event.Precommit tx) result self.new }
     {
         match self.core.precommit(tx) {
             Ok(end) => Reply::Prepared(end),
@@ -73,7 +73,7 @@ impl<D: Disk> World<D> {
     }
 
     pub(super) fn validate(&mut self, tx: TxId) -> Reply
-        ensures { IsStep D.Disk self.old (Event.Validate tx) result self.new }
+        ensures { IsWorldStep D.Disk self.old (Event.Validate tx) result self.new }
     {
         match self.core.validate_one(tx) {
             Ok(validation) => Reply::Validated(validation),
@@ -82,7 +82,7 @@ impl<D: Disk> World<D> {
     }
 
     pub(super) fn settle(&mut self, tx: TxId) -> Reply
-        ensures { IsStep D.Disk self.old (Event.Settle tx) result self.new }
+        ensures { IsWorldStep D.Disk self.old (Event.Settle tx) result self.new }
     {
         match self.core.settle(tx) {
             Ok(settlement) => Reply::Settled(settlement),
@@ -91,7 +91,7 @@ impl<D: Disk> World<D> {
     }
 
     pub(super) fn roll_back(&mut self, tx: TxId) -> Reply
-        ensures { IsStep D.Disk self.old (Event.Rollback tx) result self.new }
+        ensures { IsWorldStep D.Disk self.old (Event.Rollback tx) result self.new }
     {
         match self.core.rollback_tx(tx) {
             Ok(()) => Reply::RolledBack,
@@ -100,7 +100,7 @@ impl<D: Disk> World<D> {
     }
 
     pub(super) fn finish(&mut self, tx: TxId) -> Reply
-        ensures { IsStep D.Disk self.old (Event.Finish tx) result self.new }
+        ensures { IsWorldStep D.Disk self.old (Event.Finish tx) result self.new }
     {
         match self.core.finish_one(tx) {
             Ok(finishing) => Reply::Finished(finishing),

@@ -1,8 +1,9 @@
+use Rattle.mvo_engine.specs.Opened.{image_of}
 use Rattle.bench_core.proofs.threads.on_disk.Given as goal
 
 abbrev pub ghosts-with_engine : goal.ghosts-with_engine
 ghosts-with_engine g a = record {
-  image = g.D.Disk.content a.fresh.store.disk;
+  image = image_of g.D.Disk a.fresh;
   marks = a.fresh.marks;
   ring = a.fresh.ring;
 }

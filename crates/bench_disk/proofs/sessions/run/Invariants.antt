@@ -1,8 +1,9 @@
+use Rattle.mvo_engine.specs.Opened.{image_of}
 use Rattle.bench_disk.proofs.sessions.run.Given as goal
 
 abbrev pub ghosts-run_in : goal.ghosts-run_in
 ghosts-run_in g a = record {
-  image = g.D.Disk.content a.fresh.store.disk;
+  image = image_of g.D.Disk a.fresh;
   marks = a.fresh.marks;
   ring = a.fresh.ring;
 }

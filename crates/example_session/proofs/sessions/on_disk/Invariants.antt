@@ -1,8 +1,9 @@
+use Rattle.mvo_engine.specs.Opened.{image_of}
 use Rattle.example_session.proofs.sessions.on_disk.Given as goal
 
 abbrev pub ghosts-run : goal.ghosts-run
 ghosts-run g a = record {
-  image = g.D.Disk.content a.fresh.store.disk;
+  image = image_of g.D.Disk a.fresh;
   marks = a.fresh.marks;
   ring = a.fresh.ring;
 }

@@ -1,12 +1,9 @@
 use Rattle.std.proofs.Common.{refl}
-use Rattle.mvo_theory.specs.Calls.Call.{Begin}
-use Rattle.mvo_engine.proofs.CoreSound.{stepped}
+use Rattle.mvo_engine.proofs.CoreSound.{stays_sound}
 use Rattle.mvo_engine.proofs.locked_core.LockedCore.begin_tx.Goals as goal
 
 pub invariant_of-self : goal.invariant_of-self
-invariant_of-self g c =
-    let i = c.self.invariant in
-    (stepped i.0 Begin c.begin_tx.result c.begin_tx.new.self refl c.begin_tx.ensures.step, i.1, i.2)
+invariant_of-self g c = stays_sound c.self.invariant c.begin_tx.result c.begin_tx.ensures.step refl
 
 pub returns : goal.returns
 returns g c = rw (← c.self.view_is) (record { step = record { step = c.begin_tx.ensures.step; sent = refl; made = refl } })

@@ -1,12 +1,9 @@
 use Rattle.std.proofs.Common.{refl}
-use Rattle.mvo_theory.specs.Calls.Call.{Finish}
-use Rattle.mvo_engine.proofs.CoreSound.{stepped}
+use Rattle.mvo_engine.proofs.CoreSound.{stays_sound}
 use Rattle.mvo_engine.proofs.locked_core.LockedCore.finish_one.Goals as goal
 
 pub invariant_of-self : goal.invariant_of-self
-invariant_of-self g c =
-    let i = c.self.invariant in
-    (stepped i.0 (Finish c.args.tx.0) c.finish_one.result c.finish_one.new.self refl c.finish_one.ensures.step, i.1, i.2)
+invariant_of-self g c = stays_sound c.self.invariant c.finish_one.result c.finish_one.ensures.step refl
 
 pub returns-clause-step : goal.returns-clause-step
 returns-clause-step g c = rw (← c.self.view_is) (record { step = c.finish_one.ensures.step; sent = refl; made = refl })

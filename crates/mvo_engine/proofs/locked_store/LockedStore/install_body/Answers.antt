@@ -1,14 +1,5 @@
-use Rattle.std.proofs.Common.{arith}
-use Rattle.mvo_store.specs.Calls.StoreCall.{InstallBody}
-use Rattle.mvo_store.proofs.Taken.{quiet_taken}
-use Rattle.mvo_engine.proofs.StoreSound.{kept_by}
+use Rattle.mvo_engine.proofs.StoreSound.{stays_quiet}
 use Rattle.mvo_engine.proofs.locked_store.LockedStore.install_body.Goals as goal
 
 pub invariant_of-self : goal.invariant_of-self
-invariant_of-self g c =
-    let i = c.self.invariant in
-    let t = c.install_body.new.self in
-    let e = c.install_body.ensures in
-    let m = (quiet_taken g.D.Disk c.self.inside.store InstallBody c.install_body.result t tt e.comes).mark in
-    let p = i.2 in
-    (kept_by g.D.Disk i.0 InstallBody c.install_body.result t tt e, i.1, omega (arith, m, p), i.3)
+invariant_of-self g c = stays_quiet g.D.Disk c.self.invariant c.install_body.ensures tt

@@ -1,4 +1,5 @@
 use Rattle.std.proofs.Common.{◌≡◌, None, sym, ap, ◌∙◌, refl, arith}
+use Rattle.mvo_store.specs.Seen.{mark_of, pending_of}
 use Rattle.mvo_store.specs.StoreData.{StoreData}
 use Rattle.mvo_store.specs.Causes.{why_not_take}
 use Rattle.mvo_store.proofs.Taken.{is_taken}
@@ -18,10 +19,10 @@ invariant_of-self-2 g c =
     let none = nothing_taken s why in
     let step = is_taken g.D.Disk s x c.take_group.result t why c.take_group.ensures.step in
     let made = step.comes.made.makes in
-    let mark = ap (λ (y : StoreData _). y.mark) made in
+    let mark = ap (λ (y : StoreData _). mark_of y) made in
     let p = i.2 in
     let got = c.in-Ok.ensures.ok in (
-      taken_in g.D.Disk i.0 t _ x c.mark.ensures.group none got.0 (ap (λ (y : StoreData _). y.pending) made) mark (next_follows g.D.Disk i.0 none x got.2) step.keeps,
+      taken_in g.D.Disk i.0 t _ x c.mark.ensures.group none got.0 (ap (λ (y : StoreData _). pending_of y) made) mark (next_follows g.D.Disk i.0 none x got.2) step.keeps,
       i.1,
       omega (arith, p, mark),
       same_from f.ring c.pop.new.self c.in-Ok.ensures.ring ∙ i.3,

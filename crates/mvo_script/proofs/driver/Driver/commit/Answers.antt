@@ -8,7 +8,7 @@ use Rattle.mvo_world.specs.WorldData.{WorldData}
 use Rattle.mvo_world.specs.declared.event.Event.{Event}
 use Rattle.mvo_world.specs.declared.reply.Reply.{Reply}
 use Rattle.mvo_world.specs.declared.reply.Reply.TheVariants.{Prepared, Validated, Settled, Finished}
-use Rattle.mvo_script.specs.Answers.{IsCommit, IsStepOf, IsSettled, AreStepsOf}
+use Rattle.mvo_script.specs.Answers.{IsCommit, IsStepOf, IsSettleStep, AreStepsOf}
 use Rattle.mvo_script.specs.Answers.IsCommit.{AtPrecommit, AtValidate, AtSettle, AtFinish, AtEnd}
 use Rattle.mvo_script.specs.declared.driver.Driver.{Driver}
 use Rattle.mvo_script.proofs.driver.Driver.commit.Goals as goal
@@ -19,8 +19,8 @@ step_at {P} {d} {e} {r} {s} {d'} same it = subst (λ (x : Reply). IsStepOf P d e
 steps_at : {D : Type 0} {P : WorldData D → Event → Reply → WorldData D → Type 0} {more : Reply} {d : Driver D} {e : Event} {r s : Reply} {d' : Driver D} → r ≡ s → AreStepsOf P more d e r d' → AreStepsOf P more d e s d'
 steps_at {P} {more} {d} {e} {r} {s} {d'} same it = subst (λ (x : Reply). AreStepsOf P more d e x d') same it
 
-settled_at : {D : Type 0} {P : WorldData D → Event → Reply → WorldData D → Type 0} {d : Driver D} {n : List ℕ} {t : TxId} {r s : Reply} {d' : Driver D} → r ≡ s → IsSettled P d n t r d' → IsSettled P d n t s d'
-settled_at {P} {d} {n} {t} {r} {s} {d'} same it = subst (λ (x : Reply). IsSettled P d n t x d') same it
+settled_at : {D : Type 0} {P : WorldData D → Event → Reply → WorldData D → Type 0} {d : Driver D} {n : List ℕ} {t : TxId} {r s : Reply} {d' : Driver D} → r ≡ s → IsSettleStep P d n t r d' → IsSettleStep P d n t s d'
+settled_at {P} {d} {n} {t} {r} {s} {d'} same it = subst (λ (x : Reply). IsSettleStep P d n t x d') same it
 
 commit_at : {D : Type 0} {P : WorldData D → Event → Reply → WorldData D → Type 0} {d : Driver D} {n : List ℕ} {t : TxId} {r s : Reply} {d' : Driver D} → r ≡ s → IsCommit P d n t r d' → IsCommit P d n t s d'
 commit_at {P} {d} {n} {t} {r} {s} {d'} same it = subst (λ (x : Reply). IsCommit P d n t x d') same it

@@ -1,6 +1,5 @@
-use Rattle.std.proofs.Common.{◌≡◌, ◌+◌, ℕ, length, subst, sym}
+use Rattle.std.proofs.Common.{◌≡◌, ◌+◌, ℕ, length, subst}
 use Rattle.rtrb.specs.Ring.{sent, received, producer_capacity}
-use Rattle.mvo_world.specs.Ring.{HasClosedInto}
 use Rattle.mvo_world.proofs.Ends.{still_ends, closed_into}
 use Rattle.mvo_world.proofs.ring.Ring.close.Goals as goal
 

@@ -1,21 +1,13 @@
 use Rattle.std.proofs.Common.{refl}
-use Rattle.mvo_store.specs.Calls.StoreCall.{InstallBody as InstallBodyCall}
-use Rattle.mvo_world.specs.WorldData.{WorldData}
-use Rattle.mvo_world.specs.declared.event.Event.TheVariants.{InstallBody}
-use Rattle.mvo_world.specs.declared.reply.Reply.TheVariants.{Written}
-use Rattle.mvo_world.proofs.Moves.{stored, done_step, refused_step}
+use Rattle.mvo_world.specs.View.{world_data}
+use Rattle.mvo_world.proofs.Moves.{done, refused}
 use Rattle.mvo_world.proofs.world.World.install_body.Goals.{in-Ok, in-Err}
 use Rattle.mvo_world.proofs.world.World.install_body.Goals as goal
 
 pub returns : goal.returns
 returns g c =
-    let d = g.D.Disk in
-    let new = c.install_body.new.self in
-    let before : WorldData _ = record { core = c.self.inside.core; ring = c.self.inside.ring; store = c.self.inside.store } in
+    let before = world_data c.self.inside in
     elim c.match-install_body.branch [
-      | in-Ok w ↦ rw (w.result-is, ← c.self.view_is) (
-          done_step d before new InstallBodyCall tt InstallBody Written (record { steps = refl; acknowledged = refl; closed = refl }) tt
-          (stored d before new InstallBodyCall tt w.in-Ok.ensures.comes) w.in-Ok.ensures)
-      | in-Err w ↦ rw (w.result-is, ← c.self.view_is) (
-          refused_step d _ before new InstallBodyCall w.in-Err.refusal InstallBody refl (λ h. h) w.in-Err.ensures)
+      | in-Ok w ↦ rw (w.result-is, ← c.self.view_is) (done g.D.Disk before w.in-Ok.ensures tt (refl, refl, refl) (λ made. made))
+      | in-Err w ↦ rw (w.result-is, ← c.self.view_is) (refused g.D.Disk before w.in-Err.ensures refl (λ left. left))
     ]

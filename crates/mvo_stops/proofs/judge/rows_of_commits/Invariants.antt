@@ -2,7 +2,7 @@ use Rattle.std.proofs.Common.{◌≡◌, drop}
 use Rattle.std.specs.FinMap as map
 use Rattle.mvo_model.specs.Answers.{rows_after_transactions}
 use Rattle.mvo_stops.specs.Promise.{up_to, with_rows}
-use Rattle.mvo_stops.proofs.judge.rows_up_to.Given as goal
+use Rattle.mvo_stops.proofs.judge.rows_of_commits.Given as goal
 
 abbrev pub invariant-loop-commit : goal.invariant-loop-commit
 invariant-loop-commit l =

@@ -1,0 +1,20 @@
+-- What the layers above see of a core.
+use Rattle.std.specs.Prelude.{◌≡◌, ℕ, List}
+use Rattle.mvo_tale.specs.declared.slot.Slot.{Slot}
+use Rattle.mvo_core.specs.Data.{CoreData}
+
+-- the timestamp that was drawn last, or the opening mark
+abbrev pub clock_of : CoreData → ℕ
+clock_of c = c.table.clock
+
+-- the mark of the group that was closed last, or the opening mark
+abbrev pub closed_mark_of : CoreData → ℕ
+closed_mark_of c = c.closed
+
+-- the places of the stored commits
+abbrev pub tale_of : CoreData → List Slot
+tale_of c = c.tale
+
+-- nothing but the versions is another
+abbrev pub HasNewVersions : CoreData → CoreData → Type 0
+HasNewVersions old new = new ≡ record old { versions = new.versions }
