@@ -4,7 +4,7 @@ use crate::equal::same_at;
 use crate::reply::Reply;
 use mvo_core::{Closed, Core, Finishing, Settlement, Validation};
 use mvo_group::Group;
-use mvo_types::{Answer, MAX_STAMP, Refusal, Row, RowKey, Rows, Stamp, TxId};
+use mvo_types::{Answer, MAX_STAMP, RING_GROUPS, Refusal, Row, RowKey, Rows, Stamp, TxId};
 use rtrb::{Consumer, Producer, RingBuffer};
 use std::alloc::{AllocError, Global};
 use std::process::Abort;
@@ -33,9 +33,6 @@ pub enum Call {
     Trim(u64),
     Collect,
 }
-
-/// So many groups may wait in a fresh session.
-const RING_GROUPS: usize = 64;
 
 /// So many may wait in a session over rows, which is soon full.
 pub const FEW_GROUPS: usize = 2;

@@ -4,8 +4,7 @@ ghost use Rattle.mvo_engine.specs.Opened.{IsFreshRing};
 
 use crate::chain::Chain;
 use mvo_group::Group;
-use mvo_types::Stamp;
-use mvo_world::RING_GROUPS;
+use mvo_types::{RING_GROUPS, Stamp};
 use rtrb::{Consumer, Producer, RingBuffer};
 use std::alloc::{AllocError, Global};
 

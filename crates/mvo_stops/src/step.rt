@@ -5,13 +5,10 @@ use crate::run::is_fault;
 use mvo_disk::Disk;
 use mvo_script::{Driver, Line, LineReply};
 use mvo_store::Progress;
-use mvo_types::{MAX_PAIRS, Refusal};
+use mvo_types::{MAX_PAIRS, RING_GROUPS, Refusal};
 use mvo_world::Reply;
 use std::alloc::{AllocError, Global};
 use std::thread::Threads;
-
-/// As many groups may be closed and wait.
-const RING_LEN: usize = 64;
 
 const ROTATION: [&str; 4] = [
     "rotate-write",
@@ -124,7 +121,7 @@ fn merge_step<D: Disk>(
 
 fn flush_step<D: Disk>(driver: &mut Driver<D>) -> Option<&'static str> {
     driver.answer(b"group");
-    for _ in 0..=RING_LEN {
+    for _ in 0..=RING_GROUPS {
         driver.answer(b"take");
         if let Some(step) = append_step(driver) {
             return Some(step);

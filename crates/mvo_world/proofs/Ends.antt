@@ -17,7 +17,7 @@ use Rattle.mvo_core.specs.Closing.{HasClosed, IsNotClosed}
 use Rattle.rtrb.specs.declared.producer.Producer.{Producer}
 use Rattle.rtrb.specs.declared.consumer.Consumer.{Consumer}
 use Rattle.rtrb.specs.Ring.{sent, received, known_free, known_items, producer_capacity, IsPair, SameProducer, SameConsumer, ProducerLooked, ConsumerLooked}
-use Rattle.mvo_world.specs.declared.ring.TheConstants.{RING_GROUPS}
+use Rattle.mvo_types.specs.declared.limits.TheConstants.{RING_GROUPS}
 use Rattle.mvo_world.specs.Ends.{in_ring, AreEnds}
 use Rattle.mvo_world.specs.Ring.{is_full, HasClosedInto}
 

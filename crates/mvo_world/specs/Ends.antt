@@ -4,7 +4,7 @@ use Rattle.mvo_group.specs.Data.{GroupData}
 use Rattle.rtrb.specs.declared.producer.Producer.{Producer}
 use Rattle.rtrb.specs.declared.consumer.Consumer.{Consumer}
 use Rattle.rtrb.specs.Ring.{sent, received, producer_capacity, IsPair}
-use Rattle.mvo_world.specs.declared.ring.TheConstants.{RING_GROUPS}
+use Rattle.mvo_types.specs.declared.limits.TheConstants.{RING_GROUPS}
 
 module _ {A P : Type 0} where
   -- what was sent and not received

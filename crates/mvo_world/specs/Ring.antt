@@ -10,7 +10,7 @@ use Rattle.mvo_core.specs.declared.answers.Closed.{Closed}
 use Rattle.mvo_core.specs.Data.{CoreData}
 use Rattle.mvo_core.specs.Standing.{StandsFor}
 use Rattle.mvo_core.specs.Closing.{IsClosedNow, IsNotClosed}
-use Rattle.mvo_world.specs.declared.ring.TheConstants.{RING_GROUPS}
+use Rattle.mvo_types.specs.declared.limits.TheConstants.{RING_GROUPS}
 
 -- it has room for no other
 abbrev pub is_full : List GroupData → Bool

@@ -9,5 +9,5 @@ mod world;
 
 pub use event::Event;
 pub use reply::Reply;
-pub use ring::{RING_GROUPS, Ring};
+pub use ring::Ring;
 pub use world::World;

@@ -2,13 +2,10 @@ ghost use Rattle.std.specs.Prelude.{◌≡◌, [], IfOk};
 
 use mvo_core::{Closed, Core};
 use mvo_group::Group;
-use mvo_types::Refusal;
+use mvo_types::{RING_GROUPS, Refusal};
 use rtrb::{Consumer, Producer, RingBuffer};
 use std::alloc::{AllocError, Global};
 use std::marker::Model;
-
-/// How many closed groups may wait for the store.
-pub const RING_GROUPS: usize = 64;
 
 /// Both ends of the ring of closed groups. Contracts see the groups that are closed and that the
 /// store hasn't taken, the oldest first.
