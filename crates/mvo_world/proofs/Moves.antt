@@ -125,8 +125,9 @@ module _ {D : Type 0} (d : Ghosts D) where
 
   -- no group becomes durable and none is closed
   goes_on : (p : Past) (w w' : WorldData D) (h : IsAfter d p w) (steps : List Step) (s : State) → StandsFor p.rows steps s w'.core → IsClosedAt s.marks.closed s → StaysBelow h.state s
-      → waiting w' ≡ waiting w → mark_of w'.store ≡ mark_of w.store → KeepsRows d w'.store (after_groups p.rows h.sent) → IsAfter d (record p { steps = steps }) w'
-  goes_on p w w' h steps s core closed stays wait mark store = record {
+      → waiting w' ≡ waiting w → mark_of w'.store ≡ mark_of w.store → KeepsRows d w'.store (after_groups p.rows h.sent)
+      → (acked : List ℕ) → AllByRecursion (λ n. n ≤ mark_of w'.store) acked → IsAfter d (record p { steps = steps; acknowledged = acked }) w'
+  goes_on p w w' h steps s core closed stays wait mark store acked covers = record {
     sent = h.sent;
     state = s;
     core = core;
@@ -137,7 +138,7 @@ module _ {D : Type 0} (d : Ghosts D) where
     mark = mark ∙ h.mark;
     groups = subst (λ gs. HaveRecordsOf s p.mark (h.sent ++ gs)) (sym wait) (groups_stay h.state s p.mark (h.sent ++ waiting w) stays h.groups);
     marks = ap (λ gs. map (λ x. x.mark) (h.sent ++ gs)) wait ∙ h.marks;
-    covers = subst (λ m. AllByRecursion (λ n. n ≤ m) p.acknowledged) (sym mark) h.covers;
+    covers = covers;
   }
 
   -- nothing that the past remembers, over which the state stays
@@ -145,7 +146,7 @@ module _ {D : Type 0} (d : Ghosts D) where
       → ((p : Past) (h : IsAfter d p w) → StandsFor p.rows p.steps h.state w'.core) → waiting w' ≡ waiting w → mark_of w'.store ≡ mark_of w.store → Keeps d w.store w'.store → IsStepBy IsReply d w e r w'
   moved IsReply w w' e r silent reply core wait mark keeps =
       stepped IsReply w w' e r (λ rows. rows) reply keeps (λ p h store.
-      subst (λ (q : Past). IsAfter d q w') (silent_past p e r silent) (goes_on p w w' h p.steps h.state (core p h) h.closed (unchanged h.state) wait mark store))
+      subst (λ (q : Past). IsAfter d q w') (silent_past p e r silent) (goes_on p w w' h p.steps h.state (core p h) h.closed (unchanged h.state) wait mark store p.acknowledged (subst (λ m. AllByRecursion (λ n. n ≤ m) p.acknowledged) (sym mark) h.covers)))
 
   -- ---- a call of the store that takes no group and makes none durable
   store_moved : (w : WorldData D) (store : StoreData D) (e : Event) (r : Reply) → IsSilent e r → IsReplyTo d w e r (record w { store = store }) → KeepsTaken w.store store → Keeps d w.store store → IsWorldStep d w e r (record w { store = store })
@@ -229,7 +230,7 @@ module _ {D : Type 0} (d : Ghosts D) where
         let next = after_call h.state c result in
         subst (λ (q : Past). IsAfter d q w')
         (past_is p e r (p.steps ++ steps_of h.state c result) p.acknowledged p.closed (ap (λ xs. p.steps ++ xs) (is p.rows p.steps h.state h.core)) (ap (λ ms. p.acknowledged ++ ms) silent.0 ∙ append-nil p.acknowledged) (ap (λ ms. p.closed ++ ms) silent.1 ∙ append-nil p.closed))
-        (goes_on p w w' h (p.steps ++ steps_of h.state c result) next l.stands (still_closed p.rows p.steps h.state c result l.may kept h.closed) (stays_after_call h.state c result kept.sound) refl refl store))
+        (goes_on p w w' h (p.steps ++ steps_of h.state c result) next l.stands (still_closed p.rows p.steps h.state c result l.may kept h.closed) (stays_after_call h.state c result kept.sound) refl refl store p.acknowledged h.covers))
       where
         w' : WorldData D
         w' = record w { core = core }
@@ -292,19 +293,9 @@ module _ {D : Type 0} (d : Ghosts D) where
     polled_step w stamp false is = still (IsReplyTo d) w (Poll stamp) (Polled false) (refl, refl, refl) (is, refl)
     polled_step w stamp true is =
         stepped (IsReplyTo d) w w (Poll stamp) (Polled true) (λ rows. rows) (is, refl) (refused_keeps d only_now w.store) (λ p h store.
-        subst (λ (q : Past). IsAfter d q w) (past_is p (Poll stamp) (Polled true) p.steps (p.acknowledged ++ stamp.0 ∷ []) p.closed (append-nil p.steps) refl (append-nil p.closed)) (record {
-          sent = h.sent;
-          state = h.state;
-          core = h.core;
-          closed = h.closed;
-          before = h.before;
-          none = h.none;
-          store = store;
-          mark = h.mark;
-          groups = h.groups;
-          marks = h.marks;
-          covers = each_append (λ m. m ≤ mark_of w.store) p.acknowledged (stamp.0 ∷ []) h.covers (leb-true stamp.0 (mark_of w.store) (sym is), tt);
-        }))
+        let acked = p.acknowledged ++ stamp.0 ∷ [] in
+        subst (λ (q : Past). IsAfter d q w) (past_is p (Poll stamp) (Polled true) p.steps acked p.closed (append-nil p.steps) refl (append-nil p.closed))
+        (goes_on p w w h p.steps h.state h.core h.closed (unchanged h.state) refl refl store acked (each_append (λ m. m ≤ mark_of w.store) p.acknowledged (stamp.0 ∷ []) h.covers (leb-true stamp.0 (mark_of w.store) (sym is), tt))))
 
   -- ---- a world that was just opened
   pub begun : (rows : Map) (w : WorldData D) → IsJustOpened rows w → KeepsRows d w.store rows → IsAfter d (opened_over rows (mark_of w.store)) w

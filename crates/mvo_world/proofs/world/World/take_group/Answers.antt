@@ -9,7 +9,6 @@ use Rattle.mvo_world.specs.Replies.{IsReplyTo, or_nothing}
 use Rattle.mvo_world.specs.declared.event.Event.TheVariants.{TakeGroup}
 use Rattle.mvo_world.specs.declared.reply.Reply.TheVariants.{Refused}
 use Rattle.mvo_world.proofs.Moves.{still, taken}
-use Rattle.mvo_world.proofs.world.World.take_group.Goals.{in-Ok, in-Err}
 use Rattle.mvo_world.proofs.world.World.take_group.Goals as goal
 
 pub returns-in-Some : goal.returns-in-Some
@@ -30,6 +29,6 @@ returns g c =
     let why : why_not_take c.self.inside.store ≡ None = sym c.can_take.ensures ∙ c.in_default.is in
     let group = c.in-Some-take.group in
     elim c.match-take_group.branch [
-      | in-Ok w ↦ rw (w.result-is, ← c.self.view_is) (taken g.D.Disk (world_data c.self.inside) group why c.in-Some-take.ensures w.in-Ok.ensures.step)
-      | in-Err w ↦ absurd (never_back (Unit {0}) c.self.inside.store group _ why w.in-Err.ensures.step.comes.refused)
+      | goal.in-Ok w ↦ rw (w.result-is, ← c.self.view_is) (taken g.D.Disk (world_data c.self.inside) group why c.in-Some-take.ensures w.in-Ok.ensures.step)
+      | goal.in-Err w ↦ absurd (never_back (Unit {0}) c.self.inside.store group _ why w.in-Err.ensures.step.comes.refused)
     ]
