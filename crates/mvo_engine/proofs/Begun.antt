@@ -67,7 +67,11 @@ opened_world {D} d old w content rows gives begun after = record {
     same : d.content (disk_of w.store) ≡ d.content old
     same = fun_ext content
 
-module _ {D : Type 0} (d : Ghosts D) (image : Image) (c : CoreData) (s : StoreData D) (h : HasOpened d image c s) where
+-- by another name of what its disk held
+pub renamed : {D : Type 0} (d : Ghosts D) {old image : Image} {c : CoreData} {s : StoreData D} → HasOpened d old c s → old ≡ image → HasOpened d image c s
+renamed d {c = c} {s = s} h same = subst (λ (x : Image). HasOpened d x c s) same h
+
+module _ {D : Type 0} (d : Ghosts D) {image : Image} {c : CoreData} {s : StoreData D} (h : HasOpened d image c s) where
   pub sound_core : (sent : List GroupData) → sent ≡ opening_groups (mark_of s) → IsSoundCore image c sent
   sound_core sent is = record {
     rows = h.rows;

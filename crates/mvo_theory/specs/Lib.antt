@@ -21,3 +21,11 @@ pub mod Groups
 pub mod Limits
 pub mod Told
 pub mod Finished
+pub mod Counts
+pub mod Ends
+pub mod Conflicts
+pub mod Differences
+pub mod Rests
+pub mod Justified
+pub mod Counted
+pub mod CauseLaws

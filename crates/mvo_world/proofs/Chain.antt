@@ -1,8 +1,8 @@
 -- The groups of a world hold the commits up to the last one's mark.
 use Rattle.std.proofs.Common.{◌≡◌, ℕ, ◌<◌, ◌≤◌, Bool, true, false, cond, List, [], ◌∷◌, ◌++◌, map, refl, sym, ap, ◌∙◌, subst, arith, append-nil}
-use Rattle.std.specs.Prelude.{nat_lt, nat_le, ◌&&◌}
+use Rattle.std.specs.Prelude.{nat_le, ◌&&◌}
 use Rattle.std.specs.List.{AllByRecursion, filter, fold}
-use Rattle.std.proofs.lemmas.Bool.{true≢false, lt-ltb, ltb-true, ltb-false, le-leb, leb-true, le-ltb, lt-leb}
+use Rattle.std.proofs.lemmas.Bool.{lt-ltb, le-leb, leb-true, leb-false, le-ltb, lt-leb}
 use Rattle.mvo_types.specs.Keys.{Map}
 use Rattle.mvo_model.specs.History.{History, after_history, after_histories}
 use Rattle.mvo_model.specs.Trace.{Step, history_of, rows_up_to}
@@ -12,7 +12,7 @@ use Rattle.mvo_theory.specs.Sound.{IsRising}
 use Rattle.mvo_theory.specs.Marks.{StaysBelow, settled_to}
 use Rattle.mvo_theory.specs.AfterTrace.{IsAfterTrace, pairs}
 use Rattle.mvo_theory.proofs.Tales.{pairs-append}
-use Rattle.mvo_theory.proofs.Each.{each_weaker}
+use Rattle.mvo_theory.proofs.Each.{each_append, each_weaker}
 use Rattle.mvo_theory.specs.Groups.{is_due}
 use Rattle.mvo_core.specs.Records.{AreRecordsOf}
 use Rattle.mvo_store.specs.Frames.{mark_after}
@@ -35,15 +35,11 @@ rows_of_line m (x ∷ xs) steps rows h = go x.settled (nat_le x.end m) (λ ms. r
         here true = ih (after_history (history_of x.id steps) rows) ∙ ap (λ (ts : History). left_by_all (settled_to m xs) (after_history ts rows)) h.0
         here false = ih rows
 
-each_both : {X : Type 0} (P : X → Type 0) (xs ys : List X) → AllByRecursion P xs → AllByRecursion P ys → AllByRecursion P (xs ++ ys)
-each_both P [] ys h k = k
-each_both P (x ∷ xs) ys h k = (h.0, each_both P xs ys h.1 k)
-
 -- the tale is not trimmed
 pub rows_up_to_is : (m : ℕ) (opening : Map) (steps : List Step) (s : State) → IsAfterTrace opening steps s → rows_up_to m opening steps ≡ left_by_all (settled_to m (timeline s)) opening
 rows_up_to_is m opening steps s h =
     ap (λ (cs : List (ℕ × ℕ)). after_histories (map (λ (c : ℕ × ℕ). history_of c.1 steps) (filter (λ (c : ℕ × ℕ). nat_le c.0 m) cs)) opening) (h.tale ∙ sym (pairs-append s.past s.stamped))
-    ∙ rows_of_line m (timeline s) steps opening (each_both (λ (x : StampedTx). history_of x.id steps ≡ x.history) s.past s.stamped h.past h.stamped)
+    ∙ rows_of_line m (timeline s) steps opening (each_append (λ (x : StampedTx). history_of x.id steps ≡ x.history) s.past s.stamped h.past h.stamped)
 
 -- ---- the commits up to one mark, and those up to a later one
 none_to : (m : ℕ) (xs : List StampedTx) → AllByRecursion (λ (x : StampedTx). m < x.end) xs → settled_to m xs ≡ []
@@ -79,20 +75,10 @@ parts m n (x ∷ xs) le h = go (nat_le x.end m) refl (parts m n xs le h.1)
         here false q = q
         here true q = ap (λ cs. (x.end, x.history) ∷ cs) q ∙ ap (λ (c : Bool). ((x.end, x.history) ∷ settled_to m xs) ++ cond c ((x.end, x.history) ∷ filter (is_after m) (settled_to n xs)) (filter (is_after m) (settled_to n xs))) (sym (le-ltb m x.end (leb-true x.end m e)))
     go false e r =
-        let high : m < x.end = ltb-true m x.end (over (nat_le x.end m) e) in
+        let high = leb-false x.end m e in
         let all : AllByRecursion (λ (y : StampedTx). m < y.end) (x ∷ xs) = (high, each_weaker (λ (y : StampedTx). x.end < y.end) (λ (y : StampedTx). m < y.end) (λ y lt. omega arith) xs h.0) in
         sym (rows_after_all m n (x ∷ xs) all)
         ∙ ap (λ cs. cs ++ filter (is_after m) (settled_to n (x ∷ xs))) (sym (none_to m (x ∷ xs) all))
-      where
-        over : (b : Bool) → nat_le x.end m ≡ false → nat_lt m x.end ≡ true
-        over b f = lt-ltb m x.end (above f)
-          where
-            above : nat_le x.end m ≡ false → m < x.end
-            above g = split (nat_lt m x.end) refl
-              where
-                split : (c : Bool) → nat_lt m x.end ≡ c → m < x.end
-                split true t = ltb-true m x.end t
-                split false t = absurd (true≢false (sym (le-leb x.end m (ltb-false m x.end t)) ∙ g))
 
 -- ---- the rows that the groups leave
 pub chain_rows : (s : State) (mark : ℕ) (gs : List GroupData) (rows : Map) → IsRising (timeline s) → HaveRecordsOf s mark gs → after_groups (left_by_all (settled_to mark (timeline s)) rows) gs ≡ left_by_all (settled_to (mark_after mark gs) (timeline s)) rows

@@ -28,8 +28,8 @@ pub prepared : (s : State) (t : TxId) (e : Stamp) → e.0 ≡ s.clock + 1 → ha
 prepared s t e is = ap (λ (n : ℕ). Prepares t.0 n ∷ []) is
 
 -- the answer to an operation is that of the serial step on the snapshot
-pub done : (s : State) {t : ℕ} {op : Op} {a : Answer} → answer_data a ≡ answer_in s t op → Answers t op (answer_data a) ∷ [] ≡ steps_of s (Do t op) Accepted
-done s {t} {op} {a} e = ap (λ (x : AnswerData). Answers t op x ∷ []) e
+pub done : (s : State) {t : ℕ} {op : Op} (a : Answer) → answer_data a ≡ answer_in s t op → Answers t op (answer_data a) ∷ [] ≡ steps_of s (Do t op) Accepted
+done s {t} {op} a e = ap (λ (x : AnswerData). Answers t op x ∷ []) e
 
 -- one that waits is no step
 pub settled : (s : State) (t : TxId) (a : Settlement) → a ≡ settled_as s t.0 (awaited s t.0) → happened (Settle t) (Settled a) ≡ steps_of s (SettleCall t.0) Accepted

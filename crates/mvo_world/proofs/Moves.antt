@@ -1,10 +1,10 @@
 -- What each event makes of a world that stands after a past.
-use Rattle.std.proofs.Common.{◌≡◌, ℕ, ◌≤◌, Bool, true, false, cond, List, [], ◌∷◌, ◌++◌, Option, None, Some, Result, Ok, Err, map, refl, sym, ap, ◌∙◌, subst, arith, append_assoc, append-nil}
+use Rattle.std.proofs.Common.{◌≡◌, ℕ, ◌+◌, ◌≤◌, length, Bool, true, false, cond, List, [], ◌∷◌, ◌++◌, Option, None, Some, Result, Ok, Err, map, refl, sym, ap, ◌∙◌, subst, arith, append_assoc, append-nil}
 use Rattle.std.specs.Prelude.{is_some, nat_le}
 use Rattle.std.specs.Option.{option_to_list}
 use Rattle.std.specs.List.{AllByRecursion}
 use Rattle.std.proofs.lemmas.Bool.{leb-true}
-use Rattle.std.proofs.lemmas.List.{map-append}
+use Rattle.std.proofs.lemmas.List.{length-append, map-append}
 use Rattle.mvo_types.specs.declared.refusal.Refusal.{Refusal}
 use Rattle.mvo_types.specs.declared.refusal.Refusal.TheVariants.{Down, Busy, OutOfMemory}
 use Rattle.mvo_types.specs.declared.ids.Stamp.{Stamp}
@@ -19,7 +19,9 @@ use Rattle.mvo_theory.specs.Changes.{after_close}
 use Rattle.mvo_theory.specs.Calls as theory
 use Rattle.mvo_theory.specs.Calls.{Call, after_call, steps_of}
 use Rattle.mvo_theory.proofs.Each.{each_weaker, each_append}
+use Rattle.mvo_theory.specs.Counted.{HasCounts}
 use Rattle.mvo_theory.proofs.Stays.{stays_after_call}
+use Rattle.mvo_theory.proofs.Counting.{counted_after_call, counted_closed, counted_opened}
 use Rattle.mvo_collect.specs.declared.collection.Collection.{Collection}
 use Rattle.mvo_core.specs.declared.answers.Closed as closing
 use Rattle.mvo_core.specs.Data.{CoreData}
@@ -40,18 +42,21 @@ use Rattle.mvo_store.specs.Calls.StoreCall.{Take, AppendOpen as AppendOpenCall}
 use Rattle.mvo_store.proofs.Taken.{KeepsTaken, IsQuiet, left_taken, quiet_taken, quiet_rows, refused_rows, accepted_by, refused_by}
 use Rattle.mvo_store.proofs.Keeping.{OnlyNow, refused_keeps}
 use Rattle.mvo_world.specs.WorldData.{WorldData, waiting, Follow, IsLinked, IsSoundWorld, IsJustOpened}
-use Rattle.mvo_world.specs.Past.{Past, happened, acknowledged_by, closed_by, with_event, opened_over}
+use Rattle.mvo_world.specs.Past.{Past, happened, acknowledged_by, closed_by, taken_by, with_event, opened_over}
 use Rattle.mvo_core.specs.Groups.{HaveRecordsOf}
 use Rattle.mvo_world.specs.Standing.{IsAfter, RecoversPrefix, LeavesPrefix}
 use Rattle.mvo_world.specs.Ring.{oldest, IsClosingInto}
 use Rattle.mvo_world.specs.Replies.{IsReplyTo, IsAsked, IsStored, HasRow, or_nothing}
+use Rattle.mvo_world.specs.Justified.{IsJustifiedBy}
 use Rattle.mvo_world.specs.Steps.{IsStepBy, IsWorldStep}
+use Rattle.mvo_world.specs.declared.ring.TheConstants.{RING_GROUPS}
 use Rattle.mvo_world.specs.declared.event.Event.{Event}
 use Rattle.mvo_world.specs.declared.event.Event.TheVariants.{Insert, Update, Collect, CloseGroup, TakeGroup, AppendOpen, Poll}
 use Rattle.mvo_world.specs.declared.reply.Reply.{Reply}
 use Rattle.mvo_world.specs.declared.reply.Reply.TheVariants.{Collected, Closed, Taken, Durable, Polled, Refused}
 use Rattle.mvo_world.proofs.Chain.{groups_stay}
 use Rattle.mvo_world.proofs.Closed.{group_of_next}
+use Rattle.mvo_world.proofs.Justified.{closing as closing_so, justified_reply}
 use Rattle.mvo_world.proofs.Standing.{mark_after-append, groups_front, groups_back, groups_push, marks_rise, follow_to, prefix_image}
 
 -- ---- the groups that wait
@@ -76,20 +81,30 @@ nothing_taken s e = go _ _ e
     go false (Some g) f = absurd cc
 
 -- ---- a past with an event more
-past_is : (p : Past) (e : Event) (r : Reply) (steps : List Step) (acked closed : List ℕ) → p.steps ++ happened e r ≡ steps → p.acknowledged ++ acknowledged_by e r ≡ acked → p.closed ++ closed_by e r ≡ closed → record { rows = p.rows; mark = p.mark; steps = steps; acknowledged = acked; closed = closed } ≡ with_event p e r
-past_is p e r steps acked closed a b c =
-    ap (λ (xs : List Step). record { rows = p.rows; mark = p.mark; steps = xs; acknowledged = acked; closed = closed }) (sym a)
-    ∙ ap (λ (ms : List ℕ). record { rows = p.rows; mark = p.mark; steps = p.steps ++ happened e r; acknowledged = ms; closed = closed }) (sym b)
-    ∙ ap (λ (ms : List ℕ). record { rows = p.rows; mark = p.mark; steps = p.steps ++ happened e r; acknowledged = p.acknowledged ++ acknowledged_by e r; closed = ms }) (sym c)
+past_is : (p : Past) (e : Event) (r : Reply) (steps : List Step) (acked closed : List ℕ) (took : ℕ) → p.steps ++ happened e r ≡ steps → p.acknowledged ++ acknowledged_by e r ≡ acked → p.closed ++ closed_by e r ≡ closed → p.taken + taken_by e r ≡ took
+    → record { rows = p.rows; mark = p.mark; steps = steps; acknowledged = acked; closed = closed; taken = took } ≡ with_event p e r
+past_is p e r steps acked closed took a b c n =
+    ap (λ (xs : List Step). record { rows = p.rows; mark = p.mark; steps = xs; acknowledged = acked; closed = closed; taken = took }) (sym a)
+    ∙ ap (λ (ms : List ℕ). record { rows = p.rows; mark = p.mark; steps = p.steps ++ happened e r; acknowledged = ms; closed = closed; taken = took }) (sym b)
+    ∙ ap (λ (ms : List ℕ). record { rows = p.rows; mark = p.mark; steps = p.steps ++ happened e r; acknowledged = p.acknowledged ++ acknowledged_by e r; closed = ms; taken = took }) (sym c)
+    ∙ ap (λ (i : ℕ). record { rows = p.rows; mark = p.mark; steps = p.steps ++ happened e r; acknowledged = p.acknowledged ++ acknowledged_by e r; closed = p.closed ++ closed_by e r; taken = i }) (sym n)
+
+none_more : (n : ℕ) → n + 0 ≡ n
+none_more n = omega arith
+
+-- the mark of a group that was closed, and how many the store took
+abbrev pub groups_by : Event → Reply → List ℕ × ℕ
+groups_by e r = (closed_by e r, taken_by e r)
 
 -- nothing that a past remembers
 abbrev pub IsSilent : Event → Reply → Type 0
-IsSilent e r = (happened e r ≡ []) × (acknowledged_by e r ≡ []) × (closed_by e r ≡ [])
+IsSilent e r = (happened e r ≡ []) × (acknowledged_by e r ≡ []) × (groups_by e r ≡ ([], 0))
 
 pub silent_refused : (e : Event) (r : Refusal) → happened e (Refused r) ≡ [] → IsSilent e (Refused r)
 silent_refused AppendOpen r is = (is, refl, refl)
 silent_refused (Poll stamp) r is = (is, refl, refl)
 silent_refused CloseGroup r is = (is, refl, refl)
+silent_refused TakeGroup r is = (is, refl, refl)
 silent_refused e r is = (is, refl, refl)
 
 -- nor is an event whose copy was refused
@@ -100,36 +115,48 @@ silent_copy e h = absurd h
 
 silent_past : (p : Past) (e : Event) (r : Reply) → IsSilent e r → p ≡ with_event p e r
 silent_past p e r s =
-    past_is p e r p.steps p.acknowledged p.closed
+    past_is p e r p.steps p.acknowledged p.closed p.taken
     (ap (λ xs. p.steps ++ xs) s.0 ∙ append-nil p.steps)
     (ap (λ ms. p.acknowledged ++ ms) s.1 ∙ append-nil p.acknowledged)
-    (ap (λ ms. p.closed ++ ms) s.2 ∙ append-nil p.closed)
+    (ap (λ (g : List ℕ × ℕ). p.closed ++ g.0) s.2 ∙ append-nil p.closed)
+    (ap (λ (g : List ℕ × ℕ). p.taken + g.1) s.2 ∙ none_more p.taken)
 
 -- a state stays as it is
 unchanged : (s : State) → StaysBelow s s
 unchanged s m closed = (closed, refl)
 
+-- the ring has the closed groups that weren't taken, and no more than it may
+abbrev HasRoomFor : ℕ → List ℕ → List GroupData → Type 0
+HasRoomFor took closed ring = (took + length ring ≡ length closed) × (length ring ≤ RING_GROUPS)
+
 module _ {D : Type 0} (d : Ghosts D) where
+  -- the ring stays
+  same_room : (p : Past) (w w' : WorldData D) → w'.ring ≡ w.ring → IsAfter d p w → HasRoomFor p.taken p.closed w'.ring
+  same_room p w w' ring h = subst (HasRoomFor p.taken p.closed) (sym ring) (h.untaken, h.room)
+
   -- ---- what a stop leaves meanwhile
   meanwhile : (p : Past) (w w' : WorldData D) (h : IsAfter d p w) → LeavesRows d (after_groups p.rows h.sent) w.store w'.store → LeavesPrefix d p (disk_of w.store) (disk_of w'.store)
   meanwhile p w w' h only = weaker d.moment d.left_since (disk_of w.store) (disk_of w'.store) (MayBeLeft (after_groups p.rows h.sent) (mark_of w.store) (opening w.store)) (RecoversPrefix p) (λ image gives. prefix_image d p w h image gives) only
 
   -- ---- a step, by what it makes of the rows of the store
-  stepped : (IsReply : WorldData D → Event → Reply → WorldData D → Type 0) (w w' : WorldData D) (e : Event) (r : Reply) (made : Map → Map) → IsReply w e r w' → IsKeeping d made w.store w'.store
-      → ((p : Past) (h : IsAfter d p w) → KeepsRows d w'.store (made (after_groups p.rows h.sent)) → IsAfter d (with_event p e r) w') → IsStepBy IsReply d w e r w'
-  stepped IsReply w w' e r made reply keeps after = record {
+  stepped : (IsReply : WorldData D → Event → Reply → WorldData D → Type 0) (Justifies : Past → Event → Reply → Type 0) (w w' : WorldData D) (e : Event) (r : Reply) (made : Map → Map) → IsReply w e r w' → ((p : Past) → IsAfter d p w → Justifies p e r) → IsKeeping d made w.store w'.store
+      → ((p : Past) (h : IsAfter d p w) → KeepsRows d w'.store (made (after_groups p.rows h.sent)) → IsAfter d (with_event p e r) w') → IsStepBy IsReply Justifies d w e r w'
+  stepped IsReply Justifies w w' e r made reply just keeps after = record {
     reply = reply;
+    justified = just;
     after = λ p h. after p h (keeps.keeps (after_groups p.rows h.sent) h.store);
     any_moment = λ p h. meanwhile p w w' h (keeps.any_moment (after_groups p.rows h.sent) h.store);
   }
 
   -- no group becomes durable and none is closed
-  goes_on : (p : Past) (w w' : WorldData D) (h : IsAfter d p w) (steps : List Step) (s : State) → StandsFor p.rows steps s w'.core → IsClosedAt s.marks.closed s → StaysBelow h.state s
-      → waiting w' ≡ waiting w → mark_of w'.store ≡ mark_of w.store → KeepsRows d w'.store (after_groups p.rows h.sent) → IsAfter d (record p { steps = steps }) w'
-  goes_on p w w' h steps s core closed stays wait mark store = record {
+  goes_on : (p : Past) (w w' : WorldData D) (h : IsAfter d p w) (steps : List Step) (s : State) → StandsFor p.rows steps s w'.core → HasCounts p.mark steps s → IsClosedAt s.marks.closed s → StaysBelow h.state s
+      → waiting w' ≡ waiting w → mark_of w'.store ≡ mark_of w.store → KeepsRows d w'.store (after_groups p.rows h.sent)
+      → (acked : List ℕ) → AllByRecursion (λ n. n ≤ mark_of w'.store) acked → (took : ℕ) → HasRoomFor took p.closed w'.ring → IsAfter d (record p { steps = steps; acknowledged = acked; taken = took }) w'
+  goes_on p w w' h steps s core counted closed stays wait mark store acked covers took room = record {
     sent = h.sent;
     state = s;
     core = core;
+    counted = counted;
     closed = closed;
     before = (stays p.mark h.before).0;
     none = (stays p.mark h.before).1 ∙ h.none;
@@ -137,20 +164,22 @@ module _ {D : Type 0} (d : Ghosts D) where
     mark = mark ∙ h.mark;
     groups = subst (λ gs. HaveRecordsOf s p.mark (h.sent ++ gs)) (sym wait) (groups_stay h.state s p.mark (h.sent ++ waiting w) stays h.groups);
     marks = ap (λ gs. map (λ x. x.mark) (h.sent ++ gs)) wait ∙ h.marks;
-    covers = subst (λ m. AllByRecursion (λ n. n ≤ m) p.acknowledged) (sym mark) h.covers;
+    covers = covers;
+    untaken = room.0;
+    room = room.1;
   }
 
   -- nothing that the past remembers, over which the state stays
-  pub moved : (IsReply : WorldData D → Event → Reply → WorldData D → Type 0) (w w' : WorldData D) (e : Event) (r : Reply) → IsSilent e r → IsReply w e r w'
-      → ((p : Past) (h : IsAfter d p w) → StandsFor p.rows p.steps h.state w'.core) → waiting w' ≡ waiting w → mark_of w'.store ≡ mark_of w.store → Keeps d w.store w'.store → IsStepBy IsReply d w e r w'
-  moved IsReply w w' e r silent reply core wait mark keeps =
-      stepped IsReply w w' e r (λ rows. rows) reply keeps (λ p h store.
-      subst (λ (q : Past). IsAfter d q w') (silent_past p e r silent) (goes_on p w w' h p.steps h.state (core p h) h.closed (unchanged h.state) wait mark store))
+  pub moved : (IsReply : WorldData D → Event → Reply → WorldData D → Type 0) (Justifies : Past → Event → Reply → Type 0) (w w' : WorldData D) (e : Event) (r : Reply) → IsSilent e r → IsReply w e r w' → ((p : Past) → IsAfter d p w → Justifies p e r)
+      → ((p : Past) (h : IsAfter d p w) → StandsFor p.rows p.steps h.state w'.core) → w'.ring ≡ w.ring → waiting w' ≡ waiting w → mark_of w'.store ≡ mark_of w.store → Keeps d w.store w'.store → IsStepBy IsReply Justifies d w e r w'
+  moved IsReply Justifies w w' e r silent reply just core ring wait mark keeps =
+      stepped IsReply Justifies w w' e r (λ rows. rows) reply just keeps (λ p h store.
+      subst (λ (q : Past). IsAfter d q w') (silent_past p e r silent) (goes_on p w w' h p.steps h.state (core p h) h.counted h.closed (unchanged h.state) wait mark store p.acknowledged (subst (λ m. AllByRecursion (λ n. n ≤ m) p.acknowledged) (sym mark) h.covers) p.taken (same_room p w w' ring h)))
 
   -- ---- a call of the store that takes no group and makes none durable
   store_moved : (w : WorldData D) (store : StoreData D) (e : Event) (r : Reply) → IsSilent e r → IsReplyTo d w e r (record w { store = store }) → KeepsTaken w.store store → Keeps d w.store store → IsWorldStep d w e r (record w { store = store })
   store_moved w store e r silent reply taken keeps =
-      moved (IsReplyTo d) w (record w { store = store }) e r silent reply (λ p h. h.core) (ap (λ (q : Option GroupData). option_to_list q ++ w.ring) taken.pending) taken.mark keeps
+      moved (IsReplyTo d) IsJustifiedBy w (record w { store = store }) e r silent reply (λ p h. justified_reply d p w h e r (record w { store = store }) reply) (λ p h. h.core) refl (ap (λ (q : Option GroupData). option_to_list q ++ w.ring) taken.pending) taken.mark keeps
 
   stored : {A : Type 0} (w : WorldData D) (store : StoreData D) (call : StoreCall) (a : A) → ComesTo d w.store call (Ok a) store → IsStored d w call (Ok tt) (record w { store = store })
   stored w store call a h = record { comes = accepted_by d w.store call a store h; rest = refl }
@@ -172,14 +201,21 @@ module _ {D : Type 0} (d : Ghosts D) where
       let made = h.comes.made.makes in
       let before : waiting w ≡ g ∷ ring = ap (λ (o : Option GroupData). option_to_list o ++ w.ring) (nothing_taken w.store why) ∙ there in
       let later : option_to_list (pending_of store) ++ ring ≡ g ∷ ring = ap (λ (s : StoreData D). option_to_list (pending_of s) ++ ring) made in
-      moved (IsReplyTo d) w (record w { ring = ring; store = store }) TakeGroup Taken (refl, refl, refl)
+      let ends = ap (λ (gs : List GroupData). length gs) there in
+      stepped (IsReplyTo d) IsJustifiedBy w (record w { ring = ring; store = store }) TakeGroup Taken (λ rows. rows)
       (ap (λ why. or_nothing why (oldest w.ring)) why ∙ ap (λ (gs : List GroupData). or_nothing None (oldest gs)) there, record { group = g; there = there; comes = h.comes; core = refl })
-      (λ p a. a.core) (later ∙ sym before) (ap (λ (s : StoreData D). mark_of s) made) h.keeps
+      (λ p a. tt) h.keeps (λ p a rows.
+      let mark = ap (λ (s : StoreData D). mark_of s) made in
+      let untaken = a.untaken in
+      let room = a.room in
+      subst (λ (q : Past). IsAfter d q (record w { ring = ring; store = store })) (past_is p TakeGroup Taken p.steps p.acknowledged p.closed (p.taken + 1) (append-nil p.steps) (append-nil p.acknowledged) (append-nil p.closed) refl)
+      (goes_on p w (record w { ring = ring; store = store }) a p.steps a.state a.core a.counted a.closed (unchanged a.state) (later ∙ sym before) mark rows p.acknowledged
+      (subst (λ m. AllByRecursion (λ n. n ≤ m) p.acknowledged) (sym mark) a.covers) (p.taken + 1) ((omega (arith, ends, untaken)), (omega (arith, ends, room)))))
 
   -- ---- a group becomes durable
   pub durable : {A : Type 0} (w : WorldData D) {store : StoreData D} {a : A} (mark : Stamp) → IsStoreStep d w.store AppendOpenCall (Ok a) store → mark.0 ≡ mark_of store → IsWorldStep d w AppendOpen (Durable mark) (record w { store = store })
   durable w {store} {a} mark h is =
-      stepped (IsReplyTo d) w w' AppendOpen (Durable mark) (λ rows. after_taken rows (pending_of w.store)) (stored w store AppendOpenCall a h.comes, is) h.keeps after
+      stepped (IsReplyTo d) IsJustifiedBy w w' AppendOpen (Durable mark) (λ rows. after_taken rows (pending_of w.store)) (stored w store AppendOpenCall a h.comes, is) (λ p b. tt) h.keeps after
     where
       w' : WorldData D
       w' = record w { store = store }
@@ -197,10 +233,11 @@ module _ {D : Type 0} (d : Ghosts D) where
           let list : b.sent ++ waiting w ≡ (b.sent ++ g ∷ []) ++ waiting w' = ap (λ gs. b.sent ++ gs) before ∙ sym (append_assoc b.sent (g ∷ []) w.ring) ∙ ap (λ gs. (b.sent ++ g ∷ []) ++ gs) (sym later) in
           let groups = subst (HaveRecordsOf b.state first) list b.groups in
           let up : mark_after first b.sent ≤ g.mark = marks_rise b.state (mark_after first b.sent) (g ∷ []) (groups_back b.state first b.sent (g ∷ []) (groups_front b.state first (b.sent ++ g ∷ []) (waiting w') groups)) in
-          subst (λ (q : Past). IsAfter d q w') (past_is p AppendOpen (Durable mark) p.steps (p.acknowledged ++ mark.0 ∷ []) p.closed (append-nil p.steps) refl (append-nil p.closed)) (record {
+          subst (λ (q : Past). IsAfter d q w') (past_is p AppendOpen (Durable mark) p.steps (p.acknowledged ++ mark.0 ∷ []) p.closed p.taken (append-nil p.steps) refl (append-nil p.closed) (none_more p.taken)) (record {
             sent = b.sent ++ g ∷ [];
             state = b.state;
             core = b.core;
+            counted = b.counted;
             closed = b.closed;
             before = b.before;
             none = b.none;
@@ -209,27 +246,29 @@ module _ {D : Type 0} (d : Ghosts D) where
             groups = groups;
             marks = ap (map (λ x. x.mark)) (sym list) ∙ b.marks;
             covers = each_append (λ n. n ≤ mark_of store) p.acknowledged (mark.0 ∷ []) (each_weaker (λ n. n ≤ mark_of w.store) (λ n. n ≤ mark_of store) (λ n le. omega (arith, le, b.mark, up, at)) p.acknowledged b.covers) (omega (arith, at, is), tt);
+            untaken = b.untaken;
+            room = b.room;
           })
 
   module _ (only_now : OnlyNow d) where
     -- nothing happens
-    pub still : (IsReply : WorldData D → Event → Reply → WorldData D → Type 0) (w : WorldData D) (e : Event) (r : Reply) → IsSilent e r → IsReply w e r w → IsStepBy IsReply d w e r w
-    still IsReply w e r silent reply = moved IsReply w w e r silent reply (λ p h. h.core) refl refl (refused_keeps d only_now w.store)
+    pub still : (IsReply : WorldData D → Event → Reply → WorldData D → Type 0) (Justifies : Past → Event → Reply → Type 0) (w : WorldData D) (e : Event) (r : Reply) → IsSilent e r → IsReply w e r w → ((p : Past) → IsAfter d p w → Justifies p e r) → IsStepBy IsReply Justifies d w e r w
+    still IsReply Justifies w e r silent reply just = moved IsReply Justifies w w e r silent reply just (λ p h. h.core) refl refl refl (refused_keeps d only_now w.store)
 
     -- a call of the core that closes no group
     pub told : (w : WorldData D) {core : CoreData} {c : Call} {result : theory.Result} {e : Event} {r : Reply}
         → ((opening : Map) (steps : List Step) (s : State) → StandsFor opening steps s w.core → LeadsOn opening steps s c result core)
         → (IsAsked w c result (record w { core = core }) → IsReplyTo d w e r (record w { core = core }))
         → ((opening : Map) (steps : List Step) (s : State) → StandsFor opening steps s w.core → happened e r ≡ steps_of s c result)
-        → (acknowledged_by e r ≡ []) × (closed_by e r ≡ []) → IsWorldStep d w e r (record w { core = core })
+        → (acknowledged_by e r ≡ []) × (groups_by e r ≡ ([], 0)) → IsWorldStep d w e r (record w { core = core })
     told w {core} {c} {result} {e} {r} leads reply is silent =
-        stepped (IsReplyTo d) w w' e r (λ rows. rows) (reply (record { leads = leads; rest = refl })) (refused_keeps d only_now w.store) (λ p h store.
+        stepped (IsReplyTo d) IsJustifiedBy w w' e r (λ rows. rows) (reply (record { leads = leads; rest = refl })) (λ p h. justified_reply d p w h e r w' (reply (record { leads = leads; rest = refl }))) (refused_keeps d only_now w.store) (λ p h store.
         let l = leads p.rows p.steps h.state h.core in
         let kept = h.core.versions.kept in
         let next = after_call h.state c result in
         subst (λ (q : Past). IsAfter d q w')
-        (past_is p e r (p.steps ++ steps_of h.state c result) p.acknowledged p.closed (ap (λ xs. p.steps ++ xs) (is p.rows p.steps h.state h.core)) (ap (λ ms. p.acknowledged ++ ms) silent.0 ∙ append-nil p.acknowledged) (ap (λ ms. p.closed ++ ms) silent.1 ∙ append-nil p.closed))
-        (goes_on p w w' h (p.steps ++ steps_of h.state c result) next l.stands (still_closed p.rows p.steps h.state c result l.may kept h.closed) (stays_after_call h.state c result kept.sound) refl refl store))
+        (past_is p e r (p.steps ++ steps_of h.state c result) p.acknowledged p.closed p.taken (ap (λ xs. p.steps ++ xs) (is p.rows p.steps h.state h.core)) (ap (λ ms. p.acknowledged ++ ms) silent.0 ∙ append-nil p.acknowledged) (ap (λ (g : List ℕ × ℕ). p.closed ++ g.0) silent.1 ∙ append-nil p.closed) (ap (λ (g : List ℕ × ℕ). p.taken + g.1) silent.1 ∙ none_more p.taken))
+        (goes_on p w w' h (p.steps ++ steps_of h.state c result) next l.stands (counted_after_call p.rows p.mark p.steps h.state c result l.may kept h.counted) (still_closed p.rows p.steps h.state c result l.may kept h.closed) (stays_after_call h.state c result kept.sound) refl refl store p.acknowledged h.covers p.taken (h.untaken, h.room)))
       where
         w' : WorldData D
         w' = record w { core = core }
@@ -237,14 +276,14 @@ module _ {D : Type 0} (d : Ghosts D) where
     -- a collection, over which the state stays
     pub collected : (w : WorldData D) {core : CoreData} (c : Collection) → AreFewer w.core c core → StandsAsBefore w.core core → HasNewVersions w.core core → IsWorldStep d w Collect (Collected c) (record w { core = core })
     collected w {core} c counts stands versions =
-        moved (IsReplyTo d) w (record w { core = core }) Collect (Collected c) (refl, refl, refl)
-        (record { counts = counts; stands = stands; versions = versions; rest = refl })
-        (λ p h. stands p.rows p.steps h.state h.core) refl refl (refused_keeps d only_now w.store)
+        moved (IsReplyTo d) IsJustifiedBy w (record w { core = core }) Collect (Collected c) (refl, refl, refl)
+        (record { counts = counts; stands = stands; versions = versions; rest = refl }) (λ p h. tt)
+        (λ p h. stands p.rows p.steps h.state h.core) refl refl refl (refused_keeps d only_now w.store)
 
     -- a group is closed
     pub closed_step : (w : WorldData D) {core : CoreData} {ring : List GroupData} (c : closing.Closed) → IsLinked w → IsClosingInto w.core w.ring (Ok c) core ring → IsWorldStep d w CloseGroup (Closed c) (record w { core = core; ring = ring })
     closed_step w {core} {ring} c linked step =
-        stepped (IsReplyTo d) w w' CloseGroup (Closed c) (λ rows. rows) (record { closing = step; store = refl }) (refused_keeps d only_now w.store) after
+        stepped (IsReplyTo d) IsJustifiedBy w w' CloseGroup (Closed c) (λ rows. rows) (record { closing = step; store = refl }) (λ p h. closing_so d p w h (Closed c) w' (record { closing = step; store = refl })) (refused_keeps d only_now w.store) after
       where
         w' : WorldData D
         w' = record w { core = core; ring = ring }
@@ -261,15 +300,20 @@ module _ {D : Type 0} (d : Ghosts D) where
             let up : IsClosedAt c.mark.0 s = subst (λ (m : ℕ). IsClosedAt m s) now.mark is.closed in
             let wait : waiting w' ≡ waiting w ++ g ∷ [] = ap (λ (gs : List GroupData). option_to_list (pending_of w.store) ++ gs) there ∙ sym (append_assoc (option_to_list (pending_of w.store)) w.ring (g ∷ [])) in
             let list : (h.sent ++ waiting w) ++ g ∷ [] ≡ h.sent ++ waiting w' = append_assoc h.sent (waiting w) (g ∷ []) ∙ ap (λ gs. h.sent ++ gs) (sym wait) in
+            let longer : length ring ≡ length w.ring + 1 = ap (λ (gs : List GroupData). length gs) there ∙ length-append w.ring (g ∷ []) in
+            let more : length (p.closed ++ g.mark ∷ []) ≡ length p.closed + 1 = length-append p.closed (g.mark ∷ []) in
+            let untaken = h.untaken in
+            let fits = closing_so d p w h (Closed c) w' (record { closing = step; store = refl }) in
             let prev_is : g.prev ≡ mark_after first (h.sent ++ waiting w) =
             now.next.prev ∙ ap (λ (m : Marks). m.closed) h.core.marks
             ∙ sym (follow_to (mark_of w.store) (closed_mark_of w.core) (waiting w) linked)
             ∙ ap (λ (m : ℕ). mark_after m (waiting w)) h.mark
             ∙ sym (mark_after-append first h.sent (waiting w)) in
-            subst (λ (q : Past). IsAfter d q w') (past_is p CloseGroup (Closed c) p.steps p.acknowledged (p.closed ++ g.mark ∷ []) (append-nil p.steps) (append-nil p.acknowledged) (ap (λ n. p.closed ++ n ∷ []) (sym now.mark))) (record {
+            subst (λ (q : Past). IsAfter d q w') (past_is p CloseGroup (Closed c) p.steps p.acknowledged (p.closed ++ g.mark ∷ []) p.taken (append-nil p.steps) (append-nil p.acknowledged) (ap (λ n. p.closed ++ n ∷ []) (sym now.mark)) (none_more p.taken)) (record {
               sent = h.sent;
               state = after_close s c.mark.0;
               core = now.stands;
+              counted = counted_closed p.mark p.steps s c.mark.0 h.counted;
               closed = record { drawn = up.drawn; above = up.above };
               before = record { drawn = h.before.drawn; above = h.before.above };
               none = h.none;
@@ -278,42 +322,37 @@ module _ {D : Type 0} (d : Ghosts D) where
               groups = subst (HaveRecordsOf (after_close s c.mark.0) first) list (groups_closed s c.mark.0 first ((h.sent ++ waiting w) ++ g ∷ []) (groups_push s first (h.sent ++ waiting w) g h.groups prev_is is));
               marks = ap (map (λ x. x.mark)) (sym list) ∙ map-append (λ x. x.mark) (h.sent ++ waiting w) (g ∷ []) ∙ ap (λ ms. ms ++ g.mark ∷ []) h.marks;
               covers = h.covers;
+              untaken = omega (arith, longer, more, untaken);
+              room = omega (arith, longer, fits, untaken);
             })
 
     -- closing a group is refused
     pub unclosed_step : (w : WorldData D) {core : CoreData} {ring : List GroupData} (r : Refusal) → IsSoundWorld w → IsClosingInto w.core w.ring (Err r) core ring → IsWorldStep d w CloseGroup (Refused r) (record w { core = core; ring = ring })
     unclosed_step w {core} {ring} r i step =
         let same = (step i.core.opening i.core.steps i.core.state i.core.stands).1 in
-        moved (IsReplyTo d) w (record w { core = core; ring = ring }) CloseGroup (Refused r) (refl, refl, refl) (record { closing = step; store = refl })
-        (λ p h. (step p.rows p.steps h.state h.core).0.stands) (ap (λ (gs : List GroupData). option_to_list (pending_of w.store) ++ gs) same) refl (refused_keeps d only_now w.store)
+        moved (IsReplyTo d) IsJustifiedBy w (record w { core = core; ring = ring }) CloseGroup (Refused r) (refl, refl, refl) (record { closing = step; store = refl })
+        (λ p h. closing_so d p w h (Refused r) (record w { core = core; ring = ring }) (record { closing = step; store = refl }))
+        (λ p h. (step p.rows p.steps h.state h.core).0.stands) same (ap (λ (gs : List GroupData). option_to_list (pending_of w.store) ++ gs) same) refl (refused_keeps d only_now w.store)
 
     -- a poll
     pub polled_step : (w : WorldData D) (stamp : Stamp) (answer : Bool) → answer ≡ nat_le stamp.0 (mark_of w.store) → IsWorldStep d w (Poll stamp) (Polled answer) w
-    polled_step w stamp false is = still (IsReplyTo d) w (Poll stamp) (Polled false) (refl, refl, refl) (is, refl)
+    polled_step w stamp false is = still (IsReplyTo d) IsJustifiedBy w (Poll stamp) (Polled false) (refl, refl, refl) (is, refl) (λ p h. tt)
     polled_step w stamp true is =
-        stepped (IsReplyTo d) w w (Poll stamp) (Polled true) (λ rows. rows) (is, refl) (refused_keeps d only_now w.store) (λ p h store.
-        subst (λ (q : Past). IsAfter d q w) (past_is p (Poll stamp) (Polled true) p.steps (p.acknowledged ++ stamp.0 ∷ []) p.closed (append-nil p.steps) refl (append-nil p.closed)) (record {
-          sent = h.sent;
-          state = h.state;
-          core = h.core;
-          closed = h.closed;
-          before = h.before;
-          none = h.none;
-          store = store;
-          mark = h.mark;
-          groups = h.groups;
-          marks = h.marks;
-          covers = each_append (λ m. m ≤ mark_of w.store) p.acknowledged (stamp.0 ∷ []) h.covers (leb-true stamp.0 (mark_of w.store) (sym is), tt);
-        }))
+        stepped (IsReplyTo d) IsJustifiedBy w w (Poll stamp) (Polled true) (λ rows. rows) (is, refl) (λ p h. tt) (refused_keeps d only_now w.store) (λ p h store.
+        let acked = p.acknowledged ++ stamp.0 ∷ [] in
+        subst (λ (q : Past). IsAfter d q w) (past_is p (Poll stamp) (Polled true) p.steps acked p.closed p.taken (append-nil p.steps) refl (append-nil p.closed) (none_more p.taken))
+        (goes_on p w w h p.steps h.state h.core h.counted h.closed (unchanged h.state) refl refl store acked (each_append (λ m. m ≤ mark_of w.store) p.acknowledged (stamp.0 ∷ []) h.covers (leb-true stamp.0 (mark_of w.store) (sym is), tt)) p.taken (h.untaken, h.room)))
 
   -- ---- a world that was just opened
   pub begun : (rows : Map) (w : WorldData D) → IsJustOpened rows w → KeepsRows d w.store rows → IsAfter d (opened_over rows (mark_of w.store)) w
   begun rows w is keeps =
       let wait : waiting w ≡ [] = ap (λ (q : Option GroupData). option_to_list q ++ w.ring) is.store.pending ∙ is.ring in
+      let empty : length w.ring ≡ 0 = ap (λ (gs : List GroupData). length gs) is.ring in
       record {
         sent = [];
         state = opened rows (mark_of w.store);
         core = is.core;
+        counted = counted_opened rows (mark_of w.store);
         closed = record { drawn = omega arith; above = tt };
         before = record { drawn = omega arith; above = tt };
         none = refl;
@@ -322,4 +361,6 @@ module _ {D : Type 0} (d : Ghosts D) where
         groups = subst (HaveRecordsOf (opened rows (mark_of w.store)) (mark_of w.store)) (sym wait) tt;
         marks = ap (map (λ x. x.mark)) wait;
         covers = (omega arith, tt);
+        untaken = omega (arith, empty);
+        room = omega (arith, empty);
       }

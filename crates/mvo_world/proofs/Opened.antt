@@ -1,13 +1,11 @@
 -- What opening a disk answers, and a past whose prefix the disk recovers.
-use Rattle.std.proofs.Common.{◌≡◌, inl, inr, ℕ, [], Ok, refl, sym, subst}
-use Rattle.mvo_types.specs.declared.refusal.Refusal.TheVariants.{OutOfMemory}
+use Rattle.std.proofs.Common.{◌≡◌, ℕ, [], Ok, sym, subst}
 use Rattle.mvo_types.specs.Keys.{Map}
 use Rattle.mvo_disk.specs.declared.disk.Disk.{Ghosts}
 use Rattle.mvo_disk.specs.Disk.{Image}
-use Rattle.mvo_store.specs.Seen.{disk_of, mark_of}
-use Rattle.mvo_store.specs.StoreData.{StoreData}
+use Rattle.mvo_store.specs.Seen.{mark_of}
 use Rattle.mvo_store.specs.Standing.{Gives, HasSlots, KeepsRows}
-use Rattle.mvo_store.specs.Opening.{IsAnswer, HasBegun, IsNotOpened}
+use Rattle.mvo_store.specs.Opening.{IsAnswer, HasBegun}
 use Rattle.mvo_store.proofs.Answered.{same_answer, same_rows}
 use Rattle.mvo_core.specs.Standing.{OpensAs}
 use Rattle.mvo_world.specs.WorldData.{WorldData, IsJustOpened}
@@ -20,10 +18,6 @@ answer_prefix content rows mark answer past h =
     subst (λ (x : Map × ℕ). IsPrefix past x.0 x.1) (same_answer content rows mark answer h.rows h.mark h.gives) h.prefix
 
 module _ {D : Type 0} (d : Ghosts D) where
-  -- memory for the rest of the world was refused
-  pub memory_refused : (old : D) (s : StoreData D) (mark : ℕ) → HasBegun d old s mark → IsNotOpened d old OutOfMemory (disk_of s)
-  memory_refused old s mark begun = inr (record { few = begun.few; why = inl (inl refl); count = begun.count })
-
   -- the rows that the store answered are those that the world is opened over
   module _ (old : D) (w : WorldData D) (rows : Map) (mark : ℕ) (answer : IsAnswer (d.content old) (Ok (rows, mark))) (begins : HasBegun d old w.store mark) (core : OpensAs rows mark w.core) (none : w.ring ≡ []) where
     pub answer_here : IsAnswer (d.content old) (Ok (rows, mark_of w.store))

@@ -1,17 +1,15 @@
 -- A world stays sound over a call of its core.
-use Rattle.std.proofs.Common.{◌≡◌, ℕ, List, [], ◌∷◌, ◌++◌, Option, None, Result, Ok, Err, sym, ap, ◌∙◌, subst, arith}
+use Rattle.std.proofs.Common.{◌≡◌, ℕ, List, [], ◌∷◌, ◌++◌, Result, Ok, Err, sym, ap, ◌∙◌, subst}
 use Rattle.std.specs.Option.{option_to_list}
 use Rattle.mvo_types.specs.declared.refusal.Refusal.{Refusal}
-use Rattle.mvo_types.specs.Keys.{Map}
 use Rattle.mvo_group.specs.Data.{GroupData}
-use Rattle.mvo_theory.specs.State.{Marks, opened}
+use Rattle.mvo_theory.specs.State.{Marks}
 use Rattle.mvo_theory.specs.Marks.{IsClosedAt}
 use Rattle.mvo_theory.specs.Changes.{after_close}
 use Rattle.mvo_theory.specs.Calls.{Call, group_of}
 use Rattle.mvo_core.specs.declared.answers.Closed as closing
 use Rattle.mvo_core.specs.Data.{CoreData}
 use Rattle.mvo_core.specs.Seen.{closed_mark_of, HasNewVersions}
-use Rattle.mvo_core.specs.Standing.{OpensAs}
 use Rattle.mvo_core.specs.Steps.{came, IsStep}
 use Rattle.mvo_core.specs.Collecting.{StandsAsBefore}
 use Rattle.mvo_core.proofs.Begun.{stands_on}
@@ -80,10 +78,3 @@ module _ {D : Type 0} (w : WorldData D) (i : IsSoundWorld w) where
         linked = subst (λ (gs : List GroupData). Follow (mark_of w.store) (option_to_list (pending_of w.store) ++ gs) (closed_mark_of core)) (sym told.1)
             (subst (λ (n : ℕ). Follow (mark_of w.store) (waiting w) n) (sym (same_mark w.core.opening core.opening s.marks i.core.stands.marks told.0.stands.marks)) i.linked);
       }
-
--- just opened
-pub sound_opened : {D : Type 0} (rows : Map) (mark : ℕ) (w : WorldData D) → OpensAs rows mark w.core → mark_of w.store ≡ mark → pending_of w.store ≡ None → w.ring ≡ [] → IsSoundWorld w
-sound_opened rows mark w core at pending ring = record {
-  core = record { opening = rows; steps = []; state = opened rows mark; stands = core; closed = record { drawn = omega arith; above = tt } };
-  linked = subst (λ (gs : List GroupData). Follow (mark_of w.store) gs (closed_mark_of w.core)) (sym (ap (λ (o : Option GroupData). option_to_list o ++ w.ring) pending ∙ ring)) (at ∙ ap (λ (m : Marks). m.closed) core.marks);
-}

@@ -1,5 +1,5 @@
 -- What a world remembers of its past.
-use Rattle.std.specs.Prelude.{ℕ, true, List, [], ◌∷◌, ◌++◌}
+use Rattle.std.specs.Prelude.{ℕ, ◌+◌, true, List, [], ◌∷◌, ◌++◌}
 use Rattle.mvo_model.specs.Trace.{Step, IsSerial}
 use Rattle.mvo_model.specs.Trace.Step.{Begins, Answers, Prepares, Checks, Commits, Aborts, Terminates}
 use Rattle.mvo_types.specs.Keys.{Map}
@@ -9,9 +9,9 @@ use Rattle.mvo_theory.specs.Steps.{steps_of_refusal}
 use Rattle.mvo_core.specs.declared.answers.Settlement.TheVariants.{Committed}
 use Rattle.mvo_core.specs.declared.answers.Finishing.TheVariants.{Done}
 use Rattle.mvo_world.specs.declared.event.Event.{Event}
-use Rattle.mvo_world.specs.declared.event.Event.TheVariants.{Begin, Read, Scan, Insert, Update, Delete, Precommit, Validate, Settle, Rollback, Finish, CloseGroup, AppendOpen, Poll}
+use Rattle.mvo_world.specs.declared.event.Event.TheVariants.{Begin, Read, Scan, Insert, Update, Delete, Precommit, Validate, Settle, Rollback, Finish, CloseGroup, TakeGroup, AppendOpen, Poll}
 use Rattle.mvo_world.specs.declared.reply.Reply.{Reply}
-use Rattle.mvo_world.specs.declared.reply.Reply.TheVariants.{Began, Answered, Prepared, Validated, Settled, RolledBack, Finished, Closed, Durable, Polled, Refused}
+use Rattle.mvo_world.specs.declared.reply.Reply.TheVariants.{Began, Answered, Prepared, Validated, Settled, RolledBack, Finished, Closed, Taken, Durable, Polled, Refused}
 
 pub record Past : Type 0 where
   -- the rows and the mark that it was opened with
@@ -21,8 +21,9 @@ pub record Past : Type 0 where
   pub steps : List Step
   -- the opening mark, the marks that were answered durable, and the timestamps polled with yes
   pub acknowledged : List ℕ
-  -- the marks of the groups that were closed
+  -- the marks of the groups that were closed, and how many of them the store took
   pub closed : List ℕ
+  pub taken : ℕ
 
 -- just opened over these rows at this mark
 abbrev pub opened_over : Map → ℕ → Past
@@ -32,6 +33,7 @@ opened_over rows mark = record {
   steps = [];
   acknowledged = mark ∷ [];
   closed = [];
+  taken = 0;
 }
 
 -- the committed transactions were told what they are told one after another
@@ -75,6 +77,11 @@ abbrev pub closed_by : Event → Reply → List ℕ
 closed_by CloseGroup (Closed c) = c.mark.0 ∷ []
 closed_by e r = []
 
+-- how many groups the store took
+abbrev pub taken_by : Event → Reply → ℕ
+taken_by TakeGroup Taken = 1
+taken_by e r = 0
+
 abbrev pub with_event : Past → Event → Reply → Past
 with_event p e r = record {
   rows = p.rows;
@@ -82,6 +89,7 @@ with_event p e r = record {
   steps = p.steps ++ happened e r;
   acknowledged = p.acknowledged ++ acknowledged_by e r;
   closed = p.closed ++ closed_by e r;
+  taken = p.taken + taken_by e r;
 }
 
 -- one event with its reply after another

@@ -1,5 +1,5 @@
 -- What a world says of its past, and what a stop leaves of it.
-use Rattle.std.specs.Prelude.{◌≡◌, ◌≤◌, ◌⊎◌, ℕ, List, [], ◌∷◌, ◌++◌, map}
+use Rattle.std.specs.Prelude.{◌≡◌, ◌+◌, ◌≤◌, ◌⊎◌, ℕ, List, [], ◌∷◌, ◌++◌, length, map}
 use Rattle.std.specs.List.{AllByRecursion}
 use Rattle.mvo_types.specs.Keys.{Map}
 use Rattle.mvo_model.specs.Trace.{rows_up_to}
@@ -8,12 +8,14 @@ use Rattle.mvo_disk.specs.Disk.{Image, AllOf, LeavesOnly}
 use Rattle.mvo_group.specs.Data.{GroupData}
 use Rattle.mvo_theory.specs.State.{State, timeline}
 use Rattle.mvo_theory.specs.Marks.{IsClosedAt, settled_to}
+use Rattle.mvo_theory.specs.Counted.{HasCounts}
 use Rattle.mvo_core.specs.Standing.{StandsFor}
 use Rattle.mvo_store.specs.Frames.{mark_after}
 use Rattle.mvo_store.specs.Rows.{after_groups}
 use Rattle.mvo_store.specs.Seen.{mark_of}
 use Rattle.mvo_store.specs.Standing.{Gives, KeepsRows, HasSlots}
 use Rattle.mvo_world.specs.Past.{Past}
+use Rattle.mvo_world.specs.declared.ring.TheConstants.{RING_GROUPS}
 use Rattle.mvo_world.specs.WorldData.{WorldData, waiting}
 use Rattle.mvo_core.specs.Groups.{HaveRecordsOf}
 
@@ -44,6 +46,8 @@ pub record IsAfter {D : Type 0} (d : Ghosts D) (p : Past) (w : WorldData D) : Ty
   -- the state that the steps since the opening lead to
   pub state : State
   pub core : StandsFor p.rows p.steps state w.core
+  -- the opening mark, the clock, the unfinished and the checks are those of the steps
+  pub counted : HasCounts p.mark p.steps state
   -- up to the mark of the group that was closed last all are settled
   pub closed : IsClosedAt state.marks.closed state
   -- no commit ends at or below the opening mark
@@ -54,6 +58,9 @@ pub record IsAfter {D : Type 0} (d : Ghosts D) (p : Past) (w : WorldData D) : Ty
   pub groups : HaveRecordsOf state p.mark (sent ++ waiting w)
   pub marks : map (λ g. g.mark) (sent ++ waiting w) ≡ p.closed
   pub covers : AllByRecursion (λ m. m ≤ mark_of w.store) p.acknowledged
+  -- those that the store hasn't taken are in the ring, which has no more than it may
+  pub untaken : p.taken + length w.ring ≡ length p.closed
+  pub room : length w.ring ≤ RING_GROUPS
 
 -- a stop now leaves an image that recovers a prefix
 abbrev pub MayLeavePrefix : {D : Type 0} → Ghosts D → Past → D → Type 0

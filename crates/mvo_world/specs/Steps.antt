@@ -6,25 +6,29 @@ use Rattle.mvo_world.specs.Past.{Past, with_event}
 use Rattle.mvo_world.specs.WorldData.{WorldData}
 use Rattle.mvo_world.specs.Standing.{IsAfter, LeavesPrefix}
 use Rattle.mvo_world.specs.Replies.{IsReplyTo, IsCopiedReplyTo}
+use Rattle.mvo_world.specs.Justified.{IsJustifiedBy, IsCopyJustifiedBy}
 use Rattle.mvo_world.specs.declared.event.Event.{Event}
 use Rattle.mvo_world.specs.declared.reply.Reply.{Reply}
 
--- The event has its reply. It leads from a world after a past to one after that past and this
--- event, and a stop at any moment of it leaves an image that recovers a prefix of the past before.
+-- The event has its reply, which the past justifies, whatever it is. It leads from a world after a
+-- past to one after that past and this event, and a stop at any moment of it leaves an image that
+-- recovers a prefix of the past before.
 pub record IsStepBy {D : Type 0} (IsReply : WorldData D → Event → Reply → WorldData D → Type 0)
+    (Justifies : Past → Event → Reply → Type 0)
     (d : Ghosts D) (w : WorldData D) (e : Event) (r : Reply) (w' : WorldData D) : Type 0 where
   pub reply : IsReply w e r w'
+  pub justified : (p : Past) → IsAfter d p w → Justifies p e r
   pub after : (p : Past) → IsAfter d p w → IsAfter d (with_event p e r) w'
   pub any_moment : (p : Past) → IsAfter d p w →
       LeavesPrefix d p (disk_of w.store) (disk_of w'.store)
 
 abbrev pub IsWorldStep : {D : Type 0} →
     Ghosts D → WorldData D → Event → Reply → WorldData D → Type 0
-IsWorldStep d = IsStepBy (IsReplyTo d) d
+IsWorldStep d = IsStepBy (IsReplyTo d) IsJustifiedBy d
 
 -- a step of a run, whose event is copied first
 abbrev pub IsRunStep : {D : Type 0} → Ghosts D → WorldData D → Event → Reply → WorldData D → Type 0
-IsRunStep d = IsStepBy (IsCopiedReplyTo d) d
+IsRunStep d = IsStepBy (IsCopiedReplyTo d) IsCopyJustifiedBy d
 
 -- one such step after another, from one world to another
 abbrev pub AreSteps : {W : Type 0} →

@@ -165,6 +165,9 @@ impl<D: Disk> World<D> {
     /// One step. Its reply is the first refusal whose cause stands, and else the event's own
     /// answer; a step of the store that is not refused so may still meet out of memory or a fault
     /// of the disk.
+    ///
+    /// The answer or the refusal of an event of a transaction is justified by what was asked and
+    /// answered before it, whatever that was (`IsWorldStep`: `justified`).
     pub fn step(&mut self, event: Event) -> Reply
         ensures { IsWorldStep D.Disk self.old event result self.new }
     {

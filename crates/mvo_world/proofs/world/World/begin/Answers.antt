@@ -4,7 +4,6 @@ use Rattle.mvo_world.proofs.Asked.{next_stamp}
 use Rattle.mvo_world.proofs.Happened.{begun}
 use Rattle.mvo_world.proofs.Moves.{told}
 use Rattle.mvo_world.proofs.Sound.{sound_asked}
-use Rattle.mvo_world.proofs.world.World.begin.Goals.{in-Ok, in-Err}
 use Rattle.mvo_world.proofs.world.World.begin.Goals as goal
 
 pub invariant_of-self : goal.invariant_of-self
@@ -12,10 +11,9 @@ invariant_of-self g c = sound_asked (world_data c.self.inside) c.self.invariant 
 
 pub returns : goal.returns
 returns g c =
-    let before = world_data c.self.inside in
     elim c.match-begin_tx.branch [
-      | in-Ok w ↦ rw (w.result-is, ← c.self.view_is) (
-          let drawn = next_stamp before w.in-Ok.tx.0 w.in-Ok.ensures.id in
-          told g.D.Disk g.met.D.Disk.only_now before w.in-Ok.ensures.step (λ asked. (asked, drawn)) (λ o xs s h. begun s w.in-Ok.tx (drawn o xs s h)) (refl, refl))
-      | in-Err w ↦ rw (w.result-is, ← c.self.view_is) (told g.D.Disk g.met.D.Disk.only_now before w.in-Err.ensures.step (λ asked. asked) (λ o xs s h. refl) (refl, refl))
+      | goal.in-Ok w ↦ rw (w.result-is, ← c.self.view_is) (
+          let drawn = next_stamp (world_data c.self.inside) w.in-Ok.tx.0 w.in-Ok.ensures.id in
+          told g.D.Disk g.met.D.Disk.only_now (world_data c.self.inside) w.in-Ok.ensures.step (λ asked. (asked, drawn)) (λ o xs s h. begun s w.in-Ok.tx (drawn o xs s h)) (refl, refl))
+      | goal.in-Err w ↦ rw (w.result-is, ← c.self.view_is) (told g.D.Disk g.met.D.Disk.only_now (world_data c.self.inside) w.in-Err.ensures.step (λ asked. asked) (λ o xs s h. refl) (refl, refl))
     ]

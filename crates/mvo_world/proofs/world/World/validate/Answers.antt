@@ -2,7 +2,6 @@ use Rattle.std.proofs.Common.{refl}
 use Rattle.mvo_world.specs.View.{world_data}
 use Rattle.mvo_world.proofs.Moves.{told}
 use Rattle.mvo_world.proofs.Sound.{sound_asked}
-use Rattle.mvo_world.proofs.world.World.validate.Goals.{in-Ok, in-Err}
 use Rattle.mvo_world.proofs.world.World.validate.Goals as goal
 
 pub invariant_of-self : goal.invariant_of-self
@@ -10,8 +9,7 @@ invariant_of-self g c = sound_asked (world_data c.self.inside) c.self.invariant 
 
 pub returns : goal.returns
 returns g c =
-    let before = world_data c.self.inside in
     elim c.match-validate_one.branch [
-      | in-Ok w ↦ rw (w.result-is, ← c.self.view_is) (told g.D.Disk g.met.D.Disk.only_now before w.in-Ok.ensures.step (λ asked. (asked, w.in-Ok.ensures.answer)) (λ o xs s h. refl) (refl, refl))
-      | in-Err w ↦ rw (w.result-is, ← c.self.view_is) (told g.D.Disk g.met.D.Disk.only_now before w.in-Err.ensures.step (λ asked. asked) (λ o xs s h. refl) (refl, refl))
+      | goal.in-Ok w ↦ rw (w.result-is, ← c.self.view_is) (told g.D.Disk g.met.D.Disk.only_now (world_data c.self.inside) w.in-Ok.ensures.step (λ asked. (asked, w.in-Ok.ensures.answer)) (λ o xs s h. refl) (refl, refl))
+      | goal.in-Err w ↦ rw (w.result-is, ← c.self.view_is) (told g.D.Disk g.met.D.Disk.only_now (world_data c.self.inside) w.in-Err.ensures.step (λ asked. asked) (λ o xs s h. refl) (refl, refl))
     ]

@@ -1,0 +1,163 @@
+-- A reply to a world that stands after a past is justified by the past.
+use Rattle.std.proofs.Common.{◌≡◌, ◌≢◌, ℕ, ◌-◌, List, [], ◌∷◌, ◌⊎◌, inl, inr, ◌+◌, ◌<◌, ◌≤◌, Bool, true, false, cond, Option, None, Some, length, refl, sym, ap, ◌∙◌, subst, arith}
+use Rattle.std.specs.Prelude.{nat_le, ◌==◌}
+use Rattle.std.proofs.lemmas.Bool.{true≢false, leb-true, leb-false, eqb-true, eq-eqb}
+use Rattle.mvo_types.specs.declared.ids.TxId.{TxId}
+use Rattle.mvo_types.specs.declared.ids.Stamp.{Stamp}
+use Rattle.mvo_types.specs.declared.answer.Answer.{Answer}
+use Rattle.mvo_types.specs.declared.op.Op.{Op}
+use Rattle.mvo_types.specs.declared.refusal.Refusal.{Refusal}
+use Rattle.mvo_types.specs.declared.refusal.Refusal.TheVariants.{RingFull, NothingToDo, OutOfMemory}
+use Rattle.mvo_types.specs.declared.op.Op.TheVariants as op
+use Rattle.mvo_types.specs.AnswerData.{answer_data}
+use Rattle.mvo_model.specs.Trace.{history_of, phase_of}
+use Rattle.mvo_model.specs.Trace.Phase.{Preparing as IsPreparing}
+use Rattle.mvo_disk.specs.declared.disk.Disk.{Ghosts}
+use Rattle.mvo_theory.specs.Entries.{entries}
+use Rattle.mvo_theory.specs.State.{StampedTx}
+use Rattle.mvo_theory.specs.Marks.{low_water}
+use Rattle.mvo_theory.specs.Causes.{when, why_not_close, awaited}
+use Rattle.mvo_theory.specs.Calls as theory
+use Rattle.mvo_theory.specs.Calls.{IsRefusal}
+use Rattle.mvo_theory.specs.Calls.Call.{Begin as BeginCall, Precommit as PrecommitCall, Validate as ValidateCall, Settle as SettleCall, Rollback as RollbackCall, Finish as FinishCall, Do}
+use Rattle.mvo_theory.specs.Calls.Result.{Accepted, Refused as RefusedCall}
+use Rattle.mvo_theory.proofs.Snapshots.{answers_traced}
+use Rattle.mvo_theory.specs.Counts.{checks_in}
+use Rattle.mvo_theory.proofs.Firsts.{FirstOf, first_is, none_is, when_none, when_some}
+use Rattle.mvo_theory.proofs.Justified.{justified}
+use Rattle.mvo_theory.proofs.Answered.{next_drawn, valid_is, settles_so, waits_so}
+use Rattle.mvo_core.specs.declared.answers.Validation.{Validation}
+use Rattle.mvo_core.specs.declared.answers.Validation.TheVariants.{More, Valid}
+use Rattle.mvo_core.specs.declared.answers.Settlement.{Settlement}
+use Rattle.mvo_core.specs.Steps.{settled_as, IsValidation, IsSettlement}
+use Rattle.mvo_world.specs.WorldData.{WorldData}
+use Rattle.mvo_world.specs.Past.{Past}
+use Rattle.mvo_world.specs.Ring.{is_full}
+use Rattle.mvo_world.specs.Standing.{IsAfter}
+use Rattle.mvo_world.specs.declared.ring.TheConstants.{RING_GROUPS}
+use Rattle.mvo_world.specs.Justified.{IsJust, IsNextStamp, IsJustOperation, IsJustCheck, IsJustSettlement, untaken, IsJustClosing, IsJustifiedBy}
+use Rattle.mvo_world.specs.Replies.{IsAsked, IsOpAnswered, IsDrawn, IsReplyTo}
+use Rattle.mvo_world.specs.declared.event.Event.{Event}
+use Rattle.mvo_world.specs.declared.event.Event.TheVariants.{Begin, Read, Scan, Insert, Update, Delete, Precommit, Validate, Settle, Rollback, Finish, Collect, Trim, CloseGroup, TakeGroup, AppendBody, AppendOpen, Poll, RotateWrite, CheckpointRead, CheckpointData, CheckpointDelta, MergeRead, MergeData, MergeDelta, InstallClose, InstallBody, InstallOpen, Reclaim}
+use Rattle.mvo_world.specs.declared.reply.Reply.{Reply}
+use Rattle.mvo_world.specs.declared.reply.Reply.TheVariants.{Began, Answered, Prepared, Validated, Settled, RolledBack, Finished, Closed, Refused}
+
+module _ {D : Type 0} (d : Ghosts D) (p : Past) (w : WorldData D) (h : IsAfter d p w) where
+  -- what the call came to
+  just : (c : theory.Call) (r : theory.Result) (w' : WorldData D) → IsAsked w c r w' → IsJust p c r
+  just c r w' asked = justified p.rows p.mark p.steps h.state c r h.core.versions.kept h.counted (asked.leads p.rows p.steps h.state h.core).may
+
+  drawn : (n : ℕ) → IsDrawn w n → IsNextStamp p n
+  drawn n e = next_drawn p.mark p.steps h.state n h.counted (e p.rows p.steps h.state h.core)
+
+  done : (t : ℕ) (o : Op) (a : Answer) (w' : WorldData D) → IsOpAnswered w t o a w' → IsJustOperation p t o (Answered a)
+  done t o a w' q = (
+    just (Do t o) Accepted w' q.0,
+    q.1 p.rows p.steps h.state h.core ∙ answers_traced p.rows p.steps h.state t o (q.0.leads p.rows p.steps h.state h.core).may.0 h.core.versions.kept,
+  )
+
+  check : (t : ℕ) (v : Validation) (w' : WorldData D) → IsAsked w (ValidateCall t) Accepted w' → IsValidation w.core t v → IsJustCheck p t v
+  check t v w' asked e = go (nat_le entry_count checks) refl (e p.rows p.steps h.state h.core ∙ ap (λ (b : Bool). cond b Valid More) (valid_is p.rows p.mark p.steps h.state t (asked.leads p.rows p.steps h.state h.core).may.0 h.core.versions.kept h.counted))
+    where
+      entry_count : ℕ
+      entry_count = length (entries (history_of t p.steps))
+
+      checks : ℕ
+      checks = checks_in t p.steps + 1
+
+      go : (b : Bool) → nat_le entry_count checks ≡ b → v ≡ cond b Valid More → IsJustCheck p t v
+      go true f g = subst (IsJustCheck p t) (sym g) (leb-true entry_count checks f)
+      go false f g = subst (IsJustCheck p t) (sym g) (leb-false entry_count checks f)
+
+  settlement : (t : ℕ) (a : Settlement) (w' : WorldData D) → IsAsked w (SettleCall t) Accepted w' → IsSettlement w.core t a → IsJustSettlement p t a
+  settlement t a w' asked e = go (awaited h.state t) refl (e p.rows p.steps h.state h.core)
+    where
+      go : (v : Option StampedTx) → awaited h.state t ≡ v → a ≡ settled_as h.state t v → IsJustSettlement p t a
+      go None f g = subst (IsJustSettlement p t) (sym g) (settles_so p.rows p.steps h.state t (asked.leads p.rows p.steps h.state h.core).may.0 h.core.versions.kept)
+      go (Some y) f g = subst (IsJustSettlement p t) (sym g) (waits_so p.rows p.steps h.state t y f h.core.versions.kept)
+
+  -- the cause of closing, by the ring
+  pub closing : (r : Reply) (w' : WorldData D) → IsReplyTo d w CloseGroup r w' → IsJustClosing p r
+  closing (Closed c) w' q =
+      let came = q.closing p.rows p.steps h.state h.core in
+      let none = none_is (causes (is_full w.ring)) came.0 in
+      let n : length w.ring ≢ RING_GROUPS = λ e. true≢false (sym (eq-eqb (length w.ring) RING_GROUPS e) ∙ when_none (is_full w.ring) RingFull none.1.0) in
+      let u = h.untaken in
+      let r = h.room in
+      omega (arith, n, u, r)
+    where
+      causes : Bool → List (Option Refusal)
+      causes full = when (low_water h.state == h.state.marks.closed) NothingToDo ∷ when full RingFull ∷ []
+  closing (Refused RingFull) w' q = go (why_not_close h.state (is_full w.ring)) refl (q.closing p.rows p.steps h.state h.core).0.refused
+    where
+      is_ring : (is_full w.ring ≡ true) → untaken p ≡ RING_GROUPS
+      is_ring e = let l = eqb-true (length w.ring) RING_GROUPS e in let u = h.untaken in omega (arith, l, u)
+
+      other : RingFull ≡ NothingToDo → ⊥
+      other e = cc
+
+      spent : RingFull ≡ OutOfMemory → ⊥
+      spent e = cc
+
+      first : FirstOf (when (low_water h.state == h.state.marks.closed) NothingToDo ∷ when (is_full w.ring) RingFull ∷ []) RingFull → untaken p ≡ RING_GROUPS
+      first (inl e) = absurd (other (when_some (low_water h.state == h.state.marks.closed) NothingToDo RingFull e).1)
+      first (inr (n, inl e)) = is_ring (when_some (is_full w.ring) RingFull RingFull e).0
+      first (inr (n, inr m)) = absurd m.1
+
+      go : (v : Option Refusal) → why_not_close h.state (is_full w.ring) ≡ v → IsRefusal true v RingFull → untaken p ≡ RING_GROUPS
+      go (Some why) e q' = first (first_is (when (low_water h.state == h.state.marks.closed) NothingToDo ∷ when (is_full w.ring) RingFull ∷ []) RingFull (e ∙ ap (λ (v : Refusal). Some v) (sym q'))).is
+      go None e q' = absurd (spent q')
+  closing r w' q = tt
+
+  pub justified_reply : (e : Event) (r : Reply) (w' : WorldData D) → IsReplyTo d w e r w' → IsJustifiedBy p e r
+  justified_reply Begin (Began t) w' q = (just BeginCall Accepted w' q.0, drawn t.0 q.1)
+  justified_reply Begin (Refused r) w' q = just BeginCall (RefusedCall r) w' q
+  justified_reply Begin r w' q = absurd q
+  justified_reply (Read t k) (Answered a) w' q = done t.0 (op.Read k) a w' q
+  justified_reply (Read t k) (Refused r) w' q = just (Do t.0 (op.Read k)) (RefusedCall r) w' q
+  justified_reply (Read t k) r w' q = absurd q
+  justified_reply (Scan t table lo hi) (Answered a) w' q = done t.0 (op.Scan table lo hi) a w' q
+  justified_reply (Scan t table lo hi) (Refused r) w' q = just (Do t.0 (op.Scan table lo hi)) (RefusedCall r) w' q
+  justified_reply (Scan t table lo hi) r w' q = absurd q
+  justified_reply (Insert t row) (Answered a) w' q = done t.0 (op.Insert row) a w' q
+  justified_reply (Insert t row) (Refused r) w' q = just (Do t.0 (op.Insert row)) (RefusedCall r) w' q
+  justified_reply (Insert t row) r w' q = absurd q
+  justified_reply (Update t row) (Answered a) w' q = done t.0 (op.Update row) a w' q
+  justified_reply (Update t row) (Refused r) w' q = just (Do t.0 (op.Update row)) (RefusedCall r) w' q
+  justified_reply (Update t row) r w' q = absurd q
+  justified_reply (Delete t k) (Answered a) w' q = done t.0 (op.Delete k) a w' q
+  justified_reply (Delete t k) (Refused r) w' q = just (Do t.0 (op.Delete k)) (RefusedCall r) w' q
+  justified_reply (Delete t k) r w' q = absurd q
+  justified_reply (Precommit t) (Prepared e) w' q = (just (PrecommitCall t.0) Accepted w' q.0, drawn e.0 q.1)
+  justified_reply (Precommit t) (Refused r) w' q = just (PrecommitCall t.0) (RefusedCall r) w' q
+  justified_reply (Precommit t) r w' q = absurd q
+  justified_reply (Validate t) (Validated v) w' q = (just (ValidateCall t.0) Accepted w' q.0, check t.0 v w' q.0 q.1)
+  justified_reply (Validate t) (Refused r) w' q = just (ValidateCall t.0) (RefusedCall r) w' q
+  justified_reply (Validate t) r w' q = absurd q
+  justified_reply (Settle t) (Settled a) w' q = (just (SettleCall t.0) Accepted w' q.0, settlement t.0 a w' q.0 q.1)
+  justified_reply (Settle t) (Refused r) w' q = just (SettleCall t.0) (RefusedCall r) w' q
+  justified_reply (Settle t) r w' q = absurd q
+  justified_reply (Rollback t) RolledBack w' q = just (RollbackCall t.0) Accepted w' q
+  justified_reply (Rollback t) (Refused r) w' q = just (RollbackCall t.0) (RefusedCall r) w' q
+  justified_reply (Rollback t) r w' q = absurd q
+  justified_reply (Finish t) (Finished a) w' q = just (FinishCall t.0) Accepted w' q.0
+  justified_reply (Finish t) (Refused r) w' q = just (FinishCall t.0) (RefusedCall r) w' q
+  justified_reply (Finish t) r w' q = absurd q
+  justified_reply Collect r w' q = tt
+  justified_reply (Trim upto) r w' q = tt
+  justified_reply CloseGroup r w' q = closing r w' q
+  justified_reply TakeGroup r w' q = tt
+  justified_reply AppendBody r w' q = tt
+  justified_reply AppendOpen r w' q = tt
+  justified_reply (Poll stamp) r w' q = tt
+  justified_reply RotateWrite r w' q = tt
+  justified_reply CheckpointRead r w' q = tt
+  justified_reply CheckpointData r w' q = tt
+  justified_reply CheckpointDelta r w' q = tt
+  justified_reply (MergeRead place) r w' q = tt
+  justified_reply MergeData r w' q = tt
+  justified_reply MergeDelta r w' q = tt
+  justified_reply InstallClose r w' q = tt
+  justified_reply InstallBody r w' q = tt
+  justified_reply InstallOpen r w' q = tt
+  justified_reply Reclaim r w' q = tt

@@ -1,0 +1,100 @@
+-- What justifies the reply to an event of a transaction: what was asked and answered before it.
+use Rattle.std.specs.Prelude.{◌≡◌, ◌⊎◌, ◌+◌, ◌-◌, ◌<◌, ◌≤◌, ℕ, length, ⊤}
+use Rattle.mvo_types.specs.declared.answer.Answer.{Answer}
+use Rattle.mvo_types.specs.declared.op.Op.{Op}
+use Rattle.mvo_types.specs.declared.refusal.Refusal.TheVariants.{RingFull, OutOfMemory}
+use Rattle.mvo_types.specs.declared.op.Op.TheVariants as op
+use Rattle.mvo_types.specs.AnswerData.{answer_data}
+use Rattle.mvo_model.specs.Serial.{answer_to}
+use Rattle.mvo_model.specs.Trace.{history_of, phase_of}
+use Rattle.mvo_model.specs.Trace.Phase.{Preparing}
+use Rattle.mvo_theory.specs.Entries.{entries}
+use Rattle.mvo_theory.specs.Snapshots.{snapshot_of}
+use Rattle.mvo_theory.specs.Calls as theory
+use Rattle.mvo_theory.specs.Calls.Call.{Begin as BeginCall, Precommit as PrecommitCall, Validate as ValidateCall, Settle as SettleCall, Rollback as RollbackCall, Finish as FinishCall, Do}
+use Rattle.mvo_theory.specs.Calls.Result.{Accepted, Refused as RefusedCall}
+use Rattle.mvo_theory.specs.Counts.{draws, checks_in}
+use Rattle.mvo_theory.specs.Rests.{WaitsFor}
+use Rattle.mvo_theory.specs.Justified.{IsJustified}
+use Rattle.mvo_core.specs.declared.answers.Validation.{Validation}
+use Rattle.mvo_core.specs.declared.answers.Validation.TheVariants.{More, Valid}
+use Rattle.mvo_core.specs.declared.answers.Settlement.{Settlement}
+use Rattle.mvo_core.specs.declared.answers.Settlement.TheVariants.{Committed, Waiting}
+use Rattle.mvo_world.specs.Past.{Past}
+use Rattle.mvo_world.specs.Replies.{HasRow}
+use Rattle.mvo_world.specs.declared.ring.TheConstants.{RING_GROUPS}
+use Rattle.mvo_world.specs.declared.event.Event.{Event}
+use Rattle.mvo_world.specs.declared.event.Event.TheVariants.{Begin, Read, Scan, Insert, Update, Delete, Precommit, Validate, Settle, Rollback, Finish, CloseGroup}
+use Rattle.mvo_world.specs.declared.reply.Reply.{Reply}
+use Rattle.mvo_world.specs.declared.reply.Reply.TheVariants.{Began, Answered, Prepared, Validated, Settled, RolledBack, Finished, Closed, Refused}
+
+-- what the call came to: with its cause where it is refused, and else with none
+abbrev pub IsJust : Past → theory.Call → theory.Result → Type 0
+IsJust p c r = IsJustified p.rows p.mark p.steps c r
+
+-- the timestamp behind those that were drawn
+abbrev pub IsNextStamp : Past → ℕ → Type 0
+IsNextStamp p n = n ≡ p.mark + draws p.steps + 1
+
+-- an operation, with the answer of the serial step on what the transaction sees
+abbrev pub IsJustOperation : Past → ℕ → Op → Reply → Type 0
+IsJustOperation p t op (Answered a) =
+    IsJust p (Do t op) Accepted × (answer_data a ≡ answer_to op (snapshot_of p.rows p.steps t))
+IsJustOperation p t op (Refused r) = IsJust p (Do t op) (RefusedCall r)
+IsJustOperation p t op r = ⊥
+
+-- Valid comes with the check of the last entry, or behind it
+abbrev pub IsJustCheck : Past → ℕ → Validation → Type 0
+IsJustCheck p t Valid = length (entries (history_of t p.steps)) ≤ checks_in t p.steps + 1
+IsJustCheck p t More = checks_in t p.steps + 1 < length (entries (history_of t p.steps))
+
+-- it is settled with its end, or waits for one that it depends on and that is Preparing
+abbrev pub IsJustSettlement : Past → ℕ → Settlement → Type 0
+IsJustSettlement p t (Committed e) = phase_of t p.steps ≡ Preparing e.0
+IsJustSettlement p t (Waiting x) = WaitsFor p.rows p.steps t x.0
+
+-- how many closed groups the store hasn't taken
+abbrev pub untaken : Past → ℕ
+untaken p = length p.closed - p.taken
+
+-- a group is closed while the ring has room for it, and refused RingFull while it has none
+abbrev pub IsJustClosing : Past → Reply → Type 0
+IsJustClosing p (Closed c) = untaken p < RING_GROUPS
+IsJustClosing p (Refused RingFull) = untaken p ≡ RING_GROUPS
+IsJustClosing p r = ⊤
+
+-- The reply is justified by the past. Of events that are of no transaction it says when the ring is
+-- full.
+abbrev pub IsJustifiedBy : Past → Event → Reply → Type 0
+IsJustifiedBy p Begin (Began t) = IsJust p BeginCall Accepted × IsNextStamp p t.0
+IsJustifiedBy p Begin (Refused r) = IsJust p BeginCall (RefusedCall r)
+IsJustifiedBy p Begin r = ⊥
+IsJustifiedBy p (Read t k) r = IsJustOperation p t.0 (op.Read k) r
+IsJustifiedBy p (Scan t table lo hi) r = IsJustOperation p t.0 (op.Scan table lo hi) r
+IsJustifiedBy p (Insert t row) r = IsJustOperation p t.0 (op.Insert row) r
+IsJustifiedBy p (Update t row) r = IsJustOperation p t.0 (op.Update row) r
+IsJustifiedBy p (Delete t k) r = IsJustOperation p t.0 (op.Delete k) r
+IsJustifiedBy p (Precommit t) (Prepared e) =
+    IsJust p (PrecommitCall t.0) Accepted × IsNextStamp p e.0
+IsJustifiedBy p (Precommit t) (Refused r) = IsJust p (PrecommitCall t.0) (RefusedCall r)
+IsJustifiedBy p (Precommit t) r = ⊥
+IsJustifiedBy p (Validate t) (Validated v) =
+    IsJust p (ValidateCall t.0) Accepted × IsJustCheck p t.0 v
+IsJustifiedBy p (Validate t) (Refused r) = IsJust p (ValidateCall t.0) (RefusedCall r)
+IsJustifiedBy p (Validate t) r = ⊥
+IsJustifiedBy p (Settle t) (Settled a) =
+    IsJust p (SettleCall t.0) Accepted × IsJustSettlement p t.0 a
+IsJustifiedBy p (Settle t) (Refused r) = IsJust p (SettleCall t.0) (RefusedCall r)
+IsJustifiedBy p (Settle t) r = ⊥
+IsJustifiedBy p (Rollback t) RolledBack = IsJust p (RollbackCall t.0) Accepted
+IsJustifiedBy p (Rollback t) (Refused r) = IsJust p (RollbackCall t.0) (RefusedCall r)
+IsJustifiedBy p (Rollback t) r = ⊥
+IsJustifiedBy p (Finish t) (Finished a) = IsJust p (FinishCall t.0) Accepted
+IsJustifiedBy p (Finish t) (Refused r) = IsJust p (FinishCall t.0) (RefusedCall r)
+IsJustifiedBy p (Finish t) r = ⊥
+IsJustifiedBy p CloseGroup r = IsJustClosing p r
+IsJustifiedBy p e r = ⊤
+
+-- so is the reply to an event that is copied first, but for a copy that was refused memory
+abbrev pub IsCopyJustifiedBy : Past → Event → Reply → Type 0
+IsCopyJustifiedBy p e r = IsJustifiedBy p e r ⊎ (HasRow e × (r ≡ Refused OutOfMemory))
