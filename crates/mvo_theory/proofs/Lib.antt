@@ -26,6 +26,7 @@ pub mod Started
 pub mod Trim
 pub mod Trimmed
 pub mod Finishing
+pub mod Finished
 pub mod Kept
 pub mod Runs
 pub mod Exact

@@ -58,7 +58,7 @@ history_of-append : (u : ℕ) (xs ys : List Step) → history_of u (xs ++ ys) �
 history_of-append u [] ys = refl
 history_of-append u (x ∷ xs) ys = ap (λ ts. history_by x u ++ ts) (history_of-append u xs ys) ∙ sym (append_assoc (history_by x u) (history_of u xs) (history_of u ys))
 
-count_later : (u : ℕ) (xs ys : List Step) → word_count (history_of u xs) ≤ word_count (history_of u (xs ++ ys))
+pub count_later : (u : ℕ) (xs ys : List Step) → word_count (history_of u xs) ≤ word_count (history_of u (xs ++ ys))
 count_later u xs ys = let e = ap word_count (history_of-append u xs ys) ∙ word_count-append (history_of u xs) (history_of u ys) in omega arith
 
 -- ---- the words of one that is found
@@ -74,7 +74,7 @@ words_now_count opening xs s t h = go (active_of t s.active) refl (preparing_of 
     go None e None f = omega arith
 
 -- ---- what each change leaves of them
-abbrev Few : List Step → EndedTx → Type 0
+abbrev pub Few : List Step → EndedTx → Type 0
 Few xs u = length u.words ≤ word_count (history_of u.id xs)
 
 few_later : (xs ys : List Step) (us : List EndedTx) → AllByRecursion (Few xs) us → AllByRecursion (Few (xs ++ ys)) us
@@ -94,7 +94,7 @@ filter_less p (w ∷ ws) = go (p w) (filter_less p ws)
     go true l = omega arith
     go false l = omega arith
 
-without_less : (c : Claim) (o : Outcome) (ws : List Word) → length (words_without c o ws) ≤ length ws
+pub without_less : (c : Claim) (o : Outcome) (ws : List Word) → length (words_without c o ws) ≤ length ws
 without_less c (Committed e) ws = omega arith
 without_less c Aborted ws = filter_less (λ w. not (is_end_of c w)) ws
 
@@ -106,7 +106,7 @@ drop_less : (ws : List Word) → length (drop 1 ws) ≤ length ws
 drop_less [] = omega arith
 drop_less (w ∷ ws) = omega arith
 
-left_less : (t : ℕ) (u : EndedTx) → length (words_left t u) ≤ length u.words
+pub left_less : (t : ℕ) (u : EndedTx) → length (words_left t u) ≤ length u.words
 left_less t u = go (u.id == t)
   where
     go : (b : Bool) → length (cond b (drop 1 u.words) u.words) ≤ length u.words
@@ -121,11 +121,11 @@ few_without xs t (u ∷ us) h = go (u.id == t) (few_without xs t us h.1)
     go true r = h.1
     go false r = (h.0, r)
 
-ended_precommit : (s : State) (w : Option ActiveTx) → (after_precommit_of s w).ended ≡ s.ended
+pub ended_precommit : (s : State) (w : Option ActiveTx) → (after_precommit_of s w).ended ≡ s.ended
 ended_precommit s None = refl
 ended_precommit s (Some r) = refl
 
-ended_validate : (s : State) (w : Option StampedTx) → (after_validate_of s w).ended ≡ s.ended
+pub ended_validate : (s : State) (w : Option StampedTx) → (after_validate_of s w).ended ≡ s.ended
 ended_validate s None = refl
 ended_validate s (Some x) = go x.valid
   where

@@ -20,3 +20,4 @@ pub mod StandingClaims
 pub mod Groups
 pub mod Limits
 pub mod Told
+pub mod Finished
