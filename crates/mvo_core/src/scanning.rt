@@ -1,7 +1,9 @@
 //! The operation on a range.
-ghost use Rattle.std.specs.Prelude.{◌≡◌, ◌++◌, IfOk, OnOk};
+ghost use Rattle.std.specs.FinMap as fin;
+ghost use Rattle.std.specs.Prelude.{◌≡◌, ◌≤◌, ◌++◌, IfOk, OnOk, filter, length};
 ghost use Rattle.std.specs.Option.{option_to_list};
 ghost use Rattle.mvo_chain.specs.Slots.{version_at};
+ghost use Rattle.mvo_range.specs.Place.{is_between};
 ghost use Rattle.mvo_txn.specs.Txns.{state_of};
 ghost use Rattle.mvo_core.specs.Scanning.{row_with_sort, is_below, is_up_to, is_met_by};
 ghost use Rattle.mvo_core.specs.Scanning.{is_met_at_place, with_named, IsScanned};
@@ -84,7 +86,9 @@ fn scan_places(
 ///
 /// It looks at all that the scan will look at, key by key. No such look waits for the one before,
 /// so the memory of several keys is fetched at a time, and is near when the scan comes to it.
-fn look_ahead(versions: &Versions, of: u8, lo: u64, hi: u64) -> usize {
+fn look_ahead(versions: &Versions, of: u8, lo: u64, hi: u64) -> usize
+    ensures { result ≤ length (filter (is_between of lo hi) (fin.entries versions.now.places)) }
+{
     let mut count: usize = 0;
     for (place, _) in versions.between(of, lo, hi) {
         if has_version(versions, place) {

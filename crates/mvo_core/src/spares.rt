@@ -6,21 +6,22 @@ use std::marker::Model;
 const MOST: usize = 64;
 
 /// The memory of transactions that are over, for those that begin: without it each would ask the
-/// system for the same few lists. Nothing is done in any of them.
+/// system for the same few lists. Nothing is done in any of them, and no more than `MOST` are kept.
 #[derive(Drop)]
 pub struct Spares {
     works: Vec<Work>,
 }
 
 impl Model for Spares {
-    ghost use Rattle.std.specs.Prelude.{⊤};
+    ghost use Rattle.std.specs.Prelude.{◌≤◌, ⊤, length};
     ghost use Rattle.mvo_core.specs.Spare.{AreIdle};
+    ghost use Rattle.mvo_core.specs.declared.spares.TheConstants.{MOST};
 
     ghost Value = { ⊤ };
 
     ghost view = { λ s. tt };
 
-    ghost invariant = { λ s. AreIdle s.works.items };
+    ghost invariant = { λ s. AreIdle s.works.items × (length s.works.items ≤ MOST) };
 }
 
 impl Spares {

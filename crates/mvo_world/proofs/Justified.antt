@@ -34,7 +34,7 @@ use Rattle.mvo_world.specs.WorldData.{WorldData}
 use Rattle.mvo_world.specs.Past.{Past}
 use Rattle.mvo_world.specs.Ring.{is_full}
 use Rattle.mvo_world.specs.Standing.{IsAfter}
-use Rattle.mvo_world.specs.declared.ring.TheConstants.{RING_GROUPS}
+use Rattle.mvo_types.specs.declared.limits.TheConstants.{RING_GROUPS}
 use Rattle.mvo_world.specs.Justified.{IsJust, IsNextStamp, IsJustOperation, IsJustCheck, IsJustSettlement, untaken, IsJustClosing, IsJustifiedBy}
 use Rattle.mvo_world.specs.Replies.{IsAsked, IsOpAnswered, IsDrawn, IsReplyTo}
 use Rattle.mvo_world.specs.declared.event.Event.{Event}

@@ -49,7 +49,7 @@ use Rattle.mvo_world.specs.Ring.{oldest, IsClosingInto}
 use Rattle.mvo_world.specs.Replies.{IsReplyTo, IsAsked, IsStored, HasRow, or_nothing}
 use Rattle.mvo_world.specs.Justified.{IsJustifiedBy}
 use Rattle.mvo_world.specs.Steps.{IsStepBy, IsWorldStep}
-use Rattle.mvo_world.specs.declared.ring.TheConstants.{RING_GROUPS}
+use Rattle.mvo_types.specs.declared.limits.TheConstants.{RING_GROUPS}
 use Rattle.mvo_world.specs.declared.event.Event.{Event}
 use Rattle.mvo_world.specs.declared.event.Event.TheVariants.{Insert, Update, Collect, CloseGroup, TakeGroup, AppendOpen, Poll}
 use Rattle.mvo_world.specs.declared.reply.Reply.{Reply}

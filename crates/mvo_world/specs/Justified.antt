@@ -22,7 +22,7 @@ use Rattle.mvo_core.specs.declared.answers.Settlement.{Settlement}
 use Rattle.mvo_core.specs.declared.answers.Settlement.TheVariants.{Committed, Waiting}
 use Rattle.mvo_world.specs.Past.{Past}
 use Rattle.mvo_world.specs.Replies.{HasRow}
-use Rattle.mvo_world.specs.declared.ring.TheConstants.{RING_GROUPS}
+use Rattle.mvo_types.specs.declared.limits.TheConstants.{RING_GROUPS}
 use Rattle.mvo_world.specs.declared.event.Event.{Event}
 use Rattle.mvo_world.specs.declared.event.Event.TheVariants.{Begin, Read, Scan, Insert, Update, Delete, Precommit, Validate, Settle, Rollback, Finish, CloseGroup}
 use Rattle.mvo_world.specs.declared.reply.Reply.{Reply}
