@@ -1,5 +1,6 @@
 """What a store's files come to, worked out by the rules of docs/FORMATS.md alone: nothing of the
-program is used. scripts/byte-test and scripts/random-folder-test compare the program with it.
+program is used. scripts/byte-test, scripts/image-test and scripts/random-folder-test compare what
+opening answers with it.
 """
 import struct
 
@@ -189,3 +190,17 @@ def answer_of(files):
         return f"ok mark {mark} rows {len(rows)} pairs {pairs} segments {segments}"
     except Refused as refused:
         return str(refused)
+
+
+def kind_of(files, answer):
+    """What an answer about these files is of."""
+    kind, _, file = answer.partition("refused 54 ")
+    if not file:
+        return answer if kind.startswith("refused") else "opened"
+    if file in ("0", "1"):
+        return "refused 54 of a slot"
+    _, _, pairs, segments = installed_of(files)
+    if int(file) in segments:
+        return "refused 54 of a segment"
+    is_data = int(file) in [it[0] for it in pairs]
+    return f"refused 54 of a {'data' if is_data else 'delta'} file"

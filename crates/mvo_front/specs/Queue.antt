@@ -77,6 +77,14 @@ Taken v x w =
     (n : ℕ) × (w ≡ hand v.pushes v.put v.parts (v.taken ++ (n, x) ∷ []))
     × AllBelow n v.taken
 
+-- the same hand, but for what it has taken
+abbrev pub HasTaken : Hand → Hand → Type 0
+HasTaken v w = w ≡ hand v.pushes v.put v.parts w.taken
+
+-- a hand that has pushed these jobs and taken some
+abbrev pub HasPushed : Hand → List JobData → Hand → Type 0
+HasPushed v jobs w = w ≡ hand v.pushes (v.put ++ jobs) v.parts w.taken
+
 abbrev pub left_of : Hand → Hand
 left_of v = hand v.pushes v.put (v.parts - 1) v.taken
 

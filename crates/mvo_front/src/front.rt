@@ -8,7 +8,7 @@ use crate::new_queue::NewQueue;
 use crate::queue::Queue;
 use crate::rule::{Back, Cut, Fifo, Hand, Pushes, Takes, Total};
 use crate::ticket::Ticket;
-use crossbeam_channel::{RuledReceiver, RuledSender, SendError};
+use crossbeam_channel::{RuledReceiver, RuledSender, SendError, TrySendError};
 use std::marker::PhantomData;
 use std::sync::Wait;
 use std::sync::atomic::{AtomicBool, Ordering};
@@ -80,6 +80,38 @@ impl<L: Queue> Front<L> {
         match self.sender.send_as::<Pushes, R>(rt, &mut ticket.pass, job) {
             Ok(()) => Ok(()),
             Err(SendError::Disconnected(job) | SendError::OutOfMemory(job)) => Err(job),
+        }
+    }
+
+    /// The same where there is room at once. A full queue gives the job back too.
+    pub fn try_push<R: Wait>(&self, rt: &R, ticket: &mut Ticket<L>, job: Job) -> Result<(), Job>
+        requires { ticket.old.pushes ≡ true }
+        ensures { MatchResult result (λ _. Pushed ticket.old job ticket.new)
+            (λ back. (back ≡ job) × (ticket.new ≡ ticket.old)) }
+    {
+        let is_open = !self.closed.load(Ordering::SeqCst);
+        if is_open {
+            self.try_send(rt, ticket, job)
+        } else {
+            Err(job)
+        }
+    }
+
+    fn try_send<R: Wait>(&self, rt: &R, ticket: &mut Ticket<L>, job: Job) -> Result<(), Job>
+        requires { ticket.old.pushes ≡ true }
+        ensures { MatchResult result (λ _. Pushed ticket.old job ticket.new)
+            (λ back. (back ≡ job) × (ticket.new ≡ ticket.old)) }
+    {
+        match self
+            .sender
+            .try_send_as::<Pushes, R>(rt, &mut ticket.pass, job)
+        {
+            Ok(()) => Ok(()),
+            Err(
+                TrySendError::Full(job)
+                | TrySendError::Disconnected(job)
+                | TrySendError::OutOfMemory(job),
+            ) => Err(job),
         }
     }
 

@@ -3,6 +3,7 @@
 
 mod done;
 mod front;
+mod handing_out;
 mod hired;
 mod job;
 mod new_queue;

@@ -1,15 +1,25 @@
 //! What one worker does.
-ghost use Rattle.std.specs.Prelude.{◌≡◌, ◌<◌, vec_len, vec_capacity};
-ghost use Rattle.mvo_front.specs.Outcomes.{AreOutcomes};
-ghost use Rattle.mvo_front.specs.Queue.{worker};
+ghost use Rattle.std.specs.Prelude.{◌≡◌, ◌<◌, ◌++◌, ◌∷◌, [], vec_len, vec_capacity};
+ghost use Rattle.mvo_front.specs.Outcomes.{AreOutcomes, outcome_numbers};
+ghost use Rattle.mvo_front.specs.Queue.{HasTaken, worker};
 
 use crate::done::Done;
 use crate::front::Front;
+use crate::job::Job;
 use crate::outcome::Outcome;
 use crate::queue::Queue;
 use crate::ticket::Ticket;
 use crate::work::Work;
 use std::sync::Wait;
+
+/// Runs a job that was taken.
+fn run_one<W: Work, R: Wait>(rt: &R, work: &W, outcomes: &mut Vec<Outcome>, job: Job)
+    requires { vec_len outcomes.old < vec_capacity outcomes.old }
+    ensures { outcome_numbers outcomes.new.items
+        ≡ outcome_numbers outcomes.old.items ++ job.number ∷ [] }
+{
+    outcomes.push_reserved(work.run(rt, job));
+}
 
 /// Takes the next job and runs it. False where no more jobs come.
 fn serve_one<L: Queue, W: Work, R: Wait>(
@@ -22,20 +32,63 @@ fn serve_one<L: Queue, W: Work, R: Wait>(
     requires part { 0 < ticket.old.parts }
     requires room { vec_len outcomes.old < vec_capacity outcomes.old }
     requires each { AreOutcomes outcomes.old.items ticket.old.taken }
-    ensures part { ticket.new.parts ≡ ticket.old.parts }
+    ensures taken { HasTaken ticket.old ticket.new }
     ensures each { AreOutcomes outcomes.new.items ticket.new.taken }
 {
     match front.take(rt, ticket) {
         Some(job) => {
-            outcomes.push_reserved(work.run(rt, job));
+            run_one(rt, work, outcomes, job);
             true
         }
         None => false,
     }
 }
 
-/// Takes jobs, and runs each, until no more come. One outcome for each job that was taken, in
-/// order, with its number.
+/// Takes the job that has waited longest, if one is seen, and runs it.
+pub fn serve_waiting<L: Queue, W: Work, R: Wait>(
+    rt: &R,
+    work: &W,
+    front: &Front<L>,
+    ticket: &mut Ticket<L>,
+    outcomes: &mut Vec<Outcome>,
+)
+    requires part { 0 < ticket.old.parts }
+    requires room { vec_len outcomes.old < vec_capacity outcomes.old }
+    requires each { AreOutcomes outcomes.old.items ticket.old.taken }
+    ensures taken { HasTaken ticket.old ticket.new }
+    ensures each { AreOutcomes outcomes.new.items ticket.new.taken }
+{
+    if let Some(job) = front.try_take(rt, ticket) {
+        run_one(rt, work, outcomes, job);
+    }
+}
+
+/// Takes jobs, and runs each, until no more come, or until there is no room for what comes of one.
+pub fn serve_all<L: Queue, W: Work, R: Wait>(
+    rt: &R,
+    work: &W,
+    front: &Front<L>,
+    ticket: &mut Ticket<L>,
+    outcomes: &mut Vec<Outcome>,
+)
+    requires part { 0 < ticket.old.parts }
+    requires each { AreOutcomes outcomes.old.items ticket.old.taken }
+    ensures taken { HasTaken ticket.old ticket.new }
+    ensures each { AreOutcomes outcomes.new.items ticket.new.taken }
+{
+    for _ in rt.forever() {
+        // A job is taken only where there is room for what comes of it.
+        if outcomes.reserve(1).is_err() {
+            break;
+        }
+        if !serve_one(rt, work, front, ticket, outcomes) {
+            break;
+        }
+    }
+}
+
+/// What a worker does in its thread. One outcome for each job that was taken, in order, with its
+/// number.
 pub fn serve<L: Queue, W: Work, R: Wait>(
     rt: &R,
     work: &W,
@@ -48,14 +101,6 @@ pub fn serve<L: Queue, W: Work, R: Wait>(
 {
     let mut ticket = ticket;
     let mut outcomes = outcomes;
-    for _ in rt.forever() {
-        // A job is taken only where there is room for what comes of it.
-        if outcomes.reserve(1).is_err() {
-            break;
-        }
-        if !serve_one(rt, work, front, &mut ticket, &mut outcomes) {
-            break;
-        }
-    }
+    serve_all(rt, work, front, &mut ticket, &mut outcomes);
     Done::new(ticket, outcomes)
 }

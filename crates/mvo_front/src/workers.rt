@@ -1,11 +1,13 @@
 //! Workers in threads, and the jobs that are pushed to them.
-ghost use Rattle.std.specs.Prelude.{◌≡◌, ◌+◌, ◌++◌, [], true, IfOk, IfSome, IsSomeAnd, OnOk, vec_len};
+ghost use Rattle.std.specs.Prelude.{◌≡◌, ◌+◌, ◌<◌, [], true, IfOk, OnOk, vec_len};
+ghost use Rattle.mvo_front.specs.declared.workers.TheConstants.{MAX_WORKERS};
 ghost use Rattle.mvo_front.specs.Named.{IsQueueNamedBy};
 ghost use Rattle.mvo_front.specs.Outcomes.{AreAnswered, AreOutcomes};
 ghost use Rattle.mvo_front.specs.Queue.{first_hand, hand};
 
 use crate::done::Done;
 use crate::front::Front;
+use crate::handing_out::hand_out;
 use crate::hired::Hired;
 use crate::job::Job;
 use crate::new_queue::NewQueue;
@@ -24,7 +26,8 @@ use std::thread::Threads;
 pub const MAX_WORKERS: usize = 64;
 
 /// Runs the jobs, as many at once as there are workers (`MAX_WORKERS` at most), and pushes them
-/// while they work. Each job is run once: each number has as many outcomes as there are jobs with
+/// while they work. The calling thread is the first of the workers, and alone where the system
+/// gives no other. Each job is run once: each number has as many outcomes as there are jobs with
 /// it, in any order.
 pub fn run<W: Work + Sync, R: Threads + Wait + Sync>(
     rt: &R,
@@ -52,21 +55,25 @@ fn run_in<L: Queue + Send + Sync, W: Work + Sync, R: Threads + Wait + Sync>(
     ensures { IfOk result (λ outcomes. AreAnswered jobs.items outcomes.items) }
 {
     let (front, mut ticket) = Front::<L>::new(opened);
-    let hired = hire_all(alloc, &front, &mut ticket, workers, jobs.len())?;
+    let own = Vec::with_capacity(alloc, jobs.len())?;
+    let others = workers.min(MAX_WORKERS).saturating_sub(1);
+    let hired = hire_all(alloc, &front, &mut ticket, others, jobs.len())?;
     let shared = &front;
-    let (pushed, done) = thread::join(
+    // Where there is no other thread, the second closure is called first.
+    let (done, handed_out) = thread::join(
         rt,
-        move || push_all(rt, shared, ticket, jobs),
         move || thread::map_vec(
             rt,
             hired,
             &|mine: Hired<L>| serve_hired(rt, work, shared, mine),
         ),
+        move || hand_out(rt, work, shared, ticket, jobs, own),
     );
-    gather(rt, alloc, &front, pushed, done?)
+    let (ticket, outcomes) = handed_out?;
+    gather(rt, &front, ticket, outcomes, done?)
 }
 
-/// Hires so many workers, `MAX_WORKERS` at most, each with room for what comes of so many jobs.
+/// Hires so many workers, each with room for what comes of so many jobs.
 fn hire_all<L: Queue>(
     alloc: Global,
     front: &Front<L>,
@@ -74,44 +81,19 @@ fn hire_all<L: Queue>(
     workers: usize,
     jobs: usize,
 ) -> Result<Vec<Hired<L>>, AllocError>
-    requires { ticket.old ≡ first_hand }
-    ensures { IfOk result (λ hired. (ticket.new ≡ hand true [] ticket.new.parts [])
-        × (ticket.new.parts + vec_len hired ≡ 1024)) }
+    requires few { workers < MAX_WORKERS }
+    requires first { ticket.old ≡ first_hand }
+    ensures hand { OnOk result (ticket.new ≡ hand true [] ticket.new.parts []) }
+    ensures parts { IfOk result (λ hired. ticket.new.parts + vec_len hired ≡ 1024) }
+    ensures part { OnOk result (0 < ticket.new.parts) }
 {
     let mut hired = Vec::new(alloc);
-    let count = if workers < MAX_WORKERS {
-        workers
-    } else {
-        MAX_WORKERS
-    };
-    for k in 0..count {
+    for k in 0..workers {
         let outcomes = Vec::with_capacity(alloc, jobs)?;
         let mine = front.hire(ticket);
         hired.push(Hired::new(mine, outcomes))?;
     }
     Ok(hired)
-}
-
-/// Pushes the jobs in order, and closes the queue. None where a job came back.
-fn push_all<L: Queue, R: Wait>(
-    rt: &R,
-    front: &Front<L>,
-    ticket: Ticket<L>,
-    jobs: Vec<Job>,
-) -> Option<Ticket<L>>
-    requires { ticket.pushes ≡ true }
-    ensures { IfSome result (λ t.
-        t ≡ hand true (ticket.put ++ jobs.items) ticket.parts ticket.taken) }
-{
-    let mut ticket = ticket;
-    for job in jobs {
-        if front.push(rt, &mut ticket, job).is_err() {
-            front.close();
-            return None;
-        }
-    }
-    front.close();
-    Some(ticket)
 }
 
 fn serve_hired<L: Queue, W: Work, R: Wait>(
@@ -128,20 +110,18 @@ fn serve_hired<L: Queue, W: Work, R: Wait>(
 /// ended before all jobs were taken, which it does for want of memory alone.
 fn gather<L: Queue, R: Wait>(
     rt: &R,
-    alloc: Global,
     front: &Front<L>,
-    pushed: Option<Ticket<L>>,
+    ticket: Ticket<L>,
+    outcomes: Vec<Outcome>,
     done: Vec<Done<L>>,
 ) -> Result<Vec<Outcome>, AllocError>
-    requires { IfSome pushed (λ t. (t ≡ hand true t.put t.parts [])
-        × (t.parts + vec_len done ≡ 1024)) }
-    ensures { IfOk result (λ outcomes.
-        IsSomeAnd pushed (λ t. AreAnswered t.put outcomes.items)) }
+    requires pushes { ticket.pushes ≡ true }
+    requires parts { ticket.parts + vec_len done ≡ 1024 }
+    requires each { AreOutcomes outcomes.items ticket.taken }
+    ensures { IfOk result (λ all. AreAnswered ticket.put all.items) }
 {
-    let Some(mut ticket) = pushed else {
-        return Err(AllocError);
-    };
-    let mut outcomes = Vec::new(alloc);
+    let mut ticket = ticket;
+    let mut outcomes = outcomes;
     take_back(front, &mut ticket, done, &mut outcomes)?;
     match front.try_take(rt, &mut ticket) {
         None => Ok(outcomes),

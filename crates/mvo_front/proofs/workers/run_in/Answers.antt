@@ -6,5 +6,5 @@ use Rattle.mvo_front.proofs.workers.run_in.Goals as goal
 pub returns : goal.returns
 returns g c =
     IfOk-weaker c.gather.result _ _
-    (λ os. answered c.join-pushed.result.0 c.hire_all.new.ticket c.args.jobs.items os.items (search (rules, c.join-pushed.ensures.first)) c.in_ok-hired.ensures.0)
+    (λ os. answered c.hire_all.new.ticket c.in_ok-ticket.ticket c.args.jobs.items os.items (search (rules, c.join-done.ensures.second, c.in_ok-ticket.is)) c.in_ok-hired.ensures.hand)
     c.gather.ensures
