@@ -78,8 +78,8 @@ Taken v x w =
     × AllBelow n v.taken
 
 -- the same hand, but for what it has taken
-abbrev pub HasTaken : Hand → Hand → Type 0
-HasTaken v w = w ≡ hand v.pushes v.put v.parts w.taken
+abbrev pub IsButForTaken : Hand → Hand → Type 0
+IsButForTaken v w = w ≡ hand v.pushes v.put v.parts w.taken
 
 -- a hand that has pushed these jobs and taken some
 abbrev pub HasPushed : Hand → List JobData → Hand → Type 0

@@ -1,7 +1,7 @@
 //! What one worker does.
 ghost use Rattle.std.specs.Prelude.{◌≡◌, ◌<◌, ◌++◌, ◌∷◌, [], vec_len, vec_capacity};
 ghost use Rattle.mvo_front.specs.Outcomes.{AreOutcomes, outcome_numbers};
-ghost use Rattle.mvo_front.specs.Queue.{HasTaken, worker};
+ghost use Rattle.mvo_front.specs.Queue.{IsButForTaken, worker};
 
 use crate::done::Done;
 use crate::front::Front;
@@ -32,7 +32,7 @@ fn serve_one<L: Queue, W: Work, R: Wait>(
     requires part { 0 < ticket.old.parts }
     requires room { vec_len outcomes.old < vec_capacity outcomes.old }
     requires each { AreOutcomes outcomes.old.items ticket.old.taken }
-    ensures taken { HasTaken ticket.old ticket.new }
+    ensures taken { IsButForTaken ticket.old ticket.new }
     ensures each { AreOutcomes outcomes.new.items ticket.new.taken }
 {
     match front.take(rt, ticket) {
@@ -55,7 +55,7 @@ pub fn serve_waiting<L: Queue, W: Work, R: Wait>(
     requires part { 0 < ticket.old.parts }
     requires room { vec_len outcomes.old < vec_capacity outcomes.old }
     requires each { AreOutcomes outcomes.old.items ticket.old.taken }
-    ensures taken { HasTaken ticket.old ticket.new }
+    ensures taken { IsButForTaken ticket.old ticket.new }
     ensures each { AreOutcomes outcomes.new.items ticket.new.taken }
 {
     if let Some(job) = front.try_take(rt, ticket) {
@@ -73,7 +73,7 @@ pub fn serve_all<L: Queue, W: Work, R: Wait>(
 )
     requires part { 0 < ticket.old.parts }
     requires each { AreOutcomes outcomes.old.items ticket.old.taken }
-    ensures taken { HasTaken ticket.old ticket.new }
+    ensures taken { IsButForTaken ticket.old ticket.new }
     ensures each { AreOutcomes outcomes.new.items ticket.new.taken }
 {
     for _ in rt.forever() {

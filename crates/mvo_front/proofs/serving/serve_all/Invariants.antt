@@ -1,9 +1,9 @@
 use Rattle.mvo_front.specs.Outcomes.{AreOutcomes}
-use Rattle.mvo_front.specs.Queue.{HasTaken}
+use Rattle.mvo_front.specs.Queue.{IsButForTaken}
 use Rattle.mvo_front.proofs.serving.serve_all.Given as goal
 
 abbrev pub invariant-loop : goal.invariant-loop
 invariant-loop g l = record {
-  taken : HasTaken l.fn.ticket l.ticket;
+  taken : IsButForTaken l.fn.ticket l.ticket;
   each : AreOutcomes l.outcomes.items l.ticket.taken;
 }
