@@ -1,30 +1,66 @@
--- A store whose job makes a step.
-use Rattle.std.proofs.Common.{◌≡◌, ◌≢◌, inl, inr, ℕ, zero, suc, ◌+◌, eqb, ◌&&◌, Bool, true, false, List, [], ◌∷◌, length, Option, Some, None, Result, Ok, Err, refl, sym, ap, subst, ◌∙◌, arith}
-use Rattle.std.specs.Prelude.{not}
+-- A store whose job makes a step, or has opened the gate of its manifest.
+use Rattle.std.proofs.Common.{◌≡◌, ◌≢◌, inl, inr, ℕ, zero, suc, ◌+◌, eqb, ◌&&◌, Bool, true, false, List, [], ◌∷◌, length, Option, Some, None, Ok, Err, refl, sym, ap, subst, ◌∙◌, arith, ◌<◌, ◌++◌}
+use Rattle.std.specs.Prelude.{map, nat_eq}
 use Rattle.std.specs.Bool.{OnTrue, OnFalse}
 use Rattle.std.proofs.lemmas.Bool.{eqb-true, ne_eqb}
-use Rattle.mvo_pair.specs.Writing.{IsWriteRefusal}
+use Rattle.std.specs.List.{AllByRecursion, IsDistinct}
 use Rattle.mvo_types.specs.Keys.{Map}
 use Rattle.mvo_types.specs.declared.refusal.Refusal.{Refusal}
-use Rattle.mvo_types.specs.declared.refusal.Refusal.TheVariants.{DiskFault, OutOfMemory, Down, NothingToDo, Busy}
+use Rattle.mvo_types.specs.declared.refusal.Refusal.TheVariants.{DiskFault, OutOfMemory}
+use Rattle.mvo_types.specs.declared.row.RowKey.{RowKey}
+use Rattle.mvo_types.specs.declared.limits.TheConstants.{MAX_SEGMENT_LEN}
 use Rattle.mvo_disk.specs.declared.disk.Disk.{Ghosts}
+use Rattle.mvo_disk.specs.Disk.{OthersStay}
 use Rattle.mvo_disk.specs.Moments.{weaker}
+use Rattle.mvo_group.specs.Data.{GroupData}
+use Rattle.mvo_format.specs.declared.format.TheConstants.{FIRST_FORMAT}
+use Rattle.mvo_frame.specs.declared.segment.Segment.{Segment}
+use Rattle.mvo_frame.specs.Standing.{gate_of}
+use Rattle.mvo_pair.specs.Writing.{IsWriteRefusal}
+use Rattle.mvo_pair.specs.Data.{EntryData, Numbered}
+use Rattle.mvo_pair.specs.declared.pair.Pair.{Pair}
 use Rattle.mvo_manifest.specs.Data.{ManifestData}
-use Rattle.mvo_recovery.specs.Parts.{IsLastFile}
+use Rattle.mvo_image.specs.Rows.{AreApart}
+use Rattle.mvo_ckpt.specs.Places.{PlaceTable, ArePlaces, Rise, file_of, taken_over}
+use Rattle.mvo_ckpt.specs.Writes.{records_of, gone_of}
+use Rattle.mvo_ckpt.proofs.Taking.{places_taken_over}
+use Rattle.mvo_merge.specs.Merged.{merged, without}
+use Rattle.mvo_merge.specs.Moved.{HaveOwnKeys, moved}
+use Rattle.mvo_merge.proofs.Kept.{own_keys}
+use Rattle.mvo_merge.proofs.Late.{none_late}
+use Rattle.mvo_merge.proofs.Placed.{places_merged}
+use Rattle.mvo_load.proofs.Pairing.{data_files_differ}
+use Rattle.mvo_recovery.specs.Parts.{IsLastFile, Parts}
+use Rattle.mvo_recovery.specs.Settled.{IsSettled, other_slot}
+use Rattle.mvo_recovery.specs.Checkpoint.{NewNumbers, raise, lives_after, checkpointed, checkpointed_parts, HaveGained}
+use Rattle.mvo_recovery.specs.Merging.{merged_parts}
+use Rattle.mvo_recovery.proofs.Named.{slot_below, last_named, named_is_no_slot, last_once}
+use Rattle.mvo_recovery.proofs.Checkpointed.{last_stays, last_after}
+use Rattle.mvo_recovery.proofs.Installed.{after_install}
+use Rattle.mvo_recovery.proofs.Beside.{rotated_last}
 use Rattle.mvo_store.specs.declared.step.Step.TheVariants.{Close, Body, Open}
 use Rattle.mvo_store.specs.declared.due.Due.{Due}
 use Rattle.mvo_store.specs.declared.due.Due.TheVariants.{Data, Delta, MergeData, MergeDelta, Install}
-use Rattle.mvo_store.specs.declared.merging.Merging.{Merging}
 use Rattle.mvo_store.specs.declared.job.Job.{Job}
 use Rattle.mvo_store.specs.declared.job.Job.TheVariants.{Rotation, Checkpoint, Merge, MergeInstall}
 use Rattle.mvo_store.specs.StoreData.{StoreData, opening}
-use Rattle.mvo_store.specs.Causes.{first_cause, has_rotation, why_not_due, why_not_install_open}
+use Rattle.mvo_store.specs.Causes.{why_not_due, why_not_install_open, is_rotation, has_rotation}
 use Rattle.mvo_store.specs.Jobs.{step_number, step_due, is_due, with_merge, after_step}
-use Rattle.mvo_store.specs.Standing.{HasBody, HasJob, HasRoom, JobHasRoom, IsUp, MayBeLeft, HasSlots, IsKeeping, Keeps}
-use Rattle.mvo_store.specs.Writing.{StandsWith, StillGives, WritesOne, WritesFor, IsMadeStep, HasMadeStep, TakesMemory, IsStepRefusal}
-use Rattle.mvo_store.specs.Calls.{StoreCall, call_of, why_not, MayMeet, Makes, HasStepped, IsFileOfJob, MayWrite, KeepsOthers, IsStoreStep, rows_after}
-use Rattle.mvo_store.proofs.Keeping.{gives_or, parts_give, AllLeave, OnlyNow, CountsNow, fault_keeps}
-use Rattle.mvo_store.proofs.Stepping.{file_others, fault_step, other_step, err_is}
+use Rattle.mvo_store.specs.Standing.{HasJob, HasRoom, JobHasRoom, IsUp, MayBeLeft, HasSlots, HasBody, IsRotating, HasWork, MayTakeOver}
+use Rattle.mvo_store.specs.Writing.{StandsWith, StillGives, WritesFor, HasMadeStep, TakesMemory, IsStepRefusal, IsOpened}
+use Rattle.mvo_store.specs.Calls.{call_of, why_not, MayMeet, Makes, HasStepped, IsFileOfJob, MayWrite, KeepsOthers, IsStoreStep, rows_after}
+use Rattle.mvo_store.specs.declared.install.Install.{Install as InstallData}
+use Rattle.mvo_store.specs.declared.checkpoint_stage.CheckpointStage.TheVariants.{Install as AtInstall}
+use Rattle.mvo_store.specs.declared.checkpointing.Checkpointing.{Checkpointing}
+use Rattle.mvo_store.specs.declared.seen.Seen.{Seen}
+use Rattle.mvo_store.specs.Checkpoint.{gained, made_of, IsCheckpointInto, IsWhole}
+use Rattle.mvo_store.specs.Merging.{pairs_of, IsMerging, IsMergeReady}
+use Rattle.mvo_store.specs.Steps.{manifest_after, places_after, segment_after}
+use Rattle.mvo_store.proofs.Keeping.{give_or, stays_up, AllLeave, OnlyNow, CountsNow}
+use Rattle.mvo_store.proofs.Stepping.{may_step, Begins, begins, file_others, fault_step, other_step, err_is}
+use Rattle.mvo_store.proofs.Neighbours.{rise_two, apart_two}
+use Rattle.mvo_store.proofs.Working.{Installing, Installs, rotation_installs, checkpoint_installs, merge_installs, install_due, slot_of_install}
+use Rattle.mvo_store.proofs.Working.Installing.{OfRotation, OfCheckpoint, OfMerge}
 
 -- ---- the steps by their numbers
 
@@ -60,21 +96,10 @@ due_is step o j is due = same_due (step_due j) step (subst (λ (k : Option Job).
 
 -- why it isn't made
 pub due_cause : {D : Type 0} (step : Due) (s : StoreData D) (e : Refusal) → why_not_due step s ≡ Some e → e ≢ DiskFault
-due_cause step s e is = go s.down (not (is_due step s.job)) is
-  where
-    go : (a b : Bool) → first_cause ((a, Down) ∷ (b, NothingToDo) ∷ []) ≡ Some e → e ≢ DiskFault
-    go true b is f = absurd (cc (is, f))
-    go false true is f = absurd (cc (is, f))
-    go false false is f = absurd (cc is)
+due_cause step s e is = grind arith
 
 pub open_cause : {D : Type 0} (s : StoreData D) (e : Refusal) → why_not_install_open s ≡ Some e → e ≢ DiskFault
-open_cause s e is = go s.down (not (is_due (Install Open) s.job)) (s.written && has_rotation s.job) is
-  where
-    go : (a b c : Bool) → first_cause ((a, Down) ∷ (b, NothingToDo) ∷ (c, Busy) ∷ []) ≡ Some e → e ≢ DiskFault
-    go true b c is f = absurd (cc (is, f))
-    go false true c is f = absurd (cc (is, f))
-    go false false true is f = absurd (cc (is, f))
-    go false false false is f = absurd (cc is)
+open_cause s e is = grind arith
 
 -- only a fault refuses the opening of a gate
 pub fault_only : {D : Type 0} (fault_count : D → ℕ) (due : Due) (old new : D) (e : Refusal) → due ≡ Install Open → IsStepRefusal fault_count due old new e → (e ≡ DiskFault) × (fault_count new ≡ fault_count old + 1)
@@ -99,64 +124,51 @@ none_due step o none due = absurd (cc (sym (subst (λ (k : Option Job). is_due s
 
 -- ---- the calls
 
+-- each but the opening of a manifest's gate is a step of a job
+pub why_of : {D : Type 0} (s : StoreData D) (step : Due) → step ≢ Install Open → why_not s (call_of step) ≡ why_not_due step s
+why_of s (Install Open) other = absurd (other refl)
+why_of s (Install Close) other = refl
+why_of s step other = refl
+
 module _ {D : Type 0} (d : Ghosts D) (old new : StoreData D) where
-  pub why_of : (step : Due) → step ≢ Install Open → why_not old (call_of step) ≡ why_not_due step old
-  why_of Data other = refl
-  why_of Delta other = refl
-  why_of MergeData other = refl
-  why_of MergeDelta other = refl
-  why_of (Install Close) other = refl
-  why_of (Install Body) other = refl
-  why_of (Install Open) other = absurd (other refl)
-
   pub makes_of : (step : Due) → step ≢ Install Open → HasStepped old new → Makes d (call_of step) old new
-  makes_of Data other h = h
-  makes_of Delta other h = h
-  makes_of MergeData other h = h
-  makes_of MergeDelta other h = h
-  makes_of (Install Close) other h = h
-  makes_of (Install Body) other h = h
   makes_of (Install Open) other h = absurd (other refl)
+  makes_of (Install Close) other h = h
+  makes_of step other h = h
 
-  pub keeps_of : {A : Type 0} (a : A) (step : Due) → Keeps d old new → IsKeeping d (rows_after {A = A} old (call_of step) (Ok a)) old new
-  keeps_of a Data h = h
-  keeps_of a Delta h = h
-  keeps_of a MergeData h = h
-  keeps_of a MergeDelta h = h
-  keeps_of a (Install Close) h = h
-  keeps_of a (Install Body) h = h
-  keeps_of a (Install Open) h = h
+  due_file : (step : Due) (n : ℕ) → IsFileOfJob old.manifest old.job n → MayWrite d old (call_of step) n
+  due_file (Install Close) n h = h
+  due_file (Install Body) n h = h
+  due_file step n h = h
 
-  file_of : (step : Due) (n : ℕ) → IsFileOfJob old.manifest old.job n → MayWrite d old (call_of step) n
-  file_of Data n h = h
-  file_of Delta n h = h
-  file_of MergeData n h = h
-  file_of MergeDelta n h = h
-  file_of (Install Close) n h = h
-  file_of (Install Body) n h = h
-  file_of (Install Open) n h = h
+-- and keeps the rows
+pub rows_of : {D A : Type 0} (s : StoreData D) (a : A) (step : Due) (rows : Map) → rows_after {A = A} s (call_of step) (Ok a) rows ≡ rows
+rows_of s a (Install Close) rows = refl
+rows_of s a (Install Body) rows = refl
+rows_of s a step rows = refl
+
+pub begins_due : {D : Type 0} (d : Ghosts D) (s t : StoreData D) (step : Due) → step ≢ Install Open → s ≡ t → why_not_due step t ≡ None → (s.down ≡ false → (rows : Map) × IsUp d s rows) → Begins d s (call_of step)
+begins_due d s t step other same none = begins d s t (call_of step) same (why_of t step other ∙ none)
+
+pub due_in : {D : Type 0} (s : StoreData D) (step : Due) → step ≢ Install Open → why_not s (call_of step) ≡ None → is_due step s.job ≡ true
+due_in s step other none = (may_step step s (sym (why_of s step other) ∙ none)).due
+
+pub due_of_job : {D : Type 0} (s : StoreData D) (step : Due) → step ≢ Install Open → why_not s (call_of step) ≡ None → (j : Job) → s.job ≡ Some j → step_due j ≡ step
+due_of_job s step other none j is = due_is step s.job j is (due_in s step other none)
 
 pub memory_of : (step : Due) → TakesMemory step → MayMeet (call_of step) OutOfMemory
-memory_of Data h = inl refl
-memory_of Delta h = inl refl
-memory_of MergeData h = inl refl
-memory_of MergeDelta h = inl refl
 memory_of (Install Close) h = absurd h
-memory_of (Install Body) h = inl refl
 memory_of (Install Open) h = absurd h
+memory_of step h = inl refl
 
 pub fault_of : (step : Due) → MayMeet (call_of step) DiskFault
-fault_of Data = inr refl
-fault_of Delta = inr refl
-fault_of MergeData = inr refl
-fault_of MergeDelta = inr refl
 fault_of (Install Close) = refl
-fault_of (Install Body) = inr refl
 fault_of (Install Open) = refl
+fault_of step = inr refl
 
 -- ---- a store
 
-step_room : (places : Rattle.mvo_ckpt.specs.Places.PlaceTable) (made : Option ManifestData) (j : Job) → JobHasRoom places j → JobHasRoom places (after_step made j)
+step_room : (places : PlaceTable) (made : Option ManifestData) (j : Job) → JobHasRoom places j → JobHasRoom places (after_step made j)
 step_room places made (Rotation fresh i) room = tt
 step_room places made (Checkpoint c) room = room
 step_room places made (Merge g) room = go made
@@ -171,18 +183,21 @@ module _ {D : Type 0} (d : Ghosts D) (s : StoreData D) (j : Job) (is : s.job ≡
   stands_of rows up = record { settled = up.settled; job = subst (λ (o : Option Job). HasJob (d.content s.disk) (d.may_leave s.disk) s.manifest up.parts o) is up.job }
 
   module _ (new : D) (writes : WritesFor d s.disk new s.manifest j) where
+    as_it_was : new ≡ s.disk → s.down ≡ false → record s { disk = new; down = false } ≡ s
+    as_it_was same up = ap (λ (k : D). record s { disk = k; down = false }) same ∙ ap (λ (b : Bool). record s { down = b }) (sym up)
+
     -- a stop within the step leaves the rows
     pub step_leaves : AllLeave d s new
     step_leaves rows up slots =
         let w = writes up.parts (stands_of rows up) in
-        weaker d.moment d.left_since s.disk new (StillGives up.parts) (MayBeLeft rows s.mark (opening s)) (λ image g. record { slots = g.slots; gives = gives_or rows s.mark (opening s) image (parts_give d s rows up image g.gives) }) (w.leaves slots)
+        weaker d.moment d.left_since s.disk new (StillGives up.parts) (MayBeLeft rows s.mark (opening s)) (λ image g. record { slots = g.slots; gives = give_or d s rows up image g.gives }) (w.leaves slots)
 
     -- and the other files
     pub step_others : (rows : Map) → IsUp d s rows → (step : Due) (t : StoreData D) → t.disk ≡ new → KeepsOthers d (call_of step) s t
     step_others rows up step t at =
         let w = writes up.parts (stands_of rows up) in
-        file_others d (call_of step) s t w.file (file_of d s t step w.file (subst (λ (o : Option Job). IsFileOfJob s.manifest o w.file) (sym is) w.is))
-        (subst (λ (disk : D). Rattle.mvo_disk.specs.Disk.OthersStay w.file (d.content s.disk) (d.content disk) (d.may_leave s.disk) (d.may_leave disk)) (sym at) w.rest)
+        file_others d (call_of step) s t w.file (due_file d s t step w.file (subst (λ (o : Option Job). IsFileOfJob s.manifest o w.file) (sym is) w.is))
+        (subst (λ (disk : D). OthersStay w.file (d.content s.disk) (d.content disk) (d.may_leave s.disk) (d.may_leave disk)) (sym at) w.rest)
 
     module _ (made : Option ManifestData) (makes : HasMadeStep d s.disk new s.manifest j made) where
       pub step_slots : (rows : Map) → IsUp d s rows → HasSlots (d.content s.disk) → HasSlots (d.content new)
@@ -193,40 +208,171 @@ module _ {D : Type 0} (d : Ghosts D) (s : StoreData D) (j : Job) (is : s.job ≡
       step_up other count rows up =
           let w = writes up.parts (stands_of rows up) in
           let stands = (makes up.parts (stands_of rows up)).stands other in
-          let apart : s.segment.file ≢ w.file = λ e. w.other (subst (IsLastFile s.manifest) e up.last) in
-          record {
-            up = up.up;
-            parts = up.parts;
-            settled = stands.settled;
-            rows_are = up.rows_are;
-            mark_is = up.mark_is;
-            last = up.last;
-            gate = up.gate;
-            few = up.few;
-            pending = up.pending;
-            written = λ e. subst (λ (b : List ℕ). HasBody up.parts s.pending s.segment.gate s.segment.next b) (sym (w.rest.content s.segment.file apart)) (up.written e);
-            job = stands.job;
-            places = up.places;
-            room_for = step_room s.places made j (subst (λ (o : Option Job). HasRoom s.places o) is up.room_for);
-            room = omega (arith, count, up.room);
-          }
+          stays_up d s rows up new s.places (Some (after_step made j)) stands.settled (w.rest.content s.segment.file (λ e. w.other (subst (IsLastFile s.manifest) e up.last))) stands.job refl
+          (step_room s.places made j (subst (λ (o : Option Job). HasRoom s.places o) is up.room_for)) count
 
     -- memory or a fault refuses it
-    pub step_refused : {A : Type 0} → OnlyNow d → CountsNow d → (step : Due) → step ≢ Install Open → why_not_due step s ≡ None → s.down ≡ false → (rows : Map) → IsUp d s rows → step_due j ≡ step → (e : Refusal) → IsStepRefusal d.fault_count (step_due j) s.disk new e
+    pub step_refused : {A : Type 0} → OnlyNow d → CountsNow d → (step : Due) → step ≢ Install Open → Begins d s (call_of step) → step_due j ≡ step → (e : Refusal) → IsStepRefusal d.fault_count (step_due j) s.disk new e
         → (b : Bool) → OnTrue b (e ≡ DiskFault) → OnFalse b (e ≢ DiskFault) → IsStoreStep {A = A} d s (call_of step) (Err e) (record s { disk = new; down = b })
-    step_refused {A} only_now counts_now step apart none up rows is_up due e refused true fault other = fault_step d s new (call_of step) e fault (why_of d s s step apart ∙ none) (fault_of step) (count_of d.fault_count s.disk new e fault refused.refusal)
-        (fault_keeps d counts_now s new up step_leaves) (step_others rows is_up step (record s { disk = new; down = true }) refl)
-    step_refused {A} only_now counts_now step apart none up rows is_up due e refused false fault other =
+    step_refused {A} only_now counts_now step apart b due e refused true fault other = fault_step b counts_now new e fault (fault_of step) (count_of d.fault_count s.disk new e fault refused.refusal) step_leaves
+        (step_others b.rows b.is_up step (record s { disk = new; down = true }) refl)
+    step_refused {A} only_now counts_now step apart b due e refused false fault other =
         let left = memory_left d.fault_count s.disk new e other refused.refusal in
-        let takes : TakesMemory step = subst TakesMemory due (refused.memory left.0) in
-        let memory : MayMeet (call_of step) e = subst (MayMeet (call_of step)) (sym left.0) (memory_of step takes) in
-        let same : record s { disk = new; down = false } ≡ s = ap (λ (k : D). record s { disk = k; down = false }) left.1 ∙ ap (λ (b : Bool). record s { down = b }) (sym up) in
-        other_step d only_now s (record s { disk = new; down = false }) (call_of step) e same other (err_is d A (call_of step) (why_not s (call_of step)) e (why_of d s s step apart ∙ none) memory)
+        let memory : MayMeet (call_of step) e = subst (MayMeet (call_of step)) (sym left.0) (memory_of step (subst TakesMemory due (refused.memory left.0))) in
+        other_step d only_now s (record s { disk = new; down = false }) (call_of step) e (as_it_was left.1 b.up) other (err_is d A (call_of step) (why_not s (call_of step)) e b.none memory)
 
     -- the store stays as it stood, unless the disk met a fault
     pub refused_up : (rows : Map) → IsUp d s rows → (due : Due) (e : Refusal) → IsStepRefusal d.fault_count due s.disk new e → s.down ≡ false → (b : Bool) → OnFalse b (e ≢ DiskFault) → b ≡ false → IsUp d (record s { disk = new; down = b }) rows
     refused_up rows is_up due e refused up true other is = absurd (cc is)
-    refused_up rows is_up due e refused up false other is =
-        let left = memory_left d.fault_count s.disk new e other refused.refusal in
-        let same : record s { disk = new; down = false } ≡ s = ap (λ (k : D). record s { disk = k; down = false }) left.1 ∙ ap (λ (b : Bool). record s { down = b }) (sym up) in
-        subst (λ (t : StoreData D). IsUp d t rows) (sym same) is_up
+    refused_up rows is_up due e refused up false other is = subst (λ (t : StoreData D). IsUp d t rows) (sym (as_it_was (memory_left d.fault_count s.disk new e other refused.refusal).1 up)) is_up
+
+-- raised counts leave the data files
+files_stay : (new : NewNumbers) (ps : List Pair) → map file_of (map (raise new) ps) ≡ map file_of ps
+files_stay new [] = refl
+files_stay new (p ∷ ps) = ap (λ (ns : List ℕ). p.data_file ∷ ns) (files_stay new ps)
+
+unwritten : (b : Bool) → (b && true) ≡ false → b ≡ false
+unwritten true e = absurd cc
+unwritten false e = refl
+
+-- a body is written behind parts of the same groups
+body_as : (x y : Parts) → y.middle ≡ x.middle → y.last ≡ x.last → (o : Option GroupData) (gate next : ℕ) (bytes : List ℕ) → HasBody x o gate next bytes → HasBody y o gate next bytes
+body_as x y middle last None gate next bytes has = has
+body_as x y middle last (Some g) gate next bytes has = rw (middle, last) has
+
+module _ {D : Type 0} (d : Ghosts D) (s : StoreData D) (rows : Map) (up : IsUp d s rows) where
+  abbrev m : ManifestData
+  m = s.manifest
+
+  -- no two of the live records of two neighbours have one key
+  lives_apart : (g : Seen) → (has : IsMerging m up.parts g) → AreApart (has.lives.left ∷ has.lives.right ∷ [])
+  lives_apart g has = apart_two has.lives.before has.lives.left has.lives.right has.lives.behind (subst AreApart has.two.lives up.places.apart)
+
+  -- there is room for the places of what the job installs
+  pub may_take_over : (j : Job) → s.job ≡ Some j → MayTakeOver s.places j
+  may_take_over j is = go j (subst (λ (o : Option Job). HasJob (d.content s.disk) (d.may_leave s.disk) m up.parts o) is up.job).work (subst (λ (o : Option Job). HasRoom s.places o) is up.room_for)
+    where
+      go : (j : Job) → HasWork (d.content s.disk) (d.may_leave s.disk) m up.parts j → JobHasRoom s.places j → MayTakeOver s.places j
+      go (Rotation fresh i) has room = tt
+      go (Checkpoint c) has room = let may_be = has.into.may_checkpoint in record { file = may_be.data_file.1; few = omega (arith, may_be.counted, may_be.pair.records); room = room }
+      go (Merge g) has room = tt
+      go (MergeInstall g i) has room = let may_be = has.merge.may_merge in record {
+        file = may_be.data_file.1;
+        few = omega (arith, may_be.counted, may_be.few, ap (λ (es : List EntryData). length es) has.merge.records);
+        keys = subst HaveOwnKeys (sym has.merge.records) (own_keys has.merge.lives.left has.merge.lives.right (lives_apart g has.merge));
+      }
+
+  module _ (new : D) (slot : ℕ) (at : slot ≡ other_slot m) (rest : OthersStay slot (d.content s.disk) (d.content new) (d.may_leave s.disk) (d.may_leave new)) (count : d.fault_count new ≡ d.fault_count s.disk) where
+    last_apart : s.segment.file ≢ slot
+    last_apart e = named_is_no_slot m s.segment.file up.settled.installed.own.is (last_named m up.last.0 s.segment.file up.last.1) (subst (λ k. k < 2) (sym (e ∙ at)) (slot_below (m.generation + 1)))
+
+    -- THE NEXT MANIFEST IS INSTALLED.
+    next_settled : (next : ManifestData) → next.generation ≡ m.generation + 1 → (i : Installs (d.content s.disk) (d.may_leave s.disk) up.parts next) → IsOpened d new m next → IsSettled FIRST_FORMAT (d.content new) (d.may_leave new) next i.parts
+    next_settled next one_more i is = after_install FIRST_FORMAT (d.content s.disk) (d.content new) (d.may_leave s.disk) (d.may_leave new) m up.parts up.settled (other_slot m) refl
+        (subst (λ k. OthersStay k (d.content s.disk) (d.content new) (d.may_leave s.disk) (d.may_leave new)) at rest) is.durable next i.parts one_more i.ready is.has
+
+    -- the store is up with it, with these places and this segment
+    with_next : (next : ManifestData) (i : Installs (d.content s.disk) (d.may_leave s.disk) up.parts next) (places : PlaceTable) (segment : Segment) → IsSettled FIRST_FORMAT (d.content new) (d.may_leave new) next i.parts → IsLastFile next segment.file
+        → segment.gate ≡ gate_of i.parts.last → segment.gate < MAX_SEGMENT_LEN → (s.written ≡ true → HasBody i.parts s.pending segment.gate segment.next (d.content new segment.file)) → ArePlaces next.pairs i.parts.lives places.at
+        → IsUp d (record s { disk = new; manifest = next; places = places; segment = segment; job = None }) rows
+    with_next next i places segment settled last gate few written are = record {
+      up = up.up;
+      parts = i.parts;
+      settled = settled;
+      rows_are = up.rows_are ∙ sym i.same.rows;
+      mark_is = up.mark_is ∙ sym i.same.mark;
+      last = last;
+      gate = gate;
+      few = few;
+      pending = up.pending;
+      written = written;
+      job = tt;
+      places = are;
+      room_for = tt;
+      room = omega (arith, count, up.room);
+    }
+
+    -- the segment that took frames takes them then
+    installed_up : (next : ManifestData) (i : Installs (d.content s.disk) (d.may_leave s.disk) up.parts next) (places : PlaceTable) → IsSettled FIRST_FORMAT (d.content new) (d.may_leave new) next i.parts
+        → i.parts.middle ≡ up.parts.middle → i.parts.last ≡ up.parts.last → IsLastFile next s.segment.file → ArePlaces next.pairs i.parts.lives places.at
+        → IsUp d (record s { disk = new; manifest = next; places = places; job = None }) rows
+    installed_up next i places settled same_middle same_last last = with_next next i places s.segment settled last (up.gate ∙ ap gate_of (sym same_last)) up.few
+        (λ e. subst (λ (b : List ℕ). HasBody i.parts s.pending s.segment.gate s.segment.next b) (sym (rest.content s.segment.file last_apart)) (body_as up.parts i.parts same_middle same_last s.pending s.segment.gate s.segment.next (d.content s.disk s.segment.file) (up.written e)))
+
+    -- the places then
+    checkpoint_places : (c : Checkpointing) (places : PlaceTable) → (has : IsCheckpointInto (d.content s.disk) m up.parts c.pair c.made c.next)
+        → IsSettled FIRST_FORMAT (d.content new) (d.may_leave new) c.next (checkpointed_parts m up.parts (made_of c.pair c.made has.segment) has.log.others)
+        → places.at ≡ taken_over c.pair.data_file c.made.records c.made.gone s.places.at → ArePlaces c.next.pairs (lives_after m up.parts (made_of c.pair c.made has.segment)) places.at
+    checkpoint_places c places has settled are =
+        let made = has.made_is in
+        let gs = has.segment.groups in
+        let file = c.pair.data_file in
+        let old_at = s.places.at in
+        let same : map file_of (map (raise (gained c.made.deltas)) m.pairs) ≡ map file_of m.pairs = files_stay (gained c.made.deltas) m.pairs in
+        let apart : IsDistinct nat_eq (map file_of (map (raise (gained c.made.deltas)) m.pairs ++ c.pair ∷ [])) = subst (λ (n : ManifestData). IsDistinct nat_eq (map file_of n.pairs)) has.next_is (data_files_differ c.next settled.installed.own.is) in
+        let taken = places_taken_over gs m.pairs (map (raise (gained c.made.deltas)) m.pairs) up.parts.lives old_at c.pair up.places same apart in
+        let at_is : places.at ≡ taken_over file (records_of gs) (gone_of gs) old_at = are ∙ ap (λ (es : List EntryData). taken_over file es c.made.gone old_at) made.records ∙ ap (λ (ks : List RowKey). taken_over file (records_of gs) ks old_at) made.gone in
+        rw (at_is, made.lives, has.next_is) taken
+
+    merge_places : (g : Seen) (next : ManifestData) (places : PlaceTable) → (is : IsMergeReady (d.content s.disk) (d.may_leave s.disk) m up.parts g next)
+        → IsSettled FIRST_FORMAT (d.content new) (d.may_leave new) next (merged_parts up.parts is.merge.lives)
+        → places.at ≡ moved g.left.data_file g.right.data_file g.pair.data_file g.made.records s.places.at → ArePlaces next.pairs (merged_parts up.parts is.merge.lives).lives places.at
+    merge_places g next places is settled to =
+        let has = is.merge in
+        let ls = has.lives in
+        let two = pairs_of m g in
+        let rises = rise_two ls.before ls.left ls.right ls.behind (subst (λ (l : List (List Numbered)). AllByRecursion Rise l) has.two.lives up.places.rise) in
+        let left = none_late ls.left rises.0 in
+        let right = none_late ls.right rises.1 in
+        let apart : IsDistinct nat_eq (map file_of (two.before ++ g.pair ∷ two.behind)) = subst (λ (n : ManifestData). IsDistinct nat_eq (map file_of n.pairs)) is.next_is (data_files_differ next settled.installed.own.is) in
+        let were : ArePlaces (two.before ++ g.left ∷ g.right ∷ two.behind) (ls.before ++ ls.left ∷ ls.right ∷ ls.behind) s.places.at =
+        subst (λ (l : List (List Numbered)). ArePlaces (two.before ++ g.left ∷ g.right ∷ two.behind) l s.places.at) has.two.lives (subst (λ (ps : List Pair). ArePlaces ps up.parts.lives s.places.at) has.two.pairs up.places) in
+        let all : ArePlaces (two.before ++ g.left ∷ g.right ∷ two.behind) (ls.before ++ without [] ls.left ∷ without [] ls.right ∷ ls.behind) s.places.at = rw (left.1, right.1) were in
+        let now = places_merged two.before two.behind g.left g.right g.pair ls.before ls.behind ls.left ls.right [] [] s.places.at has.two.each left.0 right.0
+        (apart_two ls.before ls.left ls.right ls.behind (subst AreApart has.two.lives up.places.apart)) apart all in
+        let at_is : places.at ≡ moved g.left.data_file g.right.data_file g.pair.data_file (merged ls.left ls.right) s.places.at = to ∙ ap (λ (es : List EntryData). moved g.left.data_file g.right.data_file g.pair.data_file es s.places.at) has.records in
+        rw (at_is, is.next_is) now
+
+    -- a rotation's fresh segment takes frames
+    rotation_up : (fresh : Segment) (next : ManifestData) (places : PlaceTable) → IsRotating (d.content s.disk) (d.may_leave s.disk) m up.parts fresh next → IsOpened d new m next → places.at ≡ s.places.at → s.written ≡ false
+        → IsUp d (record s { disk = new; manifest = next; places = places; segment = fresh; job = None }) rows
+    rotation_up fresh next places has opened to none =
+        let i = rotation_installs (d.content s.disk) (d.may_leave s.disk) m up.parts up.settled fresh next has in
+        with_next next i places fresh (next_settled next (ap (λ (n : ManifestData). n.generation) has.next_is) i opened) (subst (λ (n : ManifestData). IsLastFile n fresh.file) (sym has.next_is) (rotated_last m fresh.file))
+        has.gate (omega (arith, has.gate)) (λ e. absurd (cc (e, none))) (rw (to, has.next_is) up.places)
+
+    checkpoint_up : (c : Checkpointing) (places : PlaceTable) (has : IsCheckpointInto (d.content s.disk) m up.parts c.pair c.made c.next) → HaveGained FIRST_FORMAT (d.content s.disk) (gained c.made.deltas) m up.parts → IsWhole (d.content s.disk) (d.may_leave s.disk) (made_of c.pair c.made has.segment)
+        → IsOpened d new m c.next → places.at ≡ taken_over c.pair.data_file c.made.records c.made.gone s.places.at → IsUp d (record s { disk = new; manifest = c.next; places = places; job = None }) rows
+    checkpoint_up c places has have both opened to =
+        let i = checkpoint_installs (d.content s.disk) (d.may_leave s.disk) m up.parts up.settled c.pair c.made c.next has have both in
+        let settled = next_settled c.next (ap (λ (n : ManifestData). n.generation) has.next_is) i opened in
+        let made = made_of c.pair c.made has.segment in
+        let stays = last_stays FIRST_FORMAT (d.content s.disk) (d.may_leave s.disk) m up.parts made has.log in
+        let it : s.segment.file ≡ has.log.last_file = last_once m stays.0 has.log.last_file s.segment.file stays.1 up.last in
+        installed_up c.next i places settled refl refl
+        (subst (λ (n : ManifestData). IsLastFile n s.segment.file) (sym has.next_is) (subst (IsLastFile (checkpointed m made)) (sym it) (last_after FIRST_FORMAT (d.content s.disk) (d.may_leave s.disk) m up.parts made has.log)))
+        (checkpoint_places c places has settled to)
+
+    merge_up : (g : Seen) (next : ManifestData) (places : PlaceTable) → IsMergeReady (d.content s.disk) (d.may_leave s.disk) m up.parts g next → IsOpened d new m next
+        → places.at ≡ moved g.left.data_file g.right.data_file g.pair.data_file g.made.records s.places.at → IsUp d (record s { disk = new; manifest = next; places = places; job = None }) rows
+    merge_up g next places is opened to =
+        let i = merge_installs (d.content s.disk) (d.may_leave s.disk) m up.parts up.settled g next is in
+        let settled = next_settled next (ap (λ (n : ManifestData). n.generation) is.next_is) i opened in
+        installed_up next i places settled refl refl (subst (λ (n : ManifestData). IsLastFile n s.segment.file) (sym is.next_is) (up.last.0, up.last.1)) (merge_places g next places is settled to)
+
+    -- THE STORE IS UP WITH IT.
+    open_up : {j : Job} {i : InstallData} → Installing j i → HasWork (d.content s.disk) (d.may_leave s.disk) m up.parts j → (places : PlaceTable) → IsOpened d new m (manifest_after j m) → places.at ≡ places_after j s.places.at → (s.written && is_rotation j) ≡ false
+        → IsUp d (record s { disk = new; manifest = manifest_after j m; places = places; segment = segment_after j s.segment; job = None }) rows
+    open_up (OfRotation fresh i) has places opened to free = rotation_up fresh i.next places has opened to (unwritten s.written free)
+    open_up (OfCheckpoint pair made next step) has places opened to free = checkpoint_up (record { pair = pair; made = made; next = next; stage = AtInstall step }) places has.into has.have has.written opened to
+    open_up (OfMerge g i) has places opened to free = merge_up g i.next places has opened to
+
+  -- THE STORE IS UP with what the step of a job that opens the gate has made.
+  pub opened_up : (j : Job) → s.job ≡ Some j → step_due j ≡ Install Open → (new : D) → WritesFor d s.disk new m j → (made : Option ManifestData) → HasMadeStep d s.disk new m j made → d.fault_count new ≡ d.fault_count s.disk
+      → (places : PlaceTable) → places.at ≡ places_after j s.places.at → (s.written && has_rotation s.job) ≡ false
+      → IsUp d (record s { disk = new; manifest = manifest_after j m; places = places; segment = segment_after j s.segment; job = None }) rows
+  opened_up j is due new writes made makes count places to free =
+      let stands : StandsWith d s.disk m up.parts j = record { settled = up.settled; job = subst (λ (o : Option Job). HasJob (d.content s.disk) (d.may_leave s.disk) m up.parts o) is up.job } in
+      let w = writes up.parts stands in
+      let i = install_due j Open due in
+      open_up new w.file (slot_of_install m w.file i.1 w.is) w.rest count i.1 stands.job.work places ((makes up.parts stands).opened due) to (subst (λ (o : Option Job). (s.written && has_rotation o) ≡ false) is free)

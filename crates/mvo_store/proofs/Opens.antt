@@ -1,30 +1,74 @@
--- A store over what is found on its disk.
-use Rattle.std.proofs.Common.{inl, inr, ℕ, ◌<◌, false, List, [], ◌∷◌, None, refl, sym, ap, ◌∙◌, arith}
+-- A disk that is synced, a store over what is found on it, and a new one.
+use Rattle.std.proofs.Common.{◌≡◌, inl, inr, ℕ, ◌+◌, refl, sym, subst, ◌∙◌, arith, ◌<◌, false, List, [], ◌∷◌, None, ap, ◌≢◌, zero, suc, Bool, cond, ◌++◌, Some}
+use Rattle.std.proofs.lemmas.Bool.{cases_eq, lt-leb}
 use Rattle.std.proofs.lemmas.List.Elements.{All-contains}
+use Rattle.std.specs.FinMap as map
 use Rattle.mvo_types.specs.Keys.{Map}
+use Rattle.mvo_types.specs.declared.refusal.Refusal.TheVariants.{ClockSpent, AlreadyFormatted}
 use Rattle.mvo_disk.specs.declared.disk.Disk.{Ghosts}
-use Rattle.mvo_disk.specs.Disk.{Image}
+use Rattle.mvo_disk.specs.Disk.{Only, AllOf, Settles, Image, OthersStay}
+use Rattle.mvo_disk.specs.Moments.{started, runs_on}
 use Rattle.mvo_group.specs.Data.{GroupData}
 use Rattle.mvo_format.specs.declared.format.Format.{Format}
 use Rattle.mvo_format.specs.declared.format.TheConstants.{FIRST_FORMAT}
+use Rattle.mvo_format.specs.declared.header.TheConstants.{VERSION}
+use Rattle.mvo_format.specs.Found.{header}
 use Rattle.mvo_frame.specs.Frames.{mark_after}
+use Rattle.mvo_frame.specs.declared.magic.TheConstants.{MAGIC}
 use Rattle.mvo_manifest.specs.Data.{ManifestData, named}
 use Rattle.mvo_manifest.specs.Rules.{IsManifest, IsFile}
+use Rattle.mvo_manifest.specs.Slots.{IsShut, IsOpen}
 use Rattle.mvo_image.specs.Gives.{HaveGroups}
 use Rattle.mvo_image.specs.Rows.{rows_of, after_groups}
-use Rattle.mvo_recovery.specs.Parts.{Parts, HaveSealed, IsLastFile}
-use Rattle.mvo_recovery.specs.Settled.{IsUsed, IsInstalled, IsSettled}
-use Rattle.mvo_recovery.proofs.Opened.{newest_stands}
-use Rattle.mvo_recovery.proofs.Framed.{installed_framed}
 use Rattle.mvo_ckpt.specs.Places.{PlaceTable}
 use Rattle.mvo_load.specs.Loaded.{SealedSays, IsLoaded}
 use Rattle.mvo_load.specs.Parts.{HavePlaces}
+use Rattle.mvo_recovery.specs.Parts.{Parts, HaveSealed, IsLastFile}
+use Rattle.mvo_recovery.specs.Settled.{IsUsed, IsInstalled, IsSettled}
+use Rattle.mvo_recovery.proofs.Opened.{newest_stands}
+use Rattle.mvo_recovery.proofs.Framed.{installed_framed, settled_gives}
+use Rattle.mvo_recovery.specs.Beginning.{first_manifest, no_parts}
+use Rattle.mvo_recovery.proofs.Appended.{only_stays}
+use Rattle.mvo_recovery.proofs.Rotated.{fresh_frames}
+use Rattle.mvo_recovery.proofs.Begun.{first_settled}
+use Rattle.mvo_store.specs.Opening.{KeepsContent, LeavesAsBefore, HasSynced}
 use Rattle.mvo_store.specs.declared.limits.TheConstants.{MAX_FAULTS}
 use Rattle.mvo_store.specs.StoreData.{StoreData}
-use Rattle.mvo_store.specs.Standing.{IsUp, HasSlots, KeepsRows}
-use Rattle.mvo_store.specs.Opening.{HasSynced}
-use Rattle.mvo_store.proofs.Slotted.{image_slots}
-use Rattle.mvo_store.proofs.Keeping.{up_gives}
+use Rattle.mvo_store.specs.Standing.{IsUp, HasSlots, KeepsRows, Gives}
+use Rattle.mvo_store.specs.Formatting.{has_open_slot, why_not_format, IsFormatted}
+use Rattle.mvo_store.proofs.Keeping.{OnlyNow, slots_as, up_keeps, settled_slots}
+
+module _ {D : Type 0} (d : Ghosts D) (only_now : OnlyNow d) where
+  pub still : (old : D) → LeavesAsBefore d old old
+  still old = started d.moment d.left_since old (AllOf (d.may_leave old)) (λ image left. only_now old image left)
+
+  pub synced_none : (used : ℕ → Type 0) (old : D) → HasSynced d used 0 old old
+  synced_none used old = record {
+    durable = λ n lt _. absurd (omega (arith, lt));
+    content = λ n. refl;
+    images = λ n c left. left;
+    any_moment = still old;
+    count = refl;
+  }
+
+module _ {D : Type 0} (d : Ghosts D) (used : ℕ → Type 0) (below : ℕ) (old mid new : D) (so_far : HasSynced d used below old mid) (rest : Settles below (d.content mid) (d.content new) (d.may_leave mid) (d.may_leave new)) (moments : LeavesAsBefore d mid new) where
+  pub content_more : KeepsContent d old new
+  content_more n = rest.content n ∙ so_far.content n
+
+  pub moments_more : LeavesAsBefore d old new
+  moments_more = runs_on d.moment d.left_since old mid new (AllOf (d.may_leave old)) (AllOf (d.may_leave mid)) so_far.any_moment moments (λ image all n. so_far.images n (image n) (all n))
+
+  pub synced_more : (used below → Only (d.content new below) (d.may_leave new below)) → d.fault_count new ≡ d.fault_count mid → HasSynced d used (below + 1) old new
+  synced_more only count = record {
+    durable = λ n lt is. elim (cases_eq n below) [
+      | inl e ↦ subst (λ k. used k → Only (d.content new k) (d.may_leave new k)) (sym e) only is
+      | inr ne ↦ (λ c left. so_far.durable n (omega (arith, lt, ne)) is c (rest.images n c left) ∙ sym (rest.content n))
+    ];
+    content = content_more;
+    images = λ n c left. so_far.images n c (rest.images n c left);
+    any_moment = moments_more;
+    count = count ∙ so_far.count;
+  }
 
 have_sealed : (f : Format) (image : Image) (ns : List ℕ) (mark : ℕ) (gs : List GroupData) (upto : ℕ) → HaveGroups (SealedSays f) image ns mark gs upto → HaveSealed f image ns mark gs upto
 have_sealed f image [] mark gs upto have = have
@@ -99,10 +143,48 @@ module _ {D : Type 0} (d : Ghosts D) (old new : D) (m : ManifestData) (rows : Ma
   }
 
   pub opened_keeps : HasSlots (d.content old) → KeepsRows d opened_store rows
-  opened_keeps slots = record {
-    images = λ image all. record { slots = image_slots d opened_store rows opened_up new_slots image all; gives = up_gives d opened_store rows opened_up image all };
-    up = λ _. (opened_up, new_slots);
-  }
+  opened_keeps slots = up_keeps d opened_store rows opened_up (slots_as (d.content old) (d.content new) (synced.content 0) (synced.content 1) slots)
+
+-- slot 1 is shut, then file 2 fresh, then slot 0 open
+module _ (shut fresh new : Image) (may_shut may_fresh may_new : ℕ → List ℕ → Type 0) (second : OthersStay 2 shut fresh may_shut may_fresh) (third : OthersStay 0 fresh new may_fresh may_new) where
+  pub written_settled : IsShut (shut 1) → Only (shut 1) (may_shut 1) → fresh 2 ≡ header MAGIC VERSION ++ 0 ∷ [] → Only (fresh 2) (may_fresh 2) → IsOpen VERSION 0 (first_manifest 0 2) (new 0) → Only (new 0) (may_new 0)
+      → IsSettled FIRST_FORMAT new may_new (first_manifest 0 2) no_parts
+  written_settled is_shut shut_only bytes fresh_only is_open open_only =
+      first_settled FIRST_FORMAT new may_new 0 2 is_open (subst IsShut (sym same_second) is_shut)
+      (record { frames = λ mark. fresh_frames VERSION mark (new 2) (third.content 2 two ∙ bytes); durable = only_stays FIRST_FORMAT fresh new may_fresh may_new 0 third 2 two fresh_only })
+      slots
     where
-      new_slots : HasSlots (d.content new)
-      new_slots = record { first = λ e. slots.first (sym (synced.content 0) ∙ e); second = λ e. slots.second (sym (synced.content 1) ∙ e) }
+      two : ◌≢◌ {A = ℕ} 2 0
+      two e = omega (arith, e)
+
+      one : ◌≢◌ {A = ℕ} 1 0
+      one e = omega (arith, e)
+
+      other : ◌≢◌ {A = ℕ} 1 2
+      other e = omega (arith, e)
+
+      same_second : new 1 ≡ shut 1
+      same_second = third.content 1 one ∙ second.content 1 other
+
+      slots : (slot : ℕ) → slot < 2 → Only (new slot) (may_new slot)
+      slots zero lt = open_only
+      slots (suc zero) lt = only_stays FIRST_FORMAT fresh new may_fresh may_new 0 third 1 one (only_stays FIRST_FORMAT shut fresh may_shut may_fresh 2 second 1 other shut_only)
+      slots (suc (suc n)) lt = absurd (omega (arith, lt))
+
+pub none_stands : (faults : ℕ) (content : Image) → faults < MAX_FAULTS → has_open_slot content ≡ false → why_not_format faults content ≡ None
+none_stands faults content few shut =
+    ap (λ (b : Bool). cond b (Some ClockSpent) (cond (has_open_slot content) (Some AlreadyFormatted) None)) (lt-leb MAX_FAULTS faults few) ∙ ap (λ (b : Bool). cond b (Some AlreadyFormatted) None) shut
+
+module _ {D : Type 0} (d : Ghosts D) (old new : D) where
+  pub is_formatted : why_not_format (d.fault_count old) (d.content old) ≡ None → ((n : ℕ) → d.may_leave new n (d.content new n)) → IsSettled FIRST_FORMAT (d.content new) (d.may_leave new) (first_manifest 0 2) no_parts → HasSlots (d.content new) → d.fault_count new ≡ d.fault_count old
+      → IsFormatted d old new
+  is_formatted free stays settled slots count =
+      let gives : (image : Image) → AllOf (d.may_leave new) image → Gives map.empty 0 image = settled_gives FIRST_FORMAT (d.content new) (d.may_leave new) (first_manifest 0 2) no_parts settled in
+      record {
+        free = free;
+        settled = settled;
+        slots = slots;
+        now = gives (d.content new) stays;
+        images = λ image all. record { slots = settled_slots d new (first_manifest 0 2) no_parts settled slots image all; gives = gives image all };
+        count = count;
+      }

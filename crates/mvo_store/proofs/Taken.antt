@@ -11,7 +11,7 @@ use Rattle.mvo_store.specs.Standing.{Keeps}
 use Rattle.mvo_store.specs.Calls.{StoreCall, Makes, LeftBy, LeftByMemory, ComesTo, IsStoreStep, IsRefused, why_not, without_group}
 use Rattle.mvo_store.specs.Causes.{why_not_take}
 use Rattle.mvo_group.specs.Data.{GroupData}
-use Rattle.mvo_store.specs.Calls.StoreCall.{Take, AppendBody, AppendOpen, RotateWrite, CheckpointRead, CheckpointData, CheckpointDelta, MergeRead, MergeData, MergeDelta, InstallClose, InstallBody, InstallOpen, Reclaim}
+use Rattle.mvo_store.specs.Calls.StoreCall.{Take, AppendOpen, RotateWrite, CheckpointRead, MergeRead, InstallOpen}
 
 pub record KeepsTaken {D : Type 0} (old new : StoreData D) : Type 0 where
   pub mark : new.mark ≡ old.mark
@@ -57,18 +57,11 @@ installed_taken {D} (Some r) old new h = record { mark = ap (λ (s : StoreData D
 made_taken : {D : Type 0} (d : Ghosts D) (call : StoreCall) (old new : StoreData D) → IsQuiet call → Makes d call old new → KeepsTaken old new
 made_taken d (Take g) old new quiet h = absurd quiet
 made_taken d AppendOpen old new quiet h = absurd quiet
-made_taken {D} d AppendBody old new quiet h = record { mark = ap (λ (s : StoreData D). s.mark) h; pending = ap (λ (s : StoreData D). s.pending) h }
 made_taken {D} d RotateWrite old new quiet h = record { mark = ap (λ (s : StoreData D). s.mark) h.after; pending = ap (λ (s : StoreData D). s.pending) h.after }
 made_taken {D} d CheckpointRead old new quiet h = record { mark = ap (λ (s : StoreData D). s.mark) h.after; pending = ap (λ (s : StoreData D). s.pending) h.after }
 made_taken {D} d (MergeRead place) old new quiet h = record { mark = ap (λ (s : StoreData D). s.mark) h.after; pending = ap (λ (s : StoreData D). s.pending) h.after }
 made_taken d InstallOpen old new quiet h = installed_taken old.job old new h
-made_taken {D} d CheckpointData old new quiet h = record { mark = ap (λ (s : StoreData D). s.mark) h; pending = ap (λ (s : StoreData D). s.pending) h }
-made_taken {D} d CheckpointDelta old new quiet h = record { mark = ap (λ (s : StoreData D). s.mark) h; pending = ap (λ (s : StoreData D). s.pending) h }
-made_taken {D} d MergeData old new quiet h = record { mark = ap (λ (s : StoreData D). s.mark) h; pending = ap (λ (s : StoreData D). s.pending) h }
-made_taken {D} d MergeDelta old new quiet h = record { mark = ap (λ (s : StoreData D). s.mark) h; pending = ap (λ (s : StoreData D). s.pending) h }
-made_taken {D} d InstallClose old new quiet h = record { mark = ap (λ (s : StoreData D). s.mark) h; pending = ap (λ (s : StoreData D). s.pending) h }
-made_taken {D} d InstallBody old new quiet h = record { mark = ap (λ (s : StoreData D). s.mark) h; pending = ap (λ (s : StoreData D). s.pending) h }
-made_taken {D} d Reclaim old new quiet h = record { mark = ap (λ (s : StoreData D). s.mark) h; pending = ap (λ (s : StoreData D). s.pending) h }
+made_taken {D} d call old new quiet h = record { mark = ap (λ (s : StoreData D). s.mark) h; pending = ap (λ (s : StoreData D). s.pending) h }
 
 pub quiet_taken : {D A : Type 0} (d : Ghosts D) (old : StoreData D) (call : StoreCall) (result : Result A Refusal) (new : StoreData D) → IsQuiet call → ComesTo d old call result new → KeepsTaken old new
 quiet_taken d old call (Ok a) new quiet h = made_taken d call old new quiet h.made.makes

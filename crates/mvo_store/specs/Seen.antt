@@ -1,5 +1,5 @@
 -- What the layers above see of a store.
-use Rattle.std.specs.Prelude.{◌≡◌, ℕ, Bool, false, Option, None}
+use Rattle.std.specs.Prelude.{◌≡◌, ℕ, false, Option, None}
 use Rattle.mvo_group.specs.Data.{GroupData}
 use Rattle.mvo_manifest.specs.Data.{ManifestData}
 use Rattle.mvo_store.specs.StoreData.{StoreData}

@@ -1,10 +1,9 @@
 //! Writes the file of a job's next step.
-ghost use Rattle.std.specs.Prelude.{◌≡◌, ◌<◌, ◌+◌, ◌^◌, IfOk, OnOk, IfErr, OnErr};
-ghost use Rattle.mvo_store.specs.Jobs.{due_of, merge_due_of, step_due, merge_made_by, made_by};
-ghost use Rattle.mvo_store.specs.Writing.{StandsFor, WritesFor, HasMadeStep, IsStepRefusal};
-ghost use Rattle.mvo_store.specs.Writing.{InstallStandsFor, WritesSlot, HasMadeTurn, MayMake};
+ghost use Rattle.std.specs.Prelude.{◌≡◌, ◌<◌, ◌+◌, ◌^◌, None, IfOk, OnErr};
+ghost use Rattle.mvo_store.specs.Jobs.{step_due, merge_made_by, made_by};
+ghost use Rattle.mvo_store.specs.Writing.{StandsFor, IsJobStep, InstallStands, IsInstallStep, MayMake};
 ghost use Rattle.mvo_store.specs.declared.job.Job.TheVariants.{Checkpoint, Merge};
-ghost use Rattle.mvo_store.specs.declared.due.Due.TheVariants.{Install, MergeDelta};
+ghost use Rattle.mvo_store.specs.declared.due.Due.TheVariants.{MergeDelta};
 ghost use Rattle.mvo_store.specs.declared.step.Step.TheVariants.{Close, Body, Open};
 
 use crate::checkpoint_stage::CheckpointStage;
@@ -25,12 +24,8 @@ use std::alloc::{AllocError, Global};
 /// Closes the gate of the slot that a manifest is to have, and syncs.
 fn close_other<D: Disk>(disk: &mut D, next: &Manifest) -> Result<(), Refusal>
     requires room { D.fault_count disk.old + 1 < 2 ^ 64 }
-    requires stands { InstallStandsFor D.Disk disk.old next.now Close }
-    ensures writes { WritesSlot D.Disk disk.old disk.new next.now Close }
-    ensures made { OnOk result (HasMadeTurn D.Disk disk.old disk.new next.now Close) }
-    ensures count { OnOk result (D.fault_count disk.new ≡ D.fault_count disk.old) }
-    ensures refused { IfErr result (IsStepRefusal D.fault_count (Install Close) disk.old
-        disk.new) }
+    requires stands { InstallStands D.Disk disk.old next.now Close }
+    ensures { IsInstallStep D.Disk disk.old disk.new next.now Close result }
 {
     match close_slot(disk, next.slot()) {
         Ok(()) => Ok(()),
@@ -41,26 +36,17 @@ fn close_other<D: Disk>(disk: &mut D, next: &Manifest) -> Result<(), Refusal>
 /// Writes the manifest behind it, and syncs.
 fn write_other<D: Disk>(alloc: Global, disk: &mut D, next: &Manifest) -> Result<(), Refusal>
     requires room { D.fault_count disk.old + 1 < 2 ^ 64 }
-    requires stands { InstallStandsFor D.Disk disk.old next.now Body }
-    ensures writes { WritesSlot D.Disk disk.old disk.new next.now Body }
-    ensures made { OnOk result (HasMadeTurn D.Disk disk.old disk.new next.now Body) }
-    ensures count { OnOk result (D.fault_count disk.new ≡ D.fault_count disk.old) }
-    ensures refused { IfErr result (IsStepRefusal D.fault_count (Install Body) disk.old disk.new) }
+    requires stands { InstallStands D.Disk disk.old next.now Body }
+    ensures { IsInstallStep D.Disk disk.old disk.new next.now Body result }
 {
-    match write_slot(alloc, disk, VERSION, next) {
-        Ok(()) => Ok(()),
-        Err(refusal) => Err(refusal),
-    }
+    write_slot(alloc, disk, VERSION, next)
 }
 
 /// Opens the gate, and syncs.
 fn open_other<D: Disk>(disk: &mut D, next: &Manifest) -> Result<(), Refusal>
     requires room { D.fault_count disk.old + 1 < 2 ^ 64 }
-    requires stands { InstallStandsFor D.Disk disk.old next.now Open }
-    ensures writes { WritesSlot D.Disk disk.old disk.new next.now Open }
-    ensures made { OnOk result (HasMadeTurn D.Disk disk.old disk.new next.now Open) }
-    ensures count { OnOk result (D.fault_count disk.new ≡ D.fault_count disk.old) }
-    ensures refused { IfErr result (IsStepRefusal D.fault_count (Install Open) disk.old disk.new) }
+    requires stands { InstallStands D.Disk disk.old next.now Open }
+    ensures { IsInstallStep D.Disk disk.old disk.new next.now Open result }
 {
     match open_slot(disk, next.slot()) {
         Ok(()) => Ok(()),
@@ -76,11 +62,8 @@ fn write_install<D: Disk>(
     step: Step,
 ) -> Result<(), Refusal>
     requires room { D.fault_count disk.old + 1 < 2 ^ 64 }
-    requires stands { InstallStandsFor D.Disk disk.old next.now step }
-    ensures writes { WritesSlot D.Disk disk.old disk.new next.now step }
-    ensures made { OnOk result (HasMadeTurn D.Disk disk.old disk.new next.now step) }
-    ensures count { OnOk result (D.fault_count disk.new ≡ D.fault_count disk.old) }
-    ensures refused { IfErr result (IsStepRefusal D.fault_count (Install step) disk.old disk.new) }
+    requires stands { InstallStands D.Disk disk.old next.now step }
+    ensures { IsInstallStep D.Disk disk.old disk.new next.now step result }
 {
     match step {
         Step::Close => close_other(disk, next),
@@ -98,12 +81,8 @@ fn write_checkpoint<D: Disk>(
 ) -> Result<(), Refusal>
     requires room { D.fault_count disk.old + 1 < 2 ^ 64 }
     requires stands { StandsFor D.Disk disk.old manifest.now (Checkpoint checkpoint.now) }
-    ensures writes { WritesFor D.Disk disk.old disk.new manifest.now (Checkpoint checkpoint.now) }
-    ensures made { OnOk result (HasMadeStep D.Disk disk.old disk.new manifest.now
-        (Checkpoint checkpoint.now) None) }
-    ensures count { OnOk result (D.fault_count disk.new ≡ D.fault_count disk.old) }
-    ensures refused { IfErr result (IsStepRefusal D.fault_count (due_of checkpoint.now.stage)
-        disk.old disk.new) }
+    ensures { IsJobStep D.Disk disk.old disk.new manifest.now (Checkpoint checkpoint.now) None
+        result }
 {
     match checkpoint.stage {
         CheckpointStage::Data => write_entries(alloc, disk, manifest, checkpoint),
@@ -123,12 +102,8 @@ fn write_merge<D: Disk>(
 ) -> Result<(), Refusal>
     requires room { D.fault_count disk.old + 1 < 2 ^ 64 }
     requires stands { StandsFor D.Disk disk.old manifest.now (Merge merge.now) }
-    ensures writes { WritesFor D.Disk disk.old disk.new manifest.now (Merge merge.now) }
-    ensures made { OnOk result (HasMadeStep D.Disk disk.old disk.new manifest.now
-        (Merge merge.now) (merge_made_by manifest.now merge.now.seen merge.now.stage)) }
-    ensures count { OnOk result (D.fault_count disk.new ≡ D.fault_count disk.old) }
-    ensures refused { IfErr result (IsStepRefusal D.fault_count (merge_due_of merge.now.stage)
-        disk.old disk.new) }
+    ensures { IsJobStep D.Disk disk.old disk.new manifest.now (Merge merge.now)
+        (merge_made_by manifest.now merge.now.seen merge.now.stage) result }
 {
     match merge.stage {
         MergeStage::Data => write_merged_data(alloc, disk, manifest, merge),
@@ -146,12 +121,8 @@ pub fn write_step<D: Disk>(
 ) -> Result<(), Refusal>
     requires room { D.fault_count disk.old + 1 < 2 ^ 64 }
     requires stands { StandsFor D.Disk disk.old manifest.now job.now }
-    ensures writes { WritesFor D.Disk disk.old disk.new manifest.now job.now }
-    ensures made { OnOk result (HasMadeStep D.Disk disk.old disk.new manifest.now job.now
-        (made_by manifest.now job.now)) }
-    ensures count { OnOk result (D.fault_count disk.new ≡ D.fault_count disk.old) }
-    ensures refused { IfErr result (IsStepRefusal D.fault_count (step_due job.now) disk.old
-        disk.new) }
+    ensures { IsJobStep D.Disk disk.old disk.new manifest.now job.now (made_by manifest.now job.now)
+        result }
 {
     match job {
         Job::Rotation(_, install) => write_install(alloc, disk, &install.next, install.step),

@@ -62,29 +62,11 @@ impl<D: Disk> Model for Store<D> {
 
     ghost coded = { Prim.hlevel (codes, coded_places) };
 
-    ghost view = { λ s. record {
-      disk = s.disk;
-      manifest = s.manifest;
-      places = s.places;
-      segment = s.segment;
-      mark = s.mark.0;
-      pending = s.pending;
-      written = s.written;
-      job = s.job;
-      down = s.down;
-    } };
+    ghost use Rattle.mvo_store.specs.View.{store_data};
 
-    ghost invariant = { λ s. s.down ≡ false → (rows : Map) × IsUp D.Disk (record {
-      disk = s.disk;
-      manifest = s.manifest;
-      places = s.places;
-      segment = s.segment;
-      mark = s.mark.0;
-      pending = s.pending;
-      written = s.written;
-      job = s.job;
-      down = s.down;
-    }) rows };
+    ghost view = { store_data };
+
+    ghost invariant = { λ s. s.down ≡ false → (rows : Map) × IsUp D.Disk (store_data s) rows };
 }
 
 impl<D: Disk> Store<D> {

@@ -1,5 +1,5 @@
-use Rattle.std.proofs.Common.{◌≡◌, ◌∙◌, arith, true, Ok, Err, refl, ap, subst}
-use Rattle.mvo_types.specs.declared.refusal.Refusal.TheVariants.{Busy, SegmentFull}
+use Rattle.std.proofs.Common.{◌≡◌, ◌∙◌, arith, true, Ok, Err, ap, subst}
+use Rattle.mvo_types.specs.declared.refusal.Refusal.TheVariants.{Busy}
 use Rattle.mvo_store.specs.declared.log_step.LogStep.TheVariants.{AppendBody}
 use Rattle.mvo_store.specs.Flushing.{turn_goes_on}
 use Rattle.mvo_store.specs.Flushing.IsAppend.{AtOpen, AtFull}

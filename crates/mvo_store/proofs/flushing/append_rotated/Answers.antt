@@ -1,4 +1,4 @@
-use Rattle.std.proofs.Common.{Result, Ok, Err, refl, subst}
+use Rattle.std.proofs.Common.{refl, subst}
 use Rattle.mvo_store.specs.Flushing.{AreUntilStop, log_rotation}
 use Rattle.mvo_store.specs.Flushing.IsRotatedAppend.{AtRotation, AtAppend}
 use Rattle.mvo_store.proofs.flushing.append_rotated.Goals as goal

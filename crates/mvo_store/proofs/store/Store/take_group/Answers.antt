@@ -1,34 +1,28 @@
-use Rattle.std.proofs.Common.{rules, refl, Some, ◌≡◌, None, sym, subst, ◌∙◌}
-use Rattle.mvo_store.specs.StoreData.{StoreData}
-use Rattle.mvo_store.proofs.Viewed.{store_data}
-use Rattle.mvo_store.specs.Causes.{why_not_take}
-use Rattle.mvo_store.proofs.Allowed.{may_take}
-use Rattle.mvo_store.proofs.Appended.{taken_up}
-use Rattle.mvo_store.proofs.Keeping.{unmoved_keeps}
-use Rattle.mvo_store.proofs.Stepping.{refused_step, done_step}
+use Rattle.std.proofs.Common.{◌∙◌, rules, refl, sym}
+use Rattle.mvo_store.specs.View.{store_data}
 use Rattle.mvo_store.specs.Calls.StoreCall.{Take}
+use Rattle.mvo_store.proofs.Stepping.{free_to_take, Begins, begins, refused_step, done_step}
+use Rattle.mvo_store.proofs.Logged.{taken_up}
+use Rattle.mvo_store.proofs.Keeping.{still_leaves}
+use Rattle.mvo_store.proofs.store.Store.take_group.Given as given
 use Rattle.mvo_store.proofs.store.Store.take_group.Goals as goal
+use Rattle.mvo_store.proofs.store.Store.take_group.Goals.{After-mark}
+
+begun : (g : given.Over) (c : goal.After-mark g) → Begins g.D.Disk (store_data c.self.inside) (Take c.args.group)
+begun g c = begins g.D.Disk (store_data c.self.inside) _ (Take c.args.group) c.self.view_is (sym c.can_take.ensures ∙ c.in_default.is) c.self.invariant
 
 pub invariant_of-self : goal.invariant_of-self
 invariant_of-self g c =
-    let d = g.D.Disk in
-    let old : StoreData _ = store_data c.self.inside in
-    let no_refusal = sym c.can_take.ensures ∙ c.in_default.is in
-    let no_refusal_old = subst (λ (s : StoreData _). why_not_take s ≡ None) (sym c.self.view_is) no_refusal in
-    let may = may_take old no_refusal_old in
-    let follows = subst (λ (s : StoreData _). c.args.group.prev ≡ s.mark) (sym c.self.view_is) (c.requires.follows no_refusal) in
-    let up = c.self.invariant may.up in
-    λ _. (up.0, taken_up d old up.0 up.1 c.args.group may.free follows c.mark.ensures.group)
+    let b = begun g (goal.at.invariant_of-self g c).After-mark in
+    let follows = rw (← c.self.view_is) at (c.requires.follows (sym c.can_take.ensures ∙ c.in_default.is)) in
+    λ _. (b.rows, taken_up g.D.Disk (store_data c.self.inside) b.rows b.is_up c.args.group (free_to_take (store_data c.self.inside) b.none) follows c.mark.ensures.group)
 
 pub returns-in-Some-clause-step : goal.returns-in-Some-clause-step
 returns-in-Some-clause-step g c = rw (← c.self.view_is) (refused_step g.D.Disk g.met.D.Disk.only_now _ (Take c.args.group) _ (search rules) (search rules))
 
 pub returns-clause-step : goal.returns-clause-step
 returns-clause-step g c =
-    let d = g.D.Disk in
-    let old : StoreData _ = store_data c.self.inside in
-    let no_refusal = sym c.can_take.ensures ∙ c.in_default.is in
-    let no_refusal_old = subst (λ (s : StoreData _). why_not_take s ≡ None) (sym c.self.view_is) no_refusal in
-    let may = may_take old no_refusal_old in
-    let follows = subst (λ (s : StoreData _). c.args.group.prev ≡ s.mark) (sym c.self.view_is) (c.requires.follows no_refusal) in
-    rw (← c.self.view_is) (done_step d _ old (record old { pending = Some c.args.group }) (Take c.args.group) (search rules) refl refl (unmoved_keeps d g.met.D.Disk.only_now old (record old { pending = Some c.args.group }) may.up refl (λ rows up. taken_up d old rows up c.args.group may.free follows c.mark.ensures.group)) (record { content = λ n _. refl; images = λ n b _ left. left; keeps = λ n b _ left. left }))
+    let b = begun g (goal.at.returns-clause-step g c).After-mark in
+    let follows = rw (← c.self.view_is) at (c.requires.follows (sym c.can_take.ensures ∙ c.in_default.is)) in
+    rw (← c.self.view_is) (done_step b _ (still_leaves g.D.Disk g.met.D.Disk.only_now _) (λ slots. slots) (record { content = λ n _. refl; images = λ n k _ left. left; keeps = λ n k _ left. left }) _ refl refl
+    (λ rows up. taken_up g.D.Disk (store_data c.self.inside) rows up c.args.group (free_to_take (store_data c.self.inside) b.none) follows c.mark.ensures.group))
