@@ -45,8 +45,9 @@ pub record Notes {P : Type 0} (old new : Directory) (chairs : Slab (Chair P)) (i
   pub others : (other n : ℕ) → other ≢ id → is_of (get chairs n) other ≡ true
       → Knows old other n → Knows new other n
 
--- the others' are known as before
+-- the id is listed no more, and the others' are known as before
 pub record Forgets (old new : Directory) (id : ℕ) : Type 0 where
+  pub gone : displaced new id ≡ None
   pub others : (other n : ℕ) → other ≢ id → Knows old other n → Knows new other n
 
 -- no id has two chairs, and the directory knows the number of each

@@ -76,7 +76,7 @@ impl Directory {
         Ok(())
     }
 
-    /// Forgets an id.
+    /// Forgets an id: no memory is kept for it.
     pub(crate) fn forget(&mut self, id: u64)
         ensures { Forgets self.old self.new id }
     {
