@@ -10,4 +10,4 @@ invariant_of-self g c =
     (stepped i.0 (Do c.args.tx.0 (op.Delete c.args.key)) c.delete.result c.delete.new.self refl c.delete.ensures.step, i.1, i.2)
 
 pub returns-clause-step : goal.returns-clause-step
-returns-clause-step g c = rw (← c.self.view_is) (record { step = c.delete.ensures.step; sent = refl; made = refl })
+returns-clause-step g c = rw (← c.self.view_is) (record { step = c.delete.ensures.step; sent = refl; made = refl; raised = refl })

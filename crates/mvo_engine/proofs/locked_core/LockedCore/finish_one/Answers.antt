@@ -9,4 +9,4 @@ invariant_of-self g c =
     (stepped i.0 (Finish c.args.tx.0) c.finish_one.result c.finish_one.new.self refl c.finish_one.ensures.step, i.1, i.2)
 
 pub returns-clause-step : goal.returns-clause-step
-returns-clause-step g c = rw (← c.self.view_is) (record { step = c.finish_one.ensures.step; sent = refl; made = refl })
+returns-clause-step g c = rw (← c.self.view_is) (record { step = c.finish_one.ensures.step; sent = refl; made = refl; raised = refl })

@@ -10,4 +10,4 @@ invariant_of-self g c =
     (stepped i.0 (Do c.args.tx.0 (op.Insert c.args.row)) c.insert.result c.insert.new.self refl c.insert.ensures.step, i.1, i.2)
 
 pub returns-clause-step : goal.returns-clause-step
-returns-clause-step g c = rw (← c.self.view_is) (record { step = c.insert.ensures.step; sent = refl; made = refl })
+returns-clause-step g c = rw (← c.self.view_is) (record { step = c.insert.ensures.step; sent = refl; made = refl; raised = refl })

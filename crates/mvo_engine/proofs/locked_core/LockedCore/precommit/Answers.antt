@@ -9,4 +9,4 @@ invariant_of-self g c =
     (stepped i.0 (Precommit c.args.tx.0) c.precommit.result c.precommit.new.self refl c.precommit.ensures.step, i.1, i.2)
 
 pub returns : goal.returns
-returns g c = rw (← c.self.view_is) (record { step = record { step = c.precommit.ensures.step; sent = refl; made = refl } })
+returns g c = rw (← c.self.view_is) (record { step = record { step = c.precommit.ensures.step; sent = refl; made = refl; raised = refl } })

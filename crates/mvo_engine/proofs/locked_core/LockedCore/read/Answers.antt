@@ -10,4 +10,4 @@ invariant_of-self g c =
     (stepped i.0 (Do c.args.tx.0 (op.Read c.args.key)) c.read.result c.read.new.self refl c.read.ensures.step, i.1, i.2)
 
 pub returns-clause-step : goal.returns-clause-step
-returns-clause-step g c = rw (← c.self.view_is) (record { step = c.read.ensures.step; sent = refl; made = refl })
+returns-clause-step g c = rw (← c.self.view_is) (record { step = c.read.ensures.step; sent = refl; made = refl; raised = refl })

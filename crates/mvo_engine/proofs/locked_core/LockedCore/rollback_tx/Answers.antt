@@ -9,4 +9,4 @@ invariant_of-self g c =
     (stepped i.0 (Rollback c.args.tx.0) c.rollback_tx.result c.rollback_tx.new.self refl c.rollback_tx.ensures.step, i.1, i.2)
 
 pub returns : goal.returns
-returns g c = rw (← c.self.view_is) (record { step = record { step = c.rollback_tx.ensures.step; sent = refl; made = refl } })
+returns g c = rw (← c.self.view_is) (record { step = record { step = c.rollback_tx.ensures.step; sent = refl; made = refl; raised = refl } })

@@ -10,4 +10,4 @@ invariant_of-self g c =
     (stepped i.0 (Do c.args.tx.0 (op.Scan c.args.table c.args.lo c.args.hi)) c.scan.result c.scan.new.self refl c.scan.ensures.step, i.1, i.2)
 
 pub returns-clause-step : goal.returns-clause-step
-returns-clause-step g c = rw (← c.self.view_is) (record { step = c.scan.ensures.step; sent = refl; made = refl })
+returns-clause-step g c = rw (← c.self.view_is) (record { step = c.scan.ensures.step; sent = refl; made = refl; raised = refl })

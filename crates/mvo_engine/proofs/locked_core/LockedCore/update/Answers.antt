@@ -10,4 +10,4 @@ invariant_of-self g c =
     (stepped i.0 (Do c.args.tx.0 (op.Update c.args.row)) c.update.result c.update.new.self refl c.update.ensures.step, i.1, i.2)
 
 pub returns-clause-step : goal.returns-clause-step
-returns-clause-step g c = rw (← c.self.view_is) (record { step = c.update.ensures.step; sent = refl; made = refl })
+returns-clause-step g c = rw (← c.self.view_is) (record { step = c.update.ensures.step; sent = refl; made = refl; raised = refl })

@@ -9,4 +9,4 @@ invariant_of-self g c =
     (stepped i.0 (Validate c.args.tx.0) c.validate_one.result c.validate_one.new.self refl c.validate_one.ensures.step, i.1, i.2)
 
 pub returns-clause-step : goal.returns-clause-step
-returns-clause-step g c = rw (← c.self.view_is) (record { step = c.validate_one.ensures.step; sent = refl; made = refl })
+returns-clause-step g c = rw (← c.self.view_is) (record { step = c.validate_one.ensures.step; sent = refl; made = refl; raised = refl })
