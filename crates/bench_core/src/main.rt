@@ -9,6 +9,7 @@ mod config;
 mod crowd;
 mod figure;
 mod hot;
+mod keeping;
 mod keys;
 mod load;
 mod mixed;

@@ -20,6 +20,7 @@ use Rattle.mvo_core.specs.Standing.{Stands, StandsFor}
 use Rattle.mvo_core.specs.Groups.{HaveRecordsOf}
 use Rattle.mvo_core.specs.Steps.{came, IsStep}
 use Rattle.mvo_core.specs.Closing.{IsClosedNow, HasClosed}
+use Rattle.mvo_core.specs.Collecting.{StandsAsBefore}
 use Rattle.mvo_core.proofs.Begun.{still_closed}
 use Rattle.mvo_world.proofs.Asked.{same_closed, stands_serial}
 use Rattle.mvo_world.proofs.Chain.{groups_stay}
@@ -50,6 +51,20 @@ module _ {image : Image} {c : CoreData} {sent : List GroupData} (i : IsSoundCore
         groups = groups_stay i.state after 0 sent (stays_after_call i.state call (came result) kept.sound) i.groups;
         last = i.last ∙ sym (same_closed standing call (came result) none l);
       }
+
+  -- over a collection
+  pub collected : (new : CoreData) → StandsAsBefore c new → new ≡ record c { versions = new.versions } → IsSoundCore image new sent
+  collected new stands rest = record {
+    rows = i.rows;
+    mark = i.mark;
+    gives = i.gives;
+    steps = i.steps;
+    state = i.state;
+    stands = stands i.rows i.steps i.state i.stands;
+    closed = i.closed;
+    groups = i.groups;
+    last = i.last ∙ sym (ap (λ (x : CoreData). x.closed) rest);
+  }
 
   -- over the closing of a group
   pub closed_to : (sent' : List GroupData) (new : CoreData) (x : closing.Closed) (g : GroupData) → sent' ≡ sent ++ g ∷ [] → IsClosedNow i.rows i.steps i.state x new g → IsSoundCore image new sent'

@@ -1,4 +1,5 @@
 pub mod Rings
 pub mod CoreSound
+pub mod Collected
 pub mod StoreSound
 pub mod Begun

@@ -1,5 +1,5 @@
 -- What the calls under the locks come to, and those of a session.
-use Rattle.std.specs.Prelude.{◌≡◌, ℕ, Bool, false, List, [], ◌∷◌, ◌++◌, Option, None, Some, Result, Ok, Err, if◌then◌else◌, max}
+use Rattle.std.specs.Prelude.{◌≡◌, ◌<◌, ◌≤◌, ◌+◌, ℕ, Bool, false, List, [], ◌∷◌, ◌++◌, Option, None, Some, Result, Ok, Err, if◌then◌else◌, max}
 use Rattle.mvo_types.specs.declared.refusal.Refusal.{Refusal}
 use Rattle.mvo_types.specs.declared.refusal.Refusal.TheVariants.{NoSuchTransaction, Busy, NothingToDo}
 use Rattle.mvo_types.specs.declared.ids.TxId.{TxId}
@@ -18,6 +18,7 @@ use Rattle.mvo_store.specs.Seen.{mark_of}
 use Rattle.mvo_store.specs.Causes.{why_not_take}
 use Rattle.mvo_store.specs.Calls.{StoreCall, IsStoreStep}
 use Rattle.mvo_store.specs.Calls.StoreCall.{Take, AppendOpen}
+use Rattle.mvo_engine.specs.declared.run.TheConstants.{MAX_SESSIONS}
 use Rattle.mvo_engine.specs.States.{CoreState, StoreState}
 
 -- a step of the core that closes no group
@@ -26,16 +27,25 @@ pub record IsCoreStep {A : Type 0} (old : CoreState) (call : Call) (result : Res
   pub step : IsStep old.core call result new.core
   pub sent : new.sent ≡ old.sent
   pub made : new.made ≡ old.made
+  pub raised : new.raised ≡ old.raised
 
--- The next group is sent; or none, by the first cause that stands, and else for want of memory.
--- Whether the ring is full is what the closing saw of it.
+-- one session more was made; or none, as many were made as may be
+abbrev pub IsAnother : {A : Type 0} → CoreState → Option A → CoreState → Type 0
+IsAnother old (Some seat) new =
+    (old.made < MAX_SESSIONS) × (new ≡ record old { made = old.made + 1 })
+IsAnother old None new = (MAX_SESSIONS ≤ old.made) × (new ≡ old)
+
+-- The next group is sent, and the closed mark raised to its mark; or none, by the first cause that
+-- stands, and else for want of memory. Whether the ring is full is what the closing saw of it.
 abbrev pub HasSent : Map → List Step → State → CoreState → Result Closed Refusal → CoreState
     → Type 0
 HasSent rows steps s old (Ok c) new =
     (why_not_close s false ≡ None)
     × ((g : GroupData) × (new.sent ≡ old.sent ++ g ∷ []) × IsClosedNow rows steps s c new.core g)
+    × (c.mark.0 ≤ new.raised)
 HasSent rows steps s old (Err r) new =
     (new.sent ≡ old.sent) × ((full : Bool) × IsNotClosed rows steps s full r new.core)
+    × (new.raised ≡ old.raised)
 
 abbrev pub IsSending : CoreState → Result Closed Refusal → CoreState → Type 0
 IsSending old result new = (rows : Map) (steps : List Step) (s : State)

@@ -5,3 +5,4 @@ pub mod States
 pub mod Calls
 pub mod Legal
 pub mod Logging
+pub mod Collecting

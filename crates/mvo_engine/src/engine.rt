@@ -19,6 +19,10 @@ use std::thread;
 /// How often a thread tries to take the lock of the core before it sleeps over it.
 const TRIES: u32 = 256;
 
+/// So many versions are collected at most before the lock of the core is given back: it is held a
+/// few dozen microseconds, as long as some hundred reads.
+const AT_ONCE: u64 = 128;
+
 /// A store of rows that many threads share: one lock round the core, one round the store, and the
 /// marks beside them.
 ///
@@ -100,6 +104,23 @@ impl<L: Run, D: Disk, G: Gate + Drop> Engine<L, D, G> {
             }
         }
         unreachable!()
+    }
+
+    /// Takes every garbage version out of memory, and answers how many there were. Which are
+    /// garbage depends on the start of the tale (`CoreGuard::trim_tale`), so it is called behind a
+    /// trim. The lock of the core is given back after each 128 versions, so that sessions go on
+    /// meanwhile; those that come to be garbage in the meantime are taken too. It takes no memory.
+    pub fn collect<R: Wait>(&self, rt: &R) -> u64 {
+        let mut all = 0u64;
+        for _ in rt.forever() {
+            let taken = self.enter_core(rt).collect_up_to(AT_ONCE);
+            all = all.saturating_add(taken);
+            if taken < AT_ONCE {
+                break;
+            }
+            thread::yield_now();
+        }
+        all
     }
 
     // Closes the next group, where there is one to close and room for it.

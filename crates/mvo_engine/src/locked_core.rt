@@ -1,6 +1,6 @@
 use crate::chain::Chain;
 use crate::run::{MAX_SESSIONS, Run};
-use mvo_core::{Closed, Core, Finishing, Settlement, Tale, Validation};
+use mvo_core::{Closed, Collection, Core, Finishing, Settlement, Tale, Validation};
 use mvo_group::Group;
 use mvo_marks::{Marks, Seat};
 use mvo_types::{Answer, Refusal, Row, RowKey, Stamp, TxId};
@@ -47,23 +47,31 @@ impl<L: Run> Model for LockedCore<L> {
 
     ghost coded = { Prim.hlevel (codes, core_row.coded) };
 
-    ghost view = { λ s. record { core = s.core; sent = sent s.ring; made = s.made } };
+    ghost view = { λ s. record {
+      core = s.core;
+      sent = sent s.ring;
+      made = s.made;
+      raised = s.seat.known.closed;
+    } };
 
     ghost invariant = { λ s. IsSoundCore L.image s.core (sent s.ring) ×
         (s.seat.marks ≡ L.marks) × (ring_of s.ring ≡ L.ring) };
 }
 
 impl<L: Run> LockedCore<L> {
-    ghost use Rattle.std.specs.Prelude.{◌≡◌, ◌≤◌, ◌+◌, IfOk, IfSome};
+    ghost use Rattle.std.specs.Prelude.{◌≡◌, ◌≤◌, ◌+◌, IfOk, IfErr, IfSome};
     ghost use Rattle.mvo_types.specs.declared.op.Op.TheVariants as Op;
+    ghost use Rattle.mvo_types.specs.declared.refusal.Refusal.{Refusal};
     ghost use Rattle.mvo_theory.specs.Calls.Call.{Begin, Do, Precommit, Validate, Settle};
-    ghost use Rattle.mvo_theory.specs.Calls.Call.{Rollback, Finish};
+    ghost use Rattle.mvo_theory.specs.Calls.Call.{Rollback, Finish, Trim};
     ghost use Rattle.mvo_core.specs.Steps.{IsAnswered, IsValidation, IsSettlement, IsFinishing};
+    ghost use Rattle.mvo_core.specs.Trimming.{HasForgotten};
     ghost use Rattle.rtrb.specs.Ring.{sent};
     ghost use Rattle.mvo_engine.specs.Rings.{ring_of};
     ghost use Rattle.mvo_engine.specs.Sound.{IsSoundCore};
     ghost use Rattle.mvo_engine.specs.Legal.{IsLegalCore};
-    ghost use Rattle.mvo_engine.specs.Calls.{IsCoreStep, IsSending};
+    ghost use Rattle.mvo_engine.specs.Calls.{IsCoreStep, IsSending, IsAnother};
+    ghost use Rattle.mvo_engine.specs.Collecting.{IsCoreCollection, HasCollectedUpTo};
 
     /// A core with its end of the ring, of which no session was made.
     pub fn new(core: Core, ring: Producer<Group, Global, Chain>, seat: Seat) -> LockedCore<L>
@@ -73,6 +81,7 @@ impl<L: Run> LockedCore<L> {
         ensures core { result.core ≡ core }
         ensures sent { result.sent ≡ sent ring }
         ensures made { result.made ≡ 0 }
+        ensures raised { result.raised ≡ seat.known.closed }
     {
         LockedCore {
             core,
@@ -91,19 +100,57 @@ impl<L: Run> LockedCore<L> {
         self.core.clock()
     }
 
-    /// The stored commits, by end timestamp.
+    /// As `Core::tale`.
     pub fn tale(&self) -> &Tale
         ensures { result.now ≡ self.now.core.tale }
     {
         self.core.tale()
     }
 
-    /// A seat for another session, if one may be made.
+    /// As `Core::tale_start`.
+    pub fn tale_start(&self) -> Stamp
+        ensures { result.0 ≡ self.now.core.start }
+    {
+        self.core.tale_start()
+    }
+
+    /// As `Core::trim_tale`.
+    pub fn trim_tale(&mut self, upto: Stamp) -> Result<(), Refusal>
+        ensures step { IsCoreStep self.old (Trim upto.0) result self.new }
+        ensures forgets { IfOk result (λ _.
+            HasForgotten upto.0 self.old.core.closed self.old.core self.new.core) }
+        ensures err { IfErr result (λ r. r ≡ Refusal.NothingToDo) }
+    {
+        self.core.trim_tale(upto)
+    }
+
+    /// As `Core::collect_one`.
+    pub fn collect_one(&mut self) -> Collection
+        ensures { IsCoreCollection self.old result self.new }
+    {
+        self.core.collect_one()
+    }
+
+    /// Collects so many versions, or all that are garbage where these are fewer. Answers how many
+    /// it collected.
+    pub fn collect_up_to(&mut self, most: u64) -> u64
+        ensures { HasCollectedUpTo self.old most result self.new }
+    {
+        for taken in 0..most {
+            match self.collect_one() {
+                Collection::Collected => {}
+                Collection::Nothing => return taken,
+            }
+        }
+        most
+    }
+
+    /// A seat for another session, which is counted; none exactly where as many were made as may
+    /// be.
     pub fn another(&mut self, marks: &Marks) -> Option<Seat>
         requires { marks.now ≡ L.marks }
         ensures seat { IfSome result (λ seat. seat.marks ≡ L.marks) }
-        ensures core { self.new.core ≡ self.old.core }
-        ensures sent { self.new.sent ≡ self.old.sent }
+        ensures made { IsAnother self.old result self.new }
     {
         if self.made >= MAX_SESSIONS {
             return None;

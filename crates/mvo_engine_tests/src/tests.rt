@@ -4,6 +4,7 @@ mod reads_free;
 mod rows;
 mod sessions;
 mod through;
+mod upkeep;
 
 use mvo_disk::MemDisk;
 use mvo_store::format;
