@@ -8,8 +8,6 @@ use std::env;
 pub enum Work {
     Load,
     Reads,
-    UniformReads,
-    ZipfReads,
     Updates,
     Scans,
     Mixed,
@@ -133,8 +131,6 @@ impl Work {
         Some(match word {
             "load" => Work::Load,
             "reads" => Work::Reads,
-            "reads_uniform" => Work::UniformReads,
-            "reads_zipf" => Work::ZipfReads,
             "updates" => Work::Updates,
             "scans" => Work::Scans,
             "mixed" => Work::Mixed,

@@ -85,7 +85,9 @@ fn run_apart<R: Runtime + Threads + Wait + Sync>(
 
 /// One transaction at a time.
 fn run_plain(rt: &HostRuntime, config: &Config, session: &mut Session) -> Result<()> {
-    reads::run(rt, config, session)?;
+    if config.has(Work::Reads) {
+        reads::run(rt, config, session)?;
+    }
     if config.has(Work::Updates) {
         updates::run(rt, config, session)?;
     }
