@@ -9,7 +9,6 @@ mod config;
 mod crowd;
 mod figure;
 mod hot;
-mod keeping;
 mod keys;
 mod load;
 mod mixed;

@@ -1,9 +1,7 @@
-//! What is done with the engine: the accounts are made, eight threads transfer while another keeps
-//! the memory steady, and all is counted.
+//! What is done with the engine: the accounts are made, eight threads transfer, and all is counted.
 ghost use Rattle.mvo_engine.specs.Opened.{IsNamedBy};
 
 use crate::transfers::{ACCOUNTS, START, money_in, row_of, transfer};
-use crate::upkeep::{is_let_go, keep_up};
 use anyhow::bail;
 use mvo_disk::{Disk, MemDisk};
 use mvo_engine::{Engine, Fresh, OpenGate, Run};
@@ -12,7 +10,6 @@ use mvo_types::{Answer, Refusal, Stamp};
 use std::alloc::{AllocError, Global};
 use std::marker::Brand;
 use std::sync::Wait;
-use std::sync::atomic::{AtomicU64, Ordering};
 use std::thread;
 use std::thread::Threads;
 
@@ -27,8 +24,6 @@ pub struct Told {
     pub transfers: usize,
     pub total: u64,
     pub durable: bool,
-    /// Whether all that could be asked for only before is gone from memory.
-    pub let_go: bool,
 }
 
 /// A disk in memory with a store that has no rows.
@@ -71,28 +66,8 @@ fn run<L: Run + Send + Sync, D: Disk + Drop + Send, R: Threads + Wait + Sync>(
     count(rt, &engine, ends)
 }
 
-/// The transfers of all threads, and the end of each one's last. Meanwhile another thread flushes,
-/// trims and collects.
+/// The transfers of all threads, and the end of each one's last.
 fn transfers<L: Run + Send + Sync, D: Disk + Send, R: Threads + Wait + Sync>(
-    rt: &R,
-    alloc: Global,
-    engine: &Engine<L, D, OpenGate>,
-) -> Result<Vec<Result<Stamp, Refusal>>, Refusal> {
-    let over = AtomicU64::new(0);
-    let (ends, kept_up) = thread::join(
-        rt,
-        || {
-            let ends = work_all(rt, alloc, engine);
-            over.store(1, Ordering::SeqCst);
-            ends
-        },
-        || keep_up(rt, engine, &over),
-    );
-    kept_up?;
-    Ok(ends?)
-}
-
-fn work_all<L: Run + Send + Sync, D: Disk + Send, R: Threads + Wait + Sync>(
     rt: &R,
     alloc: Global,
     engine: &Engine<L, D, OpenGate>,
@@ -172,7 +147,6 @@ fn count<L: Run, D: Disk, R: Wait>(
         transfers,
         total,
         durable,
-        let_go: is_let_go(rt, engine)?,
     })
 }
 

@@ -4,7 +4,6 @@ mod reads_free;
 mod rows;
 mod sessions;
 mod through;
-mod upkeep;
 
 use mvo_disk::MemDisk;
 use mvo_store::format;
