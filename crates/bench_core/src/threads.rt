@@ -1,5 +1,5 @@
-//! Two reads and two updates a transaction, through sessions of an engine, in several threads. No
-//! guard of an engine trims or collects, so this workload alone has no upkeep.
+//! Two reads and two updates a transaction, through sessions of an engine, in several threads.
+//! Nothing is trimmed or collected meanwhile: this workload alone has no upkeep.
 ghost use Rattle.mvo_engine.specs.Opened.{IsNamedBy};
 
 use crate::checksum::Checksum;
