@@ -1,5 +1,5 @@
 use crate::equal::{holds, same};
-use mvo_types::{Cause, MAX_DATA_LEN, Refusal, Row, RowKey, Rows, Stamp, TxId};
+use mvo_types::{Cause, Refusal, Row, RowKey, Rows, Stamp, TxId};
 use std::alloc::{AllocError, Global};
 use std::process::Abort;
 use std::test::Fail;
@@ -99,70 +99,6 @@ fn assert_rows(rt: &impl Abort, alloc: Global, rows: &Rows) -> Result<(), Fail> 
     same(rt, &rows.len(), &4);
     assert_within(rt, alloc, rows)?;
     assert_places(rt, alloc, rows)
-}
-
-/// No byte, one, and as many as fill the block of each size, with one more beside it.
-const LENGTHS: [usize; 17] = [
-    0,
-    1,
-    16,
-    17,
-    32,
-    33,
-    48,
-    49,
-    64,
-    65,
-    80,
-    81,
-    96,
-    97,
-    112,
-    113,
-    MAX_DATA_LEN,
-];
-
-/// So many bytes, each another than its neighbours.
-fn numbered(alloc: Global, len: usize) -> Result<Vec<u8>, AllocError> {
-    let mut bytes = Vec::new(alloc);
-    for n in 0..len {
-        bytes.push((n % 251) as u8)?;
-    }
-    Ok(bytes)
-}
-
-fn has_bytes(rt: &impl Abort, row: &Row, bytes: &[u8]) {
-    same(rt, &row.data_len(), &bytes.len());
-    same(rt, &row.bytes(), &bytes);
-}
-
-/// A copy of the row, which is let go of.
-fn copy_left(row: Row) -> Result<Row, AllocError> {
-    row.copy()
-}
-
-/// The row has the bytes, and so has a copy of it, also once it is let go of.
-fn keeps_bytes(rt: &impl Abort, row: Row, bytes: &[u8]) -> Result<(), Fail> {
-    has_bytes(rt, &row, bytes);
-    let copy = row.copy()?;
-    holds(rt, copy.same(&row));
-    has_bytes(rt, &copy_left(row)?, bytes);
-    has_bytes(rt, &copy, bytes);
-    Ok(())
-}
-
-fn keeps_so_many(rt: &impl Abort, alloc: Global, len: usize) -> Result<(), Fail> {
-    let bytes = numbered(alloc, len)?;
-    let key = RowKey { table: 1, key: 2 };
-    keeps_bytes(rt, Row::from_slice(alloc, key, 3, &bytes)?, &bytes)
-}
-
-#[test]
-fn rows_of_each_length_keep_their_bytes(rt: HostRuntime) -> Result<(), Fail> {
-    for len in LENGTHS {
-        keeps_so_many(&rt, rt.alloc(), len)?;
-    }
-    Ok(())
 }
 
 #[test]
