@@ -3,10 +3,10 @@
 // of JSON for each figure to standard error.
 //
 //     PEER folder=FOLDER [mode=memory|file] [rows=N] [transactions=N] [fewer=N] [hot=N] [open=N]
-//         [load] [reads] [updates] [scans] [mixed] [hot] [open]
+//         [load] [reads] [reads_uniform] [reads_zipf] [updates] [scans] [mixed] [hot] [open]
 //
 // FOLDER must be there and empty. In the mode `memory` nothing is kept over a stop; `file` is a
-// log without syncs. Without a workload all of them run.
+// log without syncs. Without a workload all of them run. `reads` is both of the two behind it.
 #pragma once
 
 #include <unistd.h>
@@ -118,6 +118,9 @@ struct Config {
     std::string folder;
     bool in_memory = true;
     std::vector<std::string> works;
+
+    // So many keys are drawn for transactions of one row and of ten.
+    uint64_t drawn() const { return std::max(transactions, fewer * 10); }
 
     bool has(const char *work) const {
         return works.empty() || std::find(works.begin(), works.end(), work) != works.end();
@@ -312,13 +315,17 @@ static void read_all(Engine &engine, const Config &config, Session &session, con
 }
 
 static void run_reads(Engine &engine, const Config &config, Session &session) {
-    uint64_t one = config.transactions, ten = config.fewer, count = std::max(one, ten * 10);
-    Keys uniform = Keys::uniform(config.rows, 1, count);
-    read_all(engine, config, session, "read1_uniform", uniform, one, 1);
-    read_all(engine, config, session, "read10_uniform", uniform, ten, 10);
-    Keys zipf = Keys::zipf(config.rows, 1, count);
-    read_all(engine, config, session, "read1_zipf", zipf, one, 1);
-    read_all(engine, config, session, "read10_zipf", zipf, ten, 10);
+    uint64_t one = config.transactions, ten = config.fewer, count = config.drawn();
+    if (config.has("reads") || config.has("reads_uniform")) {
+        Keys uniform = Keys::uniform(config.rows, 1, count);
+        read_all(engine, config, session, "read1_uniform", uniform, one, 1);
+        read_all(engine, config, session, "read10_uniform", uniform, ten, 10);
+    }
+    if (config.has("reads") || config.has("reads_zipf")) {
+        Keys zipf = Keys::zipf(config.rows, 1, count);
+        read_all(engine, config, session, "read1_zipf", zipf, one, 1);
+        read_all(engine, config, session, "read10_zipf", zipf, ten, 10);
+    }
 }
 
 static void update_two(Session &session, uint64_t one, uint64_t other, uint64_t round,
@@ -362,7 +369,7 @@ static void run_scans(Engine &engine, const Config &config, Session &session) {
 }
 
 static void run_mixed(Engine &engine, const Config &config, Session &session) {
-    Keys keys = Keys::zipf(config.rows, 4, config.transactions);
+    Keys keys = Keys::zipf(config.rows, 4, config.drawn());
     Figure figure(engine, config, "mixed_zipf");
     Checksum sum;
     for (uint64_t at = 0; at < config.transactions; at++) {
@@ -409,7 +416,7 @@ static void run_all(Engine &engine, const Config &config) {
     engine.open(config.folder, config.in_memory);
     std::unique_ptr<Session> session(engine.session());
     run_load(engine, config, *session);
-    if (config.has("reads")) run_reads(engine, config, *session);
+    run_reads(engine, config, *session);
     if (config.has("updates")) run_updates(engine, config, *session, "read2_update2", 2);
     if (config.has("scans")) run_scans(engine, config, *session);
     if (config.has("mixed")) run_mixed(engine, config, *session);

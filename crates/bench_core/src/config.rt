@@ -8,6 +8,8 @@ use std::env;
 pub enum Work {
     Load,
     Reads,
+    UniformReads,
+    ZipfReads,
     Updates,
     Scans,
     Mixed,
@@ -131,6 +133,8 @@ impl Work {
         Some(match word {
             "load" => Work::Load,
             "reads" => Work::Reads,
+            "reads_uniform" => Work::UniformReads,
+            "reads_zipf" => Work::ZipfReads,
             "updates" => Work::Updates,
             "scans" => Work::Scans,
             "mixed" => Work::Mixed,

@@ -9,6 +9,7 @@ mod config;
 mod crowd;
 mod figure;
 mod hot;
+mod keeping;
 mod keys;
 mod load;
 mod mixed;
@@ -84,9 +85,7 @@ fn run_apart<R: Runtime + Threads + Wait + Sync>(
 
 /// One transaction at a time.
 fn run_plain(rt: &HostRuntime, config: &Config, session: &mut Session) -> Result<()> {
-    if config.has(Work::Reads) {
-        reads::run(rt, config, session)?;
-    }
+    reads::run(rt, config, session)?;
     if config.has(Work::Updates) {
         updates::run(rt, config, session)?;
     }

@@ -14,7 +14,8 @@ const SHARE: u64 = 5;
 
 /// Reads one row, and in every fifth transaction updates it; few rows come often.
 pub fn run(rt: &HostRuntime, config: &Config, session: &mut Session) -> Result<()> {
-    let keys = Keys::zipf(session.alloc(), config.rows, SEED, config.transactions)?;
+    let count = config.transactions.max(config.fewer.saturating_mul(10));
+    let keys = Keys::zipf(session.alloc(), config.rows, SEED, count)?;
     let figure = Figure::start(rt, config, "mixed_zipf")?;
     let mut sum = Checksum(0);
     for at in 0..config.transactions {

@@ -1,5 +1,5 @@
 use crate::checksum::Checksum;
-use crate::config::Config;
+use crate::config::{Config, Work};
 use crate::figure::Figure;
 use crate::keys::Keys;
 use crate::session::Session;
@@ -8,16 +8,22 @@ use anyhow::Result;
 
 const SEED: u64 = 1;
 
-/// Reads one row or ten in a transaction.
+/// Reads one row or ten in a transaction, by keys that are drawn evenly, by a zipf, or by both.
 pub fn run(rt: &HostRuntime, config: &Config, session: &mut Session) -> Result<()> {
     let alloc = session.alloc();
     let count = config.transactions.max(config.fewer.saturating_mul(10));
-    let uniform = Keys::uniform(alloc, config.rows, SEED, count)?;
-    run_one(rt, config, session, "read1_uniform", &uniform)?;
-    run_ten(rt, config, session, "read10_uniform", &uniform)?;
-    let zipf = Keys::zipf(alloc, config.rows, SEED, count)?;
-    run_one(rt, config, session, "read1_zipf", &zipf)?;
-    run_ten(rt, config, session, "read10_zipf", &zipf)
+    let both = config.has(Work::Reads);
+    if both || config.has(Work::UniformReads) {
+        let uniform = Keys::uniform(alloc, config.rows, SEED, count)?;
+        run_one(rt, config, session, "read1_uniform", &uniform)?;
+        run_ten(rt, config, session, "read10_uniform", &uniform)?;
+    }
+    if both || config.has(Work::ZipfReads) {
+        let zipf = Keys::zipf(alloc, config.rows, SEED, count)?;
+        run_one(rt, config, session, "read1_zipf", &zipf)?;
+        run_ten(rt, config, session, "read10_zipf", &zipf)?;
+    }
+    Ok(())
 }
 
 fn run_one(

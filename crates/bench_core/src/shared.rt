@@ -1,5 +1,6 @@
 //! What one thread does through a session.
 use crate::checksum::Checksum;
+use crate::keeping::Keeping;
 use crate::keys::Keys;
 use crate::rows::{changed, changed_in, key_of, number_of};
 use mvo_disk::Disk;
@@ -8,13 +9,18 @@ use mvo_types::{Answer, Refusal, Row};
 use std::alloc::Global;
 use std::sync::Wait;
 
-/// Which of so many transactions a thread runs: every `step`th one, from the first on.
+/// Which of so many transactions a thread runs: every `step`th one, from the first on. Between two
+/// of them it has a turn of the upkeep after every so many rows; after none where that is 0.
 #[derive(Clone, Copy)]
 pub struct Work {
     pub first: u64,
     pub step: u64,
     pub count: u64,
+    pub upkeep: u64,
 }
+
+/// So many rows are read or put by a transaction.
+const ROWS: u64 = 4;
 
 /// The transactions of one thread, and the checksum of what they read.
 pub fn transact<L: Run, D: Disk, G: Gate + Drop, R: Wait>(
@@ -26,6 +32,7 @@ pub fn transact<L: Run, D: Disk, G: Gate + Drop, R: Wait>(
 ) -> Result<Checksum, Refusal> {
     let mut session = engine.session(rt)?;
     let mut sum = Checksum(0);
+    let mut keeping = Keeping::new(work.upkeep);
     for index in 0..work.count.checked_div(work.step).unwrap_or(0) {
         let round = index.wrapping_mul(work.step).wrapping_add(work.first);
         let at = round.wrapping_mul(2);
@@ -34,6 +41,7 @@ pub fn transact<L: Run, D: Disk, G: Gate + Drop, R: Wait>(
         let read = tried(rt, alloc, &mut session, (one, other), round)?;
         sum.add(&read.0);
         sum.add(&read.1);
+        keeping.count(rt, engine, ROWS)?;
     }
     Ok(sum)
 }

@@ -1,10 +1,11 @@
-//! Two reads and two updates a transaction, through sessions of an engine, in several threads.
-//! Nothing is trimmed or collected meanwhile: this workload alone has no upkeep.
+//! Two reads and two updates a transaction, through sessions of an engine, in several threads. Each
+//! has its turns of the upkeep.
 ghost use Rattle.mvo_engine.specs.Opened.{IsNamedBy};
 
 use crate::checksum::Checksum;
 use crate::config::Config;
 use crate::figure::Figure;
+use crate::keeping::Keeping;
 use crate::keys::Keys;
 use crate::rows::loaded;
 use crate::shared::{Work, number_in, transact};
@@ -35,6 +36,7 @@ struct Task<'a> {
     keys: &'a Keys,
     count: u64,
     threads: usize,
+    upkeep: u64,
 }
 
 /// What came of it: the checksum, and the nanoseconds in all.
@@ -61,6 +63,7 @@ pub fn run<R: Runtime + Threads + Wait + Sync>(
             keys: &keys,
             count,
             threads,
+            upkeep: config.upkeep,
         };
         let done = on_disk(rt, alloc, formatted(alloc)?, task)?;
         let each = done.nanos.checked_div(u128::from(count)).unwrap_or(0);
@@ -153,6 +156,7 @@ fn all_threads<L: Run + Send + Sync, D: Disk + Send, R: Threads + Wait + Sync>(
         keys,
         count,
         threads,
+        upkeep,
         ..
     } = task;
     let step = threads as u64;
@@ -161,8 +165,13 @@ fn all_threads<L: Run + Send + Sync, D: Disk + Send, R: Threads + Wait + Sync>(
         alloc,
         threads,
         &|first| {
-            let first = first as u64;
-            transact(rt, alloc, engine, keys, Work { first, step, count })
+            let work = Work {
+                first: first as u64,
+                step,
+                count,
+                upkeep,
+            };
+            transact(rt, alloc, engine, keys, work)
         },
     )
 }
@@ -175,10 +184,12 @@ fn load<L: Run, D: Disk, G: Gate + Drop, R: Wait>(
     task: Task<'_>,
 ) -> Result<(), Refusal> {
     let mut session = engine.session(rt)?;
+    let mut keeping = Keeping::new(task.upkeep);
     for batch in 0..task.rows.saturating_add(EACH - 1) / EACH {
         let from = batch.saturating_mul(EACH);
         let to = from.saturating_add(EACH).min(task.rows);
         put(rt, alloc, &mut session, (from, to), task.data)?;
+        keeping.count(rt, engine, EACH)?;
     }
     Ok(())
 }

@@ -1,10 +1,10 @@
 //! The plain way to read pairs, in one thread: what opening a store is compared with.
 use crate::pairs::{PAIRS, pair_of, sum_of, written};
 use anyhow::{Result, bail};
-use mvo_ckpt::{Place, Places};
 use mvo_disk::{Disk, MemDisk};
 use mvo_load::pair_on;
 use mvo_pair::{FIRST_FORMAT, Live, Pair};
+use mvo_places::{Place, Places};
 use mvo_types::{MAX_FILE, MAX_PAIR_RECORDS, Rows};
 use std::alloc::{AllocError, Global};
 use std::rt::Clock;

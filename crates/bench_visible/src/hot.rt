@@ -1,8 +1,8 @@
 use crate::rows::{Rows, key_of, stamped};
 use crate::watch::Least;
 use anyhow::Result;
-use mvo_types::{MAX_STAMP, Stamp, TxId};
-use mvo_validate::{Check, Entry, check_entry};
+use mvo_types::{Entry, MAX_STAMP, Stamp, TxId};
+use mvo_validate::{Check, check_entry};
 use mvo_visible::shown;
 use std::rt::Clock;
 use std::time::Instant;

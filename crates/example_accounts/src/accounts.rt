@@ -1,7 +1,9 @@
-//! What is done with the engine: the accounts are made, eight threads transfer, and all is counted.
+//! What is done with the engine: the accounts are made, eight threads transfer while another keeps
+//! the memory steady, and all is counted.
 ghost use Rattle.mvo_engine.specs.Opened.{IsNamedBy};
 
-use crate::transfers::{ACCOUNTS, START, money_in, row_of, transfer};
+use crate::transfers::{ACCOUNTS, START, TIMES, Transfer, money_in, row_of};
+use crate::upkeep::{is_let_go, keep_up};
 use anyhow::bail;
 use mvo_disk::{Disk, MemDisk};
 use mvo_engine::{Engine, Fresh, OpenGate, Run};
@@ -10,6 +12,7 @@ use mvo_types::{Answer, Refusal, Stamp};
 use std::alloc::{AllocError, Global};
 use std::marker::Brand;
 use std::sync::Wait;
+use std::sync::atomic::{AtomicU64, Ordering};
 use std::thread;
 use std::thread::Threads;
 
@@ -24,6 +27,8 @@ pub struct Told {
     pub transfers: usize,
     pub total: u64,
     pub durable: bool,
+    /// Whether all that could be asked for only before is gone from memory.
+    pub let_go: bool,
 }
 
 /// A disk in memory with a store that has no rows.
@@ -66,8 +71,28 @@ fn run<L: Run + Send + Sync, D: Disk + Drop + Send, R: Threads + Wait + Sync>(
     count(rt, &engine, ends)
 }
 
-/// The transfers of all threads, and the end of each one's last.
+/// The transfers of all threads, and the end of each one's last. Meanwhile another thread flushes,
+/// trims and collects.
 fn transfers<L: Run + Send + Sync, D: Disk + Send, R: Threads + Wait + Sync>(
+    rt: &R,
+    alloc: Global,
+    engine: &Engine<L, D, OpenGate>,
+) -> Result<Vec<Result<Stamp, Refusal>>, Refusal> {
+    let over = AtomicU64::new(0);
+    let (ends, kept_up) = thread::join(
+        rt,
+        || {
+            let ends = work_all(rt, alloc, engine);
+            over.store(1, Ordering::SeqCst);
+            ends
+        },
+        || keep_up(rt, engine, &over),
+    );
+    kept_up?;
+    Ok(ends?)
+}
+
+fn work_all<L: Run + Send + Sync, D: Disk + Send, R: Threads + Wait + Sync>(
     rt: &R,
     alloc: Global,
     engine: &Engine<L, D, OpenGate>,
@@ -104,16 +129,17 @@ fn work<L: Run, D: Disk, R: Wait>(
     let mut session = engine.session(rt)?;
     let mut last = Stamp(0);
     for number in 0..TRANSFERS {
-        let (from, to, amount) = choice(worker, number);
-        last = transfer(rt, alloc, &mut session, from, to, amount)?;
+        let transfer = choice(alloc, worker, number);
+        let (_, end) = session.transact(rt, TIMES, &transfer)?;
+        last = end;
     }
     engine.flush(rt)?;
     session.wait_durable(rt, last)?;
     Ok(last)
 }
 
-/// Which transfer a worker makes: from where, to where, and how much.
-fn choice(worker: u64, number: u64) -> (u64, u64, u64) {
+/// Which transfer a worker makes.
+fn choice(alloc: Global, worker: u64, number: u64) -> Transfer {
     let from = (worker
         .wrapping_mul(31)
         .wrapping_add(number.wrapping_mul(17)))
@@ -122,7 +148,12 @@ fn choice(worker: u64, number: u64) -> (u64, u64, u64) {
         .wrapping_add(1)
         .wrapping_add(number.wrapping_mul(7) % 98))
         % ACCOUNTS;
-    (from, to, number % 10)
+    Transfer {
+        alloc,
+        from,
+        to,
+        amount: number % 10,
+    }
 }
 
 /// Counts what all accounts have, and asks whether all transfers are durable.
@@ -147,6 +178,7 @@ fn count<L: Run, D: Disk, R: Wait>(
         transfers,
         total,
         durable,
+        let_go: is_let_go(rt, engine)?,
     })
 }
 

@@ -1,9 +1,10 @@
-//! Eight threads move money between a hundred accounts. No money is lost or made, and all of it is
-//! durable at the end.
+//! Eight threads move money between a hundred accounts. No money is lost or made, all of it is
+//! durable at the end, and what nobody can ask for any more is gone from memory.
 #![tactic(auto)]
 
 mod accounts;
 mod transfers;
+mod upkeep;
 
 use accounts::{formatted, on_disk};
 use anyhow::bail;
@@ -24,6 +25,14 @@ fn main(rt: HostRuntime) -> Result<(), anyhow::Error> {
             "all durable"
         } else {
             "not all durable"
+        }
+    )?;
+    println!(rt;
+        "{}",
+        if told.let_go {
+            "what is over is let go"
+        } else {
+            "not all that is over is let go"
         }
     )?;
     Ok(())

@@ -1,8 +1,8 @@
 //! A transfer between two accounts.
 
 use mvo_disk::Disk;
-use mvo_engine::{Gate, Run, Session};
-use mvo_types::{Answer, Refusal, Row, RowKey, Stamp};
+use mvo_engine::{Gate, Run, Session, Transaction};
+use mvo_types::{Answer, Refusal, Row, RowKey};
 use std::alloc::{AllocError, Global};
 use std::sync::Wait;
 
@@ -11,6 +11,9 @@ pub const ACCOUNTS: u64 = 100;
 
 /// What each account has at the start.
 pub const START: u64 = 1_000;
+
+/// How often a transfer is tried at most.
+pub const TIMES: u32 = 1_000_000;
 
 /// Where an account stands.
 pub fn key_of(account: u64) -> RowKey {
@@ -33,49 +36,33 @@ pub fn money_in(row: &Row) -> u64 {
     }
 }
 
-/// Whether the transaction came to nothing since another was in its way, and may be tried again.
-fn may_retry(refusal: Refusal) -> bool {
-    matches!(
-        refusal,
-        Refusal::WriteConflict(_) | Refusal::ValidationFailed(_) | Refusal::DependencyAborted(_)
-    )
+/// A transfer: from one account to another, so much, if it is there.
+#[derive(Drop)]
+pub struct Transfer {
+    pub alloc: Global,
+    pub from: u64,
+    pub to: u64,
+    pub amount: u64,
 }
 
-/// Moves an amount from one account to another, if it is there, in a transaction that is tried
-/// again until none is in its way. Answers the end timestamp of its commit.
-pub fn transfer<L: Run, D: Disk, G: Gate + Drop, R: Wait>(
-    rt: &R,
-    alloc: Global,
-    session: &mut Session<'_, L, D, G>,
-    from: u64,
-    to: u64,
-    amount: u64,
-) -> Result<Stamp, Refusal> {
-    for _ in rt.forever() {
-        match try_transfer(rt, alloc, session, from, to, amount) {
-            Err(refusal) if may_retry(refusal) => {}
-            result => return result,
+impl<L: Run, D: Disk, G: Gate + Drop> Transaction<bool, L, D, G> for Transfer {
+    fn run<R: Wait>(&self, rt: &R, session: &mut Session<'_, L, D, G>) -> Result<bool, Refusal> {
+        let have = money(rt, session, self.from)?;
+        let others = money(rt, session, self.to)?;
+        if self.from == self.to || have < self.amount {
+            return Ok(false);
         }
+        let alloc = self.alloc;
+        session.update(
+            rt,
+            row_of(alloc, self.from, have.saturating_sub(self.amount))?,
+        )?;
+        session.update(
+            rt,
+            row_of(alloc, self.to, others.saturating_add(self.amount))?,
+        )?;
+        Ok(true)
     }
-    unreachable!()
-}
-
-fn try_transfer<L: Run, D: Disk, G: Gate + Drop, R: Wait>(
-    rt: &R,
-    alloc: Global,
-    session: &mut Session<'_, L, D, G>,
-    from: u64,
-    to: u64,
-    amount: u64,
-) -> Result<Stamp, Refusal> {
-    session.begin_tx(rt)?;
-    let have = money(rt, session, from)?;
-    let others = money(rt, session, to)?;
-    if from != to && have >= amount {
-        session.update(rt, row_of(alloc, from, have.saturating_sub(amount))?)?;
-        session.update(rt, row_of(alloc, to, others.saturating_add(amount))?)?;
-    }
-    session.commit_tx(rt)
 }
 
 /// What an account has.

@@ -9,7 +9,7 @@ use Rattle.mvo_types.specs.declared.row.RowKey.{RowKey}
 use Rattle.mvo_types.specs.Keys.{key_cmp}
 use Rattle.mvo_types.proofs.Maps.{keys_total}
 use Rattle.mvo_ckpt.specs.Writes.{Stamped, is_at, is_written, last_writes, record_of, gone_at}
-use Rattle.mvo_ckpt.specs.Places.{PlaceMap, number_of}
+use Rattle.mvo_places.specs.Places.{PlaceMap, number_of}
 use Rattle.mvo_ckpt.specs.Walk.{Walk, none_met, meet, walk}
 use Rattle.mvo_ckpt.proofs.Lasts.{key_at}
 

@@ -22,7 +22,7 @@ use Rattle.mvo_pair.specs.Data.{EntryData, entry_cmp}
 use Rattle.mvo_pair.specs.Files.{IsEntry}
 use Rattle.mvo_ckpt.specs.Writes.{Stamped, stamped, writes_in, writes_of, is_written, last_writes, record_of, records_of}
 use Rattle.mvo_ckpt.specs.Laws.{GivesEntries}
-use Rattle.mvo_ckpt.proofs.Members.{Among, among_append, among_map, among_mapped, among_filter_mapped, all_among, all_from, Rises, rises_from}
+use Rattle.mvo_places.proofs.Members.{Among, among_append, among_map, among_mapped, among_filter_mapped, all_among, all_from, Rises, rises_from}
 use Rattle.mvo_ckpt.proofs.Lasts.{key_at}
 
 -- ---- writes in order

@@ -7,8 +7,9 @@ use Rattle.mvo_types.specs.Write.Effect.{Put, Delete}
 use Rattle.mvo_pair.specs.Data.{EntryData}
 use Rattle.mvo_ckpt.specs.Writes.{Stamped, writes_of, is_at, is_written, last_writes, later_of, last_write, record_of, records_of}
 use Rattle.mvo_ckpt.specs.Laws.{AreLastPuts}
-use Rattle.mvo_ckpt.proofs.Members.{Among, among_from, contains_from, among_filter_map, among_filter_mapped}
-use Rattle.mvo_ckpt.proofs.Lasts.{key_at, key_same, eq_self}
+use Rattle.mvo_places.proofs.Members.{Among, among_from, contains_from, among_filter_map, among_filter_mapped}
+use Rattle.mvo_places.proofs.Keys.{key_same, eq_self}
+use Rattle.mvo_ckpt.proofs.Lasts.{key_at}
 use Rattle.mvo_ckpt.proofs.Rows.{last_some, none_some}
 
 last_among : (ws : List Stamped) (w : Stamped) → Among (last_writes ws) w → last_write ws (key_at w) ≡ Some w

@@ -1,16 +1,11 @@
-pub mod Placing
 pub mod Walked
-pub mod Members
 pub mod Lasts
 pub mod AllMet
-pub mod Held
 pub mod Parts
 pub mod Rows
-pub mod Distinct
 pub mod Staying
 pub mod Naming
 pub mod InOrder
 pub mod Few
 pub mod LastPuts
-pub mod Growing
 pub mod Taking

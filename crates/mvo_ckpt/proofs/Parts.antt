@@ -1,6 +1,7 @@
 -- The numbers in each data file, of the places of the written keys.
 use Rattle.std.proofs.Common.{◌≡◌, inl, inr, ℕ, ◌/◌, ◌%◌, ◌<◌, Bool, true, false, cond, List, [], ◌∷◌, ◌++◌, length, Option, None, Some, refl, sym, ap, subst, ◌∙◌, arith}
 use Rattle.std.specs.Prelude.{map, filter, nat_eq, ◌==◌}
+use Rattle.std.specs.Prelude.{reverse}
 use Rattle.std.specs.List.{AllByRecursion, IsDistinct, filter_map, cons_option}
 use Rattle.std.specs.Option.{option_map}
 use Rattle.std.specs.FinMap.{get}
@@ -9,24 +10,23 @@ use Rattle.std.proofs.lemmas.Bool.{eqb-true, eq-eqb, ne_eqb}
 use Rattle.std.proofs.lemmas.List.Concat.{flat_map-cons}
 use Rattle.std.proofs.lemmas.List.Sorted.{Contains-permutation, IsPermutation-sym, IsPermutation-trans, IsPermutation-reverse}
 use Rattle.std.proofs.lemmas.Map.Keys.{IsDistinct-IsPermutation, IsStrictlyIncreasing-from_distinct}
-use Rattle.std.specs.Prelude.{reverse}
 use Rattle.std.proofs.lemmas.Bool.Decides.{nat_tests}
 use Rattle.mvo_types.specs.declared.row.RowKey.{RowKey}
 use Rattle.mvo_types.specs.declared.limits.TheConstants.{MAX_PAIR_RECORDS}
 use Rattle.mvo_group.specs.Data.{GroupData}
-use Rattle.mvo_pair.specs.Data.{Numbered}
+use Rattle.mvo_pair.specs.Data.{Numbered, key_of}
 use Rattle.mvo_pair.specs.declared.pair.Pair.{Pair}
-use Rattle.mvo_image.specs.Rows.{key_of}
-use Rattle.mvo_ckpt.specs.declared.place.Place.{Place}
+use Rattle.mvo_places.specs.declared.place.Place.{Place}
 use Rattle.mvo_ckpt.specs.Writes.{Stamped, is_at, writes_of, is_written, last_writes}
-use Rattle.mvo_ckpt.specs.Places.{PlaceMap, place, number_of, AreSmall, Rise, ArePlaces}
+use Rattle.mvo_places.specs.Places.{PlaceMap, place, number_of, AreSmall, Rise, ArePlaces}
 use Rattle.mvo_ckpt.specs.Checkpoint.{DeltaData}
 use Rattle.mvo_ckpt.specs.Ended.{ended, delta_by, deltas_of}
 use Rattle.mvo_ckpt.specs.Walk.{part_of, deltas_by}
-use Rattle.mvo_ckpt.proofs.Members.{Among, among_from, contains_from, among_map, among_mapped, among_filter, among_filtered, among_filter_map, among_filter_mapped, among_any, any_among, all_among, all_from, Rises, rises_from, rises_filter, same_rising}
-use Rattle.mvo_ckpt.proofs.Lasts.{eq, key_at, key_same, eq_self, written_last, last_distinct}
+use Rattle.mvo_places.proofs.Members.{Among, among_from, contains_from, among_map, among_mapped, among_filter, among_filtered, among_filter_map, among_filter_mapped, among_any, any_among, all_among, all_from, Rises, rises_from, rises_filter, same_rising}
+use Rattle.mvo_places.proofs.Keys.{eq, key_same, eq_self}
+use Rattle.mvo_ckpt.proofs.Lasts.{key_at, written_last, last_distinct}
 use Rattle.mvo_ckpt.proofs.AllMet.{number_at}
-use Rattle.mvo_ckpt.proofs.Held.{Zips, zips_once, zips_all, numbers_in, at_live, live_at, number_once}
+use Rattle.mvo_places.proofs.Held.{Zips, zips_once, zips_all, numbers_in, at_live, live_at, number_once}
 
 -- ---- numbers of one file
 

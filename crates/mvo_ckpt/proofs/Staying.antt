@@ -10,14 +10,14 @@ use Rattle.mvo_types.specs.declared.row.RowKey.{RowKey}
 use Rattle.mvo_types.specs.Write.{Effect}
 use Rattle.mvo_types.specs.Write.Effect.{Put, Delete}
 use Rattle.mvo_group.specs.Data.{GroupData}
-use Rattle.mvo_pair.specs.Data.{EntryData, Numbered}
-use Rattle.mvo_image.specs.Rows.{key_of, keys_of}
+use Rattle.mvo_pair.specs.Data.{EntryData, Numbered, key_of, keys_of}
 use Rattle.mvo_ckpt.specs.Writes.{Stamped, writes_of, is_at, is_written, last_writes, record_of, records_of}
 use Rattle.mvo_ckpt.specs.Ended.{left_in, lives_after}
 use Rattle.mvo_ckpt.specs.Laws.{StaysApart}
-use Rattle.mvo_ckpt.proofs.Members.{Among, among_map, among_filtered, among_filter_mapped, among_mapped, among_any, all_among, all_from}
-use Rattle.mvo_ckpt.proofs.Lasts.{eq, key_at, key_same, eq_self, written_last, last_distinct}
-use Rattle.mvo_ckpt.proofs.Distinct.{distinct_append, distinct_filter}
+use Rattle.mvo_places.proofs.Members.{Among, among_map, among_filtered, among_filter_mapped, among_mapped, among_any, all_among, all_from}
+use Rattle.mvo_places.proofs.Keys.{eq, key_same, eq_self}
+use Rattle.mvo_ckpt.proofs.Lasts.{key_at, written_last, last_distinct}
+use Rattle.mvo_places.proofs.Distinct.{distinct_append, distinct_filter}
 
 abbrev unwritten : List GroupData → RowKey → Bool
 unwritten gs k = not (is_written (writes_of gs) k)

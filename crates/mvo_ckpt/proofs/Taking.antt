@@ -1,13 +1,11 @@
 -- The places after a checkpoint is taken over.
-use Rattle.std.proofs.Common.{◌≡◌, inl, inr, ℕ, ◌+◌, Bool, true, false, cond, List, [], ◌∷◌, ◌++◌, length, Option, None, Some, refl, sym, ap, subst, ◌∙◌, arith, ◌<◌, take, get_or, add-one, length-append, length-take}
-use Rattle.std.specs.Prelude.{map, filter, not, ◌||◌}
-use Rattle.std.specs.List.{AllByRecursion, IsDistinct, enumerate_from, filter_map, list_any}
-use Rattle.std.specs.FinMap.{find, get, get-from_entries, get-insert, get-remove, from_entries, insert, remove, same_map}
+use Rattle.std.proofs.Common.{◌≡◌, ℕ, ◌+◌, Bool, true, false, cond, List, [], ◌∷◌, ◌++◌, length, Option, None, Some, refl, sym, ap, subst, ◌∙◌, arith, length-append}
+use Rattle.std.specs.Prelude.{map, filter, not}
+use Rattle.std.specs.List.{AllByRecursion, IsDistinct, enumerate_from, list_any}
+use Rattle.std.specs.FinMap.{find, get, get-from_entries, from_entries, same_map}
 use Rattle.std.proofs.lemmas.Bool.{false_from_ne_true}
-use Rattle.std.proofs.Math.Seq.{take-suc}
 use Rattle.std.proofs.lemmas.List.{length-map}
 use Rattle.std.proofs.lemmas.List.Elements.{filter-append}
-use Rattle.std.proofs.lemmas.Grind.{fold-append}
 use Rattle.mvo_types.specs.declared.row.RowKey.{RowKey}
 use Rattle.mvo_types.specs.Keys.{key_cmp}
 use Rattle.mvo_types.specs.Write.{Effect}
@@ -15,101 +13,22 @@ use Rattle.mvo_types.specs.Write.Effect.{Put, Delete}
 use Rattle.mvo_types.specs.RowData.{row_with}
 use Rattle.mvo_types.proofs.Maps.{keys_total, exact_keys}
 use Rattle.mvo_group.specs.Data.{GroupData}
-use Rattle.mvo_pair.specs.Data.{EntryData, Numbered}
+use Rattle.mvo_pair.specs.Data.{EntryData, Numbered, key_of}
 use Rattle.mvo_pair.specs.declared.pair.Pair.{Pair}
-use Rattle.mvo_image.specs.Rows.{key_of}
-use Rattle.mvo_ckpt.specs.declared.place.Place.{Place}
+use Rattle.mvo_places.specs.declared.place.Place.{Place}
 use Rattle.mvo_ckpt.specs.Writes.{Stamped, writes_of, is_at, is_written, last_writes, record_of, gone_at, records_of, gone_of}
-use Rattle.mvo_ckpt.specs.Places.{PlaceMap, place, places_in, places_of, file_of, Rise, ArePlaces, with_live, without_keys, taken_over}
+use Rattle.mvo_places.specs.Places.{PlaceMap, place, places_in, places_of, file_of, Rise, without_keys, taken_over}
 use Rattle.mvo_ckpt.specs.Ended.{left_in, lives_after}
 use Rattle.mvo_ckpt.specs.Laws.{PlacesTakenOver}
-use Rattle.mvo_ckpt.proofs.Members.{Among, among_map, among_mapped, among_filter_map, among_filter_mapped, among_any, any_among, all_among, Rises, rises_from, increasing_from}
-use Rattle.mvo_ckpt.proofs.Lasts.{eq, key_at, key_same, eq_self, eq_flips, written_last, last_distinct}
-use Rattle.mvo_ckpt.proofs.Held.{Entries, first_of, found_among, keys-places_in, numbers_in}
-use Rattle.mvo_ckpt.proofs.Rows.{or_else, find_append, find_failing}
+use Rattle.mvo_places.proofs.Members.{Among, among_map, among_filter_map, among_filter_mapped, among_any, any_among, rises_from, increasing_from}
+use Rattle.mvo_places.proofs.Keys.{eq, key_same, eq_self}
+use Rattle.mvo_ckpt.proofs.Lasts.{key_at, written_last, last_distinct}
+use Rattle.mvo_places.proofs.Held.{Entries, first_of, keys-places_in, numbers_in}
+use Rattle.mvo_places.proofs.Finding.{or_else, find_append, find_failing}
 use Rattle.mvo_ckpt.proofs.Staying.{entry_key, keys_numbered, entries_differ, record_written, stays_apart}
-use Rattle.mvo_ckpt.proofs.Naming.{counted_rise, rise_filter}
-use Rattle.mvo_ckpt.proofs.Growing.{places-push, rise-push}
-
--- ---- one more record
-
-pub enumerated-push : (n : ℕ) (es : List EntryData) (e : EntryData) → enumerate_from n (es ++ e ∷ []) ≡ enumerate_from n es ++ (n + length es, e) ∷ []
-enumerated-push n [] e = ap (λ (k : ℕ). (k, e) ∷ enumerate_from (n + 1) []) (omega arith)
-enumerated-push n (x ∷ es) e =
-    let same : n + 1 + length es ≡ n + length (x ∷ es) = omega arith in
-    ap (λ (ls : List Numbered). (n, x) ∷ ls) (enumerated-push (n + 1) es e)
-    ∙ ap (λ (k : ℕ). (n, x) ∷ (enumerate_from (n + 1) es ++ (k, e) ∷ [])) same
-
--- its place goes in last
-one_more : (file : ℕ) (es : List EntryData) (e : EntryData) (at : PlaceMap) → with_live file (enumerate_from 0 (es ++ e ∷ [])) at ≡ insert (with_live file (enumerate_from 0 es) at) e.row.key (place file (length es))
-one_more file es e at =
-    let count : 0 + length es ≡ length es = omega arith in
-    ap (λ (ls : List Numbered). with_live file ls at) (enumerated-push 0 es e ∙ ap (λ (k : ℕ). enumerate_from 0 es ++ (k, e) ∷ []) count)
-    ∙ fold-append (λ (m : PlaceMap) (l : Numbered). insert m (key_of l) (place file l.0)) at (enumerate_from 0 es) ((length es, e) ∷ [])
-
--- a loop over the records goes on
-pub took : (file : ℕ) (es : List EntryData) (n : ℕ) (e : EntryData) (at before after : PlaceMap) → n < length es → e ≡ get_or es n e → before ≡ with_live file (enumerate_from 0 (take n es)) at → after ≡ insert before e.row.key (place file n) → after ≡ with_live file (enumerate_from 0 (take (n + 1) es)) at
-took file es n e at before after below is held put =
-    let many : length (take n es) ≡ n = omega (arith, length-take n es, below) in
-    let longer : take (n + 1) es ≡ take n es ++ e ∷ [] = ap (λ k. take k es) (add-one n) ∙ take-suc es n e below ∙ ap (λ (x : EntryData). take n es ++ x ∷ []) (sym is) in
-    put
-    ∙ ap (λ (m : PlaceMap). insert m e.row.key (place file n)) held
-    ∙ ap (λ (k : ℕ). insert (with_live file (enumerate_from 0 (take n es)) at) e.row.key (place file k)) (sym many)
-    ∙ sym (one_more file (take n es) e at)
-    ∙ ap (λ (xs : List EntryData). with_live file (enumerate_from 0 xs) at) (sym longer)
-
--- ---- looking up
-
-pub found_none : (es : Entries) (k : RowKey) → ((v : Place) → Among es (k, v) → ⊥) → find key_cmp k es ≡ None
-found_none es k absent = go (find key_cmp k es) refl
-  where
-    go : (o : Option Place) → find key_cmp k es ≡ o → o ≡ None
-    go None is = refl
-    go (Some v) is = absurd (absent v (found_among es k v is))
-
-pub there_found : (es : Entries) (k : RowKey) → Among (map first_of es) k → find key_cmp k es ≡ None → ⊥
-there_found [] k a none = a
-there_found (e ∷ es) k a none = go (eq k e.0) refl a none (there_found es k)
-  where
-    go : (b : Bool) → eq k e.0 ≡ b → Among (map first_of (e ∷ es)) k → cond b (Some e.1) (find key_cmp k es) ≡ None → (Among (map first_of es) k → find key_cmp k es ≡ None → ⊥) → ⊥
-    go true is at none later = absurd cc
-    go false is (inl same) none later =
-        let here : eq k e.0 ≡ true = ap (λ x. eq k x) same ∙ eq_self k in
-        let both : true ≡ false = sym here ∙ is in
-        absurd cc
-    go false is (inr a) none later = later a none
-
-get-without : (ks : List RowKey) (at : PlaceMap) (q : RowKey) → get (without_keys ks at) q ≡ cond (list_any (eq q) ks) None (get at q)
-get-without [] at q = refl
-get-without (k ∷ ks) at q =
-    get-without ks (remove at k) q
-    ∙ ap (λ (o : Option Place). cond (list_any (eq q) ks) None o) (get-remove keys_total at k q)
-    ∙ go (eq q k) (list_any (eq q) ks)
-  where
-    go : (b c : Bool) → cond c None (cond b None (get at q)) ≡ cond (b || c) None (get at q)
-    go true true = refl
-    go true false = refl
-    go false true = refl
-    go false false = refl
-
-pub get-with : (file : ℕ) (live : List Numbered) (at : PlaceMap) (q : RowKey) → IsDistinct eq (map key_of live) → get (with_live file live at) q ≡ or_else (find key_cmp q (places_in file live)) (get at q)
-unfolding IsDistinct
-get-with file [] at q differ = refl
-get-with file (l ∷ live) at q differ =
-    get-with file live (insert at (key_of l) (place file l.0)) q differ.1
-    ∙ ap (λ (o : Option Place). or_else (find key_cmp q (places_in file live)) o) (get-insert keys_total at (key_of l) (place file l.0) q)
-    ∙ go (eq q (key_of l)) refl
-  where
-    other : eq q (key_of l) ≡ true → find key_cmp q (places_in file live) ≡ None
-    other is = found_none (places_in file live) q (λ v a.
-        let there : Among (map key_of live) q = subst (λ (ks : List RowKey). Among ks q) (keys-places_in file live) (among_map first_of (places_in file live) (q, v) a) in
-        let apart : eq (key_of l) q ≡ false = all_among (λ y. eq (key_of l) y ≡ false) (map key_of live) q differ.0 there in
-        let both : true ≡ false = sym is ∙ eq_flips q (key_of l) ∙ apart in
-        absurd cc)
-
-    go : (b : Bool) → eq q (key_of l) ≡ b → or_else (find key_cmp q (places_in file live)) (cond b (Some (place file l.0)) (get at q)) ≡ or_else (cond b (Some (place file l.0)) (find key_cmp q (places_in file live))) (get at q)
-    go true is = ap (λ (o : Option Place). or_else o (Some (place file l.0))) (other is)
-    go false is = refl
+use Rattle.mvo_places.proofs.Rising.{counted_rise, rise_filter}
+use Rattle.mvo_places.proofs.Growing.{places-push, rise-push}
+use Rattle.mvo_places.proofs.Putting.{found_none, there_found, get-without, get-with}
 
 -- ---- the older pairs
 

@@ -5,7 +5,7 @@ use Rattle.std.proofs.lemmas.List.Concat.{flat_map-append, flat_map-cons}
 use Rattle.mvo_types.specs.Write.{Write}
 use Rattle.mvo_group.specs.Data.{RecordData, GroupData}
 use Rattle.mvo_ckpt.specs.Writes.{Stamped, stamped, writes_in, writes_of}
-use Rattle.mvo_ckpt.specs.Places.{PlaceMap}
+use Rattle.mvo_places.specs.Places.{PlaceMap}
 use Rattle.mvo_ckpt.specs.Walk.{Walk, step, walk}
 
 pub walk-append : (at : PlaceMap) (vs ws : List Stamped) (s : Walk) → walk at (vs ++ ws) s ≡ walk at vs (walk at ws s)

@@ -1,7 +1,6 @@
 -- The laws of a checkpoint.
-use Rattle.std.specs.Prelude.{◌≡◌, ◌↔◌, ℕ, ◌<◌, ◌≤◌, List, [], ◌∷◌, ◌++◌, length, map, All, Some, Ok, nat_eq}
+use Rattle.std.specs.Prelude.{◌≡◌, ◌↔◌, ℕ, ◌≤◌, List, [], ◌∷◌, ◌++◌, length, map, Some, nat_eq}
 use Rattle.std.specs.List.{Contains, IsDistinct}
-use Rattle.std.specs.FinMap.{empty}
 use Rattle.mvo_types.specs.declared.limits.TheConstants.{MAX_PAIR_RECORDS}
 use Rattle.mvo_types.specs.RowData.{content_of}
 use Rattle.mvo_types.specs.Write.Effect.{Put}
@@ -9,13 +8,12 @@ use Rattle.mvo_group.specs.Data.{GroupData}
 use Rattle.mvo_format.specs.declared.format.Format.{Format}
 use Rattle.mvo_frame.specs.declared.kind.Kind.{Kind}
 use Rattle.mvo_frame.specs.Frames.{IsSegment, mark_after}
-use Rattle.mvo_pair.specs.Data.{EntryData, Numbered, live_of}
+use Rattle.mvo_pair.specs.Data.{EntryData, Numbered, live_of, AreApart}
 use Rattle.mvo_pair.specs.Files.{AreEntries, AreNumbers}
-use Rattle.mvo_pair.specs.Loading.{LoadsAs}
 use Rattle.mvo_pair.specs.declared.pair.Pair.{Pair}
-use Rattle.mvo_image.specs.Rows.{AreApart, rows_of, after_groups}
+use Rattle.mvo_image.specs.Rows.{rows_of, after_groups}
 use Rattle.mvo_ckpt.specs.Writes.{writes_of, last_write, records_of, gone_of}
-use Rattle.mvo_ckpt.specs.Places.{PlaceMap, Rise, ArePlaces, file_of, with_live, taken_over}
+use Rattle.mvo_places.specs.Places.{PlaceMap, ArePlaces, file_of, taken_over}
 use Rattle.mvo_ckpt.specs.Ended.{ended, left_in, lives_after}
 
 -- The rows of the live records after a checkpoint are those before, after the groups.
@@ -56,22 +54,6 @@ AreLastPuts = (gs : List GroupData) (e : EntryData) → Contains (records_of gs)
     (last_write (writes_of gs) e.row.key ≡ Some (e.begin, (e.row.key, Put (content_of e.row))))
 
 -- ---- places
-
--- The numbers of the live records of a pair rise, and lie below its count.
-abbrev pub LiveNumbersRise : Type 0
-LiveNumbersRise = (f : Format) (p : Pair) (data_bytes delta : List ℕ) (live : List Numbered) →
-    LoadsAs f p data_bytes delta (Ok live) → Rise live × All (λ l. l.0 < p.records) live
-
--- Without pairs there are no places.
-abbrev pub NoPlaces : Type 0
-NoPlaces = ArePlaces [] [] empty
-
--- The places of one more pair's live records go beside those of the others.
-abbrev pub PlacesGrow : Type 0
-PlacesGrow = (ps : List Pair) (lives : List (List Numbered)) (at : PlaceMap) (p : Pair)
-    (live : List Numbered) → ArePlaces ps lives at →
-    IsDistinct nat_eq (map file_of (ps ++ p ∷ [])) → AreApart (lives ++ live ∷ []) → Rise live →
-    ArePlaces (ps ++ p ∷ []) (lives ++ live ∷ []) (with_live p.data_file live at)
 
 -- Where a checkpoint's records and removed keys are taken over, each live record that it leaves has
 -- its place: those of the older pairs, whose data files stay, and behind them those of the new one.

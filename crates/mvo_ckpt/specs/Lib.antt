@@ -1,6 +1,5 @@
 pub mod Writes
 pub mod Checkpoint
-pub mod Places
 pub mod Ended
 pub mod Walk
 pub mod Laws

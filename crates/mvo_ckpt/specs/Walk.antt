@@ -10,7 +10,7 @@ use Rattle.mvo_pair.specs.Data.{EntryData}
 use Rattle.mvo_pair.specs.declared.pair.Pair.{Pair}
 use Rattle.mvo_ckpt.specs.declared.newest.Newest.{Newest}
 use Rattle.mvo_ckpt.specs.Writes.{Stamped, record_of, gone_at}
-use Rattle.mvo_ckpt.specs.Places.{PlaceMap, number_of}
+use Rattle.mvo_places.specs.Places.{PlaceMap, number_of}
 use Rattle.mvo_ckpt.specs.Checkpoint.{DeltaData}
 use Rattle.mvo_ckpt.specs.Ended.{delta_by}
 

@@ -2,15 +2,15 @@
 ghost use Rattle.std.specs.Prelude.{◌≡◌, ◌++◌, IfOk, OnOk, List};
 ghost use Rattle.mvo_pair.specs.Data.{Numbered};
 ghost use Rattle.mvo_ckpt.specs.Writes.{records_of, gone_of};
-ghost use Rattle.mvo_ckpt.specs.Places.{ArePlaces};
+ghost use Rattle.mvo_places.specs.Places.{ArePlaces};
 ghost use Rattle.mvo_ckpt.specs.Ended.{delta_by, deltas_of};
 ghost use Rattle.mvo_ckpt.specs.Walk.{part_of, deltas_by};
 
 use crate::checkpoint::{Checkpoint, DeltaEntries};
 use crate::newest::{Newest, no_writes, take_groups};
-use crate::places::Places;
 use mvo_group::Group;
 use mvo_pair::Pair;
+use mvo_places::Places;
 use mvo_types::MAX_PAIR_RECORDS;
 use std::alloc::{AllocError, Global};
 

@@ -6,11 +6,7 @@ mod building;
 mod checkpoint;
 mod laws;
 mod newest;
-mod place;
-mod places;
 
 pub use building::build;
 pub use checkpoint::{Checkpoint, DeltaEntries};
 pub use laws::laws_of_checkpoint;
-pub use place::Place;
-pub use places::Places;

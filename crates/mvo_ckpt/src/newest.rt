@@ -4,10 +4,10 @@ ghost use Rattle.mvo_group.specs.Data.{write_data};
 ghost use Rattle.mvo_ckpt.specs.Writes.{stamped, writes_in, writes_of};
 ghost use Rattle.mvo_ckpt.specs.Walk.{walk_of, none_met, with_place, with_write, step, walk};
 
-use crate::places::Places;
 use mvo_group::{Group, Record, Write};
 use mvo_hash::Heads;
 use mvo_pair::Entry;
+use mvo_places::Places;
 use mvo_types::{RowKey, Stamp};
 use std::alloc::{AllocError, Global};
 

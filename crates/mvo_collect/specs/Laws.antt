@@ -7,7 +7,6 @@ use Rattle.mvo_types.specs.declared.ids.Stamp.{Stamp}
 use Rattle.mvo_types.specs.RowData.{RowData}
 use Rattle.mvo_types.specs.Keys.{Map}
 use Rattle.mvo_model.specs.Trace.{Step}
-use Rattle.mvo_theory.specs.Entries as theory
 use Rattle.mvo_theory.specs.State.{State, ActiveTx, active_of, opened}
 use Rattle.mvo_theory.specs.Ranges.{shows, is_row_of}
 use Rattle.mvo_theory.specs.Sound.{IsLegal}
@@ -25,7 +24,8 @@ use Rattle.mvo_visible.specs.Versions.{versions_at}
 use Rattle.mvo_visible.specs.Changes.{changes_of}
 use Rattle.mvo_visible.specs.Shown.{shown_to}
 use Rattle.mvo_visible.specs.declared.outcome.Shown.{Shown}
-use Rattle.mvo_validate.specs.declared.entry.Entry.{Entry}
+use Rattle.mvo_types.specs.declared.entry.Entry.{Entry}
+use Rattle.mvo_types.specs.declared.entry.Entry.TheVariants.{Range}
 use Rattle.mvo_validate.specs.Between.{stamp_between}
 use Rattle.mvo_validate.specs.Entries.{versions_in}
 use Rattle.mvo_word.specs.declared.held.Held.TheVariants.{At, Infinity}
@@ -230,9 +230,9 @@ pub record AnswersSame (s : State) (states : States) (old new : VersionsData) (r
       (changes_of states (versions_in old.slots old.lists old.places entry))
   pub met : (table lo hi : ℕ) (q : RowKey)
       → is_met (ends_of (phases_of states)) s.start r.id
-      (is_row_of (shows (theory.Entry.Range table lo hi)) q) (all_versions new.slots)
+      (is_row_of (shows (Range table lo hi)) q) (all_versions new.slots)
       ≡ is_met (ends_of (phases_of states)) s.start r.id
-      (is_row_of (shows (theory.Entry.Range table lo hi)) q) (all_versions old.slots)
+      (is_row_of (shows (Range table lo hi)) q) (all_versions old.slots)
 
 abbrev pub CollectAnswersSame : Type 0
 CollectAnswersSame = (opening : Map) (steps : List Step) (s : State) (states : States)

@@ -9,8 +9,9 @@ use Rattle.mvo_types.specs.declared.refusal.Refusal.TheVariants.{BadTable, TooMa
 use Rattle.mvo_types.specs.AnswerData.{AnswerData}
 use Rattle.mvo_types.specs.AnswerData.AnswerData.{Updated, Deleted}
 use Rattle.mvo_types.specs.RowData.{RowData}
-use Rattle.mvo_theory.specs.Entries.Entry.{Key}
-use Rattle.mvo_theory.specs.Causes.{when, first_cause, is_write_too_many}
+use Rattle.mvo_types.specs.declared.entry.Entry.TheVariants.{Key}
+use Rattle.mvo_types.specs.Causes.{when, first_cause}
+use Rattle.mvo_theory.specs.Causes.{is_write_too_many}
 use Rattle.mvo_txn.specs.Txns.{Txns, state_of, IsUnended}
 use Rattle.mvo_deps.specs.declared.node.Node.{Node}
 use Rattle.mvo_work.specs.History.{key_written}

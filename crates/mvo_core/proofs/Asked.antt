@@ -13,10 +13,11 @@ use Rattle.mvo_types.specs.declared.limits.TheConstants.{MAX_TABLE, MAX_DATA_LEN
 use Rattle.mvo_types.specs.declared.op.Op.TheVariants.{Insert}
 use Rattle.mvo_types.specs.AnswerData.{AnswerData}
 use Rattle.mvo_types.specs.AnswerData.AnswerData.{Inserted}
-use Rattle.mvo_theory.specs.Entries.{Entry}
-use Rattle.mvo_theory.specs.Entries.Entry.{Key}
+use Rattle.mvo_types.specs.declared.entry.Entry.{Entry}
+use Rattle.mvo_types.specs.declared.entry.Entry.TheVariants.{Key}
 use Rattle.mvo_theory.specs.Limits.{IsRow}
-use Rattle.mvo_theory.specs.Causes.{when, or_next, first_cause, is_failure, is_write_too_many}
+use Rattle.mvo_types.specs.Causes.{when, or_next, first_cause}
+use Rattle.mvo_theory.specs.Causes.{is_failure, is_write_too_many}
 use Rattle.mvo_work.specs.History.{key_written}
 use Rattle.mvo_work.specs.Limits.{MayFollow}
 use Rattle.mvo_txn.specs.declared.seat.Seat.{Seat}

@@ -10,11 +10,12 @@ use Rattle.mvo_types.specs.declared.refusal.Refusal.TheVariants.{NoSuchTransacti
 use Rattle.mvo_types.specs.RowData.{RowData}
 use Rattle.mvo_types.specs.Keys.{Map}
 use Rattle.mvo_model.specs.Trace.{Phase, Step}
-use Rattle.mvo_theory.specs.Entries.{Entry}
-use Rattle.mvo_theory.specs.Entries.Entry.{Key, Range}
+use Rattle.mvo_types.specs.declared.entry.Entry.{Entry}
+use Rattle.mvo_types.specs.declared.entry.Entry.TheVariants.{Key, Range}
 use Rattle.mvo_theory.specs.State.{State, active_of, preparing_of, history_of_active}
 use Rattle.mvo_theory.specs.Phases.{is_absent, is_active, is_preparing, is_ended}
-use Rattle.mvo_theory.specs.Causes.{when, or_next, first_cause, flagged, flag_of_active, flag_of_preparing, unless_active, unless_preparing, is_entry_too_many, is_write_too_many, why_not_read, why_not_scan, why_not_insert, why_not_update, why_not_delete, why_not_rollback, conflict, conflicts}
+use Rattle.mvo_types.specs.Causes.{when, or_next, first_cause}
+use Rattle.mvo_theory.specs.Causes.{flagged, flag_of_active, flag_of_preparing, unless_active, unless_preparing, is_entry_too_many, is_write_too_many, why_not_read, why_not_scan, why_not_insert, why_not_update, why_not_delete, why_not_rollback, conflict, conflicts}
 use Rattle.mvo_theory.proofs.Cases.{found_is}
 use Rattle.mvo_theory.proofs.Who.{active_holds}
 use Rattle.mvo_txn.specs.declared.state.TxState.{TxState}

@@ -11,7 +11,8 @@ use Rattle.mvo_types.specs.declared.refusal.Refusal.TheVariants.{NotValidated}
 use Rattle.mvo_types.specs.Keys.{Map}
 use Rattle.mvo_model.specs.Trace.{Step}
 use Rattle.mvo_theory.specs.State.{State, StampedTx, preparing_of}
-use Rattle.mvo_theory.specs.Causes.{when, was_valid, why_not_settle, awaited, end_at, end_of}
+use Rattle.mvo_types.specs.Causes.{when}
+use Rattle.mvo_theory.specs.Causes.{was_valid, why_not_settle, awaited, end_at, end_of}
 use Rattle.mvo_theory.specs.Changes.{with_settled, after_commit}
 use Rattle.mvo_theory.specs.Steps.{after_commit_of, after_commit_now, after_settle_unless, after_settle}
 use Rattle.mvo_theory.specs.Calls.{IsRefusal, MayCome, steps_unless}

@@ -12,7 +12,8 @@ use Rattle.mvo_types.specs.declared.refusal.Refusal.TheVariants.{ClockSpent, Out
 use Rattle.mvo_types.specs.Keys.{Map}
 use Rattle.mvo_model.specs.Trace.{Step}
 use Rattle.mvo_theory.specs.State.{State, ActiveTx, active_of}
-use Rattle.mvo_theory.specs.Causes.{when, why_not_precommit}
+use Rattle.mvo_types.specs.Causes.{when}
+use Rattle.mvo_theory.specs.Causes.{why_not_precommit}
 use Rattle.mvo_theory.specs.Changes.{to_stamped, after_prepare}
 use Rattle.mvo_theory.specs.Steps.{after_precommit_of, after_precommit}
 use Rattle.mvo_theory.specs.Calls.{IsRefusal, MayCome}

@@ -8,7 +8,8 @@ use Rattle.mvo_types.specs.declared.refusal.Refusal.TheVariants.{NoSuchTransacti
 use Rattle.mvo_types.specs.Keys.{Map}
 use Rattle.mvo_model.specs.Trace.{Step}
 use Rattle.mvo_theory.specs.State.{State, preparing_of}
-use Rattle.mvo_theory.specs.Causes.{when, or_next, first_cause, unless_active, unless_preparing, next_differs, was_valid, why_not_precommit, why_not_validate, why_not_settle}
+use Rattle.mvo_types.specs.Causes.{when, or_next, first_cause}
+use Rattle.mvo_theory.specs.Causes.{unless_active, unless_preparing, next_differs, was_valid, why_not_precommit, why_not_validate, why_not_settle}
 use Rattle.mvo_txn.specs.declared.state.TxState.{TxState}
 use Rattle.mvo_txn.specs.declared.state.TxState.TheVariants.{Active, Preparing, Committed, Aborted}
 use Rattle.std.specs.Prelude.{nat_le}

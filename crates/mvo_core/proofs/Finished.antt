@@ -9,7 +9,8 @@ use Rattle.mvo_types.specs.declared.refusal.Refusal.TheVariants.{NoSuchTransacti
 use Rattle.mvo_model.specs.Trace.{Step}
 use Rattle.mvo_theory.specs.State.{State, EndedTx, ended_of, is_ended_as}
 use Rattle.mvo_theory.specs.Phases.{is_absent, is_active, is_preparing}
-use Rattle.mvo_theory.specs.Causes.{when, first_cause, why_not_finish}
+use Rattle.mvo_types.specs.Causes.{when, first_cause}
+use Rattle.mvo_theory.specs.Causes.{why_not_finish}
 use Rattle.mvo_theory.specs.Words.{is_done, words_left}
 use Rattle.mvo_theory.specs.Changes as changes
 use Rattle.mvo_theory.specs.Changes.{with_words, after_termination}

@@ -17,7 +17,8 @@ use Rattle.mvo_theory.specs.State.{State, Marks}
 use Rattle.mvo_theory.specs.Marks.{IsClosedAt, low_water}
 use Rattle.mvo_theory.specs.Groups.{IsNextGroup}
 use Rattle.mvo_theory.specs.Changes.{after_close}
-use Rattle.mvo_theory.specs.Causes.{when, first_cause, why_not_close}
+use Rattle.mvo_types.specs.Causes.{when, first_cause}
+use Rattle.mvo_theory.specs.Causes.{why_not_close}
 use Rattle.mvo_theory.specs.Calls.{IsRefusal}
 use Rattle.mvo_theory.proofs.Finishing.{kept_closed}
 use Rattle.mvo_theory.proofs.Groups.{closed_at_low, closed_below_low, next_group_closes}

@@ -9,7 +9,7 @@ use Rattle.mvo_types.specs.RowData.{RowData, content_of, row_with}
 use Rattle.mvo_types.specs.Keys.{Map, row_at}
 use Rattle.mvo_model.specs.Trace.{Step}
 use Rattle.mvo_theory.specs.Entries.{entry_of}
-use Rattle.mvo_theory.specs.Entries.Entry.{Key}
+use Rattle.mvo_types.specs.declared.entry.Entry.TheVariants.{Key}
 use Rattle.mvo_theory.specs.State.{State, ActiveTx, active_of, snapshot}
 use Rattle.mvo_theory.proofs.Who.{id_of, active_holds}
 use Rattle.mvo_chain.specs.declared.version.Version.{Version}

@@ -10,7 +10,7 @@ use Rattle.mvo_types.specs.AnswerData.AnswerData.{Found}
 use Rattle.mvo_types.specs.RowData.{RowData}
 use Rattle.mvo_types.specs.Keys.{Map, row_at}
 use Rattle.mvo_model.specs.Trace.{Step}
-use Rattle.mvo_theory.specs.Entries.Entry.{Key}
+use Rattle.mvo_types.specs.declared.entry.Entry.TheVariants.{Key}
 use Rattle.mvo_theory.specs.State.{State, snapshot}
 use Rattle.mvo_theory.specs.Causes.{why_not_do}
 use Rattle.mvo_theory.specs.Steps.{after_refusal, steps_of_refusal}

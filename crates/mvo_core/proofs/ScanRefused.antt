@@ -6,7 +6,7 @@ use Rattle.mvo_types.specs.declared.refusal.Refusal.{Refusal}
 use Rattle.mvo_types.specs.declared.refusal.Refusal.TheVariants.{OutOfMemory}
 use Rattle.mvo_types.specs.Keys.{Map}
 use Rattle.mvo_model.specs.Trace.{Step}
-use Rattle.mvo_theory.specs.Entries.Entry.{Range}
+use Rattle.mvo_types.specs.declared.entry.Entry.TheVariants.{Range}
 use Rattle.mvo_theory.specs.State.{State}
 use Rattle.mvo_theory.specs.Causes.{why_not_do}
 use Rattle.mvo_theory.specs.Steps.{after_refusal, steps_of_refusal}

@@ -10,7 +10,8 @@ use Rattle.mvo_model.specs.Trace.{Step}
 use Rattle.mvo_theory.specs.State.{State, Marks}
 use Rattle.mvo_theory.specs.Phases.{phase_in}
 use Rattle.mvo_theory.specs.Marks.{oldest_begin, low_water}
-use Rattle.mvo_theory.specs.Causes.{when, first_cause, is_trim, why_not_trim}
+use Rattle.mvo_types.specs.Causes.{when, first_cause}
+use Rattle.mvo_theory.specs.Causes.{is_trim, why_not_trim}
 use Rattle.mvo_theory.specs.Changes.{is_to, after_trim}
 use Rattle.mvo_theory.specs.Calls.{IsKept, IsRefusal}
 use Rattle.mvo_theory.specs.Calls.Call.{Trim}

@@ -12,7 +12,8 @@ use Rattle.mvo_types.specs.AnswerData.AnswerData.{Updated, Absent}
 use Rattle.mvo_types.specs.Keys.{Map}
 use Rattle.mvo_model.specs.Trace.{Step}
 use Rattle.mvo_theory.specs.State.{State, active_of}
-use Rattle.mvo_theory.specs.Causes.{why_not_do, conflict, conflicts, or_next}
+use Rattle.mvo_types.specs.Causes.{or_next}
+use Rattle.mvo_theory.specs.Causes.{why_not_do, conflict, conflicts}
 use Rattle.mvo_theory.specs.Steps.{after_refusal, steps_of_refusal}
 use Rattle.mvo_theory.specs.Calls.{answer_in}
 use Rattle.mvo_theory.specs.Calls.Call.{Do}

@@ -9,8 +9,8 @@ use Rattle.mvo_types.specs.declared.refusal.Refusal.{Refusal}
 use Rattle.mvo_types.specs.declared.refusal.Refusal.TheVariants.{ValidationFailed}
 use Rattle.mvo_types.specs.Keys.{Map}
 use Rattle.mvo_model.specs.Trace.{Step}
-use Rattle.mvo_theory.specs.Entries.{Entry, entries}
-use Rattle.mvo_theory.specs.Entries.Entry.{Key, Range}
+use Rattle.mvo_types.specs.declared.entry.Entry.{Entry}
+use Rattle.mvo_theory.specs.Entries.{entries}
 use Rattle.mvo_theory.specs.State.{State, StampedTx, preparing_of}
 use Rattle.mvo_theory.specs.Causes.{next_differs, entry_differs, differs, change_of, why_not_validate}
 use Rattle.mvo_theory.specs.Changes.{with_check, after_check}
@@ -26,14 +26,13 @@ use Rattle.mvo_representation.specs.Order.{AllStandInOrder}
 use Rattle.mvo_representation.specs.WordLists.{HasWordLists}
 use Rattle.mvo_representation.proofs.Facts.{found_holds}
 use Rattle.mvo_representation.proofs.Unsettled.{alone, found_itself, some_same}
-use Rattle.mvo_work.specs.History.{entry_as}
 use Rattle.mvo_core.specs.declared.transaction.Transaction.{Transaction}
 use Rattle.mvo_core.specs.declared.answers.Validation.TheVariants as validation
 use Rattle.mvo_core.specs.Data.{CoreData, own_of}
 use Rattle.mvo_core.specs.Own.{is_own_valid, own_entry, own_check, is_last_check, checked_as}
 use Rattle.mvo_core.specs.Standing.{StandsFor, IsActive, IsPreparing, words_in}
 use Rattle.mvo_core.specs.Causes.{why_not_preparing, flag_of}
-use Rattle.mvo_core.specs.Checking.{entry_from, change_between, change_for}
+use Rattle.mvo_core.specs.Checking.{change_between, change_for}
 use Rattle.mvo_core.specs.Aborting.{IsGivenUp}
 use Rattle.mvo_core.specs.Keeping.{IsWritten, IsCounted}
 use Rattle.mvo_core.specs.Steps.{LeadsOn}
@@ -46,10 +45,6 @@ use Rattle.mvo_core.proofs.KeptTale.{tale_checked}
 use Rattle.mvo_core.proofs.Undone.{IsKeptOfPreparing, kept_of_preparing}
 
 -- ---- what is found, and what is refused
-entry_back : (e : Entry) → entry_as (entry_from e) ≡ e
-entry_back (Key k) = refl
-entry_back (Range table lo hi) = refl
-
 failed_by : (o : Option Stamp) → differs (option_map (λ stamp. stamp.0) o) ≡ option_map ValidationFailed o
 failed_by None = refl
 failed_by (Some stamp) = refl
@@ -76,9 +71,8 @@ module _ (opening : Map) (steps : List Step) (s : State) (c : CoreData) (h : Sta
     named_at : (o : Option Entry) → differs (change_between (state_of c.table) c.versions t e.0 o) ≡ entry_differs s.stamped x o
     named_at None = refl
     named_at (Some entry) =
-        ap differs (change_named opening steps s (state_of c.table) c.versions.slots c.versions.lists c.versions.places t e.0 (entry_from entry) h.versions
+        ap differs (change_named opening steps s (state_of c.table) c.versions.slots c.versions.lists c.versions.places t e.0 entry h.versions
         (subst (λ (n : ℕ). s.start ≤ n) begins.1 begins.0) (subst (λ (n : ℕ). t < n) ends (subst (λ (n : ℕ). n < x.end) begins.1 begun))
-        ∙ ap (change_of s.stamped t e.0) (entry_back entry)
         ∙ ap (λ (n : ℕ). change_of s.stamped n e.0 entry) (sym begins.1)
         ∙ ap (λ (n : ℕ). change_of s.stamped x.id n entry) (sym ends))
 

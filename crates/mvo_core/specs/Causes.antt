@@ -6,9 +6,10 @@ use Rattle.mvo_types.specs.declared.row.RowKey.{RowKey}
 use Rattle.mvo_types.specs.declared.refusal.Refusal.{Refusal}
 use Rattle.mvo_types.specs.declared.refusal.Refusal.TheVariants.{NoSuchTransaction, Ended, NotActive, NotPreparing, DependencyAborted, TooManyWrites, TooManyReads, DataTooLong, BadTable}
 use Rattle.mvo_types.specs.RowData.{RowData}
-use Rattle.mvo_theory.specs.Entries.{Entry}
-use Rattle.mvo_theory.specs.Entries.Entry.{Key}
-use Rattle.mvo_theory.specs.Causes.{when, first_cause, is_entry_too_many, is_write_too_many}
+use Rattle.mvo_types.specs.declared.entry.Entry.{Entry}
+use Rattle.mvo_types.specs.declared.entry.Entry.TheVariants.{Key}
+use Rattle.mvo_types.specs.Causes.{when, first_cause}
+use Rattle.mvo_theory.specs.Causes.{is_entry_too_many, is_write_too_many}
 use Rattle.mvo_txn.specs.declared.state.TxState.{TxState}
 use Rattle.mvo_txn.specs.declared.state.TxState.TheVariants.{Active, Preparing, Committed, Aborted}
 use Rattle.mvo_txn.specs.Txns.{Txns, state_of}

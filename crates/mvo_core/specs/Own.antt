@@ -1,7 +1,8 @@
 -- What is told of what is kept of a transaction, if something is.
 use Rattle.std.specs.Prelude.{ℕ, ◌+◌, nat_le, length, Bool, false, if◌then◌else◌, slice_get, [], Option, None, Some}
 use Rattle.mvo_model.specs.History.{History}
-use Rattle.mvo_theory.specs.Entries.{Entry, entries}
+use Rattle.mvo_types.specs.declared.entry.Entry.{Entry}
+use Rattle.mvo_theory.specs.Entries.{entries}
 use Rattle.mvo_core.specs.declared.transaction.Transaction.{Transaction}
 use Rattle.mvo_core.specs.declared.answers.Validation.{Validation}
 use Rattle.mvo_core.specs.declared.answers.Validation.TheVariants.{More, Valid}

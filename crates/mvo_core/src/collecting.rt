@@ -6,7 +6,7 @@ ghost use Rattle.mvo_work.specs.declared.word_place.WordPlace.{WordPlace as Word
 ghost use Rattle.mvo_core.specs.Collecting.{is_open_end_at, counted_off};
 ghost use Rattle.mvo_core.specs.Standing.{words_in};
 
-use crate::ending::{number_of, word_at, word_count};
+use crate::ending::{number_of, word_at};
 use crate::engine::Core;
 use crate::transaction::Table;
 use mvo_chain::VersionNo;
@@ -67,15 +67,17 @@ pub fn owe_end(waiting: &mut Waiting, is_open: bool)
     }
 }
 
-/// What the transaction has ended waits behind the others, with the end that it draws.
-pub fn await_ends(waiting: &mut Waiting, table: &Table, tx: TxId, end: Stamp)
-    requires { length (words_in table.now tx.0) ≤ waiting.old.ended_room }
+/// What the transaction has ended waits behind the others, with the end that it draws. It has so
+/// many words.
+pub fn await_ends(waiting: &mut Waiting, table: &Table, tx: TxId, count: usize, end: Stamp)
+    requires counted { count ≡ length (words_in table.now tx.0) }
+    requires room { length (words_in table.now tx.0) ≤ waiting.old.ended_room }
     ensures { waiting.new ≡ record waiting.old {
       ended = waiting.old.ended ++ waiting_drawn end (end_numbers (words_in table.now tx.0));
       ended_room = waiting.new.ended_room;
     } }
 {
-    for place in 0..word_count(table, tx) {
+    for place in 0..count {
         if let Some(word) = word_at(table, tx, place) {
             await_end(waiting, word, end);
         }

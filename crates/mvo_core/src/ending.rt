@@ -7,7 +7,6 @@ ghost use Rattle.mvo_theory.specs.Limits.{AreLimited};
 ghost use Rattle.mvo_txn.specs.Txns.{state_of};
 ghost use Rattle.mvo_chain.specs.Slots.{version_at};
 ghost use Rattle.mvo_visible.specs.Shown.{AllHaveFallingStamps};
-ghost use Rattle.mvo_work.specs.History.{entry_as};
 ghost use Rattle.mvo_representation.specs.Words.{ends_of, stamp_in};
 ghost use Rattle.mvo_representation.specs.Table.{phases_of};
 ghost use Rattle.mvo_representation.specs.Order.{is_put_by};
@@ -25,13 +24,13 @@ use crate::answers::{Settlement, Validation};
 use crate::collecting::await_ends;
 use crate::engine::Core;
 use crate::refusing::{is_failure, not_active, not_preparing, not_undone};
-use crate::transaction::Table;
+use crate::transaction::{Table, Transaction};
 use mvo_chain::VersionNo;
 use mvo_deps::{report_abort, report_commit, waiting_for};
 use mvo_tale::{Tale, TaleEntry};
 use mvo_txn::TxState;
-use mvo_types::{MAX_STAMP, Refusal, Stamp, TxId};
-use mvo_validate::{Check, Entry};
+use mvo_types::{Entry, MAX_STAMP, Refusal, Stamp, TxId};
+use mvo_validate::Check;
 use mvo_versions::Versions;
 use mvo_visible::{Seen, names, seen_by_others};
 use mvo_word::Word;
@@ -59,12 +58,12 @@ impl Core {
             return Err(Refusal::ClockSpent);
         }
         let end = Stamp(clock + 1);
-        self.waiting
-            .make_room_for_ended(word_count(&self.table, tx))?;
+        let count = word_count(&self.table, tx);
+        self.waiting.make_room_for_ended(count)?;
         let place = self.tale.open(end)?;
-        bring_forward(&mut self.versions, &self.table, tx);
+        bring_forward(&mut self.versions, &self.table, tx, count);
         keep_place(&mut self.table, tx, place);
-        await_ends(&mut self.waiting, &self.table, tx, end);
+        await_ends(&mut self.waiting, &self.table, tx, count, end);
         self.table.prepare(tx)
     }
 
@@ -198,13 +197,10 @@ fn keep_place(table: &mut Table, tx: TxId, place: usize)
 }
 
 /// The next entry to check, if one is left.
-fn next_entry(table: &Table, tx: TxId) -> Option<Entry>
-    ensures { option_map entry_as result ≡ own_entry (own_of table.now tx.0) }
+fn next_entry(own: &Transaction) -> Option<Entry>
+    ensures { result ≡ own_entry (Some own.now) }
 {
-    match table.get(tx) {
-        Some(seat) => seat.kept.own.work.entry_at(seat.kept.own.checked),
-        None => None,
-    }
+    own.work.entry_at(own.checked)
 }
 
 /// The greatest stamp of a change to the next entry of a Preparing transaction, between its begin
@@ -215,10 +211,12 @@ fn next_change(versions: &Versions, table: &Table, tx: TxId) -> Option<Stamp>
         option_map (λ stamp. stamp.0) result ≡
         change_for (states tx.0) states versions.now tx.0 (own_entry (own_of table.now tx.0)) }
 {
-    let Some(TxState::Preparing(end)) = table.state(tx) else {
+    let seat = table.get(tx)?;
+    let TxState::Preparing(end) = seat.state else {
         return None;
     };
-    change_in(versions, table, Stamp(tx.0), end, next_entry(table, tx)?)
+    let entry = next_entry(&seat.kept.own)?;
+    change_in(versions, table, Stamp(tx.0), end, entry)
 }
 
 /// The greatest stamp of a change to the entry between the begin and the end, where the versions
@@ -233,7 +231,7 @@ fn change_in(
     ensures { let states = state_of table.now in
         AllHaveFallingStamps states versions.now.slots versions.now.lists →
         option_map (λ stamp. stamp.0) result ≡
-        change_between states versions.now begin.0 end.0 (Some (entry_as entry)) }
+        change_between states versions.now begin.0 end.0 (Some entry) }
 {
     match versions.check(table, begin, end, entry) {
         Check::Same => None,
@@ -279,7 +277,7 @@ pub fn word_at(table: &Table, tx: TxId, place: usize) -> Option<WordPlace>
 }
 
 /// How many words the transaction's list has.
-pub fn word_count(table: &Table, tx: TxId) -> usize
+fn word_count(table: &Table, tx: TxId) -> usize
     ensures { result ≡ length (words_in table.now tx.0) }
 {
     match table.get(tx) {
@@ -289,12 +287,13 @@ pub fn word_count(table: &Table, tx: TxId) -> usize
 }
 
 /// Brings to the front of their keys what the transaction put, and what it ended whose put has no
-/// stamp, in the order of writing.
-fn bring_forward(versions: &mut Versions, table: &Table, tx: TxId)
+/// stamp, in the order of writing. It has so many words.
+fn bring_forward(versions: &mut Versions, table: &Table, tx: TxId, count: usize)
+    requires { count ≡ length (words_in table.now tx.0) }
     ensures { AreInFront (comes_at_draw (state_of table.now) tx.0) versions.old versions.new
         (words_in table.now tx.0) }
 {
-    for place in 0..word_count(table, tx) {
+    for place in 0..count {
         if let Some(word) = word_at(table, tx, place) {
             bring_unstamped(versions, table, tx, number_of(word));
         }

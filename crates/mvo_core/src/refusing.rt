@@ -1,17 +1,16 @@
 //! Why a call is refused: the first of its refusals whose cause stands.
-ghost use Rattle.std.specs.Prelude.{◌≡◌};
+ghost use Rattle.std.specs.Prelude.{◌≡◌, Some};
 ghost use Rattle.mvo_theory.specs.Causes.{is_failure};
-ghost use Rattle.mvo_work.specs.History.{entry_as};
 ghost use Rattle.mvo_core.specs.Causes.{why_not_active, why_not_preparing, why_not_look};
 ghost use Rattle.mvo_core.specs.Causes.{why_not_put, why_not_remove, why_not_undo};
 ghost use Rattle.mvo_core.specs.Causes.{flag_refusal, is_entry_over, is_write_over};
+ghost use Rattle.mvo_core.specs.Causes.{unless_active_as};
 ghost use Rattle.mvo_txn.specs.Txns.{state_of};
 
-use crate::transaction::Table;
-use mvo_deps::Dependencies;
-use mvo_txn::TxState;
-use mvo_types::{MAX_DATA_LEN, MAX_TABLE, Refusal, Row, RowKey, TxId};
-use mvo_validate::Entry;
+use crate::transaction::{Table, Transaction};
+use mvo_deps::{Dependencies, Node};
+use mvo_txn::{Seat, TxState};
+use mvo_types::{Entry, MAX_DATA_LEN, MAX_TABLE, Refusal, Row, RowKey, TxId};
 
 /// The refusal by the flag, if it is set.
 fn flagged(dependencies: &Dependencies) -> Option<Refusal>
@@ -30,6 +29,14 @@ pub fn not_active(table: &Table, tx: TxId) -> Option<Refusal>
     let Some(seat) = table.get(tx) else {
         return Some(Refusal::NoSuchTransaction);
     };
+    not_active_in(seat)
+}
+
+/// The same of one that is unfinished.
+fn not_active_in(seat: &Seat<Node<Transaction>>) -> Option<Refusal>
+    ensures { result ≡
+        unless_active_as (Some seat.now.state) seat.now.kept.dependencies.aborted }
+{
     match seat.state {
         TxState::Active => flagged(&seat.kept.dependencies),
         TxState::Preparing(_) => Some(Refusal::NotActive),
@@ -68,7 +75,7 @@ pub fn not_undone(table: &Table, tx: TxId) -> Option<Refusal>
 
 /// Whether one more entry is too many for the transaction.
 fn is_entry_too_many(table: &Table, tx: TxId, entry: Entry) -> bool
-    ensures { result ≡ is_entry_over table.now tx.0 (entry_as entry) }
+    ensures { result ≡ is_entry_over table.now tx.0 entry }
 {
     match table.get(tx) {
         Some(seat) => seat.kept.own.work.is_entry_too_many(entry),
@@ -88,15 +95,18 @@ fn is_write_too_many(table: &Table, tx: TxId, key: RowKey) -> bool
 
 /// Why the transaction may not look at the entry, which is of this table.
 pub fn not_looked(table: &Table, tx: TxId, of: u8, entry: Entry) -> Option<Refusal>
-    ensures { result ≡ why_not_look table.now tx.0 of (entry_as entry) }
+    ensures { result ≡ why_not_look table.now tx.0 of entry }
 {
-    if let Some(refusal) = not_active(table, tx) {
+    let Some(seat) = table.get(tx) else {
+        return Some(Refusal::NoSuchTransaction);
+    };
+    if let Some(refusal) = not_active_in(seat) {
         return Some(refusal);
     }
     if of > MAX_TABLE {
         return Some(Refusal::BadTable);
     }
-    if is_entry_too_many(table, tx, entry) {
+    if seat.kept.own.work.is_entry_too_many(entry) {
         return Some(Refusal::TooManyReads);
     }
     None

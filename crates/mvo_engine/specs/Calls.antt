@@ -11,6 +11,7 @@ use Rattle.mvo_theory.specs.State.{State}
 use Rattle.mvo_theory.specs.Calls.{Call}
 use Rattle.mvo_theory.specs.Causes.{is_failure, why_not_close}
 use Rattle.mvo_core.specs.declared.answers.Closed.{Closed}
+use Rattle.mvo_core.specs.Data.{CoreData}
 use Rattle.mvo_core.specs.Standing.{StandsFor}
 use Rattle.mvo_core.specs.Steps.{IsStep}
 use Rattle.mvo_core.specs.Closing.{IsClosedNow, IsNotClosed}
@@ -19,15 +20,14 @@ use Rattle.mvo_store.specs.Causes.{why_not_take}
 use Rattle.mvo_store.specs.Calls.{StoreCall, IsStoreStep}
 use Rattle.mvo_store.specs.Calls.StoreCall.{Take, AppendOpen}
 use Rattle.mvo_engine.specs.declared.run.TheConstants.{MAX_SESSIONS}
-use Rattle.mvo_engine.specs.States.{CoreState, StoreState}
+use Rattle.mvo_engine.specs.States.{CoreState, SendsState, StoreState}
 
 -- a step of the core that closes no group
 pub record IsCoreStep {A : Type 0} (old : CoreState) (call : Call) (result : Result A Refusal)
     (new : CoreState) : Type 0 where
   pub step : IsStep old.core call result new.core
-  pub sent : new.sent ≡ old.sent
+  pub sends : new.sends ≡ old.sends
   pub made : new.made ≡ old.made
-  pub raised : new.raised ≡ old.raised
 
 -- one session more was made; or none, as many were made as may be
 abbrev pub IsAnother : {A : Type 0} → CoreState → Option A → CoreState → Type 0
@@ -37,19 +37,26 @@ IsAnother old None new = (MAX_SESSIONS ≤ old.made) × (new ≡ old)
 
 -- The next group is sent, and the closed mark raised to its mark; or none, by the first cause that
 -- stands, and else for want of memory. Whether the ring is full is what the closing saw of it.
-abbrev pub HasSent : Map → List Step → State → CoreState → Result Closed Refusal → CoreState
-    → Type 0
-HasSent rows steps s old (Ok c) new =
+abbrev pub HasSent : Map → List Step → State → SendsState → Result Closed Refusal → CoreData
+    → SendsState → Type 0
+HasSent rows steps s old (Ok c) core new =
     (why_not_close s false ≡ None)
-    × ((g : GroupData) × (new.sent ≡ old.sent ++ g ∷ []) × IsClosedNow rows steps s c new.core g)
+    × ((g : GroupData) × (new.sent ≡ old.sent ++ g ∷ []) × IsClosedNow rows steps s c core g)
     × (c.mark.0 ≤ new.raised)
-HasSent rows steps s old (Err r) new =
-    (new.sent ≡ old.sent) × ((full : Bool) × IsNotClosed rows steps s full r new.core)
+HasSent rows steps s old (Err r) core new =
+    (new.sent ≡ old.sent) × ((full : Bool) × IsNotClosed rows steps s full r core)
     × (new.raised ≡ old.raised)
 
-abbrev pub IsSending : CoreState → Result Closed Refusal → CoreState → Type 0
-IsSending old result new = (rows : Map) (steps : List Step) (s : State)
-    → StandsFor rows steps s old.core → HasSent rows steps s old result new
+abbrev pub IsSending : CoreData → SendsState → Result Closed Refusal → CoreData → SendsState
+    → Type 0
+IsSending core old result core' new = (rows : Map) (steps : List Step) (s : State)
+    → StandsFor rows steps s core → HasSent rows steps s old result core' new
+
+-- so it is for what lies under the lock, and no session is made
+pub record IsCoreSending (old : CoreState) (result : Result Closed Refusal) (new : CoreState)
+    : Type 0 where
+  pub sending : IsSending old.core old.sends result new.core new.sends
+  pub made : new.made ≡ old.made
 
 -- a step of the store with which no group is received and no mark is published
 pub record IsQuietStep {D A : Type 0} (d : Ghosts D) (old : StoreState D) (call : StoreCall)
@@ -112,3 +119,8 @@ tx_after tx (Err r) = if is_failure r then None else tx
 abbrev pub tx_ended : {A : Type 0} → Option ℕ → Result A Refusal → Option ℕ
 tx_ended tx (Ok a) = None
 tx_ended tx (Err r) = if is_failure r then None else tx
+
+-- Refused with Busy where it has a transaction, which stays; and else it has none, whatever came
+abbrev pub IsTransacted : {A : Type 0} → Option ℕ → Result A Refusal → Option ℕ → Type 0
+IsTransacted (Some t) result after = (result ≡ Err Busy) × (after ≡ Some t)
+IsTransacted None result after = after ≡ None

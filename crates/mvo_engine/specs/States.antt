@@ -4,13 +4,16 @@ use Rattle.mvo_group.specs.Data.{GroupData}
 use Rattle.mvo_core.specs.Data.{CoreData}
 use Rattle.mvo_store.specs.StoreData.{StoreData}
 
--- The core, the groups that were sent so far, how many sessions were made, and up to where the
--- closed mark was seen to be raised.
+-- the groups that were sent so far, and up to where the closed mark was seen to be raised
+pub record SendsState : Type 0 where
+  pub sent : List GroupData
+  pub raised : ℕ
+
+-- the core, where it closes its groups, and how many sessions were made
 pub record CoreState : Type 0 where
   pub core : CoreData
-  pub sent : List GroupData
+  pub sends : SendsState
   pub made : ℕ
-  pub raised : ℕ
 
 -- the store, the groups that were received so far, and the mark that was published last
 pub record StoreState (D : Type 0) : Type 0 where

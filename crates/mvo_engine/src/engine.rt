@@ -7,6 +7,7 @@ use crate::locked_core::LockedCore;
 use crate::locked_store::LockedStore;
 use crate::place::Place;
 use crate::run::Run;
+use crate::sends::Sends;
 use crate::session::Session;
 use crate::store_guard::StoreGuard;
 use mvo_disk::Disk;
@@ -70,7 +71,7 @@ impl<L: Run, D: Disk, G: Gate + Drop> Engine<L, D, G> {
         Engine {
             gate,
             marks,
-            core: Mutex::new(LockedCore::new(core, producer, seat)),
+            core: Mutex::new(LockedCore::new(core, Sends::new(producer, seat))),
             store: Mutex::new(LockedStore::new(store, consumer, publisher)),
         }
     }

@@ -12,8 +12,10 @@ mod locked_core;
 mod locked_store;
 mod place;
 mod run;
+mod sends;
 mod session;
 mod store_guard;
+mod transaction;
 
 pub use chain::Chain;
 pub use core_guard::CoreGuard;
@@ -24,3 +26,4 @@ pub use place::Place;
 pub use run::{MAX_SESSIONS, Run};
 pub use session::Session;
 pub use store_guard::StoreGuard;
+pub use transaction::Transaction;

@@ -1,45 +1,34 @@
-use crate::chain::Chain;
 use crate::run::{MAX_SESSIONS, Run};
+use crate::sends::Sends;
 use mvo_core::{Closed, Collection, Core, Finishing, Settlement, Tale, Validation};
-use mvo_group::Group;
 use mvo_marks::{Marks, Seat};
 use mvo_types::{Answer, Refusal, Row, RowKey, Stamp, TxId};
-use rtrb::Producer;
-use std::alloc::Global;
-use std::marker::{Model, PhantomData};
+use std::marker::Model;
 
-/// What lies under the lock of the core: the core, the end of the ring into which it closes groups,
-/// and the seat from which those of sessions are split.
+/// What lies under the lock of the core: the core, and where it closes its groups.
 ///
 /// The core stands for a state of the theory over the rows that the run opened with, and the groups
 /// that were sent hold its commits up to the mark of the last one (`IsSoundCore`).
 pub struct LockedCore<L: Run> {
     core: Core,
-    ring: Producer<Group, Global, Chain>,
-    seat: Seat,
+    sends: Sends<L>,
     /// How many sessions were made.
     made: u32,
-    run: PhantomData<L>,
 }
 
 impl<L: Run> Drop for LockedCore<L> {
     fn drop(self) {
         let LockedCore {
             core: _,
-            ring: _,
-            seat: _,
+            sends: _,
             made: _,
-            run: _,
         } = self;
     }
 }
 
 impl<L: Run> Model for LockedCore<L> {
-    ghost use Rattle.std.specs.Prelude.{◌≡◌, ◌≤◌};
     ghost use Rattle.std.specs.Coded.{codes};
     ghost use Rattle.mvo_core.specs.contracts.engine.Core.{the_row as core_row};
-    ghost use Rattle.rtrb.specs.Ring.{sent};
-    ghost use Rattle.mvo_engine.specs.Rings.{ring_of};
     ghost use Rattle.mvo_engine.specs.Sound.{IsSoundCore};
     ghost use Rattle.mvo_engine.specs.States.{CoreState};
 
@@ -47,15 +36,9 @@ impl<L: Run> Model for LockedCore<L> {
 
     ghost coded = { Prim.hlevel (codes, core_row.coded) };
 
-    ghost view = { λ s. record {
-      core = s.core;
-      sent = sent s.ring;
-      made = s.made;
-      raised = s.seat.known.closed;
-    } };
+    ghost view = { λ s. record { core = s.core; sends = s.sends; made = s.made } };
 
-    ghost invariant = { λ s. IsSoundCore L.image s.core (sent s.ring) ×
-        (s.seat.marks ≡ L.marks) × (ring_of s.ring ≡ L.ring) };
+    ghost invariant = { λ s. IsSoundCore L.image s.core s.sends.sent };
 }
 
 impl<L: Run> LockedCore<L> {
@@ -66,36 +49,29 @@ impl<L: Run> LockedCore<L> {
     ghost use Rattle.mvo_theory.specs.Calls.Call.{Rollback, Finish, Trim};
     ghost use Rattle.mvo_core.specs.Steps.{IsAnswered, IsValidation, IsSettlement, IsFinishing};
     ghost use Rattle.mvo_core.specs.Trimming.{HasForgotten};
-    ghost use Rattle.rtrb.specs.Ring.{sent};
-    ghost use Rattle.mvo_engine.specs.Rings.{ring_of};
     ghost use Rattle.mvo_engine.specs.Sound.{IsSoundCore};
     ghost use Rattle.mvo_engine.specs.Legal.{IsLegalCore};
-    ghost use Rattle.mvo_engine.specs.Calls.{IsCoreStep, IsSending, IsAnother};
+    ghost use Rattle.mvo_engine.specs.Calls.{IsCoreStep, IsCoreSending, IsAnother};
     ghost use Rattle.mvo_engine.specs.Collecting.{IsCoreCollection, HasCollectedUpTo};
 
-    /// A core with its end of the ring, of which no session was made.
-    pub fn new(core: Core, ring: Producer<Group, Global, Chain>, seat: Seat) -> LockedCore<L>
-        requires sound { IsSoundCore L.image core (sent ring) }
-        requires seat { seat.marks ≡ L.marks }
-        requires ring { ring_of ring ≡ L.ring }
+    /// A core with where it closes its groups, of which no session was made.
+    pub fn new(core: Core, sends: Sends<L>) -> LockedCore<L>
+        requires { IsSoundCore L.image core sends.sent }
         ensures core { result.core ≡ core }
-        ensures sent { result.sent ≡ sent ring }
+        ensures sends { result.sends ≡ sends }
         ensures made { result.made ≡ 0 }
-        ensures raised { result.raised ≡ seat.known.closed }
     {
         LockedCore {
             core,
-            ring,
-            seat,
+            sends,
             made: 0,
-            run: PhantomData,
         }
     }
 
     /// The timestamp that was drawn last, or the opening mark.
     pub fn clock(&self) -> Stamp
         ensures value { result.0 ≡ self.now.core.table.clock }
-        ensures legal { IsLegalCore L.image self.now.core self.now.sent }
+        ensures legal { IsLegalCore L.image self.now.core self.now.sends.sent }
     {
         self.core.clock()
     }
@@ -156,22 +132,16 @@ impl<L: Run> LockedCore<L> {
             return None;
         }
         self.made += 1;
-        Some(marks.split(&mut self.seat))
+        Some(self.sends.split(marks))
     }
 
     /// Closes the next group into the ring, as `Core::close_group` does, and raises the closed mark
     /// to that of the group.
     pub fn close_group(&mut self, marks: &Marks) -> Result<Closed, Refusal>
         requires { marks.now ≡ L.marks }
-        ensures { IsSending self.old result self.new }
+        ensures { IsCoreSending self.old result self.new }
     {
-        match self.core.close_group(&mut self.ring) {
-            Ok(closed) => {
-                marks.raise_closed(&mut self.seat, closed.mark);
-                Ok(closed)
-            }
-            Err(refusal) => Err(refusal),
-        }
+        self.sends.close_group(&mut self.core, marks)
     }
 
     /// As `Core::begin_tx`.

@@ -1,5 +1,6 @@
 mod committing;
 mod operating;
+mod transacting;
 
 use crate::engine::Engine;
 use crate::gate::Gate;

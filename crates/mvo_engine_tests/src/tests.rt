@@ -4,6 +4,8 @@ mod reads_free;
 mod rows;
 mod sessions;
 mod through;
+mod transacting;
+mod upkeep;
 
 use mvo_disk::MemDisk;
 use mvo_store::format;

@@ -2,9 +2,9 @@
 use Rattle.std.proofs.Common.{◌≡◌, ◌≢◌, ◌⊎◌, inl, inr, ℕ, ◌<◌, ◌^◌, Bool, true, false, cond, eqb, List, ◌++◌, Option, Some, None, Result, Ok, Err, eq-eqb, refl, sym, ap, subst, ◌∙◌, append_assoc, arith}
 use Rattle.std.proofs.lemmas.Bool.{eqb-true, ne_eqb}
 use Rattle.mvo_types.specs.declared.refusal.Refusal.TheVariants.{Corrupt, BadVersion}
-use Rattle.mvo_group.specs.Body.{field}
-use Rattle.mvo_group.specs.Reading.{◌>>=◌, number_at}
-use Rattle.mvo_group.proofs.Fields.{IsBytes, bind_some, some_is, Takes, Takes-then, number_takes, number_again}
+use Rattle.mvo_bytes.specs.Fields.{field}
+use Rattle.mvo_bytes.specs.Reading.{◌>>=◌, number_at}
+use Rattle.mvo_bytes.proofs.Fields.{IsBytes, bind_some, some_is, Takes, Takes-then, number_takes, number_again}
 use Rattle.mvo_format.specs.Found.{Found, header, IsOtherVersion, header_at, header_kept, header_found}
 
 header_takes : (bytes : List ℕ) (x : (ℕ × ℕ) × List ℕ) → IsBytes bytes → header_at bytes ≡ Some x → Takes bytes (header x.0.0 x.0.1) x.1 × (x.0.1 < 2 ^ 32)

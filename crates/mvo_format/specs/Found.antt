@@ -3,8 +3,8 @@ use Rattle.std.specs.Prelude.{◌≡◌, ◌≢◌, ◌⊎◌, ℕ, ◌<◌, ◌
 use Rattle.std.specs.Prelude.{Result, Ok, Err, ◌==◌, if◌then◌else◌}
 use Rattle.mvo_types.specs.declared.refusal.Refusal.{Refusal}
 use Rattle.mvo_types.specs.declared.refusal.Refusal.TheVariants.{Corrupt, BadVersion, OutOfMemory}
-use Rattle.mvo_group.specs.Body.{field}
-use Rattle.mvo_group.specs.Reading.{◌>>=◌, number_at}
+use Rattle.mvo_bytes.specs.Fields.{field}
+use Rattle.mvo_bytes.specs.Reading.{◌>>=◌, number_at}
 
 -- what the bytes hold, or how opening refuses them
 abbrev pub Found : Type 0 → Type 0

@@ -2,7 +2,7 @@
 ghost use Rattle.std.specs.Prelude.{◌≡◌};
 ghost use Rattle.mvo_format.specs.Found.{Finds, header_found};
 
-use crate::number::u32_at;
+use mvo_bytes::u32_at;
 use mvo_types::Refusal;
 
 /// The value of a gate that is open. Every other value is closed.

@@ -10,8 +10,9 @@ use Rattle.mvo_disk.specs.Torn.{torn_whole, torn_byte}
 use Rattle.mvo_disk.specs.Moments.{started, weaker}
 use Rattle.mvo_group.specs.Data.{GroupData}
 use Rattle.mvo_group.specs.Rules.{IsGroup}
-use Rattle.mvo_group.specs.Body.{field, body_of}
-use Rattle.mvo_group.proofs.Fields.{length-field}
+use Rattle.mvo_bytes.specs.Fields.{field}
+use Rattle.mvo_group.specs.Body.{body_of}
+use Rattle.mvo_bytes.proofs.Fields.{length-field}
 use Rattle.mvo_format.specs.declared.header.TheConstants.{OPEN, HEADER_LEN}
 use Rattle.mvo_format.specs.Found.{header}
 use Rattle.mvo_frame.specs.declared.magic.TheConstants.{MAGIC}

@@ -10,10 +10,12 @@ use Rattle.mvo_types.specs.Write.{Write, Effect}
 use Rattle.mvo_types.specs.Write.Effect.{Put, Delete}
 use Rattle.mvo_group.specs.Data.{RecordData, GroupData}
 use Rattle.mvo_group.specs.Rules.{sort_of, data_of, KeepsLimits, IsRecord, KeepsRules, HasWords, IsGroup}
-use Rattle.mvo_group.specs.Body.{field, bytes_at, write_bytes, record_bytes, body_of}
-use Rattle.mvo_group.specs.Reading.{◌>>=◌, number_at, data_at, put_at, effect_at, write_at, times, record_at, group_at}
-use Rattle.mvo_group.proofs.Fields.{IsBytes, IsBytes-drop, bind_some, guard_some, some_is, Takes, Takes-then, number_takes, number_again}
-use Rattle.mvo_group.proofs.Loop.{times_take, times_again}
+use Rattle.mvo_bytes.specs.Fields.{field}
+use Rattle.mvo_group.specs.Body.{bytes_at, write_bytes, record_bytes, body_of}
+use Rattle.mvo_bytes.specs.Reading.{◌>>=◌, number_at, data_at, times}
+use Rattle.mvo_group.specs.Reading.{put_at, effect_at, write_at, record_at, group_at}
+use Rattle.mvo_bytes.proofs.Fields.{IsBytes, IsBytes-drop, bind_some, guard_some, some_is, Takes, Takes-then, number_takes, number_again}
+use Rattle.mvo_bytes.proofs.Loop.{times_take, times_again}
 
 data_takes : (n : ℕ) (bytes : List ℕ) (x : List ℕ × List ℕ) → IsBytes bytes → data_at n bytes ≡ Some x → Takes bytes x.0 x.1 × (length x.0 ≡ n)
 unfolding data_at

@@ -1,5 +1,3 @@
-pub mod Fields
-pub mod Loop
 pub mod Orders
 pub mod Sizes
 pub mod Kept

@@ -13,7 +13,7 @@ use Rattle.mvo_group.specs.declared.write.Write.{Write as RustWrite}
 use Rattle.mvo_group.specs.Data.{RecordData, GroupData, write_data}
 use Rattle.mvo_group.specs.Rules.{data_of, effect_len, write_len, record_len, body_len, KeepsLimits, IsRecord}
 use Rattle.mvo_group.specs.Body.{bytes_at, write_bytes, record_bytes, body_of}
-use Rattle.mvo_group.proofs.Fields.{length-field}
+use Rattle.mvo_bytes.proofs.Fields.{length-field}
 
 sum_same : {X : Type 0} (f g : X → ℕ) → ((x : X) → f x ≡ g x) → (xs : List X) → sum_by f xs ≡ sum_by g xs
 sum_same f g same [] = refl

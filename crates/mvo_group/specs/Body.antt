@@ -1,16 +1,12 @@
 -- The bytes of a group.
 use Rattle.std.specs.Prelude.{ℕ, List, ◌∷◌, ◌++◌, length}
 use Rattle.std.specs.List.{flat_map}
-use Rattle.byteorder.specs.Endian.{little_bytes}
+use Rattle.mvo_bytes.specs.Fields.{field}
 use Rattle.mvo_types.specs.declared.row.RowKey.{RowKey}
 use Rattle.mvo_types.specs.Write.{Write, Effect}
 use Rattle.mvo_types.specs.Write.Effect.{Put, Delete}
 use Rattle.mvo_group.specs.declared.write.TheConstants.{PUT, DELETE}
 use Rattle.mvo_group.specs.Data.{RecordData, GroupData}
-
--- the number x in n bytes, the lowest first
-unfoldable pub field : ℕ → ℕ → List ℕ
-field n x = little_bytes n x
 
 -- the tag and the row of a put, the tag and the key of a delete
 abbrev pub bytes_at : RowKey → Effect → List ℕ

@@ -1,36 +1,11 @@
--- Reading from left to right: what stands at the front of some bytes, and the bytes after it.
-use Rattle.std.specs.Prelude.{◌≡◌, ℕ, zero, suc, List, [], ◌∷◌, length, take, drop, Option, Some, None, nat_lt, ◌==◌, if◌then◌else◌}
-use Rattle.std.specs.Borrow.{Bor}
-use Rattle.byteorder.specs.Endian.{little_number}
+-- Reading a group from left to right.
+use Rattle.std.specs.Prelude.{ℕ, List, length, Option, Some, None, ◌==◌, if◌then◌else◌}
+use Rattle.mvo_bytes.specs.Reading.{◌>>=◌, number_at, data_at, times}
 use Rattle.mvo_types.specs.RowData.{ContentData}
 use Rattle.mvo_types.specs.Write.{Write, Effect}
 use Rattle.mvo_types.specs.Write.Effect.{Put, Delete}
 use Rattle.mvo_group.specs.declared.write.TheConstants.{PUT, DELETE}
 use Rattle.mvo_group.specs.Data.{RecordData, GroupData, group_of}
-
-infixl 10 ◌>>=◌
-abbrev pub ◌>>=◌ : {A B : Type 0} → Option A → (A → Option B) → Option B
-(Some x) >>= f = f x
-None >>= f = None
-
--- what a function found, seen by view, is what reading gives
-abbrev pub Gives : {X Y : Type 0} → (X → Y) → Option X → Option Y → Type 0
-Gives view (Some x) read = read ≡ Some (view x)
-Gives view None read = read ≡ None
-
--- the same of a value and the bytes after it
-abbrev pub Reads : {X Y : Type 0} → (X → Y) → Option (X × Bor (List ℕ)) → Option (Y × List ℕ) →
-    Type 0
-Reads view found read = Gives (λ x. (view x.0, x.1.now)) found read
-
--- a number of n bytes
-unfoldable pub number_at : ℕ → List ℕ → Option (ℕ × List ℕ)
-number_at n bytes =
-    if nat_lt (length bytes) n then None else Some (little_number n bytes, drop n bytes)
-
--- n bytes
-unfoldable pub data_at : ℕ → List ℕ → Option (List ℕ × List ℕ)
-data_at n bytes = if nat_lt (length bytes) n then None else Some (take n bytes, drop n bytes)
 
 -- what a put holds
 unfoldable pub put_at : List ℕ → Option (ContentData × List ℕ)
@@ -54,15 +29,6 @@ write_at bytes = do
   key ← number_at 8 table.1
   effect ← effect_at tag.0 key.1
   Some ((record { table = table.0; key = key.0 }, effect.0), effect.1)
-
--- n of them, one after the other
-unfoldable pub times : {X : Type 0} → (List ℕ → Option (X × List ℕ)) → ℕ → List ℕ →
-    Option (List X × List ℕ)
-times one zero bytes = Some ([], bytes)
-times one (suc n) bytes = do
-  first ← one bytes
-  others ← times one n first.1
-  Some (first.0 ∷ others.0, others.1)
 
 unfoldable pub record_at : List ℕ → Option (RecordData × List ℕ)
 record_at bytes = do

@@ -1,45 +1,15 @@
 ghost use Rattle.std.specs.Prelude.{◌≡◌, List, length, map, IfOk, IfSome, Ok, Option, Some, None};
 ghost use Rattle.mvo_group.specs.Data.{write_data, group_of};
-ghost use Rattle.mvo_group.specs.Reading.{Gives, Reads, number_at, data_at, put_at, effect_at, write_at, times, record_at, group_at};
+ghost use Rattle.mvo_bytes.specs.Reading.{Gives, Reads, number_at, data_at, times};
+ghost use Rattle.mvo_group.specs.Reading.{put_at, effect_at, write_at, record_at, group_at};
 
 use crate::record::Record;
 use crate::write::{DELETE, PUT, Write};
-use byteorder::{ByteOrder, LittleEndian};
+use mvo_bytes::{u8_at, u16_at, u64_at};
 use mvo_types::{MAX_RECORDS, MAX_WRITES, Row, RowKey, Stamp};
 use std::alloc::{AllocError, Global};
 
-#[tactic(auto, unfolding(crate::specs::Reading::number_at))]
-fn u8_at(bytes: &[u8]) -> Option<(u8, &[u8])>
-    ensures { Reads (λ n. n) result (number_at 1 bytes.now) }
-{
-    if bytes.len() < 1 {
-        return None;
-    }
-    let (front, rest) = bytes.split_at(1);
-    Some((front[0], rest))
-}
-
-#[tactic(auto, unfolding(crate::specs::Reading::number_at))]
-fn u16_at(bytes: &[u8]) -> Option<(u16, &[u8])>
-    ensures { Reads (λ n. n) result (number_at 2 bytes.now) }
-{
-    if bytes.len() < 2 {
-        return None;
-    }
-    Some((LittleEndian::read_u16(bytes), &bytes[2..]))
-}
-
-#[tactic(auto, unfolding(crate::specs::Reading::number_at))]
-fn u64_at(bytes: &[u8]) -> Option<(u64, &[u8])>
-    ensures { Reads (λ n. n) result (number_at 8 bytes.now) }
-{
-    if bytes.len() < 8 {
-        return None;
-    }
-    Some((LittleEndian::read_u64(bytes), &bytes[8..]))
-}
-
-#[tactic(auto, unfolding(crate::specs::Reading::data_at))]
+#[tactic(auto, unfolding(mvo_bytes::specs::Reading::data_at))]
 fn data_of(len: u16, bytes: &[u8]) -> Option<(&[u8], &[u8])>
     ensures { Reads (λ d. d.now) result (data_at len bytes.now) }
 {

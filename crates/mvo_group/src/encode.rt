@@ -1,7 +1,8 @@
 ghost use Rattle.std.specs.Prelude.{◌≡◌, ◌++◌, ◌∷◌, ◌+◌, ◌<◌, ◌≤◌, ◌^◌, length, map, vec_capacity, All};
 ghost use Rattle.std.specs.List.{flat_map};
 ghost use Rattle.mvo_group.specs.Data.{write_data, group_of};
-ghost use Rattle.mvo_group.specs.Body.{field, write_bytes, record_bytes, body_of};
+ghost use Rattle.mvo_bytes.specs.Fields.{field};
+ghost use Rattle.mvo_group.specs.Body.{write_bytes, record_bytes, body_of};
 ghost use Rattle.mvo_group.specs.Rules.{KeepsLimits, IsRecord, KeepsRules, body_len};
 
 use crate::lengths::{BODY_HEADER_LEN, DELETE_LEN, PUT_HEADER_LEN, RECORD_HEADER_LEN};
@@ -10,7 +11,7 @@ use crate::write::{DELETE, PUT, Write};
 use byteorder::{ByteOrder, LittleEndian};
 use mvo_types::{Row, RowKey, Stamp};
 
-#[tactic(auto, unfolding(crate::specs::Body::field))]
+#[tactic(auto, unfolding(mvo_bytes::specs::Fields::field))]
 fn put_header(row: &Row) -> [u8; PUT_HEADER_LEN]
     requires { length row.now.bytes < 2 ^ 16 }
     ensures { result ≡ PUT ∷ row.now.key.table ∷ field 8 row.now.key.key
@@ -25,7 +26,7 @@ fn put_header(row: &Row) -> [u8; PUT_HEADER_LEN]
     header
 }
 
-#[tactic(auto, unfolding(crate::specs::Body::field))]
+#[tactic(auto, unfolding(mvo_bytes::specs::Fields::field))]
 fn delete_header(key: RowKey) -> [u8; DELETE_LEN]
     ensures { result ≡ DELETE ∷ key.table ∷ field 8 key.key }
 {
@@ -36,7 +37,7 @@ fn delete_header(key: RowKey) -> [u8; DELETE_LEN]
     header
 }
 
-#[tactic(auto, unfolding(crate::specs::Body::field))]
+#[tactic(auto, unfolding(mvo_bytes::specs::Fields::field))]
 fn record_header(end: Stamp, count: u16) -> [u8; RECORD_HEADER_LEN]
     ensures { result ≡ field 8 end.0 ++ field 2 count }
 {
@@ -46,7 +47,7 @@ fn record_header(end: Stamp, count: u16) -> [u8; RECORD_HEADER_LEN]
     header
 }
 
-#[tactic(auto, unfolding(crate::specs::Body::field))]
+#[tactic(auto, unfolding(mvo_bytes::specs::Fields::field))]
 fn group_header(prev: Stamp, mark: Stamp, count: u16) -> [u8; BODY_HEADER_LEN]
     ensures { result ≡ field 8 prev.0 ++ field 8 mark.0 ++ field 2 count }
 {

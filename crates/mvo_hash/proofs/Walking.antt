@@ -1,8 +1,12 @@
 -- A walk along a chain, a number at a time.
-use Rattle.std.proofs.Common.{◌≡◌, ◌≢◌, ℕ, ◌<◌, ◌≤◌, List, [], ◌∷◌, length, Some, refl, sym, ap, ◌∙◌, subst, arith}
+use Rattle.std.proofs.Common.{◌≡◌, ◌≢◌, ℕ, ◌<◌, ◌≤◌, inl, inr, List, [], ◌∷◌, eqb, length, drop, map, Option, None, Some, refl, sym, ap, ◌∙◌, subst, arith}
+use Rattle.std.proofs.lemmas.Bool.{cond-true, cond-false, cases_Bool, eqb-true, eqb-false}
+use Rattle.std.specs.Option.{option_map}
 use Rattle.mvo_hash.specs.declared.link.Link.{Link}
-use Rattle.mvo_hash.specs.Links.{no_number, unheld, link, first_or_none, walk, IsChain, IsWalk}
-use Rattle.std.specs.Iterator.{MakesProgress, item_count}
+use Rattle.mvo_chain.specs.declared.version.VersionNo.{VersionNo}
+use Rattle.mvo_hash.specs.Lists.{number}
+use Rattle.mvo_hash.specs.Links.{no_number, unheld, link, first_or_none, some_unless_none, walk, IsChain, IsWalk}
+use Rattle.std.specs.Iterator.{MakesProgress, YieldsFirst, item_count}
 use Rattle.std.specs.FinMap.{get}
 use Rattle.mvo_types.specs.declared.row.RowKey.{RowKey}
 use Rattle.mvo_hash.specs.Table.{Map}
@@ -55,10 +59,31 @@ index_walk heads ls t key = record {
   short = chain_short ls no_number (numbers heads ls key) (t.chained key) (t.apart key);
 }
 
--- a call that gave the first item that was left
-pub goes_first : {A : Type 0} (can : List A → Type 0) → ((l : List A) → can l) → (s t : List A) (x : A) → s ≡ x ∷ t → MakesProgress can (item_count (λ rest. rest)) s (Some x) t
-goes_first can always s t x e = record {
-  on = λ _. (always t, tt, subst (λ l. length t < length l) (sym e) (omega arith));
+-- a call gave the first item that was left, or none where none was
+pub goes_first : {A : Type 0} (can : List A → Type 0) → ((l : List A) → can l) → (s t : List A) (r : Option A) → YieldsFirst (λ rest. rest) s r t → MakesProgress can (item_count (λ rest. rest)) s r t
+goes_first can always s t None y = record { on = λ _. tt; keeps = tt; rests = λ _. tt }
+goes_first can always s t (Some x) y = record {
+  on = λ _. (always t, tt, subst (λ l. length t < length l) (sym y) (omega arith));
   keeps = always t;
   rests = λ _. tt;
 }
+
+-- a walk's number stands for the first of its numbers, if there is one
+pub first_shown : (ls : List Link) (at : ℕ) → IsWalk ls at → YieldsFirst (λ (rest : List VersionNo). rest) (map number (walk ls (length ls) at)) (option_map number (some_unless_none at)) (map number (drop 1 (walk ls (length ls) at)))
+first_shown ls at w =
+    elim (cases_Bool (eqb at no_number)) [
+      | inl t ↦
+          let none : some_unless_none at ≡ None = cond-true (eqb at no_number) None (Some at) t in
+          let done : walk ls (length ls) at ≡ [] = walk_done ls at w (eqb-true at no_number t) in
+          subst (λ (o : Option ℕ). YieldsFirst (λ (rest : List VersionNo). rest) (map number (walk ls (length ls) at)) (option_map number o) (map number (drop 1 (walk ls (length ls) at))))
+          (sym none) (ap (map number) done, ap (λ ns. map number (drop 1 ns)) done)
+      | inr f ↦
+          let some : some_unless_none at ≡ Some at = cond-false (eqb at no_number) None (Some at) f in
+          let s = steps ls at w (eqb-false at no_number f) in
+          subst (λ (o : Option ℕ). YieldsFirst (λ (rest : List VersionNo). rest) (map number (walk ls (length ls) at)) (option_map number o) (map number (drop 1 (walk ls (length ls) at))))
+          (sym some) (ap (map number) s.first ∙ sym (ap (λ ns. number at ∷ map number (drop 1 ns)) s.first))
+    ]
+
+-- behind the number that came last a walk goes on from the next older one
+pub behind_last : (ls : List Link) (at : ℕ) → IsWalk ls at → at ≢ no_number → drop 1 (walk ls (length ls) at) ≡ walk ls (length ls) (link ls at).older
+behind_last ls at w there = ap (drop 1) (steps ls at w there).first

@@ -1,5 +1,5 @@
 -- The links between the versions of a key, by number.
-use Rattle.std.specs.Prelude.{◌≡◌, ◌≢◌, ℕ, zero, suc, ◌<◌, ◌≤◌, List, [], ◌∷◌, true, false, eqb, cond, length, slice_index_or, map, Option, None, Some}
+use Rattle.std.specs.Prelude.{◌≡◌, ◌≢◌, ℕ, zero, suc, ◌<◌, ◌≤◌, List, [], ◌∷◌, Bool, true, false, eqb, cond, length, drop, slice_index_or, map, Option, None, Some}
 use Rattle.std.specs.FinMap as finite_map
 use Rattle.mvo_types.specs.declared.row.RowKey.{RowKey}
 use Rattle.mvo_hash.specs.declared.link.Link.{Link}
@@ -39,6 +39,11 @@ beheaded heads key gone =
 abbrev pub walk : List Link → ℕ → ℕ → List ℕ
 walk ls zero n = []
 walk ls (suc most) n = cond (eqb n no_number) [] (n ∷ walk ls most (link ls n).older)
+
+-- what is still to come of a walk, which stands at this number: it comes next, or came last
+abbrev pub to_come : List Link → ℕ → Bool → List ℕ
+to_come ls at false = walk ls (length ls) at
+to_come ls at true = drop 1 (walk ls (length ls) at)
 
 -- the numbers of a key
 abbrev pub numbers : Map → List Link → RowKey → List ℕ

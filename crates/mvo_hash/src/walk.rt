@@ -1,4 +1,7 @@
 ghost use Rattle.std.specs.Prelude.{◌≡◌, map};
+ghost use Rattle.std.specs.Option.{option_map};
+ghost use Rattle.mvo_hash.specs.Lists.{number};
+ghost use Rattle.mvo_hash.specs.Links.{some_unless_none};
 
 use crate::link::{Link, NONE};
 use mvo_chain::{Pieces, VersionNo};
@@ -9,18 +12,20 @@ use std::marker::Model;
 #[derive(Drop)]
 pub struct Versions<'a> {
     links: &'a Pieces<Link>,
+    // The number that comes next, or the one that came last.
     at: u32,
+    began: bool,
 }
 
 impl<'a> Model for Versions<'a> {
-    ghost use Rattle.std.specs.Prelude.{List, length, map};
+    ghost use Rattle.std.specs.Prelude.{List, map};
     ghost use Rattle.mvo_chain.specs.declared.version.VersionNo.{VersionNo as Number};
     ghost use Rattle.mvo_hash.specs.Lists.{number};
-    ghost use Rattle.mvo_hash.specs.Links.{walk, IsWalk};
+    ghost use Rattle.mvo_hash.specs.Links.{to_come, IsWalk};
 
     ghost Value = { List Number };
 
-    ghost view = { λ w. map number (walk w.links.now (length w.links.now) w.at) };
+    ghost view = { λ w. map number (to_come w.links.now w.at w.began) };
 
     ghost invariant = { λ w. IsWalk w.links.now w.at };
 }
@@ -35,7 +40,11 @@ impl<'a> Versions<'a> {
         requires { IsWalk links.now at }
         ensures { result ≡ map number (walk links.now (length links.now) at) }
     {
-        Versions { links, at }
+        Versions {
+            links,
+            at,
+            began: false,
+        }
     }
 }
 
@@ -48,12 +57,27 @@ impl<'a> Iterator for Versions<'a> {
 
     ghost remaining = { item_count (λ w. w) };
 
+    // The link of a number is looked at when the next one is asked for, and not before: most who
+    // walk stop at the first.
     fn next(&mut self) -> Option<VersionNo> {
+        if !self.began {
+            self.began = true;
+            return shown(self.at);
+        }
         if self.at == NONE {
             return None;
         }
-        let number = VersionNo(self.at);
-        self.at = self.links[number.index()].older;
-        Some(number)
+        self.at = self.links[self.at as usize].older;
+        shown(self.at)
     }
+}
+
+// The number, if it stands for a version.
+fn shown(at: u32) -> Option<VersionNo>
+    ensures { result ≡ option_map number (some_unless_none at) }
+{
+    if at == NONE {
+        return None;
+    }
+    Some(VersionNo(at))
 }

@@ -5,8 +5,7 @@ use Rattle.std.specs.List.{AllByRecursion, IsDistinct}
 use Rattle.std.specs.Ordering.{eq_by_cmp}
 use Rattle.mvo_types.specs.Keys.{key_cmp}
 use Rattle.std.proofs.lemmas.Grind.{flat_map-append}
-use Rattle.mvo_pair.specs.Data.{Numbered}
-use Rattle.mvo_image.specs.Rows.{AreApart, key_of, keys_of}
+use Rattle.mvo_pair.specs.Data.{Numbered, AreApart, key_of, keys_of}
 
 module _ {K : Type 0} (eq : K → K → Bool) where
   none_is : (k : K) (ks : List K) → AllByRecursion (λ y. eq k y ≡ false) ks ⊎ (AllByRecursion (λ y. eq k y ≡ false) ks → ⊥)

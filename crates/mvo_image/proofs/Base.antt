@@ -13,8 +13,8 @@ use Rattle.mvo_types.specs.declared.row.RowKey.{RowKey}
 use Rattle.mvo_types.specs.RowData.{ContentData}
 use Rattle.mvo_types.specs.Keys.{key_cmp}
 use Rattle.mvo_types.proofs.Maps.{keys_total, exact_keys, get_held}
-use Rattle.mvo_pair.specs.Data.{Numbered}
-use Rattle.mvo_image.specs.Rows.{key_of, keys_of, kept_of, kept_in}
+use Rattle.mvo_pair.specs.Data.{Numbered, key_of, keys_of}
+use Rattle.mvo_image.specs.Rows.{kept_of, kept_in}
 use Rattle.mvo_image.specs.Laws.{RowsAreLive}
 
 abbrev first_of : RowKey × ContentData → RowKey

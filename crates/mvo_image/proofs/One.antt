@@ -7,7 +7,7 @@ use Rattle.mvo_types.specs.Keys.{Map, key_cmp}
 use Rattle.mvo_types.specs.declared.refusal.Refusal.{Refusal}
 use Rattle.mvo_types.specs.declared.refusal.Refusal.TheVariants.{Corrupt, NotFormatted}
 use Rattle.mvo_group.specs.Data.{GroupData}
-use Rattle.mvo_pair.specs.Data.{Numbered}
+use Rattle.mvo_pair.specs.Data.{Numbered, AreApart, keys_of}
 use Rattle.mvo_pair.specs.Answers.{IsOnly}
 use Rattle.mvo_pair.specs.Loading.{LoadsAs}
 use Rattle.mvo_format.specs.declared.format.Format.{Format}
@@ -15,7 +15,7 @@ use Rattle.mvo_pair.specs.declared.pair.Pair.{Pair}
 use Rattle.mvo_manifest.specs.Data.{ManifestData}
 use Rattle.mvo_manifest.specs.Slots.{newest}
 use Rattle.mvo_frame.specs.Frames.{mark_after}
-use Rattle.mvo_image.specs.Rows.{AreApart, keys_of, rows_of, after_groups}
+use Rattle.mvo_image.specs.Rows.{rows_of, after_groups}
 use Rattle.mvo_image.specs.Opens.{Image, Outcome, SlotReading, SegmentReading, Goes, After, Beside, Pairs, is_empty, Segments, OpensWith, Opens}
 use Rattle.mvo_image.proofs.Apart.{distinct_or_not}
 

@@ -5,7 +5,7 @@ use Rattle.std.specs.List.{Contains}
 use Rattle.mvo_types.specs.declared.row.RowKey.{RowKey}
 use Rattle.mvo_types.specs.RowData.{ContentData}
 use Rattle.mvo_types.specs.Keys.{Map}
-use Rattle.mvo_pair.specs.Data.{Numbered}
+use Rattle.mvo_pair.specs.Data.{Numbered, AreApart}
 use Rattle.mvo_pair.specs.Answers.{IsOnly}
 use Rattle.mvo_format.specs.declared.format.Format.{Format}
 use Rattle.mvo_frame.specs.declared.kind.Kind.{Kind}
@@ -14,7 +14,7 @@ use Rattle.mvo_manifest.specs.Slots.{SlotSays, PickSays}
 use Rattle.mvo_manifest.specs.Finding.{slot_found, pick_found}
 use Rattle.mvo_image.specs.Opens.{Image, Outcome}
 use Rattle.mvo_image.specs.Files.{SegmentIs, OpensAs, GivesRows}
-use Rattle.mvo_image.specs.Rows.{AreApart, kept_in, rows_of}
+use Rattle.mvo_image.specs.Rows.{kept_in, rows_of}
 
 abbrev pub AreBytes : List ℕ → Type 0
 AreBytes bytes = (i : ℕ) → slice_index bytes i < 256

@@ -7,14 +7,14 @@ use Rattle.mvo_types.specs.Keys.{Map}
 use Rattle.mvo_types.specs.declared.refusal.Refusal.{Refusal}
 use Rattle.mvo_types.specs.declared.refusal.Refusal.TheVariants.{Corrupt, NotFormatted}
 use Rattle.mvo_group.specs.Data.{GroupData}
-use Rattle.mvo_pair.specs.Data.{Numbered}
+use Rattle.mvo_pair.specs.Data.{Numbered, AreApart}
 use Rattle.mvo_pair.specs.Loading.{LoadsAs}
 use Rattle.mvo_format.specs.declared.format.Format.{Format}
 use Rattle.mvo_pair.specs.declared.pair.Pair.{Pair}
 use Rattle.mvo_manifest.specs.Data.{ManifestData}
 use Rattle.mvo_manifest.specs.Slots.{newest}
 use Rattle.mvo_frame.specs.Frames.{mark_after}
-use Rattle.mvo_image.specs.Rows.{AreApart, rows_of, after_groups}
+use Rattle.mvo_image.specs.Rows.{rows_of, after_groups}
 
 -- the bytes of each file
 abbrev pub Image : Type 0

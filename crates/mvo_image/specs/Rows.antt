@@ -1,26 +1,13 @@
 -- The rows that the files of an image make up.
-use Rattle.std.specs.Prelude.{ℕ, List, map, fold}
-use Rattle.std.specs.List.{flat_map, IsDistinct}
-use Rattle.std.specs.Ordering.{eq_by_cmp}
+use Rattle.std.specs.Prelude.{List, map, fold}
+use Rattle.std.specs.List.{flat_map}
 use Rattle.std.specs.FinMap as rows
 use Rattle.mvo_types.specs.declared.row.RowKey.{RowKey}
-use Rattle.mvo_types.specs.Keys.{Map, key_cmp}
+use Rattle.mvo_types.specs.Keys.{Map}
 use Rattle.mvo_types.specs.RowData.{ContentData, content_of}
 use Rattle.mvo_model.specs.History.{after_effect}
 use Rattle.mvo_group.specs.Data.{RecordData, GroupData}
-use Rattle.mvo_pair.specs.Data.{Numbered}
-
--- the key of a live record
-abbrev pub key_of : Numbered → RowKey
-key_of l = l.1.row.key
-
--- the keys of the live records of some pairs
-abbrev pub keys_of : List (List Numbered) → List RowKey
-keys_of lives = flat_map (λ live. map key_of live) lives
-
--- no two live records have one key
-abbrev pub AreApart : List (List Numbered) → Type 0
-AreApart lives = IsDistinct (eq_by_cmp key_cmp) (keys_of lives)
+use Rattle.mvo_pair.specs.Data.{Numbered, key_of}
 
 -- a live record as the row at its key
 abbrev pub kept_of : Numbered → RowKey × ContentData

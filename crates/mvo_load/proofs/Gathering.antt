@@ -11,23 +11,23 @@ use Rattle.std.proofs.lemmas.List.Sorted.{IsPermutation-refl, IsPermutation-appe
 use Rattle.mvo_types.specs.declared.row.RowKey.{RowKey}
 use Rattle.mvo_types.specs.Keys.{Map, key_cmp}
 use Rattle.mvo_format.specs.declared.format.Format.{Format}
-use Rattle.mvo_pair.specs.Data.{Numbered}
+use Rattle.mvo_pair.specs.Data.{Numbered, AreApart, key_of, keys_of}
 use Rattle.mvo_pair.specs.Answers.{IsOnly}
 use Rattle.mvo_pair.specs.Loading.{LoadsAs}
 use Rattle.mvo_pair.specs.declared.pair.Pair.{Pair}
 use Rattle.mvo_manifest.specs.Data.{ManifestData}
 use Rattle.mvo_manifest.specs.Rules.{IsManifest}
-use Rattle.mvo_image.specs.Rows.{AreApart, key_of, keys_of, rows_of}
+use Rattle.mvo_image.specs.Rows.{rows_of}
 use Rattle.mvo_image.specs.Opens.{Image, Outcome, Pairs}
 use Rattle.mvo_image.specs.Gives.{HaveLive}
 use Rattle.mvo_image.proofs.Apart.{distinct_front}
-use Rattle.mvo_ckpt.specs.declared.place.Place.{Place}
-use Rattle.mvo_ckpt.specs.Places.{PlaceMap, ArePlaces, file_of, places_in, places_of}
-use Rattle.mvo_ckpt.proofs.Naming.{live_numbers_rise}
-use Rattle.mvo_ckpt.proofs.Growing.{no_places, places_grow, places-push, differs_before}
-use Rattle.mvo_ckpt.proofs.Lasts.{eq, eq_self}
-use Rattle.mvo_ckpt.proofs.Members.{among_map}
-use Rattle.mvo_ckpt.proofs.Held.{first_of, found_among, keys-places_of}
+use Rattle.mvo_places.specs.declared.place.Place.{Place}
+use Rattle.mvo_places.specs.Places.{PlaceMap, ArePlaces, file_of, places_in, places_of}
+use Rattle.mvo_places.proofs.Rising.{live_numbers_rise}
+use Rattle.mvo_places.proofs.Growing.{no_places, places_grow, places-push, differs_before}
+use Rattle.mvo_places.proofs.Keys.{eq, eq_self}
+use Rattle.mvo_places.proofs.Members.{among_map}
+use Rattle.mvo_places.proofs.Held.{first_of, found_among, keys-places_of}
 use Rattle.mvo_types.proofs.Maps.{keys_total, exact_keys}
 use Rattle.mvo_load.specs.Leading.{Leads}
 use Rattle.mvo_load.specs.Parts.{HaveRows, HavePlaces}

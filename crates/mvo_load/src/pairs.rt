@@ -1,7 +1,8 @@
 //! Loads the live records of all pairs.
 ghost use Rattle.std.specs.Prelude.{◌≡◌, ◌<◌, ◌+◌, ◌^◌, List, [], Some, IfOk};
 ghost use Rattle.mvo_pair.specs.Data.{Numbered};
-ghost use Rattle.mvo_image.specs.Rows.{AreApart, rows_of};
+ghost use Rattle.mvo_pair.specs.Data.{AreApart};
+ghost use Rattle.mvo_image.specs.Rows.{rows_of};
 ghost use Rattle.mvo_image.specs.Opens.{Segments, OpensWith};
 ghost use Rattle.mvo_image.specs.Files.{SegmentSays};
 ghost use Rattle.mvo_load.specs.Leading.{LeadsOn};
@@ -11,11 +12,11 @@ ghost use Rattle.mvo_load.specs.Read.{HasRead};
 use crate::at_once::at_once;
 use crate::gather::gather;
 use crate::single::pair_on;
-use mvo_ckpt::Places;
 use mvo_disk::Disk;
 use mvo_format::Format;
 use mvo_manifest::Manifest;
 use mvo_pair::{Entry, Live};
+use mvo_places::Places;
 use mvo_types::{Refusal, Rows};
 use std::alloc::{AllocError, Global};
 use std::thread::Threads;

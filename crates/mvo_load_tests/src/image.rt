@@ -1,9 +1,9 @@
 //! Images of a disk, as bytes in hexadecimal digits, and what is found out of them.
 use crate::equal::same;
-use mvo_ckpt::Places;
 use mvo_disk::{Disk, FILE_COUNT, MemDisk, rewrite_synced};
 use mvo_format::FIRST_FORMAT;
 use mvo_load::{Loaded, load};
+use mvo_places::Places;
 use mvo_types::{Refusal, Row, RowKey, Rows};
 use std::alloc::Global;
 use std::process::Abort;

@@ -13,7 +13,7 @@ use Rattle.mvo_format.specs.declared.format.Format.{Format}
 use Rattle.mvo_pair.specs.Data.{EntryData, Numbered, entry_cmp, live_of}
 use Rattle.mvo_pair.specs.Files.{IsEntry}
 use Rattle.mvo_pair.specs.declared.pair.Pair.{Pair}
-use Rattle.mvo_ckpt.proofs.Members.{Among, among_append, among_mapped, among_filtered, all_among, all_from, contains_from}
+use Rattle.mvo_places.proofs.Members.{Among, among_append, among_mapped, among_filtered, all_among, all_from, contains_from}
 use Rattle.mvo_merge.specs.Merged.{entries_of}
 use Rattle.mvo_merge.specs.Laws.{GivesEntries}
 use Rattle.mvo_merge.proofs.Lists.{names}

@@ -6,9 +6,9 @@ use Rattle.std.proofs.lemmas.Bool.{eqb-false, ne_eqb}
 use Rattle.std.proofs.lemmas.List.{length-map}
 use Rattle.std.proofs.lemmas.List.Elements.{All-append, All-contains, All-from_recursion}
 use Rattle.mvo_pair.specs.Data.{Numbered, live_of}
-use Rattle.mvo_ckpt.proofs.Members.{Among, among_mapped, among_right, all_among, all_from, contains_from, increasing_from}
-use Rattle.mvo_ckpt.proofs.Distinct.{distinct_append}
-use Rattle.mvo_ckpt.proofs.Naming.{live_rises}
+use Rattle.mvo_places.proofs.Members.{Among, among_mapped, among_right, all_among, all_from, contains_from, increasing_from}
+use Rattle.mvo_places.proofs.Distinct.{distinct_append}
+use Rattle.mvo_places.proofs.Rising.{live_rises}
 use Rattle.mvo_merge.specs.Merged.{numbers_of, entries_of, merged, of_left, of_right, renumbering_of}
 use Rattle.mvo_merge.specs.Laws.{GainedAreLate, NoneIsLate, AllAreLive, GivesNumbers}
 use Rattle.mvo_merge.proofs.Ranks.{rank_within, rank_once}

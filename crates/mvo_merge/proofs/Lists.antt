@@ -4,7 +4,7 @@ use Rattle.std.specs.Prelude.{map, filter, ◌==◌, ◌||◌}
 use Rattle.std.specs.List.{All, Contains, IsDistinct, list_any, enumerate_from}
 use Rattle.std.proofs.lemmas.Bool.{false_from_ne_true, eqb-true, eq-eqb}
 use Rattle.std.proofs.lemmas.List.Elements.{All-contains}
-use Rattle.mvo_ckpt.proofs.Members.{Among, among_any, any_among, among_from, contains_from, all_among, among_left, among_right, all_from}
+use Rattle.mvo_places.proofs.Members.{Among, among_any, any_among, among_from, contains_from, all_among, among_left, among_right, all_from}
 
 abbrev pub names : List ℕ → ℕ → Bool
 names ns n = list_any (λ m. m == n) ns

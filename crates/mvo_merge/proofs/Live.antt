@@ -7,9 +7,9 @@ use Rattle.std.proofs.lemmas.List.Elements.{filter-append}
 use Rattle.std.proofs.lemmas.List.Folds.{list_any-append}
 use Rattle.std.proofs.Math.Bool.{or-false}
 use Rattle.mvo_pair.specs.Data.{Numbered}
-use Rattle.mvo_ckpt.specs.Places.{Rise}
-use Rattle.mvo_ckpt.proofs.Members.{Among, among_map, among_mapped, all_among, Rises, rises_from}
-use Rattle.mvo_ckpt.proofs.Naming.{same_filter}
+use Rattle.mvo_places.specs.Places.{Rise}
+use Rattle.mvo_places.proofs.Members.{Among, among_map, among_mapped, all_among, Rises, rises_from}
+use Rattle.mvo_places.proofs.Rising.{same_filter}
 use Rattle.mvo_merge.specs.Merged.{numbers_of, entries_of, merged, rank, RenumberingData, renumbering_of, of_left, of_right, renumbered, without, live_after, under}
 use Rattle.mvo_merge.specs.Laws.{AreLate, LiveInOne}
 use Rattle.mvo_merge.proofs.Ranks.{rank_within, rank_once, rank_first, rank_past, rank_behind}

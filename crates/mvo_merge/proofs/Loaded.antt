@@ -14,9 +14,9 @@ use Rattle.mvo_pair.specs.Answers.{Found, Goes, After}
 use Rattle.mvo_pair.specs.Files.{AreEntries, AreNumbers}
 use Rattle.mvo_pair.specs.Loading.{DataSays, DeltaSays, LoadsAs}
 use Rattle.mvo_pair.specs.declared.pair.Pair.{Pair}
-use Rattle.mvo_ckpt.proofs.Members.{Among, among_map, among_mapped, among_filter, all_among, Rises}
-use Rattle.mvo_ckpt.proofs.Held.{numbers_in}
-use Rattle.mvo_ckpt.proofs.Naming.{same_filter, two_filters, live_rises}
+use Rattle.mvo_places.proofs.Members.{Among, among_map, among_mapped, among_filter, all_among, Rises}
+use Rattle.mvo_places.proofs.Held.{numbers_in}
+use Rattle.mvo_places.proofs.Rising.{same_filter, two_filters, live_rises}
 use Rattle.mvo_merge.specs.Merged.{entries_of, merged, without}
 use Rattle.mvo_merge.specs.Laws.{CountsLive, LeavesOthers, LoadsMerged, HasBoth, IsFewEnough}
 use Rattle.mvo_merge.proofs.Lists.{names, not_named}

@@ -9,14 +9,13 @@ use Rattle.std.proofs.lemmas.List.Elements.{filter-append}
 use Rattle.std.proofs.lemmas.Grind.{fold-append}
 use Rattle.mvo_types.specs.declared.row.RowKey.{RowKey}
 use Rattle.mvo_types.proofs.Maps.{keys_total}
-use Rattle.mvo_pair.specs.Data.{EntryData, Numbered}
-use Rattle.mvo_image.specs.Rows.{key_of}
-use Rattle.mvo_ckpt.specs.declared.place.Place.{Place}
-use Rattle.mvo_ckpt.specs.Places.{PlaceMap, place, with_live}
-use Rattle.mvo_ckpt.proofs.Members.{Among, among_map, among_filtered}
-use Rattle.mvo_ckpt.proofs.Lasts.{eq, eq_flips}
-use Rattle.mvo_ckpt.proofs.Growing.{differs_before}
-use Rattle.mvo_ckpt.proofs.Taking.{enumerated-push}
+use Rattle.mvo_pair.specs.Data.{EntryData, Numbered, key_of}
+use Rattle.mvo_places.specs.declared.place.Place.{Place}
+use Rattle.mvo_places.specs.Places.{PlaceMap, place, with_live}
+use Rattle.mvo_places.proofs.Members.{Among, among_map, among_filtered}
+use Rattle.mvo_places.proofs.Keys.{eq, eq_flips}
+use Rattle.mvo_places.proofs.Growing.{differs_before}
+use Rattle.mvo_places.proofs.Putting.{enumerated-push}
 use Rattle.mvo_merge.specs.Moved.{HaveOwnKeys, lies_in, lying_in, with_one, moved}
 
 abbrev pub entry_key : EntryData → RowKey

@@ -8,17 +8,16 @@ use Rattle.std.proofs.lemmas.List.Concat.{flat_map-append, flat_map-cons}
 use Rattle.mvo_types.specs.declared.row.RowKey.{RowKey}
 use Rattle.mvo_types.specs.Keys.{key_cmp}
 use Rattle.mvo_types.proofs.Maps.{keys_total, exact_keys}
-use Rattle.mvo_pair.specs.Data.{Numbered}
+use Rattle.mvo_pair.specs.Data.{Numbered, key_of, keys_of, AreApart}
 use Rattle.mvo_pair.specs.declared.pair.Pair.{Pair}
-use Rattle.mvo_image.specs.Rows.{key_of, keys_of, AreApart}
-use Rattle.mvo_ckpt.specs.declared.place.Place.{Place}
-use Rattle.mvo_ckpt.specs.Places.{PlaceMap, places_in, places_of, file_of, Rise, ArePlaces, with_live}
-use Rattle.mvo_ckpt.proofs.Members.{Among, among_map, among_mapped, among_filter, among_filtered, among_append, among_left, among_right, all_among, increasing_from}
-use Rattle.mvo_ckpt.proofs.Lasts.{eq, eq_self}
-use Rattle.mvo_ckpt.proofs.Held.{Entries, first_of, keys-places_in, keys-places_of, found_among, Zips, zips_once, at_live, live_at}
-use Rattle.mvo_ckpt.proofs.Naming.{same_filter, live_rises}
-use Rattle.mvo_ckpt.proofs.Rows.{or_else, find_append}
-use Rattle.mvo_ckpt.proofs.Taking.{found_none, there_found, get-with}
+use Rattle.mvo_places.specs.declared.place.Place.{Place}
+use Rattle.mvo_places.specs.Places.{PlaceMap, places_in, places_of, file_of, Rise, ArePlaces, with_live}
+use Rattle.mvo_places.proofs.Members.{Among, among_map, among_mapped, among_filter, among_filtered, among_append, among_left, among_right, all_among, increasing_from}
+use Rattle.mvo_places.proofs.Keys.{eq, eq_self}
+use Rattle.mvo_places.proofs.Held.{Entries, first_of, keys-places_in, keys-places_of, found_among, Zips, zips_once, at_live, live_at}
+use Rattle.mvo_places.proofs.Rising.{same_filter, live_rises}
+use Rattle.mvo_places.proofs.Finding.{or_else, find_append}
+use Rattle.mvo_places.proofs.Putting.{found_none, there_found, get-with}
 use Rattle.mvo_merge.specs.Merged.{numbers_of, merged, renumbering_of, of_left, of_right, without, live_after, under}
 use Rattle.mvo_merge.specs.Moved.{lies_in, lying_in, moved}
 use Rattle.mvo_merge.specs.Laws.{AreLate, PlacesMerged}

@@ -8,7 +8,7 @@ use Rattle.std.proofs.lemmas.Bool.Decides.{nat_tests}
 use Rattle.std.proofs.lemmas.List.{get_or_default}
 use Rattle.std.proofs.lemmas.List.Sorted.{IsNonDecreasingBy-from_all_adjacent}
 use Rattle.std.proofs.lemmas.List.Sums.{sum_by-cons, count_by-le-length}
-use Rattle.mvo_ckpt.proofs.Members.{Among}
+use Rattle.mvo_places.proofs.Members.{Among}
 use Rattle.mvo_merge.specs.Merged.{rank}
 
 abbrev one : ℕ → ℕ → ℕ

@@ -3,12 +3,12 @@ use Rattle.std.specs.Prelude.{◌≡◌, ◌↔◌, ◌⊎◌, ℕ, ◌+◌, ◌
 use Rattle.std.specs.List.{Contains, IsDistinct, enumerate_from}
 use Rattle.mvo_types.specs.declared.limits.TheConstants.{MAX_PAIR_RECORDS}
 use Rattle.mvo_format.specs.declared.format.Format.{Format}
-use Rattle.mvo_pair.specs.Data.{EntryData, Numbered, live_of}
+use Rattle.mvo_pair.specs.Data.{EntryData, Numbered, live_of, AreApart}
 use Rattle.mvo_pair.specs.Files.{AreEntries, AreNumbers, HasEntries, HasNumbers}
 use Rattle.mvo_pair.specs.Loading.{LoadsAs}
 use Rattle.mvo_pair.specs.declared.pair.Pair.{Pair}
-use Rattle.mvo_image.specs.Rows.{AreApart, rows_of}
-use Rattle.mvo_ckpt.specs.Places.{PlaceMap, Rise, ArePlaces, file_of}
+use Rattle.mvo_image.specs.Rows.{rows_of}
+use Rattle.mvo_places.specs.Places.{PlaceMap, Rise, ArePlaces, file_of}
 use Rattle.mvo_merge.specs.Merged.{numbers_of, merged, renumbering_of, of_left, of_right, renumbered}
 use Rattle.mvo_merge.specs.Merged.{entries_of, without, live_after, under}
 use Rattle.mvo_merge.specs.Moved.{HaveOwnKeys, moved}

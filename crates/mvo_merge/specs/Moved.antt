@@ -5,10 +5,9 @@ use Rattle.std.specs.FinMap.{get, insert}
 use Rattle.std.specs.Ordering.{eq_by_cmp}
 use Rattle.mvo_types.specs.declared.row.RowKey.{RowKey}
 use Rattle.mvo_types.specs.Keys.{key_cmp}
-use Rattle.mvo_pair.specs.Data.{EntryData, Numbered}
-use Rattle.mvo_image.specs.Rows.{key_of}
-use Rattle.mvo_ckpt.specs.declared.place.Place.{Place}
-use Rattle.mvo_ckpt.specs.Places.{PlaceMap, with_live}
+use Rattle.mvo_pair.specs.Data.{EntryData, Numbered, key_of}
+use Rattle.mvo_places.specs.declared.place.Place.{Place}
+use Rattle.mvo_places.specs.Places.{PlaceMap, with_live}
 
 -- no two records have one key
 abbrev pub HaveOwnKeys : List EntryData → Type 0

@@ -1,6 +1,6 @@
 //! Builds a merged pair.
 ghost use Rattle.std.specs.Prelude.{◌≡◌, ◌≤◌, ◌+◌, ◌++◌, length, map, IfOk, OnOk};
-ghost use Rattle.mvo_ckpt.specs.Places.{Rise};
+ghost use Rattle.mvo_places.specs.Places.{Rise};
 ghost use Rattle.mvo_merge.specs.Merged.{merged, renumbering_of};
 
 use crate::merged::Merged;

@@ -3,8 +3,8 @@ ghost use Rattle.std.specs.Prelude.{◌≡◌, ◌<◌, ◌≤◌, length};
 ghost use Rattle.std.specs.FinMap.{get};
 ghost use Rattle.mvo_merge.specs.Moved.{HaveOwnKeys, lies_in, with_one, moved};
 
-use mvo_ckpt::{Place, Places};
 use mvo_pair::Entry;
+use mvo_places::{Place, Places};
 use mvo_types::{MAX_FILE, MAX_PAIR_RECORDS, RowKey};
 
 /// Whether the key has its place in one of the two data files.

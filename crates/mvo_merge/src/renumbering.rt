@@ -1,6 +1,6 @@
 ghost use Rattle.std.specs.Prelude.{◌≡◌, ◌≤◌, ◌+◌, ◌++◌, length, map, IfOk, OnOk};
 ghost use Rattle.std.specs.List.Sorted.{IsStrictlyIncreasing};
-ghost use Rattle.mvo_ckpt.specs.Places.{Rise};
+ghost use Rattle.mvo_places.specs.Places.{Rise};
 ghost use Rattle.mvo_merge.specs.Merged.{rank, renumbered, renumbering_of};
 
 use mvo_pair::Live;

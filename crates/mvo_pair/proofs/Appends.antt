@@ -7,8 +7,8 @@ use Rattle.std.proofs.lemmas.Grind.{flat_map-append}
 use Rattle.mvo_disk.specs.Disk.{Holds, Torn, Touched, Only, LeavesOnly, AllOf}
 use Rattle.mvo_disk.specs.Moments.{started, weaker}
 use Rattle.mvo_disk.specs.Torn.{torn_whole}
-use Rattle.mvo_group.specs.Body.{field}
-use Rattle.mvo_group.proofs.Fields.{length-field}
+use Rattle.mvo_bytes.specs.Fields.{field}
+use Rattle.mvo_bytes.proofs.Fields.{length-field}
 use Rattle.mvo_pair.specs.Files.{AreNumbers, HasNumbers, header, delta_magic, delta_bytes}
 use Rattle.mvo_pair.specs.Writing.{KeepsNumbers, place_behind}
 

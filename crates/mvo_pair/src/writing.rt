@@ -2,7 +2,7 @@
 ghost use Rattle.std.specs.Prelude.{◌≡◌, ◌≤◌, ◌<◌, ◌+◌, ◌^◌, ℕ, List, length, OnOk, IfErr, ⊤};
 ghost use Rattle.std.specs.List.{flat_map};
 ghost use Rattle.mvo_disk.specs.Disk.{Holds, Only, OthersStay, LeavesOnly, Touched};
-ghost use Rattle.mvo_group.specs.Body.{field};
+ghost use Rattle.mvo_bytes.specs.Fields.{field};
 ghost use Rattle.mvo_pair.specs.Files.{AreEntries, AreNumbers, HasEntries, HasNumbers, data_bytes, delta_bytes};
 ghost use Rattle.mvo_pair.specs.Writing.{IsWriteRefusal, KeepsNumbers, GainsNumbers, place_behind};
 

@@ -5,7 +5,6 @@ use Rattle.std.specs.List.{filter}
 use Rattle.std.specs.Option.{option_map}
 use Rattle.std.proofs.lemmas.Bool.{eqb-true, le-ltb, ltb-false, true≢false, false≢true}
 use Rattle.mvo_types.specs.declared.row.RowKey.{RowKey}
-use Rattle.mvo_theory.specs.Entries as theory
 use Rattle.mvo_theory.specs.State.{State}
 use Rattle.mvo_theory.specs.Causes.{change_of}
 use Rattle.mvo_theory.specs.Sound.{IsSound, IsStarted}
@@ -16,7 +15,7 @@ use Rattle.mvo_visible.specs.declared.change.Change.{Change}
 use Rattle.mvo_visible.specs.Words.{States}
 use Rattle.mvo_visible.specs.Versions.{Numbered, versions_at}
 use Rattle.mvo_visible.specs.Changes.{changes_of, greatest_below}
-use Rattle.mvo_validate.specs.declared.entry.Entry.TheVariants.{Key}
+use Rattle.mvo_types.specs.declared.entry.Entry.TheVariants.{Key}
 use Rattle.mvo_validate.specs.Between.{is_above, stamp_between}
 use Rattle.mvo_validate.specs.Entries.{has_sort, versions_in}
 use Rattle.mvo_representation.specs.Words.{ends_of, has_stamp, NetEffect, net_effect, if_above, last_passing, stamp_above}
@@ -80,7 +79,7 @@ above_change : (f : ℕ → NetEffect) (b : ℕ) (w : Option ℕ) → if_above b
 above_change f b None = refl
 above_change f b (Some s) = refl
 
-pub key_check_is : (s : State) (states : States) (slots : Slots) (lists : Lists) (places : Places) (b e : ℕ) (k : RowKey) → IsSound s → IsStarted s → AreVersionsOf s (phases_of states) (all_versions slots) → HasNumbers slots lists → s.start ≤ b → b < e → stamp_between b e (changes_of states (versions_in slots lists places (Key k))) ≡ change_of s.stamped b e (theory.Entry.Key k)
+pub key_check_is : (s : State) (states : States) (slots : Slots) (lists : Lists) (places : Places) (b e : ℕ) (k : RowKey) → IsSound s → IsStarted s → AreVersionsOf s (phases_of states) (all_versions slots) → HasNumbers slots lists → s.start ≤ b → b < e → stamp_between b e (changes_of states (versions_in slots lists places (Key k))) ≡ change_of s.stamped b e (Key k)
 key_check_is s states slots lists places b e k sd st h ns le lt =
     ap (λ vs. stamp_between b e (changes_of states vs)) (all_pass (versions_at slots lists k))
     ∙ between_is b e (changes_of states (versions_at slots lists k))

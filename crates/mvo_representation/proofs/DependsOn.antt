@@ -13,7 +13,7 @@ use Rattle.mvo_types.specs.Write.Effect.{Put, Delete as Gone}
 use Rattle.mvo_model.specs.History.{net_write}
 use Rattle.mvo_model.specs.Trace.{Step}
 use Rattle.mvo_theory.specs.Entries.{entry_of}
-use Rattle.mvo_theory.specs.Entries.Entry.{Key}
+use Rattle.mvo_types.specs.declared.entry.Entry.TheVariants.{Key}
 use Rattle.mvo_theory.specs.State.{State, StampedTx, ActiveTx, active_of}
 use Rattle.mvo_theory.specs.Dependencies.{last_writer, depend_on, dependencies}
 use Rattle.mvo_theory.specs.Calls.{IsKept}

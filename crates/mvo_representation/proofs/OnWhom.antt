@@ -13,7 +13,7 @@ use Rattle.mvo_types.specs.Write.{Effect}
 use Rattle.mvo_model.specs.History.{net_write}
 use Rattle.mvo_model.specs.Trace.{Step}
 use Rattle.mvo_theory.specs.Entries.{entry_of}
-use Rattle.mvo_theory.specs.Entries.Entry.{Key}
+use Rattle.mvo_types.specs.declared.entry.Entry.TheVariants.{Key}
 use Rattle.mvo_theory.specs.State.{State, StampedTx, ActiveTx, active_of, preparing_of}
 use Rattle.mvo_theory.specs.Dependencies.{has_end, with_end, last_writer, depend_on, dependencies, keys_for, unwritten}
 use Rattle.mvo_theory.proofs.Depends.{depends_more}

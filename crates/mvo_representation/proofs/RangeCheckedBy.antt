@@ -11,7 +11,6 @@ use Rattle.std.proofs.lemmas.Map.Views.{tells_apart}
 use Rattle.mvo_types.specs.declared.row.RowKey.{RowKey}
 use Rattle.mvo_types.specs.Keys.{key_cmp}
 use Rattle.mvo_types.proofs.Maps.{exact_keys, keys_total}
-use Rattle.mvo_theory.specs.Entries as theory
 use Rattle.mvo_theory.specs.Ranges.{shows}
 use Rattle.mvo_theory.specs.State.{State}
 use Rattle.mvo_theory.specs.Causes.{change_of}
@@ -26,8 +25,8 @@ use Rattle.mvo_range.proofs.Places.{exact_places, places_total}
 use Rattle.mvo_visible.specs.Words.{States}
 use Rattle.mvo_visible.specs.Versions.{Numbered, and_version, versions_by, versions_at}
 use Rattle.mvo_visible.specs.Changes.{changes_of}
-use Rattle.mvo_validate.specs.declared.entry.Entry.{Entry}
-use Rattle.mvo_validate.specs.declared.entry.Entry.TheVariants.{Key, Range}
+use Rattle.mvo_types.specs.declared.entry.Entry.{Entry}
+use Rattle.mvo_types.specs.declared.entry.Entry.TheVariants.{Key, Range}
 use Rattle.mvo_validate.specs.Between.{stamp_between}
 use Rattle.mvo_validate.specs.Entries.{has_sort, key_at, versions_of_place, versions_in}
 use Rattle.mvo_representation.specs.Words.{ends_of, has_stamp, stamp_above, is_touched, touches}
@@ -35,7 +34,6 @@ use Rattle.mvo_representation.specs.Words.Touch.{PutOrEnded}
 use Rattle.mvo_representation.specs.Versions.{AreVersionsOf}
 use Rattle.mvo_representation.specs.Indexes.{all_versions, is_of_key, HasNumbers, place_of, is_at_place, HasPlaces}
 use Rattle.mvo_representation.specs.Table.{phases_of}
-use Rattle.mvo_work.specs.History.{entry_as}
 use Rattle.mvo_representation.proofs.Between.{range_checked}
 use Rattle.mvo_representation.proofs.Decided.{last_same, changes_at, greatest_change}
 use Rattle.mvo_representation.proofs.ShownTo.{of_key, there}
@@ -154,7 +152,7 @@ any_entry f p n (x ∷ xs) e q = go (eq_by_cmp place_cmp p x.0) refl e (λ r. an
 
 module _ (states : States) (slots : Slots) (lists : Lists) (places : Places) (ns : HasNumbers slots lists) (ps : HasPlaces (all_versions slots) places) (tab lo hi m : ℕ) where
   abbrev in_range : Version → Bool
-  in_range v = touches PutOrEnded (has_stamp (ends_of (phases_of states)) m) (shows (theory.Entry.Range tab lo hi)) v
+  in_range v = touches PutOrEnded (has_stamp (ends_of (phases_of states)) m) (shows (Range tab lo hi)) v
 
   abbrev at_place : Place × ℕ → Numbered → Bool
   at_place p e = has_sort (Some p.0.sort) e && changes_at states m e
@@ -203,18 +201,18 @@ module _ (states : States) (slots : Slots) (lists : Lists) (places : Places) (ns
       (and_from (is_between tab lo hi (place_of v, p.0)) (list_any (at_place (place_of v, p.0)) (versions_at slots lists v.row.key)) a.1
       (any_numbered (at_place (place_of v, p.0)) slots w.number v (numbers_of lists v.row.key) w.at (and_from (v.row.sort == v.row.sort) (changes_at states m (number w.number, v)) (eq-eqb v.row.sort v.row.sort refl) a.0) (omega (arith, one))))
 
-  pub looked_at : list_any (changes_at states m) (versions_in slots lists places (Range tab lo hi)) ≡ is_touched PutOrEnded (has_stamp (ends_of (phases_of states)) m) (shows (theory.Entry.Range tab lo hi)) (all_versions slots)
+  pub looked_at : list_any (changes_at states m) (versions_in slots lists places (Range tab lo hi)) ≡ is_touched PutOrEnded (has_stamp (ends_of (phases_of states)) m) (shows (Range tab lo hi)) (all_versions slots)
   looked_at = by_places ∙ iff (list_any passes_at (fin.entries places)) (list_any in_range (all_versions slots)) forth back
 
-pub range_check_is : (s : State) (states : States) (slots : Slots) (lists : Lists) (places : Places) (b e tab lo hi : ℕ) → IsSound s → IsStarted s → AreVersionsOf s (phases_of states) (all_versions slots) → HasNumbers slots lists → HasPlaces (all_versions slots) places → s.start ≤ b → b < e → stamp_between b e (changes_of states (versions_in slots lists places (Range tab lo hi))) ≡ change_of s.stamped b e (theory.Entry.Range tab lo hi)
+pub range_check_is : (s : State) (states : States) (slots : Slots) (lists : Lists) (places : Places) (b e tab lo hi : ℕ) → IsSound s → IsStarted s → AreVersionsOf s (phases_of states) (all_versions slots) → HasNumbers slots lists → HasPlaces (all_versions slots) places → s.start ≤ b → b < e → stamp_between b e (changes_of states (versions_in slots lists places (Range tab lo hi))) ≡ change_of s.stamped b e (Range tab lo hi)
 range_check_is s states slots lists places b e tab lo hi sd st h ns ps le lt =
     between_is b e (changes_of states (versions_in slots lists places (Range tab lo hi)))
     ∙ ap (stamp_above b)
     (greatest_change states e (versions_in slots lists places (Range tab lo hi))
-    ∙ last_same (λ m. list_any (changes_at states m) (versions_in slots lists places (Range tab lo hi))) (λ m. is_touched PutOrEnded (has_stamp (ends_of (phases_of states)) m) (shows (theory.Entry.Range tab lo hi)) (all_versions slots)) e (λ m. looked_at states slots lists places ns ps tab lo hi m))
+    ∙ last_same (λ m. list_any (changes_at states m) (versions_in slots lists places (Range tab lo hi))) (λ m. is_touched PutOrEnded (has_stamp (ends_of (phases_of states)) m) (shows (Range tab lo hi)) (all_versions slots)) e (λ m. looked_at states slots lists places ns ps tab lo hi m))
     ∙ range_checked s (phases_of states) (all_versions slots) b e tab lo hi sd st h le lt
 
 -- what the check of an entry names is what the state names
-pub check_is : (s : State) (states : States) (slots : Slots) (lists : Lists) (places : Places) (b e : ℕ) (entry : Entry) → IsSound s → IsStarted s → AreVersionsOf s (phases_of states) (all_versions slots) → HasNumbers slots lists → HasPlaces (all_versions slots) places → s.start ≤ b → b < e → stamp_between b e (changes_of states (versions_in slots lists places entry)) ≡ change_of s.stamped b e (entry_as entry)
+pub check_is : (s : State) (states : States) (slots : Slots) (lists : Lists) (places : Places) (b e : ℕ) (entry : Entry) → IsSound s → IsStarted s → AreVersionsOf s (phases_of states) (all_versions slots) → HasNumbers slots lists → HasPlaces (all_versions slots) places → s.start ≤ b → b < e → stamp_between b e (changes_of states (versions_in slots lists places entry)) ≡ change_of s.stamped b e entry
 check_is s states slots lists places b e (Key k) sd st h ns ps le lt = key_check_is s states slots lists places b e k sd st h ns le lt
 check_is s states slots lists places b e (Range tab lo hi) sd st h ns ps le lt = range_check_is s states slots lists places b e tab lo hi sd st h ns ps le lt

@@ -6,7 +6,7 @@ use Rattle.std.specs.FinMap as fin
 use Rattle.std.specs.Cmp.{eq_by_cmp_equiv}
 use Rattle.mvo_types.specs.declared.row.RowKey.{RowKey}
 use Rattle.mvo_types.specs.RowData.{ContentData, content_of}
-use Rattle.mvo_theory.specs.Entries.Entry.{Range}
+use Rattle.mvo_types.specs.declared.entry.Entry.TheVariants.{Range}
 use Rattle.mvo_theory.specs.Ranges.{shows, is_row_of}
 use Rattle.mvo_theory.specs.State.{State, ActiveTx, active_of, snapshot}
 use Rattle.mvo_theory.specs.Dependencies.{counts_for}

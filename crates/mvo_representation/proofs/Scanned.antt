@@ -16,7 +16,7 @@ use Rattle.mvo_types.specs.Keys.{key_cmp}
 use Rattle.mvo_model.specs.History.{net_write, after_history}
 use Rattle.mvo_model.proofs.Serials.{get-after_history}
 use Rattle.mvo_theory.specs.Ranges.{Row, shows, pass, puts, is_row_of}
-use Rattle.mvo_theory.specs.Entries.Entry.{Range}
+use Rattle.mvo_types.specs.declared.entry.Entry.TheVariants.{Range}
 use Rattle.mvo_theory.specs.State.{State, StampedTx, ActiveTx, seen_by, active_of}
 use Rattle.mvo_theory.specs.Dependencies.{is_put_below, counts_for, last_writer, has_end, dependencies}
 use Rattle.mvo_theory.specs.Sound.{IsSound, IsStarted, IsRising}

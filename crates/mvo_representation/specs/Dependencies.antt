@@ -4,7 +4,7 @@ use Rattle.std.specs.List.{AllByRecursion}
 use Rattle.mvo_types.specs.declared.ids.TxId.{TxId}
 use Rattle.mvo_types.specs.declared.row.RowKey.{RowKey}
 use Rattle.mvo_types.specs.declared.op.Op.{Op}
-use Rattle.mvo_theory.specs.Entries.Entry.{Range}
+use Rattle.mvo_types.specs.declared.entry.Entry.TheVariants.{Range}
 use Rattle.mvo_theory.specs.Ranges.{shows, is_row_of}
 use Rattle.mvo_theory.specs.State.{State, ActiveTx, preparing_of}
 use Rattle.mvo_theory.specs.Dependencies.{has_end, dependencies}

@@ -8,7 +8,6 @@ use Rattle.mvo_types.specs.Keys.{Map}
 use Rattle.mvo_model.specs.History.{net_write}
 use Rattle.mvo_model.specs.Trace.{Step}
 use Rattle.mvo_theory.specs.Entries.{entry_of}
-use Rattle.mvo_theory.specs.Entries as theory
 use Rattle.mvo_theory.specs.State.{State, ActiveTx, opened, active_of, history_of_active, snapshot}
 use Rattle.mvo_theory.specs.Ranges.{shows, is_row_of}
 use Rattle.mvo_theory.specs.Dependencies.{dependencies, counts_for}
@@ -25,7 +24,8 @@ use Rattle.mvo_visible.specs.Causes.{cause_of}
 use Rattle.mvo_visible.specs.Versions.{versions_at}
 use Rattle.mvo_visible.specs.Changes.{changes_of}
 use Rattle.mvo_visible.specs.Shown.{shown_to}
-use Rattle.mvo_validate.specs.declared.entry.Entry.{Entry}
+use Rattle.mvo_types.specs.declared.entry.Entry.{Entry}
+use Rattle.mvo_types.specs.declared.entry.Entry.TheVariants.{Key, Range}
 use Rattle.mvo_validate.specs.Between.{stamp_between}
 use Rattle.mvo_validate.specs.Entries.{versions_in}
 use Rattle.mvo_representation.specs.Words.{ends_of, with_open, IsShownAt, is_met}
@@ -33,7 +33,6 @@ use Rattle.mvo_representation.specs.Versions.{AreVersionsOf, loaded}
 use Rattle.mvo_representation.specs.Indexes.{all_versions, HasNumbers, HasPlaces}
 use Rattle.mvo_representation.specs.Steps.{MayEnd, IsAfterCall}
 use Rattle.mvo_representation.specs.Table.{phases_of, content_shown, place_with, end_awaited, IsShown}
-use Rattle.mvo_work.specs.History.{entry_as}
 
 -- What a core has stands for a state that its steps lead to.
 pub record StandsFor (opening : Map) (steps : List Step) (s : State) (states : States)
@@ -68,7 +67,7 @@ abbrev pub DependsSo : Type 0
 DependsSo = (opening : Map) (steps : List Step) (s : State) (states : States) (slots : Slots)
     (lists : Lists) (places : Places) (op : Op) (r : ActiveTx) (k : RowKey)
     → StandsFor opening steps s states slots lists places → active_of r.id s.active ≡ Some r
-    → entry_of op ≡ theory.Entry.Key k → dependencies s op r
+    → entry_of op ≡ Key k → dependencies s op r
     ≡ with_open r.depends_on
     (end_awaited states (shown_to states r.id r.id (versions_at slots lists k)).depends_on)
 
@@ -106,7 +105,7 @@ NamesChange = (opening : Map) (steps : List Step) (s : State) (states : States) 
     (lists : Lists) (places : Places) (begin end' : ℕ) (entry : Entry)
     → StandsFor opening steps s states slots lists places → s.start ≤ begin → begin < end'
     → stamp_between begin end' (changes_of states (versions_in slots lists places entry))
-    ≡ change_of s.stamped begin end' (entry_as entry)
+    ≡ change_of s.stamped begin end' entry
 
 -- Each row of a snapshot has its place in the ordered index.
 abbrev pub RowsArePlaced : Type 0
@@ -122,5 +121,5 @@ MeetsWhatCounts = (opening : Map) (steps : List Step) (s : State) (states : Stat
     (q : RowKey)
     → StandsFor opening steps s states slots lists places → active_of r.id s.active ≡ Some r
     → is_met (ends_of (phases_of states)) s.start r.id
-    (is_row_of (shows (theory.Entry.Range table lo hi)) q) (all_versions slots)
-    ≡ counts_for (theory.Entry.Range table lo hi) q r.id s.base s.stamped
+    (is_row_of (shows (Range table lo hi)) q) (all_versions slots)
+    ≡ counts_for (Range table lo hi) q r.id s.base s.stamped

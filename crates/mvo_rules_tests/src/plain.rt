@@ -3,8 +3,8 @@
 use crate::engine::{Engine, number_at};
 use mvo_chain::{Version, VersionNo};
 use mvo_txn::{TxState, TxnTable};
-use mvo_types::{RowKey, Stamp, TxId};
-use mvo_validate::{Check, Entry};
+use mvo_types::{Entry, RowKey, Stamp, TxId};
+use mvo_validate::Check;
 use mvo_visible::Shown;
 use mvo_word::{Held, Word};
 

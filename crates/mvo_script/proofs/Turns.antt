@@ -8,7 +8,8 @@ use Rattle.mvo_group.specs.Data.{GroupData}
 use Rattle.mvo_core.specs.declared.answers.Closed.{Closed as ClosedGroup}
 use Rattle.mvo_disk.specs.declared.disk.Disk.{Ghosts}
 use Rattle.mvo_store.specs.Seen.{pending_of}
-use Rattle.mvo_store.specs.Causes.{first_cause, why_not_take}
+use Rattle.mvo_types.specs.Causes.{when, first_cause}
+use Rattle.mvo_store.specs.Causes.{why_not_take}
 use Rattle.mvo_store.specs.Calls.{StoreCall}
 use Rattle.mvo_store.specs.Calls.StoreCall.{AppendBody as AppendBodyCall, RotateWrite as RotateWriteCall, InstallClose as InstallCloseCall, InstallBody as InstallBodyCall, InstallOpen as InstallOpenCall}
 use Rattle.mvo_store.specs.declared.log_step.LogStep.{LogStep}
@@ -50,7 +51,7 @@ stopped_flush w _ h = cc
 
 -- ---- where no group is left
 
-emptied : (down : Bool) (pending : Option GroupData) (ring : List GroupData) → or_nothing (first_cause ((down, Down) ∷ (is_some pending, Busy) ∷ [])) (oldest ring) ≡ Some NothingToDo → (ring ≡ []) × (pending ≡ None)
+emptied : (down : Bool) (pending : Option GroupData) (ring : List GroupData) → or_nothing (first_cause (when down Down ∷ when (is_some pending) Busy ∷ [])) (oldest ring) ≡ Some NothingToDo → (ring ≡ []) × (pending ≡ None)
 emptied true pending ring h = cc
 emptied false (Some g) ring h = cc
 emptied false None (g ∷ gs) h = cc
@@ -85,7 +86,7 @@ same_length {A} a x b y p q = ap₂ (λ (s : Option A) (t : List A). length (opt
 kept_count : {D : Type 0} (w v : WorldData D) → KeepsGroups w v → count v ≡ count w
 kept_count w v k = same_length (pending_of v.store) (pending_of w.store) v.ring w.ring k.pending k.ring
 
-none_pending : {A : Type 0} (down : Bool) (pending next : Option A) → or_nothing (first_cause ((down, Down) ∷ (is_some pending, Busy) ∷ [])) next ≡ None → pending ≡ None
+none_pending : {A : Type 0} (down : Bool) (pending next : Option A) → or_nothing (first_cause (when down Down ∷ when (is_some pending) Busy ∷ [])) next ≡ None → pending ≡ None
 none_pending true pending next h = cc
 none_pending false (Some g) next h = cc
 none_pending false None next h = refl

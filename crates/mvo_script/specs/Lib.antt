@@ -1,8 +1,6 @@
-pub mod Words
 pub mod Begun
 pub mod Bound
 pub mod Fresh
-pub mod Forms
 pub mod Stopping
 pub mod Rotating
 pub mod Checkpointing

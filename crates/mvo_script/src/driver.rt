@@ -6,13 +6,13 @@ use crate::bound::BoundTx;
 use crate::checkpoint::checkpoint;
 use crate::events::{event_by, event_of_line, name_in};
 use crate::flush::flush;
-use crate::line::{Line, RowText, SortRange};
 use crate::merge::merge;
 use crate::names::Names;
 use crate::reply::LineReply;
 use crate::rotate::rotate;
 use mvo_core::{Finishing, Settlement, Validation};
 use mvo_disk::{Disk, MemDisk};
+use mvo_line::{Line, RowText, SortRange};
 use mvo_store::format;
 use mvo_types::{Refusal, Row, Stamp, TxId};
 use mvo_world::{Event, Reply, World};
@@ -62,8 +62,9 @@ impl<D: Disk> Driver<D> {
     ghost use Rattle.mvo_script.specs.Answers.{IsSettleStep, IsStepOf};
     ghost use Rattle.mvo_script.specs.Bound.{bound_by, is_covered, BindsNone};
     ghost use Rattle.mvo_script.specs.Events.{name_in};
-    ghost use Rattle.mvo_script.specs.Forms.{HasForm};
-    ghost use Rattle.mvo_script.specs.declared.line.Line.{Line};
+    ghost use Rattle.mvo_line.specs.Forms.{HasForm};
+    ghost use Rattle.mvo_line.specs.Written.{text_of};
+    ghost use Rattle.mvo_line.specs.declared.line.Line.{Line};
     ghost use Rattle.mvo_world.specs.declared.reply.Reply.{Reply};
     ghost use Rattle.mvo_world.specs.Replies.{IsReplyTo};
 
@@ -99,13 +100,14 @@ impl<D: Disk> Driver<D> {
         world
     }
 
-    /// The reply to a line, without its line feed. A bad line changes nothing. No clause says which
-    /// line the bytes are.
+    /// The reply to a line, without its line feed. A bad line changes nothing. No clause says that
+    /// the bytes of a line are never answered as a bad one.
     pub fn answer(&mut self, bytes: &[u8]) -> LineReply
         ensures bad { result ≡ LineReply.BadLine → self.new ≡ self.old }
         ensures answered { let step = IsReplyTo D.Disk in
             (r : Reply) → result ≡ LineReply.Answered r →
-            (line : Line) × HasForm line × IsAnswerTo step self.old line r self.new }
+            (line : Line) × HasForm line × (text_of line ≡ bytes.now)
+            × IsAnswerTo step self.old line r self.new }
     {
         let Some(line) = Line::parse(bytes) else {
             return LineReply::BadLine;

@@ -6,15 +6,13 @@ mod checkpoint;
 mod driver;
 mod events;
 mod flush;
-mod line;
 mod merge;
 mod names;
 mod reply;
 mod rotate;
 mod script;
-mod words;
 
 pub use driver::Driver;
-pub use line::{Line, MAX_LINE_LEN, RowText, SortRange};
+pub use mvo_line::{Line, MAX_LINE_LEN, RowText, SortRange};
 pub use reply::LineReply;
 pub use script::{ScriptError, run_over, run_script};

@@ -22,6 +22,8 @@ mod rotations;
 #[cfg(test)]
 mod streams;
 #[cfg(test)]
+mod texts;
+#[cfg(test)]
 mod transactions;
 #[cfg(test)]
 mod transcripts;

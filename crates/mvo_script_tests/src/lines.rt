@@ -1,6 +1,6 @@
 //! Lines that are none of a script, and the longest ones.
 use crate::assert::assert_replies;
-use mvo_script::run_script;
+use mvo_script::{Line, run_script};
 use std::alloc::AllocError;
 use std::test::Fail;
 
@@ -101,6 +101,67 @@ const BAD_LINES: [&[u8]; 94] = [
     b"merge_delta",
     b"durable",
 ];
+
+/// Lines of each kind. Which line each is says a clause.
+const LINES: [&[u8]; 49] = [
+    b"begin t",
+    b"begin 0",
+    b"begin z",
+    b"begin 0123456789abcdef",
+    b"read t 0 0",
+    b"read t 9 10",
+    b"read ghijklmnopqrstuv 255 18446744073709551615",
+    b"scan t 0 0 0",
+    b"scan t 255 18446744073709551615 18446744073709551615",
+    b"scan t 10 99 1",
+    b"insert t 0 0 0 -",
+    b"insert t 255 18446744073709551615 18446744073709551615 00",
+    b"insert wxyz0123456789a 100 1 2 0123456789abcdef",
+    b"update t 0 0 0 -",
+    b"update t 255 18446744073709551615 18446744073709551615 ff",
+    b"update t 15 9223372036854775808 2 abcdef",
+    b"delete t 0 0",
+    b"delete t 255 18446744073709551615",
+    b"precommit t",
+    b"validate t",
+    b"settle t",
+    b"rollback t",
+    b"finish t",
+    b"commit t",
+    b"poll t",
+    b"collect",
+    b"trim 0",
+    b"trim 4611686018427387904",
+    b"trim 18446744073709551615",
+    b"group",
+    b"take",
+    b"body",
+    b"open",
+    b"flush",
+    b"rotate-write",
+    b"checkpoint-read",
+    b"checkpoint-data",
+    b"checkpoint-delta",
+    b"merge-read 0",
+    b"merge-read 18446744073709551615",
+    b"merge-data",
+    b"merge-delta",
+    b"install-close",
+    b"install-body",
+    b"install-open",
+    b"rotate",
+    b"checkpoint",
+    b"merge 10",
+    b"reclaim",
+];
+
+#[test]
+fn lines_of_each_kind_are_lines(rt: HostRuntime) -> Result<(), Fail> {
+    for line in LINES {
+        assert!(rt; Line::parse(line).is_some(), "at {line:?}");
+    }
+    Ok(())
+}
 
 #[test]
 fn bad_lines_change_nothing(rt: HostRuntime) -> Result<(), Fail> {

@@ -1,8 +1,9 @@
--- A store whose job makes a step, or has opened the gate of its manifest.
-use Rattle.std.proofs.Common.{◌≡◌, ◌≢◌, inl, inr, ℕ, zero, suc, ◌+◌, eqb, ◌&&◌, Bool, true, false, List, [], ◌∷◌, length, Option, Some, None, Ok, Err, refl, sym, ap, subst, ◌∙◌, arith, ◌<◌, ◌++◌}
-use Rattle.std.specs.Prelude.{map, nat_eq}
+-- A store whose job makes a step, or has opened the gate of its manifest; and one beside calls that look at the disk, or empty a file that is not used.
+use Rattle.std.proofs.Common.{◌≡◌, ◌≢◌, inl, inr, ℕ, ◌+◌, eqb, ◌&&◌, Bool, true, false, List, [], ◌∷◌, length, get_or, Option, Some, None, Ok, Err, refl, sym, ap, subst, ◌∙◌, arith, ◌<◌, ◌++◌, ◌⊎◌, ◌||◌, eq-eqb}
+use Rattle.std.specs.Prelude.{map, nat_eq, ⊤, MatchOption}
 use Rattle.std.specs.Bool.{OnTrue, OnFalse}
-use Rattle.std.proofs.lemmas.Bool.{eqb-true, ne_eqb}
+use Rattle.std.proofs.Math.Bool.{or-true}
+use Rattle.std.proofs.lemmas.Bool.{eqb-true}
 use Rattle.std.specs.List.{AllByRecursion, IsDistinct}
 use Rattle.mvo_types.specs.Keys.{Map}
 use Rattle.mvo_types.specs.declared.refusal.Refusal.{Refusal}
@@ -10,18 +11,17 @@ use Rattle.mvo_types.specs.declared.refusal.Refusal.TheVariants.{DiskFault, OutO
 use Rattle.mvo_types.specs.declared.row.RowKey.{RowKey}
 use Rattle.mvo_types.specs.declared.limits.TheConstants.{MAX_SEGMENT_LEN}
 use Rattle.mvo_disk.specs.declared.disk.Disk.{Ghosts}
-use Rattle.mvo_disk.specs.Disk.{OthersStay}
-use Rattle.mvo_disk.specs.Moments.{weaker}
+use Rattle.mvo_disk.specs.Disk.{OthersStay, AllOf, AllStay, Touched, LeavesOnly}
+use Rattle.mvo_disk.specs.Moments.{weaker, runs_on}
 use Rattle.mvo_group.specs.Data.{GroupData}
 use Rattle.mvo_format.specs.declared.format.TheConstants.{FIRST_FORMAT}
 use Rattle.mvo_frame.specs.declared.segment.Segment.{Segment}
 use Rattle.mvo_frame.specs.Standing.{gate_of}
-use Rattle.mvo_pair.specs.Writing.{IsWriteRefusal}
-use Rattle.mvo_pair.specs.Data.{EntryData, Numbered}
+use Rattle.mvo_pair.specs.Writing.{IsWriteRefusal, CountsFaults}
+use Rattle.mvo_pair.specs.Data.{EntryData, Numbered, AreApart}
 use Rattle.mvo_pair.specs.declared.pair.Pair.{Pair}
 use Rattle.mvo_manifest.specs.Data.{ManifestData}
-use Rattle.mvo_image.specs.Rows.{AreApart}
-use Rattle.mvo_ckpt.specs.Places.{PlaceTable, ArePlaces, Rise, file_of, taken_over}
+use Rattle.mvo_places.specs.Places.{PlaceTable, ArePlaces, Rise, file_of, taken_over}
 use Rattle.mvo_ckpt.specs.Writes.{records_of, gone_of}
 use Rattle.mvo_ckpt.proofs.Taking.{places_taken_over}
 use Rattle.mvo_merge.specs.Merged.{merged, without}
@@ -31,10 +31,10 @@ use Rattle.mvo_merge.proofs.Late.{none_late}
 use Rattle.mvo_merge.proofs.Placed.{places_merged}
 use Rattle.mvo_load.proofs.Pairing.{data_files_differ}
 use Rattle.mvo_recovery.specs.Parts.{IsLastFile, Parts}
-use Rattle.mvo_recovery.specs.Settled.{IsSettled, other_slot}
-use Rattle.mvo_recovery.specs.Checkpoint.{NewNumbers, raise, lives_after, checkpointed, checkpointed_parts, HaveGained}
+use Rattle.mvo_recovery.specs.Settled.{IsSettled, other_slot, IsUsed, FilesStay}
+use Rattle.mvo_recovery.specs.Checkpoint.{NewNumbers, raise, lives_after, checkpointed, checkpointed_parts}
 use Rattle.mvo_recovery.specs.Merging.{merged_parts}
-use Rattle.mvo_recovery.proofs.Named.{slot_below, last_named, named_is_no_slot, last_once}
+use Rattle.mvo_recovery.proofs.Named.{slot_below, last_named, named_is_no_slot, last_once, last_used}
 use Rattle.mvo_recovery.proofs.Checkpointed.{last_stays, last_after}
 use Rattle.mvo_recovery.proofs.Installed.{after_install}
 use Rattle.mvo_recovery.proofs.Beside.{rotated_last}
@@ -45,50 +45,39 @@ use Rattle.mvo_store.specs.declared.job.Job.{Job}
 use Rattle.mvo_store.specs.declared.job.Job.TheVariants.{Rotation, Checkpoint, Merge, MergeInstall}
 use Rattle.mvo_store.specs.StoreData.{StoreData, opening}
 use Rattle.mvo_store.specs.Causes.{why_not_due, why_not_install_open, is_rotation, has_rotation}
-use Rattle.mvo_store.specs.Jobs.{step_number, step_due, is_due, with_merge, after_step}
-use Rattle.mvo_store.specs.Standing.{HasJob, HasRoom, JobHasRoom, IsUp, MayBeLeft, HasSlots, HasBody, IsRotating, HasWork, MayTakeOver}
+use Rattle.mvo_store.specs.Jobs.{step_number, step_due, is_due, with_merge, after_step, job_takes_file, takes_file}
+use Rattle.mvo_store.specs.Standing.{HasJob, HasRoom, JobHasRoom, IsUp, MayBeLeft, HasSlots, HasBody, HasWork, MayTakeOver}
 use Rattle.mvo_store.specs.Writing.{StandsWith, StillGives, WritesFor, HasMadeStep, TakesMemory, IsStepRefusal, IsOpened}
-use Rattle.mvo_store.specs.Calls.{call_of, why_not, MayMeet, Makes, HasStepped, IsFileOfJob, MayWrite, KeepsOthers, IsStoreStep, rows_after}
+use Rattle.mvo_store.specs.Calls.{call_of, why_not, MayMeet, Makes, HasStepped, IsFileOfJob, MayWrite, KeepsOthers, IsStoreStep, rows_after, StoreCall, HasNoFault, LeftByMemory}
 use Rattle.mvo_store.specs.declared.install.Install.{Install as InstallData}
 use Rattle.mvo_store.specs.declared.checkpoint_stage.CheckpointStage.TheVariants.{Install as AtInstall}
 use Rattle.mvo_store.specs.declared.checkpointing.Checkpointing.{Checkpointing}
 use Rattle.mvo_store.specs.declared.seen.Seen.{Seen}
-use Rattle.mvo_store.specs.Checkpoint.{gained, made_of, IsCheckpointInto, IsWhole}
+use Rattle.mvo_store.specs.Checkpoint.{gained, made_of, IsCheckpointInto}
 use Rattle.mvo_store.specs.Merging.{pairs_of, IsMerging, IsMergeReady}
 use Rattle.mvo_store.specs.Steps.{manifest_after, places_after, segment_after}
-use Rattle.mvo_store.proofs.Keeping.{give_or, stays_up, AllLeave, OnlyNow, CountsNow}
-use Rattle.mvo_store.proofs.Stepping.{may_step, Begins, begins, file_others, fault_step, other_step, err_is}
+use Rattle.mvo_store.proofs.Keeping.{give_or, stays_up, AllLeave, OnlyNow, CountsNow, slots_as, now_left, touched_left, may_step, Begins, begins, file_others, fault_step, other_step, err_is, all_others, done_step, looked_step}
 use Rattle.mvo_store.proofs.Neighbours.{rise_two, apart_two}
-use Rattle.mvo_store.proofs.Working.{Installing, Installs, rotation_installs, checkpoint_installs, merge_installs, install_due, slot_of_install}
+use Rattle.mvo_store.proofs.Working.{Installing, Installs, rotation_installs, checkpoint_installs, merge_installs, install_due, slot_of_install, IsOfPair, RestsOn, JobRestsOn, job_framed, written_of_pair, merged_of_pair}
 use Rattle.mvo_store.proofs.Working.Installing.{OfRotation, OfCheckpoint, OfMerge}
+use Rattle.mvo_load.specs.Read.{HasRead}
+use Rattle.mvo_recovery.proofs.Framed.{files_stay_others, settled_all, settled_framed}
+use Rattle.mvo_store.specs.Reclaiming.{IsLeastDead, HasDead}
+use Rattle.mvo_store.proofs.Logged.{unnamed_unused}
 
 -- ---- the steps by their numbers
 
 numbered : ℕ → Due
-numbered zero = Data
-numbered (suc zero) = Delta
-numbered (suc (suc zero)) = MergeData
-numbered (suc (suc (suc zero))) = MergeDelta
-numbered (suc (suc (suc (suc zero)))) = Install Close
-numbered (suc (suc (suc (suc (suc zero))))) = Install Body
-numbered n = Install Open
+numbered n = get_or (Data ∷ Delta ∷ MergeData ∷ MergeDelta ∷ Install Close ∷ Install Body ∷ []) n (Install Open)
 
 numbered_back : (a : Due) → numbered (step_number a) ≡ a
 unfolding numbered
-numbered_back Data = refl
-numbered_back Delta = refl
-numbered_back MergeData = refl
-numbered_back MergeDelta = refl
 numbered_back (Install Close) = refl
-numbered_back (Install Body) = refl
-numbered_back (Install Open) = refl
+numbered_back step = refl
 
 -- no two have one number
 pub same_due : (a b : Due) → eqb (step_number a) (step_number b) ≡ true → a ≡ b
 same_due a b e = sym (numbered_back a) ∙ ap numbered (eqb-true (step_number a) (step_number b) e) ∙ numbered_back b
-
-pub other_due : (a b : Due) → a ≢ b → eqb (step_number a) (step_number b) ≡ false
-other_due a b ne = ne_eqb (step_number a) (step_number b) (λ e. ne (sym (numbered_back a) ∙ ap numbered e ∙ numbered_back b))
 
 -- the step that is due
 pub due_is : (step : Due) (o : Option Job) (j : Job) → o ≡ Some j → is_due step o ≡ true → step_due j ≡ step
@@ -333,39 +322,27 @@ module _ {D : Type 0} (d : Ghosts D) (s : StoreData D) (rows : Map) (up : IsUp d
         let at_is : places.at ≡ moved g.left.data_file g.right.data_file g.pair.data_file (merged ls.left ls.right) s.places.at = to ∙ ap (λ (es : List EntryData). moved g.left.data_file g.right.data_file g.pair.data_file es s.places.at) has.records in
         rw (at_is, is.next_is) now
 
-    -- a rotation's fresh segment takes frames
-    rotation_up : (fresh : Segment) (next : ManifestData) (places : PlaceTable) → IsRotating (d.content s.disk) (d.may_leave s.disk) m up.parts fresh next → IsOpened d new m next → places.at ≡ s.places.at → s.written ≡ false
-        → IsUp d (record s { disk = new; manifest = next; places = places; segment = fresh; job = None }) rows
-    rotation_up fresh next places has opened to none =
-        let i = rotation_installs (d.content s.disk) (d.may_leave s.disk) m up.parts up.settled fresh next has in
-        with_next next i places fresh (next_settled next (ap (λ (n : ManifestData). n.generation) has.next_is) i opened) (subst (λ (n : ManifestData). IsLastFile n fresh.file) (sym has.next_is) (rotated_last m fresh.file))
-        has.gate (omega (arith, has.gate)) (λ e. absurd (cc (e, none))) (rw (to, has.next_is) up.places)
-
-    checkpoint_up : (c : Checkpointing) (places : PlaceTable) (has : IsCheckpointInto (d.content s.disk) m up.parts c.pair c.made c.next) → HaveGained FIRST_FORMAT (d.content s.disk) (gained c.made.deltas) m up.parts → IsWhole (d.content s.disk) (d.may_leave s.disk) (made_of c.pair c.made has.segment)
-        → IsOpened d new m c.next → places.at ≡ taken_over c.pair.data_file c.made.records c.made.gone s.places.at → IsUp d (record s { disk = new; manifest = c.next; places = places; job = None }) rows
-    checkpoint_up c places has have both opened to =
-        let i = checkpoint_installs (d.content s.disk) (d.may_leave s.disk) m up.parts up.settled c.pair c.made c.next has have both in
-        let settled = next_settled c.next (ap (λ (n : ManifestData). n.generation) has.next_is) i opened in
-        let made = made_of c.pair c.made has.segment in
-        let stays = last_stays FIRST_FORMAT (d.content s.disk) (d.may_leave s.disk) m up.parts made has.log in
-        let it : s.segment.file ≡ has.log.last_file = last_once m stays.0 has.log.last_file s.segment.file stays.1 up.last in
-        installed_up c.next i places settled refl refl
-        (subst (λ (n : ManifestData). IsLastFile n s.segment.file) (sym has.next_is) (subst (IsLastFile (checkpointed m made)) (sym it) (last_after FIRST_FORMAT (d.content s.disk) (d.may_leave s.disk) m up.parts made has.log)))
-        (checkpoint_places c places has settled to)
-
-    merge_up : (g : Seen) (next : ManifestData) (places : PlaceTable) → IsMergeReady (d.content s.disk) (d.may_leave s.disk) m up.parts g next → IsOpened d new m next
-        → places.at ≡ moved g.left.data_file g.right.data_file g.pair.data_file g.made.records s.places.at → IsUp d (record s { disk = new; manifest = next; places = places; job = None }) rows
-    merge_up g next places is opened to =
-        let i = merge_installs (d.content s.disk) (d.may_leave s.disk) m up.parts up.settled g next is in
-        let settled = next_settled next (ap (λ (n : ManifestData). n.generation) is.next_is) i opened in
-        installed_up next i places settled refl refl (subst (λ (n : ManifestData). IsLastFile n s.segment.file) (sym is.next_is) (up.last.0, up.last.1)) (merge_places g next places is settled to)
-
     -- THE STORE IS UP WITH IT.
     open_up : {j : Job} {i : InstallData} → Installing j i → HasWork (d.content s.disk) (d.may_leave s.disk) m up.parts j → (places : PlaceTable) → IsOpened d new m (manifest_after j m) → places.at ≡ places_after j s.places.at → (s.written && is_rotation j) ≡ false
         → IsUp d (record s { disk = new; manifest = manifest_after j m; places = places; segment = segment_after j s.segment; job = None }) rows
-    open_up (OfRotation fresh i) has places opened to free = rotation_up fresh i.next places has opened to (unwritten s.written free)
-    open_up (OfCheckpoint pair made next step) has places opened to free = checkpoint_up (record { pair = pair; made = made; next = next; stage = AtInstall step }) places has.into has.have has.written opened to
-    open_up (OfMerge g i) has places opened to free = merge_up g i.next places has opened to
+    open_up (OfRotation fresh k) has places opened to free =
+        let i = rotation_installs (d.content s.disk) (d.may_leave s.disk) m up.parts up.settled fresh k.next has in
+        with_next k.next i places fresh (next_settled k.next (ap (λ (n : ManifestData). n.generation) has.next_is) i opened) (subst (λ (n : ManifestData). IsLastFile n fresh.file) (sym has.next_is) (rotated_last m fresh.file))
+        has.gate (omega (arith, has.gate)) (λ e. absurd (cc (e, unwritten s.written free))) (rw (to, has.next_is) up.places)
+    open_up (OfCheckpoint pair c next step) has places opened to free =
+        let i = checkpoint_installs (d.content s.disk) (d.may_leave s.disk) m up.parts up.settled pair c next has.into has.have has.written in
+        let settled = next_settled next (ap (λ (n : ManifestData). n.generation) has.into.next_is) i opened in
+        let made = made_of pair c has.into.segment in
+        let log = has.into.log in
+        let stays = last_stays FIRST_FORMAT (d.content s.disk) (d.may_leave s.disk) m up.parts made log in
+        let it : s.segment.file ≡ log.last_file = last_once m stays.0 log.last_file s.segment.file stays.1 up.last in
+        installed_up next i places settled refl refl
+        (subst (λ (n : ManifestData). IsLastFile n s.segment.file) (sym has.into.next_is) (subst (IsLastFile (checkpointed m made)) (sym it) (last_after FIRST_FORMAT (d.content s.disk) (d.may_leave s.disk) m up.parts made log)))
+        (checkpoint_places (record { pair = pair; made = c; next = next; stage = AtInstall step }) places has.into settled to)
+    open_up (OfMerge g k) has places opened to free =
+        let i = merge_installs (d.content s.disk) (d.may_leave s.disk) m up.parts up.settled g k.next has in
+        let settled = next_settled k.next (ap (λ (n : ManifestData). n.generation) has.next_is) i opened in
+        installed_up k.next i places settled refl refl (subst (λ (n : ManifestData). IsLastFile n s.segment.file) (sym has.next_is) (up.last.0, up.last.1)) (merge_places g k.next places has settled to)
 
   -- THE STORE IS UP with what the step of a job that opens the gate has made.
   pub opened_up : (j : Job) → s.job ≡ Some j → step_due j ≡ Install Open → (new : D) → WritesFor d s.disk new m j → (made : Option ManifestData) → HasMadeStep d s.disk new m j made → d.fault_count new ≡ d.fault_count s.disk
@@ -376,3 +353,101 @@ module _ {D : Type 0} (d : Ghosts D) (s : StoreData D) (rows : Map) (up : IsUp d
       let w = writes up.parts stands in
       let i = install_due j Open due in
       open_up new w.file (slot_of_install m w.file i.1 w.is) w.rest count i.1 stands.job.work places ((makes up.parts stands).opened due) to (subst (λ (o : Option Job). (s.written && has_rotation o) ≡ false) is free)
+
+-- ---- looks at the disk
+
+module _ {D : Type 0} {d : Ghosts D} {s : StoreData D} {call : StoreCall} (b : Begins d s call) (new : D) (rest : AllStay (d.content s.disk) (d.content new) (d.may_leave s.disk) (d.may_leave new)) where
+  -- the store stays up, whatever job runs then
+  pub looked_up : (rows : Map) (up : IsUp d s rows) (places : PlaceTable) (job : Option Job) → places.at ≡ s.places.at → HasRoom places job → HasJob (d.content s.disk) (d.may_leave s.disk) s.manifest up.parts job → d.fault_count new ≡ d.fault_count s.disk
+      → IsUp d (record s { disk = new; places = places; job = job }) rows
+  looked_up rows up places job same room has = stays_up d s rows up new places job (settled_all (d.content s.disk) (d.content new) (d.may_leave s.disk) (d.may_leave new) FIRST_FORMAT s.manifest up.parts rest up.settled) (rest.content s.segment.file)
+      (job_framed (d.content s.disk) (d.content new) (d.may_leave s.disk) (d.may_leave new) s.manifest up.settled.installed.own.is up.parts up.parts.last (λ some. some) job
+      (record { content = λ n _. rest.content n; images = λ n c _. rest.images n c }) (rest.content (other_slot s.manifest)) has) same room
+
+  -- so with the one that runs
+  pub looked_same : d.fault_count new ≡ d.fault_count s.disk → (rows : Map) → IsUp d s rows → IsUp d (record s { disk = new }) rows
+  looked_same count rows up = looked_up rows up s.places s.job refl up.room_for up.job count
+
+  pub still_up : d.fault_count new ≡ d.fault_count s.disk → (rows : Map) × IsUp d (record s { disk = new }) rows
+  still_up count = (b.rows, looked_same count b.rows b.is_up)
+
+  module _ (any_moment : LeavesOnly d.moment d.left_since s.disk new (AllOf (d.may_leave s.disk))) where
+    pub looks_leave : AllLeave d s new
+    looks_leave rows up slots = weaker d.moment d.left_since s.disk new (AllOf (d.may_leave s.disk)) (MayBeLeft rows s.mark (opening s)) (now_left d s rows up slots) any_moment
+
+    looks_slots : HasSlots (d.content s.disk) → HasSlots (d.content new)
+    looks_slots = slots_as (d.content s.disk) (d.content new) (rest.content 0) (rest.content 1)
+
+    -- a call that has done no more
+    pub looked_fault : {A : Type 0} → CountsNow d → (e : Refusal) → e ≡ DiskFault → MayMeet call DiskFault → d.fault_count new ≡ d.fault_count s.disk + 1 → IsStoreStep {A = A} d s call (Err e) (record s { disk = new; down = true })
+    looked_fault counts_now e at may count = fault_step b counts_now new e at may count looks_leave (all_others d call s (record s { disk = new; down = true }) rest)
+
+    pub looked_memory : {A : Type 0} → MayMeet call OutOfMemory → (HasNoFault d s (record s { disk = new }) → LeftByMemory d call s (record s { disk = new })) → d.fault_count new ≡ d.fault_count s.disk → IsStoreStep {A = A} d s call (Err OutOfMemory) (record s { disk = new })
+    looked_memory may left count = looked_step b (record s { disk = new }) looks_leave looks_slots (all_others d call s (record s { disk = new }) rest) may (left count) (looked_same count)
+
+    module _ (places : PlaceTable) (job : Option Job) where
+      pub looked_done : {A : Type 0} (a : A) → Makes d call s (record s { disk = new; places = places; job = job }) → d.fault_count new ≡ d.fault_count s.disk → ((rows : Map) → IsUp d s rows → IsUp d (record s { disk = new; places = places; job = job }) (rows_after {A = A} s call (Ok a) rows))
+          → IsStoreStep d s call (Ok a) (record s { disk = new; places = places; job = job })
+      looked_done a = done_step b (record s { disk = new; places = places; job = job }) looks_leave looks_slots (all_others d call s (record s { disk = new; places = places; job = job }) rest) a
+
+-- the counter where memory was refused behind a read
+pub read_count : {D X : Type 0} (d : Ghosts D) (old new : D) (e : Refusal) → HasRead {X = X} d old new (Err e) → e ≡ OutOfMemory → d.fault_count new ≡ d.fault_count old
+read_count {D} {X} d old new e read memory = subst (λ (k : Refusal). CountsFaults {X = X} (d.fault_count old) (d.fault_count new) (Err k)) memory read.count
+
+-- ---- a file is emptied
+
+-- it is used, or a job writes it
+abbrev IsKept : {D : Type 0} → StoreData D → ℕ → Type 0
+IsKept s n = IsUsed s.manifest n ⊎ (takes_file s.job n ≡ true)
+
+dead_not_kept : {D : Type 0} (d : Ghosts D) (s : StoreData D) (n : ℕ) → HasDead d s n → IsKept s n → ⊥
+dead_not_kept d s n dead (inl used) = unnamed_unused s.manifest n dead.first dead.unnamed used
+dead_not_kept d s n dead (inr is) = absurd (cc (is, dead.unused))
+
+of_pair : (p : Pair) (n : ℕ) → IsOfPair p n → (eqb p.data_file n || eqb p.delta_file n) ≡ true
+of_pair p n (inl here) = ap (λ t. t || eqb p.delta_file n) (eq-eqb p.data_file n (sym here))
+of_pair p n (inr here) = ap (λ t. eqb p.data_file n || t) (eq-eqb p.delta_file n (sym here)) ∙ or-true (eqb p.data_file n)
+
+-- so are the files that a job rests on
+rests_kept : (m : ManifestData) (j : Job) (n : ℕ) → RestsOn m j n → IsUsed m n ⊎ (job_takes_file j n ≡ true)
+rests_kept m (Rotation fresh i) n here = inr (eq-eqb fresh.file n (sym here))
+rests_kept m (Checkpoint c) n (inl on) = inr (of_pair c.pair n (written_of_pair c.pair c.stage n on))
+rests_kept m (Checkpoint c) n (inr before) = inl (inr before.0)
+rests_kept m (Merge g) n on = inr (of_pair g.seen.pair n (merged_of_pair g.seen.pair g.stage n on))
+rests_kept m (MergeInstall g i) n here = inr (of_pair g.pair n here)
+
+job_rests_kept : (m : ManifestData) (o : Option Job) (n : ℕ) → JobRestsOn m o n → IsUsed m n ⊎ (takes_file o n ≡ true)
+job_rests_kept m None n on = absurd on
+job_rests_kept m (Some j) n on = rests_kept m j n on
+
+module _ {D : Type 0} {d : Ghosts D} {s : StoreData D} {call : StoreCall} (b : Begins d s call) (mid new : D) (file : ℕ) (dead : HasDead d s file) (looks : AllStay (d.content s.disk) (d.content mid) (d.may_leave s.disk) (d.may_leave mid)) (rest : OthersStay file (d.content mid) (d.content new) (d.may_leave mid) (d.may_leave new)) where
+  -- the other files are as they were
+  pub others_stay : OthersStay file (d.content s.disk) (d.content new) (d.may_leave s.disk) (d.may_leave new)
+  others_stay = record {
+    content = λ n ne. rest.content n ne ∙ looks.content n;
+    images = λ n c ne left. looks.images n c (rest.images n c ne left);
+    keeps = λ n c ne left. rest.keeps n c ne (looks.keeps n c left);
+  }
+
+  kept_stay : FilesStay (IsKept s) (d.content s.disk) (d.content new) (d.may_leave s.disk) (d.may_leave new)
+  kept_stay = files_stay_others (d.content s.disk) (d.content new) (d.may_leave s.disk) (d.may_leave new) (IsKept s) file (dead_not_kept d s file dead) others_stay
+
+  pub emptied_slots : HasSlots (d.content s.disk) → HasSlots (d.content new)
+  emptied_slots = slots_as (d.content s.disk) (d.content new) (kept_stay.content 0 (inl (inl (omega arith)))) (kept_stay.content 1 (inl (inl (omega arith))))
+
+  -- THE STORE STAYS UP where a dead file is emptied.
+  pub emptied_up : d.fault_count new ≡ d.fault_count s.disk → (rows : Map) → IsUp d s rows → IsUp d (record s { disk = new }) rows
+  emptied_up count rows up = stays_up d s rows up new s.places s.job
+      (settled_framed (d.content s.disk) (d.content new) (d.may_leave s.disk) (d.may_leave new) FIRST_FORMAT s.manifest up.parts (record { content = λ n is. kept_stay.content n (inl is); images = λ n c is. kept_stay.images n c (inl is) }) up.settled)
+      (kept_stay.content s.segment.file (inl (last_used s.manifest s.segment.file up.last)))
+      (job_framed (d.content s.disk) (d.content new) (d.may_leave s.disk) (d.may_leave new) s.manifest up.settled.installed.own.is up.parts up.parts.last (λ some. some) s.job
+      (record { content = λ n on. kept_stay.content n (job_rests_kept s.manifest s.job n on); images = λ n c on. kept_stay.images n c (job_rests_kept s.manifest s.job n on) })
+      (kept_stay.content (other_slot s.manifest) (inl (inl (slot_below (s.manifest.generation + 1))))) up.job) refl up.room_for count
+
+  pub emptying_leaves : LeavesOnly d.moment d.left_since s.disk mid (AllOf (d.may_leave s.disk)) → LeavesOnly d.moment d.left_since mid new (Touched file (d.may_leave mid) (λ bytes. ⊤)) → AllLeave d s new
+  emptying_leaves first second rows up slots = runs_on d.moment d.left_since s.disk mid new (MayBeLeft rows s.mark (opening s)) (Touched file (d.may_leave mid) (λ bytes. ⊤)) (looks_leave b mid looks first rows up slots) second
+      (λ image t. touched_left d s rows up slots file dead.first (unnamed_unused s.manifest file dead.first dead.unnamed) image (record { here = t.here; others = λ n ne. looks.images n (image n) (t.others n ne) }))
+
+-- the file that a look found
+pub least_found : {D : Type 0} (d : Ghosts D) (s : StoreData D) (found : Option ℕ) (file : ℕ) (P : Type 0) → found ≡ Some file → MatchOption found P (λ n. IsLeastDead (d.content s.disk) s.manifest s.job n) → IsLeastDead (d.content s.disk) s.manifest s.job file
+least_found d s found file P is least = subst (λ (o : Option ℕ). MatchOption o P (λ n. IsLeastDead (d.content s.disk) s.manifest s.job n)) is least

@@ -1,5 +1,5 @@
--- The mark that an image gives is a timestamp of the clock.
-use Rattle.std.proofs.Common.{◌≡◌, ℕ, ◌+◌, ◌≤◌, length, Bool, true, false, cond, List, [], ◌∷◌, Option, None, Some, Ok, sym, subst, arith}
+-- What an image gives: its mark is a timestamp of the clock, and what opening a disk answers is fixed by it.
+use Rattle.std.proofs.Common.{◌≡◌, ℕ, ◌+◌, ◌≤◌, length, Bool, true, false, cond, List, [], ◌∷◌, Option, None, Some, Ok, sym, subst, arith, ◌⊎◌, inl, inr, Err, ap}
 use Rattle.std.specs.Prelude.{nat_lt}
 use Rattle.mvo_types.specs.declared.limits.TheConstants.{MAX_STAMP}
 use Rattle.mvo_types.specs.Keys.{Map}
@@ -12,12 +12,17 @@ use Rattle.mvo_pair.specs.declared.pair.Pair.{Pair}
 use Rattle.mvo_manifest.specs.Data.{ManifestData}
 use Rattle.mvo_manifest.specs.Rules.{PairsRise, IsManifest}
 use Rattle.mvo_manifest.specs.Slots.{newest, SlotSays}
-use Rattle.mvo_image.specs.Opens.{Image}
+use Rattle.mvo_image.specs.Opens.{Image, Outcome}
 use Rattle.mvo_image.specs.Gives.{HaveGroups}
 use Rattle.mvo_image.specs.Files.{SegmentSays}
 use Rattle.mvo_store.specs.Standing.{Gives}
+use Rattle.mvo_types.specs.declared.refusal.Refusal.{Refusal}
+use Rattle.mvo_types.specs.declared.refusal.Refusal.TheVariants.{OutOfMemory, DiskFault}
+use Rattle.mvo_disk.specs.declared.disk.Disk.{Ghosts}
+use Rattle.mvo_image.proofs.Opening.{exact}
+use Rattle.mvo_store.specs.Opening.{IsAnswer, IsNotOpened, IsNotOfFiles}
 
-after_frames : (place mark : ℕ) (gs : List GroupData) (bytes : List ℕ) → mark ≤ MAX_STAMP → Frames place mark gs bytes → mark_after mark gs ≤ MAX_STAMP
+pub after_frames : (place mark : ℕ) (gs : List GroupData) (bytes : List ℕ) → mark ≤ MAX_STAMP → Frames place mark gs bytes → mark_after mark gs ≤ MAX_STAMP
 after_frames place mark [] bytes le f = le
 after_frames place mark (g ∷ gs) bytes le f = after_frames (place + 1 + length (sized (body_of g))) g.mark gs f.1 f.3.is.rules.mark f.4
 
@@ -26,7 +31,7 @@ after_segments image [] mark gs upto le h = subst (λ (m : ℕ). m ≤ MAX_STAMP
 after_segments image (n ∷ ns) mark gs upto le h =
     after_segments image ns (mark_after mark h.0) h.1 upto (after_frames HEADER_LEN mark h.0 h.3.has.rest le h.3.has.frames) h.4
 
-after_pairs : (lo : ℕ) (ps : List Pair) (hi : ℕ) → lo ≤ MAX_STAMP → PairsRise lo ps hi → hi ≤ MAX_STAMP
+pub after_pairs : (lo : ℕ) (ps : List Pair) (hi : ℕ) → lo ≤ MAX_STAMP → PairsRise lo ps hi → hi ≤ MAX_STAMP
 after_pairs lo [] hi le h = subst (λ (m : ℕ). m ≤ MAX_STAMP) h le
 after_pairs lo (p ∷ ps) hi le h = after_pairs p.hi.0 ps hi h.0.top h.1
 
@@ -48,3 +53,26 @@ gives_stamp image rows mark h =
     let i = h.installed in
     let is = of_newest i.first i.second h.manifest i.is (is_manifest 0 (image 0) i.first i.first_has) (is_manifest 1 (image 1) i.second i.second_has) in
     after_segments image h.manifest.segments h.manifest.checkpoint_mark h.groups mark (after_pairs 0 h.manifest.pairs h.manifest.checkpoint_mark (omega arith) is.rules.rise) h.have
+
+-- what an image gives is the one answer of opening it
+same_outcome : (content : Image) (out : Outcome) → IsAnswer content out → (rows : Map) (mark : ℕ) → Gives rows mark content → ◌≡◌ {A = Outcome} (Ok (rows, mark)) out
+same_outcome content out answer rows mark gives = answer.1 (Ok (rows, mark)) ((exact FIRST_FORMAT content rows mark).1 gives)
+
+-- so it is the rows and the mark that were answered
+pub same_answer : (content : Image) (rows : Map) (mark : ℕ) → IsAnswer content (Ok (rows, mark)) → (given : Map) (at : ℕ) → Gives given at content → ◌≡◌ {A = Map × ℕ} (given, at) (rows, mark)
+same_answer content rows mark answer given at gives =
+    let same = same_outcome content (Ok (rows, mark)) answer given at gives in cc same
+
+pub same_rows : (content : Image) (rows : Map) (mark : ℕ) → IsAnswer content (Ok (rows, mark)) → (given : Map) → Gives given mark content → given ≡ rows
+same_rows content rows mark answer given gives =
+    ap (λ (x : Map × ℕ). x.0) (same_answer content rows mark answer given mark gives)
+
+module _ {D : Type 0} (d : Ghosts D) where
+  -- what gives rows isn't refused for its bytes
+  pub not_of_files : (old new : D) (e : Refusal) → IsNotOpened d old e new → (rows : Map) (mark : ℕ) → Gives rows mark (d.content old) → IsNotOfFiles e
+  not_of_files old new e (inl spent) rows mark gives = inl spent.refusal
+  not_of_files old new e (inr refused) rows mark gives = go refused.why
+    where
+      go : ((e ≡ OutOfMemory) ⊎ (e ≡ DiskFault)) ⊎ IsAnswer (d.content old) (Err e) → IsNotOfFiles e
+      go (inl stop) = inr stop
+      go (inr answer) = let same = same_outcome (d.content old) (Err e) answer rows mark gives in absurd (cc same)

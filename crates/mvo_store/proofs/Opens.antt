@@ -1,13 +1,12 @@
 -- A disk that is synced, a store over what is found on it, and a new one.
-use Rattle.std.proofs.Common.{◌≡◌, inl, inr, ℕ, ◌+◌, refl, sym, subst, ◌∙◌, arith, ◌<◌, false, List, [], ◌∷◌, None, ap, ◌≢◌, zero, suc, Bool, cond, ◌++◌, Some}
-use Rattle.std.proofs.lemmas.Bool.{cases_eq, lt-leb}
+use Rattle.std.proofs.Common.{◌≡◌, inl, inr, ℕ, refl, sym, subst, ◌∙◌, arith, ◌<◌, false, List, [], ◌∷◌, None, ap, ◌≢◌, zero, suc, Bool, cond, ◌++◌, Some}
+use Rattle.std.proofs.lemmas.Bool.{lt-leb}
 use Rattle.std.proofs.lemmas.List.Elements.{All-contains}
 use Rattle.std.specs.FinMap as map
 use Rattle.mvo_types.specs.Keys.{Map}
 use Rattle.mvo_types.specs.declared.refusal.Refusal.TheVariants.{ClockSpent, AlreadyFormatted}
 use Rattle.mvo_disk.specs.declared.disk.Disk.{Ghosts}
-use Rattle.mvo_disk.specs.Disk.{Only, AllOf, Settles, Image, OthersStay}
-use Rattle.mvo_disk.specs.Moments.{started, runs_on}
+use Rattle.mvo_disk.specs.Disk.{Only, AllOf, Image, OthersStay}
 use Rattle.mvo_group.specs.Data.{GroupData}
 use Rattle.mvo_format.specs.declared.format.Format.{Format}
 use Rattle.mvo_format.specs.declared.format.TheConstants.{FIRST_FORMAT}
@@ -20,7 +19,7 @@ use Rattle.mvo_manifest.specs.Rules.{IsManifest, IsFile}
 use Rattle.mvo_manifest.specs.Slots.{IsShut, IsOpen}
 use Rattle.mvo_image.specs.Gives.{HaveGroups}
 use Rattle.mvo_image.specs.Rows.{rows_of, after_groups}
-use Rattle.mvo_ckpt.specs.Places.{PlaceTable}
+use Rattle.mvo_places.specs.Places.{PlaceTable}
 use Rattle.mvo_load.specs.Loaded.{SealedSays, IsLoaded}
 use Rattle.mvo_load.specs.Parts.{HavePlaces}
 use Rattle.mvo_recovery.specs.Parts.{Parts, HaveSealed, IsLastFile}
@@ -31,44 +30,13 @@ use Rattle.mvo_recovery.specs.Beginning.{first_manifest, no_parts}
 use Rattle.mvo_recovery.proofs.Appended.{only_stays}
 use Rattle.mvo_recovery.proofs.Rotated.{fresh_frames}
 use Rattle.mvo_recovery.proofs.Begun.{first_settled}
-use Rattle.mvo_store.specs.Opening.{KeepsContent, LeavesAsBefore, HasSynced}
+use Rattle.mvo_types.specs.Causes.{when, or_next}
+use Rattle.mvo_store.specs.Opening.{HasSynced}
 use Rattle.mvo_store.specs.declared.limits.TheConstants.{MAX_FAULTS}
 use Rattle.mvo_store.specs.StoreData.{StoreData}
 use Rattle.mvo_store.specs.Standing.{IsUp, HasSlots, KeepsRows, Gives}
 use Rattle.mvo_store.specs.Formatting.{has_open_slot, why_not_format, IsFormatted}
-use Rattle.mvo_store.proofs.Keeping.{OnlyNow, slots_as, up_keeps, settled_slots}
-
-module _ {D : Type 0} (d : Ghosts D) (only_now : OnlyNow d) where
-  pub still : (old : D) → LeavesAsBefore d old old
-  still old = started d.moment d.left_since old (AllOf (d.may_leave old)) (λ image left. only_now old image left)
-
-  pub synced_none : (used : ℕ → Type 0) (old : D) → HasSynced d used 0 old old
-  synced_none used old = record {
-    durable = λ n lt _. absurd (omega (arith, lt));
-    content = λ n. refl;
-    images = λ n c left. left;
-    any_moment = still old;
-    count = refl;
-  }
-
-module _ {D : Type 0} (d : Ghosts D) (used : ℕ → Type 0) (below : ℕ) (old mid new : D) (so_far : HasSynced d used below old mid) (rest : Settles below (d.content mid) (d.content new) (d.may_leave mid) (d.may_leave new)) (moments : LeavesAsBefore d mid new) where
-  pub content_more : KeepsContent d old new
-  content_more n = rest.content n ∙ so_far.content n
-
-  pub moments_more : LeavesAsBefore d old new
-  moments_more = runs_on d.moment d.left_since old mid new (AllOf (d.may_leave old)) (AllOf (d.may_leave mid)) so_far.any_moment moments (λ image all n. so_far.images n (image n) (all n))
-
-  pub synced_more : (used below → Only (d.content new below) (d.may_leave new below)) → d.fault_count new ≡ d.fault_count mid → HasSynced d used (below + 1) old new
-  synced_more only count = record {
-    durable = λ n lt is. elim (cases_eq n below) [
-      | inl e ↦ subst (λ k. used k → Only (d.content new k) (d.may_leave new k)) (sym e) only is
-      | inr ne ↦ (λ c left. so_far.durable n (omega (arith, lt, ne)) is c (rest.images n c left) ∙ sym (rest.content n))
-    ];
-    content = content_more;
-    images = λ n c left. so_far.images n c (rest.images n c left);
-    any_moment = moments_more;
-    count = count ∙ so_far.count;
-  }
+use Rattle.mvo_store.proofs.Keeping.{slots_as, up_keeps, settled_slots}
 
 have_sealed : (f : Format) (image : Image) (ns : List ℕ) (mark : ℕ) (gs : List GroupData) (upto : ℕ) → HaveGroups (SealedSays f) image ns mark gs upto → HaveSealed f image ns mark gs upto
 have_sealed f image [] mark gs upto have = have
@@ -173,7 +141,7 @@ module _ (shut fresh new : Image) (may_shut may_fresh may_new : ℕ → List ℕ
 
 pub none_stands : (faults : ℕ) (content : Image) → faults < MAX_FAULTS → has_open_slot content ≡ false → why_not_format faults content ≡ None
 none_stands faults content few shut =
-    ap (λ (b : Bool). cond b (Some ClockSpent) (cond (has_open_slot content) (Some AlreadyFormatted) None)) (lt-leb MAX_FAULTS faults few) ∙ ap (λ (b : Bool). cond b (Some AlreadyFormatted) None) shut
+    ap (λ (b : Bool). or_next (when b ClockSpent) (or_next (when (has_open_slot content) AlreadyFormatted) None)) (lt-leb MAX_FAULTS faults few) ∙ ap (λ (b : Bool). or_next (when b AlreadyFormatted) None) shut
 
 module _ {D : Type 0} (d : Ghosts D) (old new : D) where
   pub is_formatted : why_not_format (d.fault_count old) (d.content old) ≡ None → ((n : ℕ) → d.may_leave new n (d.content new n)) → IsSettled FIRST_FORMAT (d.content new) (d.may_leave new) (first_manifest 0 2) no_parts → HasSlots (d.content new) → d.fault_count new ≡ d.fault_count old

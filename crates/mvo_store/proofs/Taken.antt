@@ -1,5 +1,5 @@
 -- Which calls keep a store's mark and the group that it took.
-use Rattle.std.proofs.Common.{true, ◌≡◌, ◌≢◌, ◌⊎◌, inl, inr, Option, Some, None, Result, Ok, Err, refl, ap, subst, ◌∙◌}
+use Rattle.std.proofs.Common.{true, ◌≡◌, Option, Some, None, Result, Ok, Err, refl, ap, subst, ◌∙◌}
 use Rattle.std.specs.Prelude.{⊤}
 use Rattle.mvo_types.specs.declared.refusal.Refusal.{Refusal}
 use Rattle.mvo_types.specs.declared.refusal.Refusal.TheVariants.{DiskFault, OutOfMemory}
@@ -21,26 +21,15 @@ same_taken : {D : Type 0} (old new x : StoreData D) → new ≡ x → x.mark ≡
 same_taken {D} old new x is mark pending = record { mark = ap (λ (s : StoreData D). s.mark) is ∙ mark; pending = ap (λ (s : StoreData D). s.pending) is ∙ pending }
 
 -- ---- a refused call
-fault_or_not : (e : Refusal) → (e ≡ DiskFault) ⊎ (e ≢ DiskFault)
-fault_or_not DiskFault = inl refl
-fault_or_not _ = inr (λ e. cc)
-
-memory_or_not : (e : Refusal) → (e ≡ OutOfMemory) ⊎ (e ≢ OutOfMemory)
-memory_or_not OutOfMemory = inl refl
-memory_or_not _ = inr (λ e. cc)
-
 memory_taken : {D : Type 0} (d : Ghosts D) (call : StoreCall) (old new : StoreData D) → LeftByMemory d call old new → KeepsTaken old new
 memory_taken d CheckpointRead old new h = same_taken old new (record old { disk = new.disk }) h.after refl refl
 memory_taken d (MergeRead place) old new h = same_taken old new (record old { disk = new.disk }) h.after refl refl
 memory_taken d call old new h = same_taken old new old h refl refl
 
 pub left_taken : {D : Type 0} (d : Ghosts D) (call : StoreCall) (e : Refusal) (old new : StoreData D) → LeftBy d call e old new → KeepsTaken old new
-left_taken {D} d call e old new h = go (fault_or_not e) (memory_or_not e)
-  where
-    go : (e ≡ DiskFault) ⊎ (e ≢ DiskFault) → (e ≡ OutOfMemory) ⊎ (e ≢ OutOfMemory) → KeepsTaken old new
-    go (inl is) m = same_taken old new (record old { disk = new.disk; down = true }) (h.fault is).after refl refl
-    go (inr ne) (inl is) = memory_taken d call old new (h.memory is)
-    go (inr ne) (inr nm) = same_taken old new old (h.other ne nm) refl refl
+left_taken d call DiskFault old new h = same_taken old new (record old { disk = new.disk; down = true }) (h.fault refl).after refl refl
+left_taken d call OutOfMemory old new h = memory_taken d call old new (h.memory refl)
+left_taken d call e old new h = same_taken old new old (h.other (λ z. cc) (λ z. cc)) refl refl
 
 -- ---- an accepted one
 
@@ -98,14 +87,6 @@ refused_by A d old call e new h = record { refused = go (why_not old call) h.ref
 -- where no cause stands, a group isn't given back
 pub never_back : {D : Type 0} (A : Type 0) (s : StoreData D) (g : GroupData) (e : Refusal) → why_not_take s ≡ None → IsRefused {A = A} (Take g) (why_not s (Take g)) (Err e) → ⊥
 never_back A s g e none h = subst (λ (o : Option Refusal). IsRefused {A = A} (Take g) o (Err e)) none h
-
--- no cause stands where a call is accepted
-pub no_cause_of : {D A : Type 0} (d : Ghosts D) (old : StoreData D) (call : StoreCall) (a : A) (new : StoreData D) → ComesTo d old call (Ok a) new → why_not old call ≡ None
-no_cause_of {D} {A} d old call a new h = go (why_not old call) h.refused
-  where
-    go : (why : Option Refusal) → IsRefused {A = A} call why (Ok a) → why ≡ None
-    go None h = refl
-    go (Some cause) h = let same : ◌≡◌ {A = Result A Refusal} (Ok a) (Err cause) = h in absurd (cc same)
 
 -- so it is taken
 pub is_taken : {D A : Type 0} (d : Ghosts D) (s : StoreData D) (g : GroupData) (result : Result A (Refusal × GroupData)) (t : StoreData D) → why_not_take s ≡ None → IsStoreStep d s (Take g) (without_group result) t → IsStoreStep {A = Unit {0}} d s (Take g) (Ok tt) t

@@ -13,7 +13,7 @@ use Rattle.mvo_frame.specs.declared.segment.Segment.{Segment}
 use Rattle.mvo_frame.specs.Standing.{gate_of, IsWritten}
 use Rattle.mvo_manifest.specs.Data.{ManifestData}
 use Rattle.mvo_manifest.specs.Slots.{IsShut, IsStaged}
-use Rattle.mvo_ckpt.specs.Places.{PlaceTable, ArePlaces}
+use Rattle.mvo_places.specs.Places.{PlaceTable, ArePlaces}
 use Rattle.mvo_merge.specs.Moved.{HaveOwnKeys}
 use Rattle.mvo_image.specs.Files.{GivesRows}
 use Rattle.mvo_image.specs.Rows.{after_groups}

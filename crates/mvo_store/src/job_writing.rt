@@ -11,13 +11,13 @@ use crate::checkpointing::Checkpointing;
 use crate::job::Job;
 use crate::merge_planning::merged;
 use crate::merge_stage::MergeStage;
-use crate::merge_writing::{write_merged_data, write_merged_delta};
 use crate::merging::Merging;
 use crate::step::Step;
-use crate::writing::{write_entries, write_next_delta};
+use crate::writing::write_next_delta;
 use mvo_disk::Disk;
-use mvo_format::VERSION;
+use mvo_format::{FIRST_FORMAT, VERSION};
 use mvo_manifest::{Manifest, close_slot, open_slot, write_slot};
+use mvo_pair::{write_data, write_delta};
 use mvo_types::Refusal;
 use std::alloc::{AllocError, Global};
 
@@ -85,7 +85,10 @@ fn write_checkpoint<D: Disk>(
         result }
 {
     match checkpoint.stage {
-        CheckpointStage::Data => write_entries(alloc, disk, manifest, checkpoint),
+        CheckpointStage::Data => {
+            let records = &checkpoint.made.records;
+            write_data(alloc, disk, FIRST_FORMAT, checkpoint.pair, records)
+        }
         CheckpointStage::Delta(written) => {
             write_next_delta(alloc, disk, manifest, checkpoint, written)
         }
@@ -106,8 +109,11 @@ fn write_merge<D: Disk>(
         (merge_made_by manifest.now merge.now.seen merge.now.stage) result }
 {
     match merge.stage {
-        MergeStage::Data => write_merged_data(alloc, disk, manifest, merge),
-        MergeStage::Delta => write_merged_delta(alloc, disk, manifest, merge),
+        MergeStage::Data => {
+            let records = &merge.seen.made.records;
+            write_data(alloc, disk, FIRST_FORMAT, merge.seen.pair, records)
+        }
+        MergeStage::Delta => write_delta(alloc, disk, FIRST_FORMAT, merge.seen.pair, &[]),
     }
 }
 

@@ -1,9 +1,9 @@
 use crate::job::Job;
-use mvo_ckpt::Places;
 use mvo_disk::Disk;
 use mvo_frame::Segment;
 use mvo_group::Group;
 use mvo_manifest::Manifest;
+use mvo_places::Places;
 use mvo_types::{Refusal, Stamp};
 use std::alloc::Global;
 use std::marker::Model;
@@ -54,7 +54,7 @@ impl<D: Disk> Model for Store<D> {
     ghost use Rattle.std.specs.Prelude.{◌≡◌, false};
     ghost use Rattle.std.specs.Coded.{codes};
     ghost use Rattle.mvo_types.specs.Keys.{Map};
-    ghost use Rattle.mvo_ckpt.specs.Places.{coded_places};
+    ghost use Rattle.mvo_places.specs.Places.{coded_places};
     ghost use Rattle.mvo_store.specs.StoreData.{StoreData};
     ghost use Rattle.mvo_store.specs.Standing.{IsUp};
 

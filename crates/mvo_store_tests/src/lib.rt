@@ -10,6 +10,8 @@ mod disks;
 #[cfg(test)]
 mod faults;
 #[cfg(test)]
+mod images;
+#[cfg(test)]
 mod marks;
 #[cfg(test)]
 mod merges;

@@ -4,14 +4,14 @@ use Rattle.std.specs.Prelude.{nat_lt, ◌==◌, ◌&&◌, is_some}
 use Rattle.std.specs.FinMap as fin
 use Rattle.std.specs.List.{AllByRecursion, list_any}
 use Rattle.std.proofs.lemmas.Bool.{lt-ltb, false≢true, and_from, and_parts, eqb-true, cases_lt}
-use Rattle.std.proofs.lemmas.Map.Views.{tells_apart}
-use Rattle.mvo_types.proofs.Maps.{exact_keys}
 use Rattle.mvo_types.specs.declared.row.RowKey.{RowKey}
 use Rattle.mvo_types.specs.declared.op.Op.{Op}
 use Rattle.mvo_types.specs.Keys.{Map}
 use Rattle.mvo_types.specs.AnswerData.{AnswerData}
 use Rattle.mvo_model.specs.History.{History, net_write}
-use Rattle.mvo_theory.specs.Entries.{Entry, entry_of, is_same, has_entry, with_entry, entries_from, entries}
+use Rattle.mvo_types.specs.declared.entry.Entry.{Entry}
+use Rattle.mvo_types.specs.Entries.{is_same, has_entry, with_entry}
+use Rattle.mvo_theory.specs.Entries.{entry_of, entries_from, entries}
 use Rattle.mvo_theory.specs.Ranges.{Row, shows, pass, footprint_of, puts, is_row_of}
 use Rattle.mvo_theory.specs.State.{StampedTx, seen_by}
 use Rattle.mvo_theory.specs.Dependencies.{has_end, is_put_below, counts_for}
@@ -21,11 +21,13 @@ use Rattle.mvo_theory.proofs.Looks.{key_is}
 use Rattle.mvo_theory.proofs.Footprints.{none_unless, or_left, or_right, any_none, footprint_source}
 use Rattle.mvo_theory.proofs.Counts.{seen_counts, counts_later}
 use Rattle.mvo_theory.proofs.Between.{free_key}
-use Rattle.mvo_theory.specs.Entries.Entry.{Key, Range}
+use Rattle.mvo_types.specs.declared.entry.Entry.TheVariants.{Key, Range}
 
 -- ---- what holds of each entry holds at each operation
 same_entry : (e d : Entry) → is_same e d ≡ true → e ≡ d
-same_entry (Key k) (Key j) h = ap Key (tells_apart exact_keys k j h)
+same_entry (Key k) (Key j) h =
+    let p = and_parts (k.table == j.table) (k.key == j.key) h in
+    ap (λ n. Key (record { table = n; key = k.key })) (eqb-true k.table j.table p.0) ∙ ap (λ n. Key (record { table = j.table; key = n })) (eqb-true k.key j.key p.1)
 same_entry (Key k) (Range t lo hi) h = absurd (false≢true h)
 same_entry (Range t lo hi) (Key k) h = absurd (false≢true h)
 same_entry (Range t lo hi) (Range u a b) h =

@@ -10,7 +10,8 @@ use Rattle.mvo_types.specs.Keys.{Map, key_cmp}
 use Rattle.mvo_types.specs.Write.{Effect, Write, content_after_last}
 use Rattle.mvo_model.specs.History.{History, write_of, write_at, after_history, later, net_write}
 use Rattle.mvo_model.proofs.Serials.{net_write-append, get-after_history, after_history-append, later-none}
-use Rattle.mvo_theory.specs.Entries.{Entry, entry_of}
+use Rattle.mvo_types.specs.declared.entry.Entry.{Entry}
+use Rattle.mvo_theory.specs.Entries.{entry_of}
 use Rattle.mvo_theory.specs.Ranges.{shows, pass, AgreeOn, footprint_of}
 use Rattle.mvo_theory.specs.State.{StampedTx, history_below, seen_by}
 use Rattle.mvo_theory.specs.Dependencies.{has_end, counts_for}
@@ -19,7 +20,7 @@ use Rattle.mvo_theory.proofs.Each.{each_weaker}
 use Rattle.mvo_theory.proofs.Looks.{write_entry}
 use Rattle.mvo_theory.proofs.Footprints.{key_same, none_unless, unchanged_agree}
 use Rattle.mvo_theory.proofs.Counts.{history_by_some, uncounted_some, uncounted_seen}
-use Rattle.mvo_theory.specs.Entries.Entry.{Key}
+use Rattle.mvo_types.specs.declared.entry.Entry.TheVariants.{Key}
 
 pub agree_trans : (e : Entry) (l m n : Map) → AgreeOn e l m → AgreeOn e m n → AgreeOn e l n
 agree_trans e l m n f g = λ q. f q ∙ g q

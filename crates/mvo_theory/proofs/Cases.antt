@@ -13,11 +13,13 @@ use Rattle.mvo_types.specs.declared.refusal.Refusal.{Refusal}
 use Rattle.mvo_types.specs.declared.refusal.Refusal.TheVariants.{NoSuchTransaction, Ended, NotActive, NotPreparing, NotValidated, NotEnded, DependencyAborted, TooManyWrites, TooManyReads, DataTooLong, BadTable, ClockSpent, TableFull}
 use Rattle.mvo_types.specs.RowData.{RowData}
 use Rattle.mvo_model.specs.History.{History, after_history, net_write}
-use Rattle.mvo_theory.specs.Entries.{Entry, entries}
+use Rattle.mvo_types.specs.declared.entry.Entry.{Entry}
+use Rattle.mvo_theory.specs.Entries.{entries}
 use Rattle.mvo_theory.specs.State.{State, StampedTx, ActiveTx, EndedTx, Outcome, active_of, preparing_of, ended_of, history_of_active, seen_by}
 use Rattle.mvo_theory.specs.Phases.{phase_by, is_absent, is_active, is_preparing, is_ended}
-use Rattle.mvo_theory.specs.Causes.{when, or_next, first_cause, flag_of_active, flag_of_preparing, flagged, unless_active, unfinished, claimed_by, conflict, conflicts, is_entry_too_many, is_write_too_many, why_not_begin, why_not_do, why_not_precommit, entry_differs, next_differs, why_not_validate, was_valid, why_not_settle, why_not_rollback, why_not_finish}
-use Rattle.mvo_theory.specs.Entries.Entry.{Key, Range}
+use Rattle.mvo_types.specs.Causes.{when, or_next, first_cause}
+use Rattle.mvo_theory.specs.Causes.{flag_of_active, flag_of_preparing, flagged, unless_active, unfinished, claimed_by, conflict, conflicts, is_entry_too_many, is_write_too_many, why_not_begin, why_not_do, why_not_precommit, entry_differs, next_differs, why_not_validate, was_valid, why_not_settle, why_not_rollback, why_not_finish}
+use Rattle.mvo_types.specs.declared.entry.Entry.TheVariants.{Key, Range}
 use Rattle.mvo_theory.specs.State.Outcome.{Committed, Aborted}
 
 -- ---- the causes as cases

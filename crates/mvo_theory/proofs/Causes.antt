@@ -7,7 +7,7 @@ use Rattle.mvo_theory.proofs.Each.{each_weaker}
 use Rattle.mvo_theory.specs.State.{StampedTx}
 use Rattle.mvo_theory.specs.Dependencies.{has_end}
 use Rattle.mvo_theory.specs.Sound.{changes, IsUnchanged, IsRising}
-use Rattle.mvo_theory.specs.Entries.{Entry}
+use Rattle.mvo_types.specs.declared.entry.Entry.{Entry}
 use Rattle.mvo_theory.specs.Causes.{waiting_for, is_changer, or_first, last_end, change_of}
 
 some_none : (z : StampedTx) → ◌≡◌ {A = Option StampedTx} (Some z) None → ⊥

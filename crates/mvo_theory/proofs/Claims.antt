@@ -18,7 +18,7 @@ use Rattle.mvo_types.specs.AnswerData.{AnswerData}
 use Rattle.mvo_types.specs.AnswerData.AnswerData.{Inserted, Exists, Updated, Deleted, Absent}
 use Rattle.mvo_model.specs.Serial.{answer_to}
 use Rattle.mvo_model.specs.History.{after_history, net_write}
-use Rattle.mvo_theory.specs.Entries.Entry.{Key}
+use Rattle.mvo_types.specs.declared.entry.Entry.TheVariants.{Key}
 use Rattle.mvo_theory.specs.State.{State, StampedTx, ActiveTx, Claim, seen_by, active_of, is_active_as}
 use Rattle.mvo_theory.specs.Claims.{origin, ended_key, claims_with, has_claim}
 use Rattle.mvo_theory.specs.Changes.{new_active, after_begin, after_operation, with_answer, after_prepare, to_stamped, without, after_check, with_check, after_commit, with_settled, with_flag, active_with_flag, not_at, after_abort_of_active, after_abort_of_preparing, after_termination}

@@ -9,7 +9,8 @@ use Rattle.mvo_types.specs.declared.row.RowKey.{RowKey}
 use Rattle.mvo_types.specs.RowData.{ContentData}
 use Rattle.mvo_types.specs.Keys.{Map, key_cmp}
 use Rattle.mvo_model.specs.History.{History, write_of, after_history}
-use Rattle.mvo_theory.specs.Entries.{Entry, is_noted}
+use Rattle.mvo_types.specs.declared.entry.Entry.{Entry}
+use Rattle.mvo_theory.specs.Entries.{is_noted}
 use Rattle.mvo_theory.specs.Ranges.{Row, shows, pass, put_by, puts, is_row_of}
 use Rattle.mvo_theory.specs.State.{StampedTx, history_below, seen_by}
 use Rattle.mvo_theory.specs.Dependencies.{is_put_below, counts_for, keys_for}
@@ -17,7 +18,7 @@ use Rattle.mvo_theory.proofs.Each.{each_append}
 use Rattle.mvo_theory.proofs.Looks.{key_is, pass_other}
 use Rattle.mvo_theory.proofs.Footprints.{or_parts, or_left, or_right, any_left, any_right, key_same, NoneOf, no_put}
 use Rattle.mvo_theory.proofs.Stamped.{IsLike}
-use Rattle.mvo_theory.specs.Entries.Entry.{Key, Range}
+use Rattle.mvo_types.specs.declared.entry.Entry.TheVariants.{Key, Range}
 
 -- ---- a key that counts is among those that are asked for
 found_row : (p : Row → Bool) (q : RowKey) (es : List Row) → is_some (pass p q (fin.find key_cmp q es)) ≡ true → list_any (is_row_of p q) es ≡ true

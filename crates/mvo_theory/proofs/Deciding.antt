@@ -11,7 +11,8 @@ use Rattle.mvo_types.specs.Keys.{Map}
 use Rattle.mvo_model.specs.History.{write_of, net_write}
 use Rattle.mvo_model.specs.Trace.{Step, history_by, history_of}
 use Rattle.mvo_model.specs.Trace.Step.{Begins, Answers, Prepares, Checks, Commits, Aborts, Terminates}
-use Rattle.mvo_theory.specs.Entries.{Entry, entry_of}
+use Rattle.mvo_types.specs.declared.entry.Entry.{Entry}
+use Rattle.mvo_theory.specs.Entries.{entry_of}
 use Rattle.mvo_theory.specs.Ranges.{Row, shows, pass, put_by, puts, is_row_of}
 use Rattle.mvo_theory.specs.State.{State, StampedTx, ActiveTx, after_settled, seen_by, active_of, preparing_of, ended_of}
 use Rattle.mvo_theory.specs.Dependencies.{last_writer, is_put_below, counts_for}
@@ -26,7 +27,7 @@ use Rattle.mvo_theory.proofs.Exact.{IsDeciding}
 use Rattle.mvo_theory.proofs.LastWriter.{last_is, last_writes, after_last, preparing_phase, preparing_there, found_in}
 use Rattle.mvo_theory.proofs.Trim.{seen_front}
 use Rattle.mvo_theory.proofs.Who.{active_holds, id_of}
-use Rattle.mvo_theory.specs.Entries.Entry.{Key, Range}
+use Rattle.mvo_types.specs.declared.entry.Entry.TheVariants.{Key, Range}
 
 or_cases : (a b : Bool) → (a || b) ≡ true → (a ≡ true) ⊎ (b ≡ true)
 or_cases true b h = inl refl

@@ -11,7 +11,8 @@ use Rattle.mvo_types.specs.Keys.{Map, key_cmp}
 use Rattle.mvo_types.specs.Write.{Effect, Write, content_after_last}
 use Rattle.mvo_model.specs.History.{History, write_of, write_at, later, net_write, AreSerial, after_history}
 use Rattle.mvo_model.proofs.Serials.{get-after_history}
-use Rattle.mvo_theory.specs.Entries.{Entry, entry_of, is_noted}
+use Rattle.mvo_types.specs.declared.entry.Entry.{Entry}
+use Rattle.mvo_theory.specs.Entries.{entry_of, is_noted}
 use Rattle.mvo_theory.specs.Ranges.{Row, shows, pass, AgreeOn, AllAgreeOn, footprint_of}
 use Rattle.mvo_theory.specs.State.{State, StampedTx, ActiveTx, history_below, seen_by}
 use Rattle.mvo_theory.specs.Dependencies.{is_writer, or_later, last_writer, has_end, with_end, depend_on, depend_on_all, counts_for, keys_for, unwritten, dependencies}
@@ -21,7 +22,7 @@ use Rattle.mvo_theory.proofs.Looks.{write_entry, serial_agrees, footprint_agrees
 use Rattle.mvo_theory.proofs.Footprints.{or_left, or_right, key_same, none_unless}
 use Rattle.mvo_theory.proofs.Stamped.{decided_now, has_rest, decided_more, history_below-last, decided_last, IsLike, history_below-map, decided_map, IsOut, decided_filter, seen_filter}
 use Rattle.mvo_theory.proofs.Counts.{counted_noted, uncounted_seen, counts_filter, counts_map, counts_last}
-use Rattle.mvo_theory.specs.Entries.Entry.{Key}
+use Rattle.mvo_types.specs.declared.entry.Entry.TheVariants.{Key}
 
 -- ---- the operation that looks now
 pub depends_more : (ds : List ℕ) (ks : List RowKey) (b : ℕ) (stamped : List StampedTx) (d : ℕ) → has_end ds d ≡ true → has_end (depend_on_all ds ks b stamped) d ≡ true

@@ -6,7 +6,8 @@ use Rattle.std.proofs.lemmas.Bool.{eqb-true, false≢true, true≢false, not-fal
 use Rattle.mvo_types.specs.Keys.{Map}
 use Rattle.mvo_model.specs.History.{History, after_history}
 use Rattle.mvo_theory.specs.State.{EndedTx, Marks, State, StampedTx, ActiveTx, seen_by}
-use Rattle.mvo_theory.specs.Entries.{Entry, entry_of, entries}
+use Rattle.mvo_types.specs.declared.entry.Entry.{Entry}
+use Rattle.mvo_theory.specs.Entries.{entry_of, entries}
 use Rattle.mvo_theory.specs.Ranges.{Row}
 use Rattle.mvo_theory.specs.Dependencies.{has_end}
 use Rattle.mvo_theory.specs.Changes.{after_commit, with_settled, aborted_dependency_after, with_flag, active_with_flag, not_at, after_abort_of_active, after_abort_of_preparing}
@@ -19,7 +20,7 @@ use Rattle.mvo_theory.proofs.Between.{settled_below}
 use Rattle.mvo_theory.proofs.Apart.{IsFreeToSettle, apart_all}
 use Rattle.mvo_theory.proofs.Settle.{rising_before, rising_after, legal_settled, clear_settled, agree_at_end}
 use Rattle.mvo_theory.proofs.Sound.{preparing_map, others_map, active_map}
-use Rattle.mvo_theory.specs.Entries.Entry.{Key, Range}
+use Rattle.mvo_types.specs.declared.entry.Entry.TheVariants.{Key, Range}
 
 -- ---- settle
 or_true : (a b : Bool) → a ≡ true → (a || b) ≡ true

@@ -10,7 +10,8 @@ use Rattle.mvo_types.specs.declared.row.RowKey.{RowKey}
 use Rattle.mvo_types.specs.declared.op.Op.{Op}
 use Rattle.mvo_types.specs.Keys.{Map, key_cmp}
 use Rattle.mvo_model.specs.History.{History, net_write}
-use Rattle.mvo_theory.specs.Entries.{Entry, entry_of, is_noted}
+use Rattle.mvo_types.specs.declared.entry.Entry.{Entry}
+use Rattle.mvo_theory.specs.Entries.{entry_of, is_noted}
 use Rattle.mvo_theory.specs.Ranges.{Row, shows, pass, puts, is_row_of}
 use Rattle.mvo_theory.specs.State.{State, StampedTx, ActiveTx, history_below}
 use Rattle.mvo_theory.specs.Dependencies.{last_writer, has_end, with_end, depend_on, depend_on_all, is_put_below, counts_for, keys_for, unwritten, dependencies}
@@ -19,7 +20,7 @@ use Rattle.mvo_theory.proofs.Footprints.{or_left, or_right, key_same}
 use Rattle.mvo_theory.proofs.Scans.{find_filter}
 use Rattle.mvo_theory.proofs.Counts.{counted_noted, puts-append}
 use Rattle.mvo_theory.proofs.Depends.{depends_more, unwritten_noted}
-use Rattle.mvo_theory.specs.Entries.Entry.{Key, Range}
+use Rattle.mvo_types.specs.declared.entry.Entry.TheVariants.{Key, Range}
 
 or_cases : (a b : Bool) → (a || b) ≡ true → (a ≡ true) ⊎ (b ≡ true)
 or_cases true b h = inl refl

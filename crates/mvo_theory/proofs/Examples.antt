@@ -14,7 +14,7 @@ use Rattle.mvo_theory.specs.State.{State, opened, preparing_of, active_of}
 use Rattle.mvo_theory.specs.Changes.{after_begin, after_answer}
 use Rattle.mvo_theory.specs.Causes.{why_not_update, why_not_delete, why_not_read, why_not_validate, why_not_settle, awaited}
 use Rattle.mvo_theory.specs.Steps.{after_precommit, after_validate, after_commit_now, after_abort}
-use Rattle.mvo_theory.specs.Entries.Entry.{Key, Range}
+use Rattle.mvo_types.specs.declared.entry.Entry.TheVariants.{Key, Range}
 
 -- keys and rows of table 0
 abbrev pub key : ℕ → RowKey

@@ -10,7 +10,8 @@ use Rattle.mvo_model.specs.Trace.Phase.{Absent, Active, Preparing, Committed as 
 use Rattle.mvo_theory.specs.State.{StampedTx, ActiveTx, EndedTx, Outcome}
 use Rattle.mvo_theory.specs.State.Outcome.{Committed, Aborted}
 use Rattle.mvo_theory.specs.Phases.{ended_as, phase_by, is_absent, is_active, is_preparing, is_ended}
-use Rattle.mvo_theory.specs.Causes.{when, or_next, first_cause, flagged, conflicts, differs}
+use Rattle.mvo_types.specs.Causes.{when, or_next, first_cause}
+use Rattle.mvo_theory.specs.Causes.{flagged, conflicts, differs}
 
 pub none_refusal : (r : Refusal) → ◌≡◌ {A = Option Refusal} None (Some r) → ⊥
 none_refusal r e = cc

@@ -14,13 +14,13 @@ use Rattle.mvo_types.specs.Write.Effect.{Put, Delete}
 use Rattle.mvo_types.specs.Write.{Effect, Write, content_after, content_after_last}
 use Rattle.mvo_model.specs.History.{History, write_of, write_at, after_write, after_history, later, net_write}
 use Rattle.mvo_model.proofs.Serials.{get-after_effect, get-after_history}
-use Rattle.mvo_theory.specs.Entries.{Entry}
+use Rattle.mvo_types.specs.declared.entry.Entry.{Entry}
 use Rattle.mvo_theory.specs.Ranges.{Row, shows, pass, AgreeOn, row_of, changed_by, footprint_of, put_by, puts, is_row_of}
 use Rattle.mvo_theory.specs.State.{StampedTx}
 use Rattle.mvo_theory.specs.Sound.{changes}
 use Rattle.mvo_theory.proofs.Each.{each_weaker, each_append, each_front, each_back}
 use Rattle.mvo_theory.proofs.Looks.{key_is}
-use Rattle.mvo_theory.specs.Entries.Entry.{Key, Range}
+use Rattle.mvo_types.specs.declared.entry.Entry.TheVariants.{Key, Range}
 
 -- ---- tests on lists
 pub or_parts : (a b : Bool) → (a || b) ≡ false → (a ≡ false) × (b ≡ false)

@@ -10,7 +10,8 @@ use Rattle.mvo_model.specs.Trace.{Step}
 use Rattle.mvo_theory.specs.State.{State, StampedTx, timeline}
 use Rattle.mvo_types.specs.declared.refusal.Refusal.{Refusal}
 use Rattle.mvo_types.specs.declared.refusal.Refusal.TheVariants.{NothingToDo, RingFull}
-use Rattle.mvo_theory.specs.Causes.{when, first_cause, why_not_close}
+use Rattle.mvo_types.specs.Causes.{when, first_cause}
+use Rattle.mvo_theory.specs.Causes.{why_not_close}
 use Rattle.mvo_theory.specs.Marks.{Commit, IsClosedAt, settled_to, least_open, below_open, low_water}
 use Rattle.mvo_theory.specs.Groups.{Group, Limits, is_writing, is_due, due, IsFull, IsLongest, last_of, mark_by, IsNextGroup, IsGroupOf}
 use Rattle.mvo_theory.specs.Sound.{IsRising, IsPlaced}

@@ -13,11 +13,13 @@ use Rattle.mvo_types.specs.declared.refusal.Refusal.TheVariants.{NoSuchTransacti
 use Rattle.mvo_types.specs.Keys.{Map}
 use Rattle.mvo_model.specs.Trace.{Step, history_of, phase_of}
 use Rattle.mvo_model.specs.Trace.Phase.{Absent, Active, Preparing}
-use Rattle.mvo_theory.specs.Entries.{Entry, entry_of, entries}
-use Rattle.mvo_theory.specs.Entries.Entry.{Key, Range}
+use Rattle.mvo_types.specs.declared.entry.Entry.{Entry}
+use Rattle.mvo_theory.specs.Entries.{entry_of, entries}
+use Rattle.mvo_types.specs.declared.entry.Entry.TheVariants.{Key, Range}
 use Rattle.mvo_theory.specs.State.{State, StampedTx, ActiveTx, active_of, preparing_of, ended_of, history_of_active}
 use Rattle.mvo_theory.specs.Phases.{phase_in, is_absent, is_active, is_preparing, is_ended}
-use Rattle.mvo_theory.specs.Causes.{when, first_cause, flagged, flag_of_active, flag_of_preparing, unless_active, unless_preparing, unfinished, conflict, conflicts, is_entry_too_many, is_write_too_many, why_not_begin, why_not_do, why_not_precommit, next_differs, why_not_validate, was_valid, why_not_settle, why_not_rollback, why_not_finish}
+use Rattle.mvo_types.specs.Causes.{when, first_cause}
+use Rattle.mvo_theory.specs.Causes.{flagged, flag_of_active, flag_of_preparing, unless_active, unless_preparing, unfinished, conflict, conflicts, is_entry_too_many, is_write_too_many, why_not_begin, why_not_do, why_not_precommit, next_differs, why_not_validate, was_valid, why_not_settle, why_not_rollback, why_not_finish}
 use Rattle.mvo_theory.specs.Traced.{HasAbortedDependency}
 use Rattle.mvo_theory.specs.Calls.{Call, Result, why_not, takes_memory, IsRefusal, MayCome, IsKept}
 use Rattle.mvo_theory.specs.Calls.Call.{Begin, Do, Precommit, Validate, Settle, Rollback, Finish, Trim, Close}

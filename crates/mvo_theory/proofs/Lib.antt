@@ -61,3 +61,4 @@ pub mod Numbers
 pub mod Counting
 pub mod Answered
 pub mod Justified
+pub mod Written

@@ -17,11 +17,12 @@ use Rattle.mvo_types.specs.Write.{Effect, Write, content_after, content_after_la
 use Rattle.mvo_model.specs.Serial.{answer_to}
 use Rattle.mvo_model.specs.History.{History, write_of, write_at, after_write, after_history, AreSerial}
 use Rattle.mvo_model.proofs.Serials.{get-after_write, rows_after-told}
-use Rattle.mvo_theory.specs.Entries.{Entry, entry_of}
+use Rattle.mvo_types.specs.declared.entry.Entry.{Entry}
+use Rattle.mvo_theory.specs.Entries.{entry_of}
 use Rattle.mvo_theory.specs.Ranges.{Row, shows, pass, AgreeOn, AllAgreeOn, row_of, changed_by, footprint_of}
 use Rattle.mvo_theory.proofs.Each.{each_weaker}
 use Rattle.mvo_theory.proofs.Scans.{scan_same}
-use Rattle.mvo_theory.specs.Entries.Entry.{Key}
+use Rattle.mvo_types.specs.declared.entry.Entry.TheVariants.{Key}
 
 -- ---- agreeing on a key
 pub key_is : (k : RowKey) → eq_by_cmp key_cmp k k ≡ true

@@ -7,7 +7,7 @@ use Rattle.mvo_types.specs.declared.row.RowKey.{RowKey}
 use Rattle.mvo_model.specs.History.{History, net_write}
 use Rattle.mvo_model.specs.Trace.{Step}
 use Rattle.mvo_theory.specs.Entries.{entry_of}
-use Rattle.mvo_theory.specs.Entries.Entry.{Key}
+use Rattle.mvo_types.specs.declared.entry.Entry.TheVariants.{Key}
 use Rattle.mvo_theory.specs.State.{State, StampedTx, Claim}
 use Rattle.mvo_theory.specs.Dependencies.{is_writer, last_writer, has_end}
 use Rattle.mvo_theory.specs.Claims.{end_or, origin}

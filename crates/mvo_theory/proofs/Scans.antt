@@ -15,7 +15,7 @@ use Rattle.mvo_types.specs.Keys.{Map, key_cmp}
 use Rattle.mvo_types.specs.RowLists.{is_within}
 use Rattle.mvo_model.specs.Order.{in_order}
 use Rattle.mvo_model.specs.Serial.{scan, scan_cmp}
-use Rattle.mvo_theory.specs.Entries.Entry.{Range}
+use Rattle.mvo_types.specs.declared.entry.Entry.TheVariants.{Range}
 use Rattle.mvo_theory.specs.Ranges.{Row, shows, pass, AgreeOn}
 
 filter-map : {X Y : Type 0} (p : Y → Bool) (f : X → Y) (xs : List X) → filter p (map f xs) ≡ map f (filter (λ x. p (f x)) xs)

@@ -6,7 +6,8 @@ use Rattle.std.proofs.lemmas.Bool.{eqb-true, lt-ltb, eq-eqb, ne_eqb, true≢fals
 use Rattle.mvo_types.specs.Keys.{Map}
 use Rattle.mvo_model.specs.History.{History, after_history, AreSerial}
 use Rattle.mvo_model.proofs.Serials.{after_history-append}
-use Rattle.mvo_theory.specs.Entries.{Entry, entry_of, entries}
+use Rattle.mvo_types.specs.declared.entry.Entry.{Entry}
+use Rattle.mvo_theory.specs.Entries.{entry_of, entries}
 use Rattle.mvo_theory.specs.Ranges.{AgreeOn, AllAgreeOn, footprint_of}
 use Rattle.mvo_theory.specs.State.{StampedTx, after_settled, seen_by}
 use Rattle.mvo_theory.specs.Changes.{with_settled}
@@ -16,7 +17,7 @@ use Rattle.mvo_theory.proofs.Looks.{serial_agrees, footprint_agrees, all_agree_l
 use Rattle.mvo_theory.proofs.Footprints.{unchanged_agree}
 use Rattle.mvo_theory.proofs.Between.{settled_below, settled_none, at_end}
 use Rattle.mvo_theory.proofs.Apart.{each_entry, IsFreeToSettle}
-use Rattle.mvo_theory.specs.Entries.Entry.{Key, Range}
+use Rattle.mvo_types.specs.declared.entry.Entry.TheVariants.{Key, Range}
 
 pub or-false : (a b : Bool) → b ≡ false → (a || b) ≡ a
 or-false true b e = refl

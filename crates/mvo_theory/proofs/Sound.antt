@@ -10,7 +10,8 @@ use Rattle.mvo_types.specs.AnswerData.{AnswerData}
 use Rattle.mvo_model.specs.Serial.{answer_to}
 use Rattle.mvo_model.specs.History.{after_history, write_of}
 use Rattle.mvo_model.proofs.Serials.{AreSerial-push}
-use Rattle.mvo_theory.specs.Entries.{Entry, entry_of, entries}
+use Rattle.mvo_types.specs.declared.entry.Entry.{Entry}
+use Rattle.mvo_theory.specs.Entries.{entry_of, entries}
 use Rattle.mvo_theory.specs.Ranges.{changed_by}
 use Rattle.mvo_theory.specs.State.{State, StampedTx, ActiveTx, seen_by}
 use Rattle.mvo_theory.specs.Dependencies.{keys_for, unwritten, dependencies}
@@ -21,7 +22,7 @@ use Rattle.mvo_theory.proofs.Each.{each_weaker, each_both, each_append, each_map
 use Rattle.mvo_theory.proofs.Footprints.{footprint_push}
 use Rattle.mvo_theory.proofs.Stamped.{legal_last, clear_last, rising_last, IsLike, rising_map, unchanged_map}
 use Rattle.mvo_theory.proofs.Depends.{depends_more, decided_on_now, decided_on_more, below_all, consistent_last, consistent_map}
-use Rattle.mvo_theory.specs.Entries.Entry.{Key, Range}
+use Rattle.mvo_types.specs.declared.entry.Entry.TheVariants.{Key, Range}
 
 -- ---- begin
 le_later : (a clock t : ℕ) → clock < t → a ≤ clock → a ≤ t

@@ -9,13 +9,13 @@ use Rattle.mvo_types.specs.Write.{Effect}
 use Rattle.mvo_model.specs.History.{History, after_history, later, net_write}
 use Rattle.mvo_model.proofs.Serials.{net_write-append}
 use Rattle.mvo_theory.proofs.Each.{each_weaker, each_append, each_map}
-use Rattle.mvo_theory.specs.Entries.{Entry}
+use Rattle.mvo_types.specs.declared.entry.Entry.{Entry}
 use Rattle.mvo_theory.specs.Ranges.{Row, shows}
 use Rattle.mvo_theory.specs.State.{StampedTx, history_below}
 use Rattle.mvo_theory.specs.Dependencies.{is_writer, or_later, last_writer, has_end, with_end, depend_on}
 use Rattle.mvo_theory.specs.Sound.{IsWritten, IsDecided, IsUnchanged, IsClear, IsRising, IsLegal, changes}
 use Rattle.mvo_theory.proofs.Footprints.{none_unless}
-use Rattle.mvo_theory.specs.Entries.Entry.{Key, Range}
+use Rattle.mvo_types.specs.declared.entry.Entry.TheVariants.{Key, Range}
 
 -- ---- who decides a key, after a look
 abbrev IsHeld : Option StampedTx → List ℕ → Type 0

@@ -8,7 +8,8 @@ use Rattle.mvo_types.specs.declared.row.RowKey.{RowKey}
 use Rattle.mvo_types.specs.Keys.{Map}
 use Rattle.mvo_model.specs.History.{History, after_history, AreSerial}
 use Rattle.mvo_model.proofs.Serials.{after_history-append}
-use Rattle.mvo_theory.specs.Entries.{Entry, entry_of, entries}
+use Rattle.mvo_types.specs.declared.entry.Entry.{Entry}
+use Rattle.mvo_theory.specs.Entries.{entry_of, entries}
 use Rattle.mvo_theory.specs.Ranges.{Row, shows, pass, puts, is_row_of, footprint_of}
 use Rattle.mvo_theory.specs.State.{State, StampedTx, ActiveTx, after_settled, timeline, history_below, seen_by, history_of_active, snapshot}
 use Rattle.mvo_theory.specs.Claims.{origin}
@@ -19,7 +20,7 @@ use Rattle.mvo_theory.proofs.Each.{each_weaker, each_both, each_append, each_fil
 use Rattle.mvo_theory.proofs.Footprints.{or_right, any_left, any_right}
 use Rattle.mvo_theory.proofs.Stamped.{history_below-append, rising_filter, clear_filter, each_part, rising_both}
 use Rattle.mvo_theory.proofs.Counts.{seen_counts}
-use Rattle.mvo_theory.specs.Entries.Entry.{Key, Range}
+use Rattle.mvo_types.specs.declared.entry.Entry.TheVariants.{Key, Range}
 
 -- ---- the stamped ones in two
 abbrev pub is_after : ℕ → StampedTx → Bool

@@ -18,14 +18,16 @@ use Rattle.mvo_types.specs.Keys.{Map, key_cmp}
 use Rattle.mvo_types.specs.Write.{Effect}
 use Rattle.mvo_model.specs.History.{after_history, net_write}
 use Rattle.mvo_model.specs.Trace.{Step}
-use Rattle.mvo_theory.specs.Entries.{Entry, entries}
+use Rattle.mvo_types.specs.declared.entry.Entry.{Entry}
+use Rattle.mvo_theory.specs.Entries.{entries}
 use Rattle.mvo_theory.specs.State.{State, StampedTx, ActiveTx, Claim, timeline, seen_by, active_of, preparing_of, ended_of}
 use Rattle.mvo_theory.specs.Dependencies.{is_writer, last_writer, has_end}
 use Rattle.mvo_theory.specs.Claims.{end_or, origin, has_claim}
 use Rattle.mvo_theory.specs.Changes.{is_to, after_trim}
 use Rattle.mvo_theory.specs.Marks.{least_open, below_open, low_water}
 use Rattle.mvo_theory.proofs.Cases.{do_cases, precommit_cases, begin_cases, conflict_by, preparing_head, rollback_by, finish_by, if_stands, or_flagged, not_there, not_written, not_prepared, not_op, not_done_at, not_active}
-use Rattle.mvo_theory.specs.Causes.{when, or_next, was_valid, next_differs, conflicts, why_not_precommit, why_not_begin, differs, unsettled, active_claim, stamped_claim, or_cause, claimed_by, why_not_do, is_changer, or_first, last_end, change_of, entry_differs, why_not_validate, why_not_settle, waiting_for, awaited_by, awaited}
+use Rattle.mvo_types.specs.Causes.{when, or_next}
+use Rattle.mvo_theory.specs.Causes.{was_valid, next_differs, conflicts, why_not_precommit, why_not_begin, differs, unsettled, active_claim, stamped_claim, or_cause, claimed_by, why_not_do, is_changer, or_first, last_end, change_of, entry_differs, why_not_validate, why_not_settle, waiting_for, awaited_by, awaited}
 use Rattle.mvo_theory.specs.Sound.{changes, IsRising, IsActive, IsPlaced}
 use Rattle.mvo_theory.specs.Claimed.{IsClaimed, HasClaims}
 use Rattle.mvo_theory.specs.Calls.{Call, why_not, IsKept}

@@ -10,7 +10,8 @@ use Rattle.mvo_model.specs.Trace.{Step, history_of}
 use Rattle.mvo_theory.specs.State.{EndedTx, State, StampedTx, ActiveTx, after_settled, active_of, preparing_of, ended_of, is_preparing_as}
 use Rattle.mvo_theory.specs.Changes.{is_to, after_trim}
 use Rattle.mvo_theory.specs.Marks.{least_open, below_open, low_water, open_begins, least, oldest_begin}
-use Rattle.mvo_theory.specs.Causes.{why_not_trim, when, first_cause}
+use Rattle.mvo_types.specs.Causes.{when, first_cause}
+use Rattle.mvo_theory.specs.Causes.{why_not_trim}
 use Rattle.mvo_theory.specs.Phases.{phase_by}
 use Rattle.mvo_theory.specs.Sound.{IsRising, IsLegal, IsPlaced, IsSound, IsNumbered, IsSingle, AreExclusive}
 use Rattle.mvo_theory.specs.AfterTrace.{pairs, IsAfterTrace}

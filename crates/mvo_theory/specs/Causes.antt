@@ -9,30 +9,19 @@ use Rattle.mvo_types.specs.declared.cause.Cause.{Cause}
 use Rattle.mvo_types.specs.declared.cause.Cause.TheVariants.{Active, Stamped}
 use Rattle.mvo_types.specs.declared.refusal.Refusal.{Refusal}
 use Rattle.mvo_types.specs.declared.refusal.Refusal.TheVariants.{NoSuchTransaction, Ended, NotActive, NotPreparing, NotValidated, NotEnded, WriteConflict, ValidationFailed, DependencyAborted, TableFull, TooManyWrites, TooManyReads, DataTooLong, BadTable, ClockSpent, RingFull, NothingToDo}
+use Rattle.mvo_types.specs.Causes.{when, first_cause}
 use Rattle.mvo_types.specs.RowData.{RowData}
 use Rattle.mvo_model.specs.History.{History, net_write}
-use Rattle.mvo_theory.specs.Entries.{Entry, entries, has_entry, is_noted, written_keys}
+use Rattle.mvo_types.specs.declared.entry.Entry.{Entry}
+use Rattle.mvo_types.specs.Entries.{has_entry}
+use Rattle.mvo_theory.specs.Entries.{entries, is_noted, written_keys}
 use Rattle.mvo_theory.specs.State.{State, StampedTx, ActiveTx, active_of, preparing_of, history_of_active, snapshot}
 use Rattle.mvo_theory.specs.Dependencies.{has_end}
 use Rattle.mvo_theory.specs.Claims.{has_claim, origin}
 use Rattle.mvo_theory.specs.Phases.{phase_in, is_absent, is_active, is_preparing, is_ended}
 use Rattle.mvo_theory.specs.Marks.{oldest_begin, low_water}
 use Rattle.mvo_theory.specs.Sound.{changes}
-use Rattle.mvo_theory.specs.Entries.Entry.{Key, Range}
-
--- ---- lists of causes
--- the refusal, if the test stands
-abbrev pub when : Bool → Refusal → Option Refusal
-when test r = if test then Some r else None
-
-abbrev pub or_next : Option Refusal → Option Refusal → Option Refusal
-or_next None next = next
-or_next (Some r) next = Some r
-
--- the first of the list that stands
-abbrev pub first_cause : List (Option Refusal) → Option Refusal
-first_cause [] = None
-first_cause (c ∷ cs) = or_next c (first_cause cs)
+use Rattle.mvo_types.specs.declared.entry.Entry.TheVariants.{Key, Range}
 
 -- ---- who may not be called so
 -- the first aborted one that the transaction depends on

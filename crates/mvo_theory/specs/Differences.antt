@@ -5,8 +5,9 @@ use Rattle.mvo_types.specs.Keys.{Map}
 use Rattle.mvo_model.specs.History.{net_write}
 use Rattle.mvo_model.specs.Trace.{Step, history_of, phase_of}
 use Rattle.mvo_model.specs.Trace.Phase.{Preparing}
-use Rattle.mvo_theory.specs.Entries.{Entry, entries}
-use Rattle.mvo_theory.specs.Entries.Entry.{Key, Range}
+use Rattle.mvo_types.specs.declared.entry.Entry.{Entry}
+use Rattle.mvo_theory.specs.Entries.{entries}
+use Rattle.mvo_types.specs.declared.entry.Entry.TheVariants.{Key, Range}
 use Rattle.mvo_theory.specs.Ranges.{shows}
 use Rattle.mvo_theory.specs.Snapshots.{footprint_in}
 use Rattle.mvo_theory.specs.Counts.{checks_in}

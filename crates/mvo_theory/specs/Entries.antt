@@ -1,18 +1,16 @@
 -- What a transaction looked at, and what it wrote.
-use Rattle.std.specs.Prelude.{ℕ, ◌==◌, ◌&&◌, Bool, false, if◌then◌else◌, List, [], ◌∷◌, ◌++◌, Option, None, Some}
+use Rattle.std.specs.Prelude.{Bool, if◌then◌else◌, List, [], ◌∷◌, ◌++◌, Option, None, Some}
 use Rattle.std.specs.List.{list_any}
 use Rattle.std.specs.Option.{option_map}
 use Rattle.std.specs.Ordering.{eq_by_cmp}
 use Rattle.mvo_types.specs.declared.row.RowKey.{RowKey}
 use Rattle.mvo_types.specs.declared.op.Op.{Op}
 use Rattle.mvo_types.specs.declared.op.Op.TheVariants.{Read, Scan, Insert, Update, Delete}
+use Rattle.mvo_types.specs.declared.entry.Entry.{Entry}
+use Rattle.mvo_types.specs.declared.entry.Entry.TheVariants.{Key, Range}
 use Rattle.mvo_types.specs.Keys.{key_cmp}
+use Rattle.mvo_types.specs.Entries.{with_entry}
 use Rattle.mvo_model.specs.History.{History, write_of}
-
--- an entry: a key, or the rows of a table with low <= sort <= high
-pub data Entry : Type 0 where
-  Key : RowKey → Entry
-  Range : ℕ → ℕ → ℕ → Entry
 
 -- the entry of an operation: a scan's is its range, that of another its key
 abbrev pub entry_of : Op → Entry
@@ -21,22 +19,6 @@ entry_of (Scan table lo hi) = Range table lo hi
 entry_of (Insert r) = Key r.key
 entry_of (Update r) = Key r.key
 entry_of (Delete k) = Key k
-
--- of one kind, with the same fields
-abbrev pub is_same : Entry → Entry → Bool
-is_same (Key k) (Key j) = eq_by_cmp key_cmp k j
-is_same (Key k) (Range table lo hi) = false
-is_same (Range table lo hi) (Key k) = false
-is_same (Range table lo hi) (Range table' lo' hi') =
-    (table == table') && ((lo == lo') && (hi == hi'))
-
--- whether the entry is among these
-abbrev pub has_entry : List Entry → Entry → Bool
-has_entry es e = list_any (is_same e) es
-
--- with the entry, which is not added twice
-abbrev pub with_entry : List Entry → Entry → List Entry
-with_entry es e = if has_entry es e then es else es ++ e ∷ []
 
 abbrev pub entries_from : List Entry → History → List Entry
 entries_from es [] = es

@@ -9,8 +9,9 @@ use Rattle.mvo_types.specs.Keys.{Map, key_cmp}
 use Rattle.mvo_types.specs.Write.{Write, content_after}
 use Rattle.mvo_types.specs.RowLists.{is_within}
 use Rattle.mvo_model.specs.History.{History, write_of, after_write}
-use Rattle.mvo_theory.specs.Entries.{Entry, entry_of}
-use Rattle.mvo_theory.specs.Entries.Entry.{Key, Range}
+use Rattle.mvo_types.specs.declared.entry.Entry.{Entry}
+use Rattle.mvo_theory.specs.Entries.{entry_of}
+use Rattle.mvo_types.specs.declared.entry.Entry.TheVariants.{Key, Range}
 
 -- a row with its key
 abbrev pub Row : Type 0

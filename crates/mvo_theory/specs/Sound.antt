@@ -5,11 +5,12 @@ use Rattle.mvo_types.specs.declared.row.RowKey.{RowKey}
 use Rattle.mvo_types.specs.Keys.{Map}
 use Rattle.mvo_model.specs.History.{History, AreSerial, net_write, after_history}
 use Rattle.mvo_theory.specs.State.{State, StampedTx, ActiveTx, seen_by, is_active_as, is_preparing_as, is_ended_as}
-use Rattle.mvo_theory.specs.Entries.{Entry, entry_of, entries}
+use Rattle.mvo_types.specs.declared.entry.Entry.{Entry}
+use Rattle.mvo_theory.specs.Entries.{entry_of, entries}
 use Rattle.mvo_theory.specs.Ranges.{Row, shows, footprint_of}
 use Rattle.mvo_theory.specs.Dependencies.{is_writer, has_end, counts_for}
 use Rattle.mvo_theory.specs.Claims.{has_claim}
-use Rattle.mvo_theory.specs.Entries.Entry.{Key, Range}
+use Rattle.mvo_types.specs.declared.entry.Entry.TheVariants.{Key, Range}
 
 -- one of these writes the key below the begin
 abbrev pub IsWritten : RowKey → ℕ → List StampedTx → Type 0

@@ -10,10 +10,11 @@ use Rattle.mvo_model.specs.History.{write_of, net_write}
 use Rattle.mvo_model.specs.Trace.{Step, history_of, committed, phase_of}
 use Rattle.mvo_model.specs.Trace.Step.{Begins, Answers, Prepares, Checks, Commits, Aborts, Terminates}
 use Rattle.mvo_model.specs.Trace.Phase.{Preparing}
-use Rattle.mvo_theory.specs.Entries.{Entry, entry_of}
+use Rattle.mvo_types.specs.declared.entry.Entry.{Entry}
+use Rattle.mvo_theory.specs.Entries.{entry_of}
 use Rattle.mvo_theory.specs.Ranges.{Row, shows, pass, put_by, is_row_of}
 use Rattle.mvo_theory.specs.State.{State, StampedTx}
-use Rattle.mvo_theory.specs.Entries.Entry.{Key, Range}
+use Rattle.mvo_types.specs.declared.entry.Entry.TheVariants.{Key, Range}
 
 -- x is Preparing with the end e, below the begin b, and is the last writer of the key: none that is
 -- Preparing or Committed with an end between has a writing answer on it

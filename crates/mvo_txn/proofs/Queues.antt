@@ -1,8 +1,8 @@
 -- A queue stays one while transactions come and go.
-use Rattle.std.proofs.Common.{◌≡◌, ◌≢◌, ℕ, ◌+◌, ◌<◌, ◌≤◌, Bool, true, false, cond, eqb, List, [], ◌∷◌, ◌++◌, slice_index_or, Option, Some, None, refl, sym, ap, subst, ◌∙◌, arith, inl, inr, ⊎_elim}
+use Rattle.std.proofs.Common.{◌≡◌, ◌≢◌, ℕ, ◌+◌, ◌<◌, ◌≤◌, Bool, true, false, cond, eqb, List, [], ◌∷◌, ◌++◌, slice_index_or, drop, Option, Some, None, refl, sym, ap, subst, ◌∙◌, arith, inl, inr, ⊎_elim}
 use Rattle.std.proofs.lemmas.Bool.{cases_eq, false≢true, eqb-true, eq-eqb}
 use Rattle.std.proofs.lemmas.Option.{none-some}
-use Rattle.std.specs.Option.{unwrap_or, option_eq, option_to_list}
+use Rattle.std.specs.Option.{unwrap_or, option_eq}
 use Rattle.std.specs.List.{filter}
 use Rattle.mvo_txn.specs.declared.mark.Mark.{Mark}
 use Rattle.mvo_txn.specs.Queue.{IsRising, IsListed, IsCurrent, IsListing, IsQueue, is_current}
@@ -109,12 +109,11 @@ listing_rest f high m ms not l = record {
       ⊎_elim (λ same. absurd (not (ap f same.0 ∙ e ∙ ap Some (sym same.1)))) (λ later. later) (l.complete id stamp e);
 }
 
--- the front, which doesn't count, is taken out
-pub listing_popped : (f : Stamps) (high : ℕ) (ms rest : List Mark) (popped : Option Mark) (m : Mark) → ms ≡ option_to_list popped ++ rest → m ≡ slice_index_or ms 0 m → is_current f m ≡ false → IsListing f high ms → IsListing f high rest
-listing_popped f high ms rest None m e at not l = subst (IsListing f high) e l
-listing_popped f high ms rest (Some x) m e at not l =
-    let same : m ≡ x = at ∙ ap (λ ns. slice_index_or ns 0 m) e in
-    listing_rest f high x rest (λ is. false≢true (sym not ∙ ap (is_current f) same ∙ if_current f x is)) (subst (IsListing f high) e l)
+-- the front, which doesn't count, is dropped
+pub listing_dropped : (f : Stamps) (high : ℕ) (ms : List Mark) (m : Mark) → m ≡ slice_index_or ms 0 m → is_current f m ≡ false → IsListing f high ms → IsListing f high (drop 1 ms)
+listing_dropped f high [] m at not l = l
+listing_dropped f high (x ∷ rest) m at not l =
+    listing_rest f high x rest (λ is. false≢true (sym not ∙ ap (is_current f) at ∙ if_current f x is)) l
 
 -- one counts no longer, or nothing changes
 pub listing_less : (f g : Stamps) (high : ℕ) (ms : List Mark) → ((id stamp : ℕ) → g id ≡ Some stamp → f id ≡ Some stamp) → IsListing f high ms → IsListing g high ms

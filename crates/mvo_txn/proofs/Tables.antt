@@ -156,6 +156,14 @@ module _ {P : Type 0} where
       (λ ne. sym (same_beside OpenEnd m (insert m id new) i (get_beside m id new i ne)) ∙ e)
       (cases_eq i id)
 
+  -- one that has no open end any more
+  pub no_open_end : (m n : SeatMap P) (id : ℕ) (before after : TxState) → state_in m id ≡ Some before → open_end (Some after) ≡ None → n ≡ with_state m id after → stamp_in OpenEnd n id ≡ None
+  no_open_end m n id before after was closed is =
+      let old = seat_at (get m id) before was in
+      let seat : Seat P = record { state = after; kept = old.0.kept } in
+      ap (λ x. stamp_in OpenEnd x id) (is ∙ ap (λ o. with_state_at o m id after) old.1.0)
+      ∙ ap (λ o. open_end (option_map (λ s. s.state) o)) (get_inserted m id seat) ∙ closed
+
   pub sound_closed : (clock : ℕ) (m n : SeatMap P) (b e e' : Queue) (id : ℕ) (before after : TxState) → state_in m id ≡ Some before → open_end (Some after) ≡ None
       → n ≡ with_state m id after → KeepsForm e e' → Trims e.kind n e.marks.items e'.marks.items → IsSound clock m b e → IsSound clock n b e'
   sound_closed clock m n b e e' id before after was closed is same trims s =
@@ -189,6 +197,10 @@ module _ {P : Type 0} where
       (λ is. absurd (none-some stamp (sym (ap (λ j. option_map (λ _. i) (get (remove m id) j)) is ∙ ap (option_map (λ _. i)) (get_removed m id)) ∙ e)))
       (λ ne. sym (same_beside Begin m (remove m id) i (get_left m id i ne)) ∙ e)
       (cases_eq i id)
+
+  -- one that has left
+  pub no_begin : (m n : SeatMap P) (id : ℕ) → n ≡ remove m id → stamp_in Begin n id ≡ None
+  no_begin m n id is = ap (λ x. option_map (λ _. id) (get x id)) is ∙ ap (option_map (λ _. id)) (get_removed m id)
 
   same_ends_left : (m : SeatMap P) (id : ℕ) → open_end (state_in m id) ≡ None → (i : ℕ) → stamp_in OpenEnd (remove m id) i ≡ stamp_in OpenEnd m i
   same_ends_left m id closed i =

@@ -85,9 +85,9 @@ impl Directory {
         }
     }
 
-    // The seat that stands at the id's place.
+    /// The seat that stands at the id's place.
     #[inline(always)]
-    fn hinted(&self, id: u64) -> usize
+    pub(crate) fn hinted(&self, id: u64) -> usize
         ensures { result ≡ hinted self.now id }
     {
         match self.hints.get((id % PLACES) as usize) {

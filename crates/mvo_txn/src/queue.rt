@@ -1,6 +1,6 @@
-ghost use Rattle.std.specs.Prelude.{◌≡◌, ◌<◌, [], IfOk};
+ghost use Rattle.std.specs.Prelude.{◌≡◌, ◌+◌, ◌<◌, [], None, drop, IfOk};
 ghost use Rattle.std.specs.VecDeque.{deque_len, deque_capacity};
-ghost use Rattle.mvo_txn.specs.Queue.{first_stamp, with_mark};
+ghost use Rattle.mvo_txn.specs.Queue.{first_stamp, stamp_in, with_mark};
 ghost use Rattle.mvo_txn.specs.Sound.{KeepsForm, KeepsQueue, TrimsQueue, HasPlace};
 
 use crate::mark::{Kind, Mark};
@@ -61,15 +61,30 @@ impl Queue {
         let _ = self.marks.push_back(Mark { stamp, id });
     }
 
-    /// Drops from the front those that no longer count.
-    pub(crate) fn trim<P>(&mut self, seats: &Seats<P>)
+    /// Drops from the front those that no longer count, as `gone` doesn't.
+    pub(crate) fn trim<P>(&mut self, seats: &Seats<P>, gone: u64)
+        requires { stamp_in self.old.kind seats.now gone ≡ None }
         ensures form { KeepsForm self.old self.new }
         ensures kept { TrimsQueue seats.now self.old self.new }
     {
         while let Some(mark) = self.marks.front() {
-            if self.kind.is_current(seats, *mark) {
+            if self.kind.is_left(seats, *mark, gone) {
                 break;
             }
+            self.drop_first();
+        }
+    }
+
+    /// Drops the first. If it is the only one, the next that comes takes its place, which is near.
+    fn drop_first(&mut self)
+        requires { 0 < deque_len self.old.marks }
+        ensures form { KeepsForm self.old self.new }
+        ensures rest { self.new.marks.items ≡ drop 1 self.old.marks.items }
+        ensures len { deque_len self.new.marks + 1 ≡ deque_len self.old.marks }
+    {
+        if self.marks.len() == 1 {
+            self.marks.pop_back();
+        } else {
             self.marks.pop_front();
         }
     }

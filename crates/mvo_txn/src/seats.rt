@@ -61,6 +61,18 @@ impl<P> Seats<P> {
     pub(crate) fn get(&self, id: u64) -> Option<&Seat<P>>
         ensures { option_copied result ≡ map.get self.now id }
     {
+        // The chair at the id's place is nearly always the id's: one look at it is enough then.
+        match self.chairs.get(self.directory.hinted(id)) {
+            Some(chair) if chair.id == id => Some(&chair.seat),
+            _ => self.sought(id),
+        }
+    }
+
+    /// The same, wherever the seat is.
+    #[inline(never)]
+    fn sought(&self, id: u64) -> Option<&Seat<P>>
+        ensures { option_copied result ≡ map.get self.now id }
+    {
         let Some(number) = self.directory.find(&self.chairs, id) else {
             return None;
         };

@@ -179,7 +179,7 @@ impl<P> TxnTable<P> {
             unreachable!()
         };
         self.seats.set_state(id.0, TxState::Committed(end));
-        self.open_ends.trim(&self.seats);
+        self.open_ends.trim(&self.seats, id.0);
         end
     }
 
@@ -189,7 +189,7 @@ impl<P> TxnTable<P> {
         ensures { self.new ≡ after_change self.old id.0 TxState.Aborted }
     {
         self.seats.set_state(id.0, TxState::Aborted);
-        self.open_ends.trim(&self.seats);
+        self.open_ends.trim(&self.seats, id.0);
     }
 
     /// Lets a Committed or Aborted transaction leave, and answers what was kept of it.
@@ -199,7 +199,7 @@ impl<P> TxnTable<P> {
         ensures gone { self.new ≡ after_terminate self.old id.0 }
     {
         let seat = self.seats.remove(id.0).unwrap();
-        self.begins.trim(&self.seats);
+        self.begins.trim(&self.seats, id.0);
         let Seat { state: _, kept } = seat;
         kept
     }

@@ -8,8 +8,8 @@ use Rattle.mvo_hash.specs.Lists.{Lists}
 use Rattle.mvo_range.specs.declared.place.Place.{Place}
 use Rattle.mvo_range.specs.Place.{Map, is_between}
 use Rattle.mvo_visible.specs.Versions.{Numbered, versions_at}
-use Rattle.mvo_validate.specs.declared.entry.Entry.{Entry}
-use Rattle.mvo_validate.specs.declared.entry.Entry.TheVariants.{Key, Range}
+use Rattle.mvo_types.specs.declared.entry.Entry.{Entry}
+use Rattle.mvo_types.specs.declared.entry.Entry.TheVariants.{Key, Range}
 
 -- whether a version has the sort, if one is asked for
 abbrev pub has_sort : Option ℕ → Numbered → Bool

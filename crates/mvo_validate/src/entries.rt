@@ -1,8 +1,8 @@
 ghost use Rattle.std.specs.Prelude.{◌≡◌, ◌<◌, ◌≤◌, ◌+◌, [], not, OnOk, OnErr, length, slice_get};
-ghost use Rattle.mvo_validate.specs.Noted.{has_entry, with_entry};
+ghost use Rattle.mvo_types.specs.Entries.{has_entry, with_entry};
 
-use crate::entry::Entry;
 use indexmap::IndexSet;
+use mvo_types::Entry;
 use std::alloc::{AllocError, Global};
 use std::marker::Model;
 

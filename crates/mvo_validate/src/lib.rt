@@ -4,10 +4,8 @@
 mod between;
 mod check;
 mod entries;
-mod entry;
 mod validate;
 
 pub use check::Check;
 pub use entries::Entries;
-pub use entry::Entry;
 pub use validate::check_entry;

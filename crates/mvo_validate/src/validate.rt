@@ -7,12 +7,11 @@ ghost use Rattle.mvo_validate.specs.Entries.{versions_in};
 
 use crate::between::{greatest, last_between};
 use crate::check::Check;
-use crate::entry::Entry;
 use mvo_chain::Chains;
 use mvo_hash::HashIndex;
 use mvo_range::RangeIndex;
 use mvo_txn::TxnTable;
-use mvo_types::Stamp;
+use mvo_types::{Entry, Stamp};
 
 /// Whether others have changed what an entry looks at with a stamp above the begin and below the
 /// end, also those that are only Preparing: a key by any change of it, a range by any change on a

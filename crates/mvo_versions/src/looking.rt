@@ -3,8 +3,8 @@ use crate::versions::Versions;
 use mvo_hash::Versions as Numbers;
 use mvo_range::Walk;
 use mvo_txn::TxnTable;
-use mvo_types::{RowKey, Stamp, TxId};
-use mvo_validate::{Check, Entry, check_entry};
+use mvo_types::{Entry, RowKey, Stamp, TxId};
+use mvo_validate::{Check, check_entry};
 use mvo_visible::{Shown, shown};
 
 impl Versions {

@@ -1,5 +1,6 @@
 pub mod Decides
 pub mod Walks
+pub mod Settled
 pub mod Behind
 pub mod Orders
 pub mod Moves

@@ -22,7 +22,7 @@ use Rattle.mvo_visible.specs.Walked.{walked_over, walked_on, is_from, is_last_at
 use Rattle.mvo_visible.proofs.Decides.{option_or-none, option_or_assoc, deciding-append}
 
 -- ---- one version more
-or_false : (b : Bool) → (b || false) ≡ b
+pub or_false : (b : Bool) → (b || false) ≡ b
 or_false true = refl
 or_false false = refl
 
@@ -84,6 +84,17 @@ walked_more states b r vs e =
     ∙ ap (λ n. record { own = list_any (is_own r) vs || is_own r e; newest = option_or (own_newest r vs) n; change = later (deciding b (changes_of states vs)) (deciding b (changes_of states (e ∷ []))) }) (option_or-none (cond (is_own_newest r e) (Some e.0) None))
     ∙ ap (λ cs. record { own = list_any (is_own r) vs || is_own r e; newest = option_or (own_newest r vs) (cond (is_own_newest r e) (Some e.0) None); change = later (deciding b (changes_of states vs)) (deciding b cs) }) (changes_one states e)
 
+-- a word from b on names nobody, and tells no removal below b
+pub not_by : (r b : ℕ) (h : Held) → is_from b h ≡ true → names r h ≡ false
+not_by r b (At s) e = refl
+not_by r b (By t) e = cc
+not_by r b Infinity e = refl
+
+pub below_none : (states : States) (b : ℕ) (h : Held) → is_from b h ≡ true → deciding b (removal_of (seen_of states h)) ≡ None
+below_none states b (At s) e = ap (λ t. option_map (done_with (record { stamp = s; version = None; owner = None } ∷ [])) (cond t (Some s.0) None)) (le-ltb s.0 b (leb-true b s.0 e))
+below_none states b (By t) e = cc
+below_none states b Infinity e = refl
+
 -- a version whose words are from b on changes nothing
 pub walked_later : (states : States) (b r : ℕ) (w : Walked) (n : VersionNo) (v : Version) → is_later b v ≡ true → walked_on states b r w (n, v) ≡ w
 walked_later states b r w n v later_is =
@@ -91,26 +102,16 @@ walked_later states b r w n v later_is =
     let begins = parts.0 in
     let ends = parts.1 in
     ap (λ o. record { own = w.own || o; newest = option_or w.newest (cond (names r v.begin && not (names r v.end)) (Some n) None); change = later w.change (deciding b (changes_by states (n, v))) })
-    (ap (λ x. x || names r v.end) (not_by v.begin begins) ∙ not_by v.end ends)
+    (ap (λ x. x || names r v.end) (not_by r b v.begin begins) ∙ not_by r b v.end ends)
     ∙ ap (λ o. record { own = o; newest = option_or w.newest (cond (names r v.begin && not (names r v.end)) (Some n) None); change = later w.change (deciding b (changes_by states (n, v))) }) (or_false w.own)
-    ∙ ap (λ x. record { own = w.own; newest = option_or w.newest (cond (x && not (names r v.end)) (Some n) None); change = later w.change (deciding b (changes_by states (n, v))) }) (not_by v.begin begins)
+    ∙ ap (λ x. record { own = w.own; newest = option_or w.newest (cond (x && not (names r v.end)) (Some n) None); change = later w.change (deciding b (changes_by states (n, v))) }) (not_by r b v.begin begins)
     ∙ ap (λ m. record { own = w.own; newest = m; change = later w.change (deciding b (changes_by states (n, v))) }) (option_or-none w.newest)
     ∙ ap (λ d. record { own = w.own; newest = w.newest; change = later w.change d }) (none begins ends)
     ∙ ap (λ d. record { own = w.own; newest = w.newest; change = d }) (later_none w.change)
   where
-    not_by : (h : Held) → is_from b h ≡ true → names r h ≡ false
-    not_by (At s) e = refl
-    not_by (By t) e = cc
-    not_by Infinity e = refl
-
     later_none : (c : Option Change) → later c None ≡ c
     later_none None = refl
     later_none (Some c) = refl
-
-    below_none : (h : Held) → is_from b h ≡ true → deciding b (removal_of (seen_of states h)) ≡ None
-    below_none (At s) e = ap (λ t. option_map (done_with (record { stamp = s; version = None; owner = None } ∷ [])) (cond t (Some s.0) None)) (le-ltb s.0 b (leb-true b s.0 e))
-    below_none (By t) e = cc
-    below_none Infinity e = refl
 
     put_none : (h : Held) (q : Seen) → is_from b h ≡ true → deciding b (put_of n (seen_of states h) q) ≡ None
     put_none (At s) q e = ap (λ t. option_map (done_with (put_of n (Settled s) q)) (cond t (Some s.0) None)) (le-ltb s.0 b (leb-true b s.0 e))
@@ -121,7 +122,7 @@ walked_later states b r w n v later_is =
     none begins ends =
         deciding-append b (put_of n (seen_of states v.begin) (seen_of states v.end)) (removal_of (seen_of states v.end))
         ∙ ap (λ c. later c (deciding b (removal_of (seen_of states v.end)))) (put_none v.begin (seen_of states v.end) begins)
-        ∙ below_none v.end ends
+        ∙ below_none states b v.end ends
 
 -- ---- where a walk may stop
 -- the version's put is settled below b, and stays

@@ -1,10 +1,12 @@
 -- What a walk over versions has found.
-use Rattle.std.specs.Prelude.{ℕ, ◌||◌, ◌&&◌, nat_lt, nat_le, Bool, true, false, not, cond, List, None, Some}
+use Rattle.std.specs.Prelude.{ℕ, ◌||◌, ◌&&◌, nat_lt, nat_le, Bool, true, false, not, cond, List, Option, None, Some}
 use Rattle.std.specs.Option.{option_or}
 use Rattle.std.specs.List.{list_any}
 use Rattle.mvo_word.specs.declared.held.Held.{Held}
 use Rattle.mvo_word.specs.declared.held.Held.TheVariants.{At, By, Infinity}
+use Rattle.mvo_types.specs.declared.ids.Stamp.{Stamp}
 use Rattle.mvo_chain.specs.declared.version.Version.{Version}
+use Rattle.mvo_chain.specs.declared.version.VersionNo.{VersionNo}
 use Rattle.mvo_visible.specs.declared.seen.Seen.{Seen}
 use Rattle.mvo_visible.specs.declared.seen.Seen.TheVariants.{Nothing, Settled, Speculative}
 use Rattle.mvo_visible.specs.declared.walked.Walked.{Walked}
@@ -43,6 +45,24 @@ abbrev pub is_from : ℕ → Held → Bool
 is_from b (At s) = nat_le b s.0
 is_from b (By t) = false
 is_from b Infinity = true
+
+-- the stamp of a put by its word, where that is a timestamp below b and the other word is one of
+-- at least b, or infinity
+abbrev pub settled_at : ℕ → Held → Held → Option Stamp
+settled_at b (At s) end' = cond (nat_lt s.0 b && is_from b end') (Some s) None
+settled_at b (By t) end' = None
+settled_at b Infinity end' = None
+
+abbrev pub settled_put : ℕ → Version → Option Stamp
+settled_put b v = settled_at b v.begin v.end
+
+-- what is found over one version more, with a put of this stamp
+abbrev pub with_put : Walked → VersionNo → Stamp → Walked
+with_put w n s = record {
+  own = w.own;
+  newest = w.newest;
+  change = later w.change (Some (record { stamp = s; version = Some n; owner = None }));
+}
 
 -- whether the version tells nothing below b, by both its words
 abbrev pub is_later : ℕ → Version → Bool

@@ -7,7 +7,7 @@ ghost use Rattle.mvo_visible.specs.Walked.{walked_on};
 
 use crate::outcome::Shown;
 use crate::seen::{names, seen_by_others};
-use crate::walked::{Walked, change_below, is_last, is_later, later};
+use crate::walked::{Walked, change_below, is_last, is_later, later, settled_put, with_put};
 use mvo_chain::{Chains, Version, VersionNo};
 use mvo_hash::HashIndex;
 use mvo_txn::TxnTable;
@@ -39,6 +39,11 @@ pub fn shown<P>(
     };
     for number in index.walk(key) {
         if let Some(version) = chains.get(number) {
+            // The first version that a reader walks over is mostly such a one.
+            if let Some(stamp) = settled_put(version, at) {
+                walked = with_put(walked, number, stamp);
+                break;
+            }
             // Most versions that a reader who began long ago walks over are later ones.
             if is_later(version, at) {
                 continue;

@@ -1,6 +1,6 @@
 ghost use Rattle.std.specs.Prelude.{◌≡◌, ◌∷◌, [], nat_lt, cond};
 ghost use Rattle.mvo_visible.specs.Changes.{deciding, is_at, later, later_of, put_of, removal_of, unless_removed};
-ghost use Rattle.mvo_visible.specs.Walked.{is_from, is_last, is_later};
+ghost use Rattle.mvo_visible.specs.Walked.{is_from, is_last, is_later, settled_put, with_put};
 ghost use Rattle.mvo_txn.specs.Txns.{state_of};
 
 use crate::change::Change;
@@ -38,6 +38,34 @@ pub fn is_later(version: &Version, at: Stamp) -> bool
     ensures { result ≡ is_later at.0 version.now }
 {
     is_from(version.begin, at) && is_from(version.end, at)
+}
+
+/// The stamp of the version's put, if that is a timestamp below `at` and the version isn't ended
+/// below `at`, which its words tell without a look at the table. Then the version is all that
+/// matters to a reader who wrote none in front of it.
+pub fn settled_put(version: &Version, at: Stamp) -> Option<Stamp>
+    ensures { result ≡ settled_put at.0 version.now }
+{
+    match version.begin.read() {
+        Held::At(stamp) if stamp.0 < at.0 && is_from(version.end, at) => Some(stamp),
+        _ => None,
+    }
+}
+
+/// What is found, over a version more whose put is settled with the stamp.
+pub fn with_put(walked: Walked, number: VersionNo, stamp: Stamp) -> Walked
+    ensures { result ≡ with_put walked number stamp }
+{
+    let put = Change {
+        stamp,
+        version: Some(number),
+        owner: None,
+    };
+    Walked {
+        own: walked.own,
+        newest: walked.newest,
+        change: later(walked.change, Some(put)),
+    }
 }
 
 fn is_from(word: Word, at: Stamp) -> bool

@@ -8,8 +8,9 @@ use Rattle.mvo_types.specs.RowData.{RowData}
 use Rattle.mvo_types.specs.AnswerData.{AnswerData}
 use Rattle.mvo_model.specs.History.{History, write_of}
 use Rattle.mvo_theory.specs.Causes.{is_write_too_many}
-use Rattle.mvo_theory.specs.Entries.{Entry, entry_of}
-use Rattle.mvo_theory.specs.Entries.Entry.{Key, Range}
+use Rattle.mvo_types.specs.declared.entry.Entry.{Entry}
+use Rattle.mvo_theory.specs.Entries.{entry_of}
+use Rattle.mvo_types.specs.declared.entry.Entry.TheVariants.{Key, Range}
 use Rattle.mvo_theory.specs.Limits.{IsRow, IsInLimits}
 use Rattle.mvo_work.specs.Limits.{MayFollow}
 use Rattle.mvo_work.proofs.OneMore.{key_looked}

@@ -1,4 +1,3 @@
-pub mod Same
 pub mod Written
 pub mod OneMore
 pub mod Follows

@@ -3,7 +3,7 @@ use Rattle.std.proofs.Common.{◌≡◌, ◌≤◌, Bool, true, false, cond, not
 use Rattle.std.specs.Prelude.{◌&&◌, nat_le}
 use Rattle.std.specs.Option.{option_map}
 use Rattle.std.proofs.lemmas.Bool.{not-true, le-leb, leb-false}
-use Rattle.std.proofs.lemmas.List.{map-append, length-append, length-map}
+use Rattle.std.proofs.lemmas.List.{map-append, length-append}
 use Rattle.mvo_types.specs.declared.limits.TheConstants.{MAX_WRITES, MAX_ENTRIES}
 use Rattle.mvo_types.specs.declared.row.RowKey.{RowKey}
 use Rattle.mvo_types.specs.declared.op.Op.{Op}
@@ -12,26 +12,25 @@ use Rattle.mvo_types.specs.AnswerData.{AnswerData, answer_data}
 use Rattle.mvo_types.specs.Write.{Write}
 use Rattle.mvo_model.specs.History.{History, write_of}
 use Rattle.mvo_theory.specs.Causes.{is_entry_too_many, is_write_too_many}
-use Rattle.mvo_theory.specs.Entries as theory
 use Rattle.mvo_theory.specs.Entries.{entry_of, entries_from, entries, is_noted, noted_key, written_from, written_keys}
 use Rattle.mvo_theory.proofs.Each.{each_append}
 use Rattle.mvo_theory.proofs.Looks.{write_entry}
-use Rattle.mvo_validate.specs.declared.entry.Entry.{Entry}
-use Rattle.mvo_validate.specs.Noted.{has_entry, with_entry}
+use Rattle.mvo_types.specs.declared.entry.Entry.{Entry}
+use Rattle.mvo_types.specs.declared.entry.Entry.TheVariants.{Key}
+use Rattle.mvo_types.specs.Entries.{has_entry, with_entry}
 use Rattle.mvo_theory.specs.Told.{history_told}
-use Rattle.mvo_work.specs.History.{entry_as, key_written}
+use Rattle.mvo_work.specs.History.{key_written}
 use Rattle.mvo_theory.specs.Limits.{IsInLimits, AreLimited}
 use Rattle.mvo_work.specs.Limits.{MayFollow}
 use Rattle.mvo_work.specs.Work.{IsSound}
-use Rattle.mvo_work.proofs.Same.{has_as, with_as}
 use Rattle.mvo_work.proofs.Written.{unwritten}
 
 history_more : (told : List (Op × Answer)) (op : Op) (a : Answer) → history_told (told ++ (op, a) ∷ []) ≡ history_told told ++ (op, answer_data a) ∷ []
 history_more told op a = map-append (λ t. (t.0, answer_data t.1)) told ((op, a) ∷ [])
 
-entries_more : (es : List theory.Entry) (ts : History) (t : Op × AnswerData) → entries_from es (ts ++ t ∷ []) ≡ theory.with_entry (entries_from es ts) (entry_of t.0)
+entries_more : (es : List Entry) (ts : History) (t : Op × AnswerData) → entries_from es (ts ++ t ∷ []) ≡ with_entry (entries_from es ts) (entry_of t.0)
 entries_more es [] t = refl
-entries_more es (u ∷ us) t = entries_more (theory.with_entry es (entry_of u.0)) us t
+entries_more es (u ∷ us) t = entries_more (with_entry es (entry_of u.0)) us t
 
 written_more : (ks : List RowKey) (ts : History) (t : Op × AnswerData) → written_from ks (ts ++ t ∷ []) ≡ noted_key (written_from ks ts) (key_written t.0 t.1)
 written_more ks [] t = refl
@@ -53,26 +52,25 @@ limited_more ts op a h m = record {
 }
 
 -- ---- a key that was looked at first now isn't written
-pub key_looked : (op : Op) (a : AnswerData) (w : Option Write) (k : RowKey) → write_of op a ≡ w → option_map (λ v. v.0) w ≡ Some k → entry_of op ≡ theory.Entry.Key k
+pub key_looked : (op : Op) (a : AnswerData) (w : Option Write) (k : RowKey) → write_of op a ≡ w → option_map (λ v. v.0) w ≡ Some k → entry_of op ≡ Key k
 key_looked op a None k e f = cc
-key_looked op a (Some v) k e f = write_entry op a v e ∙ ap theory.Entry.Key (cc f)
+key_looked op a (Some v) k e f = write_entry op a v e ∙ ap Key (cc f)
 
-pub unwritten_yet : (told : List (Op × Answer)) (es : List Entry) (ks : List RowKey) (e : Entry) (op : Op) (a : AnswerData) (k : RowKey) → IsSound told es ks → entry_as e ≡ entry_of op → not (has_entry es e) ≡ true → key_written op a ≡ Some k → is_noted ks k ≡ false
+pub unwritten_yet : (told : List (Op × Answer)) (es : List Entry) (ks : List RowKey) (e : Entry) (op : Op) (a : AnswerData) (k : RowKey) → IsSound told es ks → e ≡ entry_of op → not (has_entry es e) ≡ true → key_written op a ≡ Some k → is_noted ks k ≡ false
 unwritten_yet told es ks e op a k h is fresh w =
-    let is_key : entry_as e ≡ theory.Entry.Key k = is ∙ key_looked op a (write_of op a) k refl w in
-    let none : theory.has_entry (entries (history_told told)) (theory.Entry.Key k) ≡ false =
-    ap (λ d. theory.has_entry (entries (history_told told)) d) (sym is_key)
-    ∙ ap (λ ds. theory.has_entry ds (entry_as e)) (sym h.entries)
-    ∙ has_as es e ∙ not-true (has_entry es e) fresh in
+    let is_key : e ≡ Key k = is ∙ key_looked op a (write_of op a) k refl w in
+    let none : has_entry (entries (history_told told)) (Key k) ≡ false =
+    ap (λ d. has_entry (entries (history_told told)) d) (sym is_key)
+    ∙ ap (λ ds. has_entry ds e) (sym h.entries)
+    ∙ not-true (has_entry es e) fresh in
     ap (λ js. is_noted js k) h.written ∙ unwritten (history_told told) k none
 
 -- ---- entries, keys and limits with one operation more
-pub sound_more : (told : List (Op × Answer)) (es : List Entry) (ks : List RowKey) (e : Entry) (op : Op) (a : Answer) → IsSound told es ks → entry_as e ≡ entry_of op → MayFollow (history_told told) op (answer_data a) → IsSound (told ++ (op, a) ∷ []) (with_entry es e) (noted_key ks (key_written op (answer_data a)))
+pub sound_more : (told : List (Op × Answer)) (es : List Entry) (ks : List RowKey) (e : Entry) (op : Op) (a : Answer) → IsSound told es ks → e ≡ entry_of op → MayFollow (history_told told) op (answer_data a) → IsSound (told ++ (op, a) ∷ []) (with_entry es e) (noted_key ks (key_written op (answer_data a)))
 sound_more told es ks e op a h is m = record {
   entries =
-      with_as es e
-      ∙ ap (λ ds. theory.with_entry ds (entry_as e)) h.entries
-      ∙ ap (theory.with_entry (entries (history_told told))) is
+      ap (λ ds. with_entry ds e) h.entries
+      ∙ ap (with_entry (entries (history_told told))) is
       ∙ sym (entries_more [] (history_told told) (op, answer_data a))
       ∙ ap entries (sym (history_more told op a));
   written =
@@ -87,11 +85,10 @@ and_true : (a b : Bool) → b ≡ true → a ≡ (a && b)
 and_true true b e = sym e
 and_true false b e = refl
 
-pub full_of_entries : (told : List (Op × Answer)) (es : List Entry) (ks : List RowKey) (e : Entry) → IsSound told es ks → MAX_ENTRIES ≤ length es → not (has_entry es e) ≡ is_entry_too_many (history_told told) (entry_as e)
+pub full_of_entries : (told : List (Op × Answer)) (es : List Entry) (ks : List RowKey) (e : Entry) → IsSound told es ks → MAX_ENTRIES ≤ length es → not (has_entry es e) ≡ is_entry_too_many (history_told told) e
 full_of_entries told es ks e h le =
-    let same : has_entry es e ≡ theory.has_entry (entries (history_told told)) (entry_as e) =
-    sym (has_as es e) ∙ ap (λ ds. theory.has_entry ds (entry_as e)) h.entries in
-    let many : length es ≡ length (entries (history_told told)) = sym (length-map es entry_as) ∙ ap length h.entries in
+    let same : has_entry es e ≡ has_entry (entries (history_told told)) e = ap (λ ds. has_entry ds e) h.entries in
+    let many : length es ≡ length (entries (history_told told)) = ap length h.entries in
     ap not same
-    ∙ and_true (not (theory.has_entry (entries (history_told told)) (entry_as e))) (nat_le MAX_ENTRIES (length (entries (history_told told))))
+    ∙ and_true (not (has_entry (entries (history_told told)) e)) (nat_le MAX_ENTRIES (length (entries (history_told told))))
     (le-leb MAX_ENTRIES (length (entries (history_told told))) (omega arith))

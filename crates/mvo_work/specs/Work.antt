@@ -1,14 +1,13 @@
 -- What an unfinished transaction has done, and the room for more.
-use Rattle.std.specs.Prelude.{◌≡◌, ℕ, ◌<◌, ◌≤◌, List, map, min}
+use Rattle.std.specs.Prelude.{◌≡◌, ℕ, ◌<◌, ◌≤◌, List, min}
 use Rattle.mvo_types.specs.declared.row.RowKey.{RowKey}
 use Rattle.mvo_types.specs.declared.op.Op.{Op}
 use Rattle.mvo_types.specs.declared.answer.Answer.{Answer}
 use Rattle.mvo_model.specs.History.{History}
 use Rattle.mvo_theory.specs.Entries.{entries, written_keys}
-use Rattle.mvo_validate.specs.declared.entry.Entry.{Entry}
+use Rattle.mvo_types.specs.declared.entry.Entry.{Entry}
 use Rattle.mvo_work.specs.declared.word_place.WordPlace.{WordPlace}
 use Rattle.mvo_theory.specs.Told.{history_told}
-use Rattle.mvo_work.specs.History.{entry_as}
 use Rattle.mvo_theory.specs.Limits.{AreLimited}
 
 -- the operations with their answers, the words that are still to be replaced, in order of writing,
@@ -31,6 +30,6 @@ room_of operations entries written = min operations (min entries written)
 -- the entries and the written keys are those of the operations, which are in the limits
 pub record IsSound (told : List (Op × Answer)) (looked_at : List Entry)
     (keys : List RowKey) : Type 0 where
-  pub entries : map entry_as looked_at ≡ entries (history_told told)
+  pub entries : looked_at ≡ entries (history_told told)
   pub written : keys ≡ written_keys (history_told told)
   pub limits : AreLimited (history_told told)

@@ -1,14 +1,13 @@
 ghost use Rattle.std.specs.Prelude.{◌≡◌, ◌++◌, ◌∷◌, [], ◌<◌, false, IsTrue, Some, vec_len, vec_capacity};
 ghost use Rattle.mvo_types.specs.AnswerData.{answer_data};
 ghost use Rattle.mvo_theory.specs.Entries.{entry_of, is_noted, noted_key};
-ghost use Rattle.mvo_work.specs.History.{entry_as, key_written};
+ghost use Rattle.mvo_work.specs.History.{key_written};
 
-use mvo_types::{Answer, Op, RowKey};
-use mvo_validate::Entry;
+use mvo_types::{Answer, Entry, Op, RowKey};
 
 /// What the operation looks at: a scan at its range, another at its key.
 pub fn entry_of(op: &Op) -> Entry
-    ensures { entry_as result ≡ entry_of op.now }
+    ensures { result ≡ entry_of op.now }
 {
     match op {
         Op::Read(key) => Entry::Key(*key),

@@ -1,11 +1,9 @@
 ghost use Rattle.std.specs.Prelude.{◌≡◌, ◌-◌, ◌++◌, ◌∷◌, [], ◌<◌, not, ◌==◌, drop, is_some, length, slice_get, IfOk, OnOk, OnErr};
-ghost use Rattle.std.specs.Option.{option_map};
 ghost use Rattle.mvo_types.specs.AnswerData.{answer_data};
 ghost use Rattle.mvo_model.specs.History.{net_write};
 ghost use Rattle.mvo_theory.specs.Entries.{entries, written_keys};
 ghost use Rattle.mvo_theory.specs.Causes.{is_entry_too_many, is_write_too_many};
 ghost use Rattle.mvo_theory.specs.Told.{history_told};
-ghost use Rattle.mvo_work.specs.History.{entry_as};
 ghost use Rattle.mvo_theory.specs.Limits.{AreLimited};
 ghost use Rattle.mvo_work.specs.Limits.{MayFollow};
 ghost use Rattle.mvo_work.specs.Work.{HasRoom};
@@ -15,8 +13,7 @@ use crate::memory::{clear_items, clear_words, reserve_one, take_items};
 use crate::operations::Operations;
 use crate::told::{entry_of, is_among, key_written, note_write, push_reserved};
 use crate::word_place::WordPlace;
-use mvo_types::{Answer, MAX_ENTRIES, MAX_WRITES, Op, RowKey};
-use mvo_validate::Entry;
+use mvo_types::{Answer, Entry, MAX_ENTRIES, MAX_WRITES, Op, RowKey};
 use std::alloc::{AllocError, Global};
 use std::marker::Model;
 
@@ -66,7 +63,7 @@ impl Work {
 
     /// Whether it keeps as many entries as it may, and this isn't one of them.
     pub fn is_entry_too_many(&self, entry: Entry) -> bool
-        ensures { result ≡ is_entry_too_many self.now.history (entry_as entry) }
+        ensures { result ≡ is_entry_too_many self.now.history entry }
     {
         let lists = &*self.lists;
         lists.looked_at.len() >= MAX_ENTRIES && !lists.looked_at.contains(entry)
@@ -102,7 +99,7 @@ impl Work {
 
     /// The entry at a place, from 0 on, in the order of the first look.
     pub fn entry_at(&self, place: usize) -> Option<Entry>
-        ensures { option_map entry_as result ≡ slice_get (entries self.now.history) place }
+        ensures { result ≡ slice_get (entries self.now.history) place }
     {
         self.lists.looked_at.at(place)
     }

@@ -16,7 +16,8 @@ use Rattle.mvo_disk.specs.declared.disk.Disk.{Ghosts}
 use Rattle.mvo_theory.specs.Entries.{entries}
 use Rattle.mvo_theory.specs.State.{StampedTx}
 use Rattle.mvo_theory.specs.Marks.{low_water}
-use Rattle.mvo_theory.specs.Causes.{when, why_not_close, awaited}
+use Rattle.mvo_types.specs.Causes.{when}
+use Rattle.mvo_theory.specs.Causes.{why_not_close, awaited}
 use Rattle.mvo_theory.specs.Calls as theory
 use Rattle.mvo_theory.specs.Calls.{IsRefusal}
 use Rattle.mvo_theory.specs.Calls.Call.{Begin as BeginCall, Precommit as PrecommitCall, Validate as ValidateCall, Settle as SettleCall, Rollback as RollbackCall, Finish as FinishCall, Do}

@@ -1,5 +1,5 @@
 -- What each event makes of a world that stands after a past.
-use Rattle.std.proofs.Common.{◌≡◌, ℕ, ◌+◌, ◌≤◌, length, Bool, true, false, cond, List, [], ◌∷◌, ◌++◌, Option, None, Some, Result, Ok, Err, map, refl, sym, ap, ◌∙◌, subst, arith, append_assoc, append-nil}
+use Rattle.std.proofs.Common.{◌≡◌, ℕ, ◌+◌, ◌≤◌, length, Bool, true, false, List, [], ◌∷◌, ◌++◌, Option, None, Some, Result, Ok, Err, map, refl, sym, ap, ◌∙◌, subst, arith, append_assoc, append-nil}
 use Rattle.std.specs.Prelude.{is_some, nat_le}
 use Rattle.std.specs.Option.{option_to_list}
 use Rattle.std.specs.List.{AllByRecursion}
@@ -30,6 +30,7 @@ use Rattle.mvo_core.specs.Collecting.{StandsAsBefore, AreFewer}
 use Rattle.mvo_core.specs.Steps.{LeadsOn}
 use Rattle.mvo_core.specs.Standing.{StandsFor}
 use Rattle.mvo_core.proofs.Begun.{still_closed}
+use Rattle.mvo_types.specs.Causes.{when, or_next}
 use Rattle.mvo_store.specs.Frames.{mark_after}
 use Rattle.mvo_store.specs.Rows.{after_groups}
 use Rattle.mvo_store.proofs.Grown.{after_groups-append}
@@ -75,7 +76,7 @@ groups_closed s n m (g ∷ gs) h = (h.0, record { closed = record { drawn = h.1.
 pub nothing_taken : {D : Type 0} (s : StoreData D) → why_not_take s ≡ None → pending_of s ≡ None
 nothing_taken s e = go _ _ e
   where
-    go : (b : Bool) (o : Option GroupData) → cond b (Some Down) (cond (is_some o) (Some Busy) None) ≡ None → o ≡ None
+    go : (b : Bool) (o : Option GroupData) → or_next (when b Down) (or_next (when (is_some o) Busy) None) ≡ None → o ≡ None
     go true o f = absurd cc
     go false None f = refl
     go false (Some g) f = absurd cc

@@ -6,7 +6,7 @@ use Rattle.mvo_disk.specs.Disk.{Image}
 use Rattle.mvo_store.specs.Seen.{mark_of}
 use Rattle.mvo_store.specs.Standing.{Gives, HasSlots, KeepsRows}
 use Rattle.mvo_store.specs.Opening.{IsAnswer, HasBegun}
-use Rattle.mvo_store.proofs.Answered.{same_answer, same_rows}
+use Rattle.mvo_store.proofs.Marked.{same_answer, same_rows}
 use Rattle.mvo_core.specs.Standing.{OpensAs}
 use Rattle.mvo_world.specs.WorldData.{WorldData, IsJustOpened}
 use Rattle.mvo_world.specs.Past.{Past, opened_over}

@@ -10,7 +10,7 @@ use std::sync::Wait;
 use std::thread;
 
 /// Whether the transaction is Aborted by the refusal.
-fn is_failure(refusal: Refusal) -> bool
+pub(super) fn is_failure(refusal: Refusal) -> bool
     ensures { result ≡ is_failure refusal }
 {
     match refusal {
@@ -90,7 +90,7 @@ impl<'e, L: Run, D: Disk, G: Gate + Drop> Session<'e, L, D, G> {
     }
 
     // Finishes the transaction, which is Committed or Aborted.
-    fn finish<R: Wait>(&mut self, rt: &R, tx: TxId)
+    pub(super) fn finish<R: Wait>(&mut self, rt: &R, tx: TxId)
         ensures tx { self.new.tx ≡ None }
         ensures durable { self.new.durable ≡ self.old.durable }
     {
@@ -108,7 +108,7 @@ impl<'e, L: Run, D: Disk, G: Gate + Drop> Session<'e, L, D, G> {
         }
     }
 
-    fn rolled_back<R: Wait>(&self, rt: &R, tx: TxId) -> Result<(), Refusal> {
+    pub(super) fn rolled_back<R: Wait>(&self, rt: &R, tx: TxId) -> Result<(), Refusal> {
         self.enter(rt).rollback_tx(tx)
     }
 

@@ -25,6 +25,18 @@ pub fn put<L: Run, D: Disk, G: Gate + Drop, R: Wait>(
     session.commit_tx(rt)
 }
 
+/// Changes the row in a transaction of its own, and answers its end.
+pub fn change<L: Run, D: Disk, G: Gate + Drop, R: Wait>(
+    rt: &R,
+    alloc: Global,
+    session: &mut Session<'_, L, D, G>,
+    byte: u8,
+) -> Result<Stamp, Refusal> {
+    session.begin_tx(rt)?;
+    session.update(rt, row(alloc, byte)?)?;
+    session.commit_tx(rt)
+}
+
 /// The byte of the row's data, as a read in a transaction of its own finds it.
 pub fn found<L: Run, D: Disk, G: Gate + Drop, R: Wait>(
     rt: &R,

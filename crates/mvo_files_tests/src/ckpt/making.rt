@@ -1,7 +1,7 @@
 //! Makes rows, groups, pairs and places.
-use mvo_ckpt::{Place, Places};
 use mvo_group::{Group, Record, Write};
 use mvo_pair::Pair;
+use mvo_places::{Place, Places};
 use mvo_types::{Row, RowKey, Stamp};
 use std::alloc::{AllocError, Global};
 use std::test::Fail;

@@ -1,8 +1,8 @@
 //! Places by key.
 use crate::ckpt::making::row;
 use crate::equal::{holds, same};
-use mvo_ckpt::{Place, Places};
 use mvo_pair::{Entry, Live};
+use mvo_places::{Place, Places};
 use mvo_types::{RowKey, Stamp};
 use std::alloc::{AllocError, Global};
 use std::process::Abort;
@@ -29,6 +29,8 @@ fn puts_and_removes(rt: &impl Abort, places: &mut Places) -> Result<(), Fail> {
     places.put(other, first)?;
     same(rt, &places.get(key), &Some(LAST));
     same(rt, &places.get(other), &Some(first));
+    same(rt, &places.number(key), &Some(4_294_967_295));
+    same(rt, &places.number(other), &Some(8_388_608));
     places.put(key, first)?;
     same(rt, &places.get(key), &Some(first));
     places.remove(key);
@@ -40,6 +42,7 @@ fn puts_and_removes(rt: &impl Abort, places: &mut Places) -> Result<(), Fail> {
 #[test]
 fn places_are_put_and_removed(rt: HostRuntime) -> Result<(), Fail> {
     let mut places = Places::new(rt.alloc(), 3);
+    same(&rt, &places.seed(), &3);
     puts_and_removes(&rt, &mut places)
 }
 

@@ -2,8 +2,9 @@
 use crate::ckpt::making::{group, pair, row, table_of};
 use crate::equal::{holds, holds_at, same_at};
 use crate::numbers::Numbers;
-use mvo_ckpt::{Checkpoint, Place, build};
+use mvo_ckpt::{Checkpoint, build};
 use mvo_group::{Group, Record, Write};
+use mvo_places::Place;
 use mvo_types::{RowKey, Stamp};
 use std::alloc::{AllocError, Global};
 use std::process::Abort;

@@ -1,9 +1,10 @@
 //! The checkpoints of one row that is put, updated and deleted.
 use crate::ckpt::making::{group_of_one, pair, row, table_of};
 use crate::equal::{holds, same};
-use mvo_ckpt::{Checkpoint, Place, build};
+use mvo_ckpt::{Checkpoint, build};
 use mvo_group::{Group, Write};
 use mvo_pair::Pair;
+use mvo_places::Place;
 use mvo_types::RowKey;
 use std::alloc::Global;
 use std::process::Abort;

@@ -1,5 +1,6 @@
 use crate::equal::{holds, same};
-use mvo_format::{VERSION, behind_header, u16_at, u64_at};
+use mvo_bytes::{u8_at, u16_at, u32_at, u64_at};
+use mvo_format::{VERSION, behind_header};
 use mvo_types::Refusal;
 use std::test::Fail;
 
@@ -37,9 +38,15 @@ fn the_magic_is_looked_at_first(rt: HostRuntime) -> Result<(), Fail> {
 
 #[test]
 fn numbers_begin_with_their_lowest_byte(rt: HostRuntime) -> Result<(), Fail> {
+    let (number, rest) = u8_at(&BYTES).ok_or("one byte")?;
+    same(&rt, &number, &0x4d);
+    same(&rt, &rest.len(), &8);
     let (number, rest) = u16_at(&BYTES).ok_or("two bytes")?;
     same(&rt, &number, &0x564d);
     same(&rt, &rest.len(), &7);
+    let (number, rest) = u32_at(&BYTES).ok_or("four bytes")?;
+    same(&rt, &number, &MAGIC);
+    same(&rt, &rest.len(), &5);
     let (number, rest) = u64_at(&BYTES).ok_or("eight bytes")?;
     same(&rt, &number, &0x0000_0001_4c4f_564d);
     same(&rt, &rest.len(), &1);

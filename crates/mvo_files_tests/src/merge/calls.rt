@@ -1,8 +1,8 @@
 //! The calls that are tested, each where it may be made.
 use crate::merge::making::{have_own_keys, key_of, rises};
-use mvo_ckpt::{Place, Places};
 use mvo_merge::{Merged, build, move_places};
 use mvo_pair::{Entry, Live};
+use mvo_places::{Place, Places};
 use std::alloc::Global;
 use std::test::Fail;
 

@@ -4,7 +4,7 @@ ghost use Rattle.std.specs.Bool.{OnTrue};
 ghost use Rattle.std.specs.List.{AllByRecursion};
 ghost use Rattle.std.specs.Ordering.{eq_by_cmp};
 ghost use Rattle.mvo_types.specs.Keys.{key_cmp};
-ghost use Rattle.mvo_ckpt.specs.Places.{Rise};
+ghost use Rattle.mvo_places.specs.Places.{Rise};
 ghost use Rattle.mvo_merge.specs.Moved.{HaveOwnKeys};
 
 use mvo_pair::{Entry, Live};

@@ -2,8 +2,8 @@
 use crate::equal::same_at;
 use crate::merge::calls::{moved, place_of, put};
 use crate::merge::vectors::two_and_two;
-use mvo_ckpt::Places;
 use mvo_pair::Entry;
+use mvo_places::Places;
 use std::alloc::Global;
 use std::process::Abort;
 use std::test::Fail;

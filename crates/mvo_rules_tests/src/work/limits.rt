@@ -1,7 +1,6 @@
 use crate::equal::{holds, same};
 use crate::work::telling::told;
-use mvo_types::{Answer, Op, RowKey};
-use mvo_validate::Entry;
+use mvo_types::{Answer, Entry, Op, RowKey};
 use mvo_work::Work;
 use std::process::Abort;
 use std::test::Fail;

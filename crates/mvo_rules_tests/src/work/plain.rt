@@ -1,7 +1,6 @@
 use crate::numbers::Numbers;
 use mvo_chain::VersionNo;
-use mvo_types::{Answer, Op, Row, RowKey};
-use mvo_validate::Entry;
+use mvo_types::{Answer, Entry, Op, Row, RowKey};
 use mvo_work::WordPlace;
 use std::alloc::{AllocError, Global};
 

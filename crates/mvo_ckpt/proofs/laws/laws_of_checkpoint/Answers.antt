@@ -4,8 +4,6 @@ use Rattle.mvo_ckpt.proofs.Naming.{names_others, leaves_others}
 use Rattle.mvo_ckpt.proofs.InOrder.{gives_entries}
 use Rattle.mvo_ckpt.proofs.Few.{few_enough}
 use Rattle.mvo_ckpt.proofs.LastPuts.{last_puts}
-use Rattle.mvo_ckpt.proofs.Naming.{live_numbers_rise}
-use Rattle.mvo_ckpt.proofs.Growing.{no_places, places_grow}
 use Rattle.mvo_ckpt.proofs.Taking.{places_taken_over}
 use Rattle.mvo_ckpt.proofs.laws.laws_of_checkpoint.Goals as goal
 
@@ -29,15 +27,6 @@ returns-clause-few c = few_enough
 
 pub returns-clause-set : goal.returns-clause-set
 returns-clause-set c = last_puts
-
-pub returns-clause-live : goal.returns-clause-live
-returns-clause-live c = live_numbers_rise
-
-pub returns-clause-none : goal.returns-clause-none
-returns-clause-none c = no_places
-
-pub returns-clause-grow : goal.returns-clause-grow
-returns-clause-grow c = places_grow
 
 pub returns-clause-taken : goal.returns-clause-taken
 returns-clause-taken c = places_taken_over

@@ -5,12 +5,12 @@ use Rattle.mvo_core.proofs.collecting.await_ends.Goals as goal
 use Rattle.mvo_core.proofs.collecting.await_ends.Goals.{in-Some, in_default}
 
 pub loop-place-init : goal.loop-place-init
-loop-place-init c = awaited_first c.args.waiting.now c.args.end (words_in c.args.table.now c.args.tx.0) c.requires
+loop-place-init c = awaited_first c.args.waiting.now c.args.end (words_in c.args.table.now c.args.tx.0) c.requires.room
 
 pub await_end-requires : goal.await_end-requires
 await_end-requires c =
     let room = c.loop-place.invariant.room in
-    let count = c.word_count-place-end.ensures in
+    let count = c.requires.counted in
     omega (arith, room, count)
 
 pub loop-place-preserved : goal.loop-place-preserved
@@ -28,5 +28,5 @@ loop-place-preserved c =
 
 pub returns : goal.returns
 returns c =
-    let e : c.loop-place.place ≡ c.word_count-place-end.result = omega arith in
-    awaited_last c.args.waiting.now c.loop-place.waiting c.args.end (words_in c.args.table.now c.args.tx.0) c.loop-place.place (e ∙ c.word_count-place-end.ensures) c.loop-place.invariant
+    let e : c.loop-place.place ≡ c.args.count = omega arith in
+    awaited_last c.args.waiting.now c.loop-place.waiting c.args.end (words_in c.args.table.now c.args.tx.0) c.loop-place.place (e ∙ c.requires.counted) c.loop-place.invariant

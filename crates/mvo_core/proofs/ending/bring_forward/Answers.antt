@@ -25,5 +25,5 @@ loop-place-preserved c =
 
 pub returns : goal.returns
 returns c =
-    let e : c.loop-place.place ≡ c.word_count-place-end.result = omega arith in
-    front_all (comes_at_draw (state_of c.args.table.now) c.args.tx.0) c.args.versions.now c.loop-place.versions (words_in c.args.table.now c.args.tx.0) c.loop-place.place (e ∙ c.word_count-place-end.ensures) c.loop-place.invariant
+    let e : c.loop-place.place ≡ c.args.count = omega arith in
+    front_all (comes_at_draw (state_of c.args.table.now) c.args.tx.0) c.args.versions.now c.loop-place.versions (words_in c.args.table.now c.args.tx.0) c.loop-place.place (e ∙ c.requires) c.loop-place.invariant

@@ -1,5 +1,6 @@
-use Rattle.mvo_group.specs.Reading.{times, record_at}
-use Rattle.mvo_group.proofs.Loop.{goes_on, ends, is_done}
+use Rattle.mvo_bytes.specs.Reading.{times}
+use Rattle.mvo_group.specs.Reading.{record_at}
+use Rattle.mvo_bytes.proofs.Loop.{goes_on, ends, is_done}
 use Rattle.mvo_group.proofs.decode.records_of.Goals as goal
 
 pub returns-in_default : goal.returns-in_default

@@ -1,8 +1,9 @@
 use Rattle.std.proofs.Common.{◌≡◌, ◌++◌, ◌∷◌, [], map}
 use Rattle.std.proofs.lemmas.List.{map_push}
 use Rattle.mvo_group.specs.Data.{write_data}
-use Rattle.mvo_group.specs.Reading.{times, write_at}
-use Rattle.mvo_group.proofs.Loop.{goes_on, ends, is_done}
+use Rattle.mvo_bytes.specs.Reading.{times}
+use Rattle.mvo_group.specs.Reading.{write_at}
+use Rattle.mvo_bytes.proofs.Loop.{goes_on, ends, is_done}
 use Rattle.mvo_group.proofs.decode.writes_of.Goals as goal
 
 pub returns-in_default : goal.returns-in_default

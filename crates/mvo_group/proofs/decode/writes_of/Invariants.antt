@@ -1,7 +1,8 @@
 use Rattle.std.proofs.Common.{◌≡◌, ◌-◌, map}
 use Rattle.mvo_group.specs.Data.{write_data}
-use Rattle.mvo_group.specs.Reading.{times, write_at}
-use Rattle.mvo_group.proofs.Loop.{with_front}
+use Rattle.mvo_bytes.specs.Reading.{times}
+use Rattle.mvo_group.specs.Reading.{write_at}
+use Rattle.mvo_bytes.proofs.Loop.{with_front}
 use Rattle.mvo_group.proofs.decode.writes_of.Given as goal
 
 abbrev pub invariant-loop : goal.invariant-loop

@@ -6,7 +6,7 @@ use Rattle.mvo_types.specs.declared.row.RowKey.{RowKey}
 use Rattle.mvo_pair.specs.Data.{Numbered}
 use Rattle.mvo_pair.specs.declared.pair.Pair.{Pair}
 use Rattle.mvo_image.specs.Opens.{Image}
-use Rattle.mvo_ckpt.specs.declared.place.Place.{Place}
+use Rattle.mvo_places.specs.declared.place.Place.{Place}
 use Rattle.mvo_load.specs.Files.{PairBytes, bytes_of, IsPart}
 use Rattle.mvo_load.proofs.Slices.{is_none, none_left}
 use Rattle.mvo_load.proofs.Unchanged.{same_image, unchanged_yet, then_unchanged}

@@ -1,10 +1,10 @@
 use Rattle.std.specs.Prelude.{All}
 use Rattle.mvo_types.specs.declared.limits.TheConstants.{MAX_PAIR_RECORDS}
 use Rattle.std.proofs.Common.{◌<◌, ap, ◌∙◌, get_or, take, drop, length, ◌-◌, ◌≡◌, List, inl, inr, ⊎_elim, subst, sym, Ok, Err, Bool}
-use Rattle.mvo_pair.specs.Data.{Numbered}
+use Rattle.mvo_pair.specs.Data.{Numbered, AreApart}
 use Rattle.mvo_pair.specs.declared.pair.Pair.{Pair}
-use Rattle.mvo_image.specs.Rows.{AreApart, rows_of}
-use Rattle.mvo_ckpt.specs.Places.{PlaceMap, PlaceTable, with_live}
+use Rattle.mvo_image.specs.Rows.{rows_of}
+use Rattle.mvo_places.specs.Places.{PlaceMap, PlaceTable, with_live}
 use Rattle.mvo_load.specs.Parts.{Joins}
 use Rattle.mvo_load.proofs.Slices.{first_and_rest, no_more}
 use Rattle.mvo_load.proofs.Unchanged.{unchanged_yet, then_unchanged}

@@ -1,7 +1,7 @@
 use Rattle.std.proofs.Common.{ap, ◌∙◌}
 use Rattle.mvo_types.specs.declared.row.RowKey.{RowKey}
 use Rattle.mvo_pair.specs.Data.{EntryData}
-use Rattle.mvo_ckpt.specs.Places.{place}
+use Rattle.mvo_places.specs.Places.{place}
 use Rattle.mvo_merge.specs.Moved.{with_one}
 use Rattle.mvo_merge.proofs.Moves.{moves_on}
 use Rattle.mvo_merge.proofs.moving.move_places.Goals as goal

@@ -1,7 +1,7 @@
 use Rattle.std.proofs.Common.{◌≡◌, List, ℕ, length, subst, ◌∙◌}
 use Rattle.std.specs.List.{flat_map}
 use Rattle.mvo_disk.specs.Disk.{Holds}
-use Rattle.mvo_group.specs.Body.{field}
+use Rattle.mvo_bytes.specs.Fields.{field}
 use Rattle.mvo_pair.specs.Writing.{place_behind}
 use Rattle.mvo_pair.proofs.Appends.{more_numbers, keeps_within, keeps_still}
 use Rattle.mvo_pair.proofs.writing.append_delta.Goals as goal

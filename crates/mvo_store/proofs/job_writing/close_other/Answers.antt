@@ -2,7 +2,7 @@ use Rattle.std.proofs.Common.{Ok, Err}
 use Rattle.mvo_types.specs.declared.refusal.Refusal.TheVariants.{DiskFault}
 use Rattle.mvo_store.specs.declared.step.Step.TheVariants.{Close}
 use Rattle.mvo_store.specs.declared.due.Due.TheVariants.{Install}
-use Rattle.mvo_store.proofs.Turns.{slot_durable, close_step, fault_refusal}
+use Rattle.mvo_store.proofs.Written.{slot_durable, close_step, fault_refusal}
 use Rattle.mvo_store.proofs.job_writing.close_other.Goals as goal
 
 pub close_slot-requires-clause-durable : goal.close_slot-requires-clause-durable

@@ -7,7 +7,8 @@ use Rattle.mvo_visible.specs.Versions.{versions_by}
 use Rattle.mvo_visible.specs.Shown.{own_or, HasFallingStamps, HasOwnInFront}
 use Rattle.mvo_visible.specs.Walked.{walked_over, walked_on}
 use Rattle.mvo_visible.proofs.Walks.{versions_more, versions_same, versions_at_stop, walked_later, walked_more, walked_stop, falling_at, own_first}
-use Rattle.mvo_visible.proofs.visible.shown.Goals.{in-None, in-Some+in-Some-get+else-is_later+then-is_last}
+use Rattle.mvo_visible.proofs.Settled.{last_settled, walked_settled}
+use Rattle.mvo_visible.proofs.visible.shown.Goals.{in-None, in-Some+in-Some-get+in-Some-settled_put, in-Some+in-Some-get+in_default-settled_put+else-is_later+then-is_last}
 use Rattle.mvo_visible.proofs.visible.shown.Goals as goal
 
 pub loop-number-init : goal.loop-number-init
@@ -71,7 +72,22 @@ returns g c order =
       | in-None w ↦
           let every : all ≡ ns = c.loop-number.invariant.1 ∙ ap (λ it. ns ++ it) w.in-None.ensures.steps.0 ∙ append-nil ns in
           w.walked-is ∙ c.loop-number.invariant.0 ∙ ap (λ ms. walked_over states b r (versions_by slots ms)) (sym every)
-      | in-Some+in-Some-get+else-is_later+then-is_last w ↦
+      | in-Some+in-Some-get+in-Some-settled_put w ↦
+          let n = w.in-Some.number in
+          let v = w.in-Some-get.version.now in
+          let stamp = w.in-Some-settled_put.stamp in
+          let put = sym w.settled_put.ensures ∙ w.in-Some-settled_put.is in
+          let there = ap option_copied (sym w.in-Some-get.is) ∙ w.get.ensures in
+          let every = c.loop-number.invariant.1 ∙ ap (λ it. ns ++ it) w.in-Some.ensures.steps in
+          let split = versions_at_stop slots all ns n v c.next.new.self every there in
+          let front = versions_by slots ns in
+          let back = versions_by slots c.next.new.self in
+          w.walked-is ∙ w.with_put-walked.ensures ∙ sym (walked_settled states b r c.loop-number.walked n v stamp put)
+          ∙ ap (λ k. walked_on states b r k (n, v)) c.loop-number.invariant.0
+          ∙ sym (walked_more states b r front (n, v))
+          ∙ walked_stop states b r front (n, v) back (last_settled states b v stamp put) (falling_at states front (n, v) back (subst (λ vs. HasFallingStamps states vs) split order.falling)) (own_first states b r front (n, v) back (subst (λ vs. HasOwnInFront states b r vs) split order.own))
+          ∙ ap (walked_over states b r) (sym split)
+      | in-Some+in-Some-get+in_default-settled_put+else-is_later+then-is_last w ↦
           let n = w.in-Some.number in
           let v = w.in-Some-get.version.now in
           let there = ap option_copied (sym w.in-Some-get.is) ∙ w.get.ensures in

@@ -113,10 +113,17 @@ invariant_of-self-in_err-place c =
       waiting = waits_roomy_ended f.table.clock (state_of f.table) f.versions.slots f.waiting c.make_room_for_ended.new.self c.make_room_for_ended.new.self.ended_room c.make_room_for_ended.ensures.same c.self.invariant.waiting;
     }
 
-pub await_ends-requires : goal.await_ends-requires
-await_ends-requires c =
+pub await_ends-requires-clause-counted : goal.await_ends-requires-clause-counted
+await_ends-requires-clause-counted c =
     let f = c.self.inside in
     let same = ap (λ (ws : ℕ → List WordPlace). length (ws c.args.tx.0)) (words_placed f.table c.keep_place.new.table c.args.tx.0 c.in_ok-place.place c.keep_place.ensures) in
-    let count = c.word_count.ensures in
+    let count = c.word_count-count.ensures in
+    omega (arith, same, count)
+
+pub await_ends-requires-clause-room : goal.await_ends-requires-clause-room
+await_ends-requires-clause-room c =
+    let f = c.self.inside in
+    let same = ap (λ (ws : ℕ → List WordPlace). length (ws c.args.tx.0)) (words_placed f.table c.keep_place.new.table c.args.tx.0 c.in_ok-place.place c.keep_place.ensures) in
+    let count = c.word_count-count.ensures in
     let room = c.in_ok-make_room_for_ended.ensures.ok in
     omega (arith, same, count, room)

@@ -4,9 +4,8 @@ use Rattle.mvo_engine.proofs.locked_core.LockedCore.collect_one.Goals as goal
 
 pub invariant_of-self : goal.invariant_of-self
 invariant_of-self g c =
-    let i = c.self.invariant in
     let e = c.collect_one.ensures in
-    (collected i.0 c.collect_one.new.self e.stands e.rest, i.1, i.2)
+    collected c.self.invariant c.collect_one.new.self e.stands e.rest
 
 pub returns : goal.returns
 returns g c =

@@ -6,4 +6,4 @@ pub invariant_of-self : goal.invariant_of-self
 invariant_of-self g c = stays_sound c.self.invariant c.settle.result c.settle.ensures.step refl
 
 pub returns-clause-step : goal.returns-clause-step
-returns-clause-step g c = rw (← c.self.view_is) (record { step = c.settle.ensures.step; sent = refl; made = refl; raised = refl })
+returns-clause-step g c = rw (← c.self.view_is) (record { step = c.settle.ensures.step; sends = refl; made = refl })

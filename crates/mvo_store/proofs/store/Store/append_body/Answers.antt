@@ -4,7 +4,7 @@ use Rattle.mvo_store.specs.StoreData.{StoreData}
 use Rattle.mvo_store.specs.View.{store_data}
 use Rattle.mvo_store.specs.Standing.{IsUp}
 use Rattle.mvo_store.specs.Calls.StoreCall.{AppendBody}
-use Rattle.mvo_store.proofs.Stepping.{Begins, refused_step, fault_step, other_step, done_step, file_others}
+use Rattle.mvo_store.proofs.Keeping.{Begins, refused_step, fault_step, other_step, done_step, file_others}
 use Rattle.mvo_store.proofs.Logged.{last_stands, last_durable, slots_stay, follows_last, last_file, body_leaves, body_up, left_same}
 use Rattle.mvo_store.proofs.store.Store.append_body.Goals as goal
 

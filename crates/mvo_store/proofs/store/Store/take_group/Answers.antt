@@ -1,9 +1,8 @@
 use Rattle.std.proofs.Common.{◌∙◌, rules, refl, sym}
 use Rattle.mvo_store.specs.View.{store_data}
 use Rattle.mvo_store.specs.Calls.StoreCall.{Take}
-use Rattle.mvo_store.proofs.Stepping.{free_to_take, Begins, begins, refused_step, done_step}
 use Rattle.mvo_store.proofs.Logged.{taken_up}
-use Rattle.mvo_store.proofs.Keeping.{still_leaves}
+use Rattle.mvo_store.proofs.Keeping.{still_leaves, free_to_take, Begins, begins, refused_step, done_step}
 use Rattle.mvo_store.proofs.store.Store.take_group.Given as given
 use Rattle.mvo_store.proofs.store.Store.take_group.Goals as goal
 use Rattle.mvo_store.proofs.store.Store.take_group.Goals.{After-mark}

@@ -10,7 +10,7 @@ use Rattle.mvo_store.specs.Causes.{why_not_due}
 use Rattle.mvo_store.specs.Jobs.{step_due, after_step, made_by, brought_on, with_step}
 use Rattle.mvo_store.specs.Writing.{TakesMemory}
 use Rattle.mvo_store.specs.Calls.{call_of}
-use Rattle.mvo_store.proofs.Stepping.{Begins, refused_step, memory_step, done_step}
+use Rattle.mvo_store.proofs.Keeping.{Begins, refused_step, memory_step, done_step}
 use Rattle.mvo_store.proofs.Dues.{begins_due, due_of_job, due_cause, none_due, due_in, why_of, makes_of, rows_of, memory_of, stands_of, step_leaves, step_others, step_up, step_slots, step_refused, refused_up}
 use Rattle.mvo_store.proofs.Written.{may_make_of}
 use Rattle.mvo_store.proofs.store.Store.write_due.Given as given

@@ -4,7 +4,7 @@ use Rattle.mvo_model.specs.History.{net_write}
 use Rattle.mvo_theory.specs.Entries.{is_noted}
 use Rattle.mvo_theory.specs.Told.{history_told}
 use Rattle.mvo_work.specs.Work.{WorkData}
-use Rattle.mvo_work.proofs.Written.{noted_written}
+use Rattle.mvo_theory.proofs.Written.{noted_written}
 use Rattle.mvo_work.proofs.work.Work.has_written.Goals as goal
 
 pub returns : goal.returns

@@ -2,8 +2,7 @@ use Rattle.std.proofs.Common.{sym, subst}
 use Rattle.std.specs.Prelude.{ℕ}
 use Rattle.mvo_store.specs.Standing.{Gives}
 use Rattle.mvo_world.specs.WorldData.{WorldData}
-use Rattle.mvo_store.proofs.Marked.{gives_stamp}
-use Rattle.mvo_store.proofs.Answered.{not_of_files}
+use Rattle.mvo_store.proofs.Marked.{gives_stamp, not_of_files}
 use Rattle.mvo_world.proofs.Opened.{answer_here, world_begins, world_after, world_prefix}
 use Rattle.mvo_world.proofs.world.World.open.Goals as goal
 

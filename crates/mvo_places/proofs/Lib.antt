@@ -1,0 +1,9 @@
+pub mod Placing
+pub mod Members
+pub mod Keys
+pub mod Distinct
+pub mod Held
+pub mod Finding
+pub mod Rising
+pub mod Growing
+pub mod Putting

@@ -1,0 +1,164 @@
+ghost use Rattle.std.specs.Prelude.{◌≡◌, ◌<◌, ◌≤◌, ◌+◌, length, All, OnOk, OnErr, IfOk, IsSome, None};
+ghost use Rattle.std.specs.Option.{option_map};
+ghost use Rattle.std.specs.FinMap as map;
+ghost use Rattle.mvo_places.specs.Places.{no_places, number_of, AreSmall, with_live};
+ghost use Rattle.mvo_places.specs.Places.{without_keys, taken_over};
+
+use crate::place::Place;
+use mvo_hash::OpenTable;
+use mvo_pair::{Entry, Live};
+use mvo_types::{MAX_FILE, MAX_PAIR_RECORDS, RowKey};
+use std::alloc::{AllocError, Global};
+use std::marker::Model;
+
+/// The place of the live record of each key. Contracts see a finite map, and the room: how many
+/// more keys can be put before every key is moved to a larger table.
+///
+/// Each key has a slot of 16 bytes in an open table of which at most half is used: 32 bytes of
+/// touched memory a key or more, and 48 of reserved memory.
+pub struct Places {
+    heads: OpenTable,
+    seed: u64,
+}
+
+impl Drop for Places {
+    fn drop(self) {
+        let Places { heads: _, seed: _ } = self;
+    }
+}
+
+impl Model for Places {
+    ghost use Rattle.mvo_places.specs.Places.{PlaceTable, coded_table};
+
+    ghost Value = { PlaceTable };
+
+    ghost coded = { coded_table };
+
+    ghost use Rattle.mvo_places.specs.Places.{table_of};
+
+    ghost view = { λ t. table_of t.heads };
+}
+
+impl Places {
+    /// No places, and no room. It takes no memory. The seed is one that who chooses the keys can't
+    /// know.
+    pub fn new(alloc: Global, seed: u64) -> Places
+        ensures { result ≡ no_places }
+    {
+        Places {
+            heads: OpenTable::new(alloc, seed),
+            seed,
+        }
+    }
+
+    /// The seed that it was made with.
+    pub fn seed(&self) -> u64
+        ensures { AreSmall self.now.at }
+    {
+        self.seed
+    }
+
+    /// Makes room for so many more keys, so that no key is moved while they are put.
+    pub fn reserve(&mut self, keys: usize) -> Result<(), AllocError>
+        ensures same { self.new.at ≡ self.old.at }
+        ensures ok { OnOk result (keys ≤ self.new.room) }
+        ensures more { self.old.room ≤ self.new.room }
+        ensures err { OnErr result (self.new ≡ self.old) }
+        ensures short { OnErr result (self.old.room < keys) }
+    {
+        self.heads.reserve(keys)
+    }
+
+    /// The place of a key, as one number.
+    pub fn number(&self, key: RowKey) -> Option<u32>
+        ensures number { result ≡ option_map number_of (map.get self.now.at key) }
+        ensures small { AreSmall self.now.at }
+    {
+        self.heads.get(key)
+    }
+
+    /// The place of a key.
+    pub fn get(&self, key: RowKey) -> Option<Place>
+        ensures place { result ≡ map.get self.now.at key }
+        ensures small { AreSmall self.now.at }
+    {
+        match self.heads.get(key) {
+            Some(number) => Some(Place {
+                data_file: (number / MAX_PAIR_RECORDS) as u16,
+                number: number % MAX_PAIR_RECORDS,
+            }),
+            None => None,
+        }
+    }
+
+    /// Gives the key the place. A key that is there takes no memory and no room. One that isn't
+    /// takes room for one key at most; where there is none, it takes the time of moving every key.
+    pub fn put(&mut self, key: RowKey, place: Place) -> Result<(), AllocError>
+        requires file { place.data_file ≤ MAX_FILE }
+        requires number { place.number < MAX_PAIR_RECORDS }
+        ensures ok { OnOk result (self.new.at ≡ map.insert self.old.at key place) }
+        ensures room { self.old.room ≤ self.new.room + 1 }
+        ensures again { IsSome (map.get self.old.at key) → self.new.room ≡ self.old.room }
+        ensures err { OnErr result (self.new ≡ self.old) }
+        ensures absent { OnErr result (map.get self.old.at key ≡ None) }
+        ensures full { OnErr result (self.old.room ≡ 0) }
+    {
+        let number = place.data_file as u32 * MAX_PAIR_RECORDS + place.number;
+        self.heads.put(key, number)?;
+        Ok(())
+    }
+
+    /// Removes the key, if it is there. It takes no memory, and gives no room back.
+    pub fn remove(&mut self, key: RowKey)
+        ensures gone { self.new.at ≡ map.remove self.old.at key }
+        ensures room { self.new.room ≡ self.old.room }
+    {
+        self.heads.remove(key);
+    }
+
+    /// Puts the places of the live records of a pair. The room for them is made first. Refused, it
+    /// leaves some of them there.
+    pub fn add_pair(&mut self, data_file: u16, live: &[Live]) -> Result<(), AllocError>
+        requires file { data_file ≤ MAX_FILE }
+        requires numbers { All (λ l. l.0 < MAX_PAIR_RECORDS) live.now }
+        ensures { OnOk result (self.new.at ≡ with_live data_file live.now self.old.at) }
+    {
+        self.reserve(live.len())?;
+        for one in live {
+            let number = one.number;
+            self.put(one.entry.row.key, Place { data_file, number })?;
+        }
+        Ok(())
+    }
+
+    /// Removes keys, where they are there.
+    fn remove_keys(&mut self, keys: &[RowKey])
+        ensures gone { self.new.at ≡ without_keys keys.now self.old.at }
+        ensures room { self.new.room ≡ self.old.room }
+    {
+        for key in keys {
+            self.remove(*key);
+        }
+    }
+
+    /// Takes over what a checkpoint makes of the places: its records lie in the data file of its
+    /// pair, each at its own number, and these keys have no record. The room for the records is
+    /// there, so it takes no memory.
+    pub fn take_over(&mut self, data_file: u16, records: &[Entry], gone: &[RowKey])
+        requires file { data_file ≤ MAX_FILE }
+        requires few { length records.now ≤ MAX_PAIR_RECORDS }
+        requires room { length records.now ≤ self.old.room }
+        ensures { self.new.at ≡ taken_over data_file records.now gone.now self.old.at }
+    {
+        self.remove_keys(gone);
+        for (number, entry) in records.iter().enumerate() {
+            let place = Place {
+                data_file,
+                number: number as u32,
+            };
+            let Ok(()) = self.put(entry.row.key, place) else {
+                unreachable!()
+            };
+        }
+    }
+}
