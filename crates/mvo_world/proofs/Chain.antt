@@ -1,25 +1,83 @@
--- The groups of a world hold the commits up to the last one's mark.
-use Rattle.std.proofs.Common.{◌≡◌, ℕ, ◌<◌, ◌≤◌, Bool, true, false, cond, List, [], ◌∷◌, ◌++◌, map, refl, sym, ap, ◌∙◌, subst, arith, append-nil}
-use Rattle.std.specs.Prelude.{nat_le, ◌&&◌}
+-- The groups of a world hold the commits up to the last mark of them, and leave the rows after what these were told.
+use Rattle.std.proofs.Common.{◌≡◌, ℕ, Bool, true, false, cond, List, [], ◌∷◌, ◌++◌, Option, None, Some, map, refl, sym, ap, ◌∙◌, ◌<◌, ◌≤◌, subst, arith, append-nil}
+use Rattle.std.specs.Prelude.{nat_lt, ◌&&◌, nat_le}
 use Rattle.std.specs.List.{AllByRecursion, filter, fold}
-use Rattle.std.proofs.lemmas.Bool.{lt-ltb, le-leb, leb-true, leb-false, le-ltb, lt-leb}
-use Rattle.mvo_types.specs.Keys.{Map}
-use Rattle.mvo_model.specs.History.{History, after_history, after_histories}
-use Rattle.mvo_model.specs.Trace.{Step, history_of, rows_up_to}
+use Rattle.std.specs.List.Sorted.{IsStrictlySortedBy}
+use Rattle.std.specs.Ordering.{eq_by_cmp}
+use Rattle.std.proofs.lemmas.Map.Keys.{IsDistinct-head, IsDistinct-from_sorted}
+use Rattle.mvo_types.specs.declared.row.RowKey.{RowKey}
+use Rattle.mvo_types.specs.Keys.{Map, key_cmp}
+use Rattle.mvo_types.proofs.Maps.{keys_total, exact_keys}
+use Rattle.mvo_types.specs.Write.{Write, content_after, content_after_last}
+use Rattle.mvo_model.specs.History.{History, after_effect, after_history, after_histories}
+use Rattle.mvo_model.proofs.Serials.{get-after_effect, get-after_history}
 use Rattle.mvo_group.specs.Data.{RecordData, GroupData}
+use Rattle.mvo_theory.specs.Groups.{is_due, is_writing}
+use Rattle.mvo_theory.proofs.Footprints.{key_same}
+use Rattle.mvo_theory.proofs.Places.{idle_leaves}
+use Rattle.mvo_store.specs.Rows.{after_record, after_groups}
+use Rattle.mvo_core.specs.Records.{IsRecordOf, AreRecordsOf, write_in}
+use Rattle.std.proofs.lemmas.Bool.{lt-ltb, le-leb, leb-true, leb-false, le-ltb, lt-leb}
+use Rattle.mvo_model.specs.Trace.{Step, history_of, rows_up_to}
 use Rattle.mvo_theory.specs.State.{State, StampedTx, timeline}
 use Rattle.mvo_theory.specs.Sound.{IsRising}
 use Rattle.mvo_theory.specs.Marks.{StaysBelow, settled_to}
 use Rattle.mvo_theory.specs.AfterTrace.{IsAfterTrace, pairs}
 use Rattle.mvo_theory.proofs.Tales.{pairs-append}
 use Rattle.mvo_theory.proofs.Each.{each_append, each_weaker}
-use Rattle.mvo_theory.specs.Groups.{is_due}
-use Rattle.mvo_core.specs.Records.{AreRecordsOf}
 use Rattle.mvo_store.specs.Frames.{mark_after}
-use Rattle.mvo_store.specs.Rows.{after_record, after_groups}
 use Rattle.mvo_store.proofs.Grown.{after_groups-append}
 use Rattle.mvo_core.specs.Groups.{HaveRecordsOf}
-use Rattle.mvo_world.proofs.Rows.{left_by_all, left_by_all-append, is_after, records_rows}
+use Rattle.std.specs.FinMap as fin
+
+-- ---- one record
+no_later : (q k : RowKey) (ws : List Write) → q ≡ k → AllByRecursion (λ (j : RowKey). eq_by_cmp key_cmp k j ≡ false) (map (λ w. w.0) ws) → write_in q ws ≡ None
+no_later q k [] e h = refl
+no_later q k (w ∷ ws) e h = ap (λ (b : Bool). cond b (Some w.1) (write_in q ws)) (ap (λ (j : RowKey). eq_by_cmp key_cmp j w.0) e ∙ h.0) ∙ no_later q k ws e h.1
+
+abbrev after_writes : List Write → Map → Map
+after_writes ws m = fold (λ n w. after_effect w.0 w.1 n) m ws
+
+get-after_writes : (q : RowKey) (ws : List Write) (m : Map) → IsStrictlySortedBy key_cmp (map (λ w. w.0) ws) → fin.get (after_writes ws m) q ≡ content_after_last (write_in q ws) (fin.get m q)
+unfolding IsStrictlySortedBy
+get-after_writes q [] m h = refl
+get-after_writes q (w ∷ ws) m h =
+    get-after_writes q ws (after_effect w.0 w.1 m) h.1
+    ∙ ap (content_after_last (write_in q ws)) (get-after_effect q w.0 w.1 m)
+    ∙ go (eq_by_cmp key_cmp q w.0) refl
+  where
+    go : (b : Bool) → eq_by_cmp key_cmp q w.0 ≡ b → content_after_last (write_in q ws) (cond b (content_after w.1) (fin.get m q)) ≡ content_after_last (cond b (Some w.1) (write_in q ws)) (fin.get m q)
+    go true t = ap (λ o. content_after_last o (content_after w.1)) (no_later q w.0 ws (sym (key_same q w.0 t)) (IsDistinct-head (eq_by_cmp key_cmp) w.0 (map (λ v. v.0) ws) (IsDistinct-from_sorted key_cmp (map (λ v. v.0) (w ∷ ws)) h)))
+    go false t = refl
+
+record_rows : (c : ℕ × History) (r : RecordData) (m : Map) → IsRecordOf c r → after_record m r ≡ after_history c.1 m
+record_rows c r m is = fin.same_map keys_total exact_keys _ _ (λ q. get-after_writes q r.writes m is.rise ∙ ap (λ o. content_after_last o (fin.get m q)) (is.writes q) ∙ sym (get-after_history q c.1 m))
+
+-- ---- one commit after another
+abbrev pub left_by_all : List (ℕ × History) → Map → Map
+left_by_all [] m = m
+left_by_all (c ∷ cs) m = left_by_all cs (after_history c.1 m)
+
+pub left_by_all-append : (cs ds : List (ℕ × History)) (m : Map) → left_by_all (cs ++ ds) m ≡ left_by_all ds (left_by_all cs m)
+left_by_all-append [] ds m = refl
+left_by_all-append (c ∷ cs) ds m = left_by_all-append cs ds (after_history c.1 m)
+
+abbrev pub is_after : ℕ → ℕ × History → Bool
+is_after prev c = nat_lt prev c.0
+
+-- the records of those that wrote leave what they all leave
+pub records_rows : (prev : ℕ) (cs : List (ℕ × History)) (rs : List RecordData) (m : Map) → AreRecordsOf (filter (is_due prev) cs) rs → fold after_record m rs ≡ left_by_all (filter (is_after prev) cs) m
+records_rows prev [] [] m h = refl
+records_rows prev [] (r ∷ rs) m h = absurd h
+records_rows prev (c ∷ cs) rs m h = go (nat_lt prev c.0) (is_writing c) refl rs h (λ qs n k. records_rows prev cs qs n k)
+  where
+    go : (a b : Bool) → is_writing c ≡ b → (qs : List RecordData) → AreRecordsOf (cond (a && b) (c ∷ filter (is_due prev) cs) (filter (is_due prev) cs)) qs →
+        ((ps : List RecordData) (n : Map) → AreRecordsOf (filter (is_due prev) cs) ps → fold after_record n ps ≡ left_by_all (filter (is_after prev) cs) n) →
+        fold after_record m qs ≡ left_by_all (cond a (c ∷ filter (is_after prev) cs) (filter (is_after prev) cs)) m
+    go false b e qs k ih = ih qs m k
+    go true false e qs k ih = ih qs m k ∙ ap (left_by_all (filter (is_after prev) cs)) (sym (idle_leaves c.0 c.1 m e))
+    go true true e [] k ih = absurd k
+    go true true e (r ∷ qs) k ih = ap (λ (n : Map). fold after_record n qs) (record_rows c r m k.0) ∙ ih qs (after_history c.1 m) k.1
 
 -- ---- rows up to a mark, by the line
 rows_of_line : (m : ℕ) (line : List StampedTx) (steps : List Step) (rows : Map) → AllByRecursion (λ (x : StampedTx). history_of x.id steps ≡ x.history) line → after_histories (map (λ (c : ℕ × ℕ). history_of c.1 steps) (filter (λ (c : ℕ × ℕ). nat_le c.0 m) (pairs line))) rows ≡ left_by_all (settled_to m line) rows

@@ -1,4 +1,4 @@
--- A reply to a world that stands after a past is justified by the past.
+-- A reply to a world that stands after a past is justified by the past, and what it is in the trace is what its call is.
 use Rattle.std.proofs.Common.{◌≡◌, ◌≢◌, ℕ, ◌-◌, List, [], ◌∷◌, ◌⊎◌, inl, inr, ◌+◌, ◌<◌, ◌≤◌, Bool, true, false, cond, Option, None, Some, length, refl, sym, ap, ◌∙◌, subst, arith}
 use Rattle.std.specs.Prelude.{nat_le, ◌==◌}
 use Rattle.std.proofs.lemmas.Bool.{true≢false, leb-true, leb-false, eqb-true, eq-eqb}
@@ -8,18 +8,16 @@ use Rattle.mvo_types.specs.declared.answer.Answer.{Answer}
 use Rattle.mvo_types.specs.declared.op.Op.{Op}
 use Rattle.mvo_types.specs.declared.refusal.Refusal.{Refusal}
 use Rattle.mvo_types.specs.declared.refusal.Refusal.TheVariants.{RingFull, NothingToDo, OutOfMemory}
-use Rattle.mvo_types.specs.declared.op.Op.TheVariants as op
-use Rattle.mvo_types.specs.AnswerData.{answer_data}
+use Rattle.mvo_types.specs.AnswerData.{answer_data, AnswerData}
 use Rattle.mvo_model.specs.Trace.{history_of, phase_of}
 use Rattle.mvo_model.specs.Trace.Phase.{Preparing as IsPreparing}
 use Rattle.mvo_disk.specs.declared.disk.Disk.{Ghosts}
 use Rattle.mvo_theory.specs.Entries.{entries}
-use Rattle.mvo_theory.specs.State.{StampedTx}
+use Rattle.mvo_theory.specs.State.{StampedTx, State}
 use Rattle.mvo_theory.specs.Marks.{low_water}
 use Rattle.mvo_types.specs.Causes.{when}
-use Rattle.mvo_theory.specs.Causes.{why_not_close, awaited}
-use Rattle.mvo_theory.specs.Calls as theory
-use Rattle.mvo_theory.specs.Calls.{IsRefusal}
+use Rattle.mvo_theory.specs.Causes.{why_not_close, awaited, end_of}
+use Rattle.mvo_theory.specs.Calls.{IsRefusal, steps_of, answer_in, steps_unless}
 use Rattle.mvo_theory.specs.Calls.Call.{Begin as BeginCall, Precommit as PrecommitCall, Validate as ValidateCall, Settle as SettleCall, Rollback as RollbackCall, Finish as FinishCall, Do}
 use Rattle.mvo_theory.specs.Calls.Result.{Accepted, Refused as RefusedCall}
 use Rattle.mvo_theory.proofs.Snapshots.{answers_traced}
@@ -32,7 +30,7 @@ use Rattle.mvo_core.specs.declared.answers.Validation.TheVariants.{More, Valid}
 use Rattle.mvo_core.specs.declared.answers.Settlement.{Settlement}
 use Rattle.mvo_core.specs.Steps.{settled_as, IsValidation, IsSettlement}
 use Rattle.mvo_world.specs.WorldData.{WorldData}
-use Rattle.mvo_world.specs.Past.{Past}
+use Rattle.mvo_world.specs.Past.{Past, happened}
 use Rattle.mvo_world.specs.Ring.{is_full}
 use Rattle.mvo_world.specs.Standing.{IsAfter}
 use Rattle.mvo_types.specs.declared.limits.TheConstants.{RING_GROUPS}
@@ -42,6 +40,12 @@ use Rattle.mvo_world.specs.declared.event.Event.{Event}
 use Rattle.mvo_world.specs.declared.event.Event.TheVariants.{Begin, Read, Scan, Insert, Update, Delete, Precommit, Validate, Settle, Rollback, Finish, Collect, Trim, CloseGroup, TakeGroup, AppendBody, AppendOpen, Poll, RotateWrite, CheckpointRead, CheckpointData, CheckpointDelta, MergeRead, MergeData, MergeDelta, InstallClose, InstallBody, InstallOpen, Reclaim}
 use Rattle.mvo_world.specs.declared.reply.Reply.{Reply}
 use Rattle.mvo_world.specs.declared.reply.Reply.TheVariants.{Began, Answered, Prepared, Validated, Settled, RolledBack, Finished, Closed, Refused}
+use Rattle.mvo_model.specs.Trace.Step.{Begins, Answers, Prepares, Terminates}
+use Rattle.mvo_theory.specs.Words.{is_done}
+use Rattle.mvo_core.specs.declared.answers.Finishing.TheVariants.{More, Done}
+use Rattle.mvo_types.specs.declared.op.Op.TheVariants as op
+use Rattle.mvo_theory.specs.Calls as theory
+use Rattle.mvo_core.specs.declared.answers.Finishing as finishing
 
 module _ {D : Type 0} (d : Ghosts D) (p : Past) (w : WorldData D) (h : IsAfter d p w) where
   -- what the call came to
@@ -113,52 +117,51 @@ module _ {D : Type 0} (d : Ghosts D) (p : Past) (w : WorldData D) (h : IsAfter d
   pub justified_reply : (e : Event) (r : Reply) (w' : WorldData D) → IsReplyTo d w e r w' → IsJustifiedBy p e r
   justified_reply Begin (Began t) w' q = (just BeginCall Accepted w' q.0, drawn t.0 q.1)
   justified_reply Begin (Refused r) w' q = just BeginCall (RefusedCall r) w' q
-  justified_reply Begin r w' q = absurd q
   justified_reply (Read t k) (Answered a) w' q = done t.0 (op.Read k) a w' q
   justified_reply (Read t k) (Refused r) w' q = just (Do t.0 (op.Read k)) (RefusedCall r) w' q
-  justified_reply (Read t k) r w' q = absurd q
   justified_reply (Scan t table lo hi) (Answered a) w' q = done t.0 (op.Scan table lo hi) a w' q
   justified_reply (Scan t table lo hi) (Refused r) w' q = just (Do t.0 (op.Scan table lo hi)) (RefusedCall r) w' q
-  justified_reply (Scan t table lo hi) r w' q = absurd q
   justified_reply (Insert t row) (Answered a) w' q = done t.0 (op.Insert row) a w' q
   justified_reply (Insert t row) (Refused r) w' q = just (Do t.0 (op.Insert row)) (RefusedCall r) w' q
-  justified_reply (Insert t row) r w' q = absurd q
   justified_reply (Update t row) (Answered a) w' q = done t.0 (op.Update row) a w' q
   justified_reply (Update t row) (Refused r) w' q = just (Do t.0 (op.Update row)) (RefusedCall r) w' q
-  justified_reply (Update t row) r w' q = absurd q
   justified_reply (Delete t k) (Answered a) w' q = done t.0 (op.Delete k) a w' q
   justified_reply (Delete t k) (Refused r) w' q = just (Do t.0 (op.Delete k)) (RefusedCall r) w' q
-  justified_reply (Delete t k) r w' q = absurd q
   justified_reply (Precommit t) (Prepared e) w' q = (just (PrecommitCall t.0) Accepted w' q.0, drawn e.0 q.1)
   justified_reply (Precommit t) (Refused r) w' q = just (PrecommitCall t.0) (RefusedCall r) w' q
-  justified_reply (Precommit t) r w' q = absurd q
   justified_reply (Validate t) (Validated v) w' q = (just (ValidateCall t.0) Accepted w' q.0, check t.0 v w' q.0 q.1)
   justified_reply (Validate t) (Refused r) w' q = just (ValidateCall t.0) (RefusedCall r) w' q
-  justified_reply (Validate t) r w' q = absurd q
   justified_reply (Settle t) (Settled a) w' q = (just (SettleCall t.0) Accepted w' q.0, settlement t.0 a w' q.0 q.1)
   justified_reply (Settle t) (Refused r) w' q = just (SettleCall t.0) (RefusedCall r) w' q
-  justified_reply (Settle t) r w' q = absurd q
   justified_reply (Rollback t) RolledBack w' q = just (RollbackCall t.0) Accepted w' q
   justified_reply (Rollback t) (Refused r) w' q = just (RollbackCall t.0) (RefusedCall r) w' q
-  justified_reply (Rollback t) r w' q = absurd q
   justified_reply (Finish t) (Finished a) w' q = just (FinishCall t.0) Accepted w' q.0
   justified_reply (Finish t) (Refused r) w' q = just (FinishCall t.0) (RefusedCall r) w' q
-  justified_reply (Finish t) r w' q = absurd q
-  justified_reply Collect r w' q = tt
-  justified_reply (Trim upto) r w' q = tt
   justified_reply CloseGroup r w' q = closing r w' q
-  justified_reply TakeGroup r w' q = tt
-  justified_reply AppendBody r w' q = tt
-  justified_reply AppendOpen r w' q = tt
-  justified_reply (Poll stamp) r w' q = tt
-  justified_reply RotateWrite r w' q = tt
-  justified_reply CheckpointRead r w' q = tt
-  justified_reply CheckpointData r w' q = tt
-  justified_reply CheckpointDelta r w' q = tt
-  justified_reply (MergeRead place) r w' q = tt
-  justified_reply MergeData r w' q = tt
-  justified_reply MergeDelta r w' q = tt
-  justified_reply InstallClose r w' q = tt
-  justified_reply InstallBody r w' q = tt
-  justified_reply InstallOpen r w' q = tt
-  justified_reply Reclaim r w' q = tt
+  justified_reply e r w' q = search
+
+pub begun : (s : State) (t : TxId) → t.0 ≡ s.clock + 1 → happened Begin (Began t) ≡ steps_of s BeginCall Accepted
+begun s t e = ap (λ (n : ℕ). Begins n ∷ []) e
+
+pub prepared : (s : State) (t : TxId) (e : Stamp) → e.0 ≡ s.clock + 1 → happened (Precommit t) (Prepared e) ≡ steps_of s (PrecommitCall t.0) Accepted
+prepared s t e is = ap (λ (n : ℕ). Prepares t.0 n ∷ []) is
+
+-- the answer to an operation is that of the serial step on the snapshot
+pub answered : (s : State) {t : ℕ} {o : Op} (a : Answer) → answer_data a ≡ answer_in s t o → Answers t o (answer_data a) ∷ [] ≡ steps_of s (Do t o) Accepted
+answered s {t} {o} a e = ap (λ (x : AnswerData). Answers t o x ∷ []) e
+
+-- one that waits is no step
+pub settled : (s : State) (t : TxId) (a : Settlement) → a ≡ settled_as s t.0 (awaited s t.0) → happened (Settle t) (Settled a) ≡ steps_of s (SettleCall t.0) Accepted
+settled s t a e = ap (λ (b : Settlement). happened (Settle t) (Settled b)) e ∙ go (awaited s t.0)
+  where
+    go : (w : Option StampedTx) → happened (Settle t) (Settled (settled_as s t.0 w)) ≡ steps_unless t.0 (end_of s t.0) w
+    go None = refl
+    go (Some x) = refl
+
+-- nor is a word that leaves others
+pub finished : (s : State) (t : TxId) (a : finishing.Finishing) → a ≡ cond (is_done s t.0) Done More → happened (Finish t) (Finished a) ≡ steps_of s (FinishCall t.0) Accepted
+finished s t a e = ap (λ (b : finishing.Finishing). happened (Finish t) (Finished b)) e ∙ go (is_done s t.0)
+  where
+    go : (b : Bool) → happened (Finish t) (Finished (cond b Done More)) ≡ cond b (Terminates t.0 ∷ []) []
+    go true = refl
+    go false = refl

@@ -1,4 +1,3 @@
-pub mod Rows
 pub mod Chain
 pub mod Closed
 mod Ends
@@ -6,8 +5,5 @@ pub mod Standing
 pub mod Justified
 pub mod Moves
 pub mod Runs
-pub mod Opened
-pub mod Happened
 pub mod Asked
 pub mod Sound
-pub mod Promised

@@ -1,9 +1,22 @@
--- One event more.
-use Rattle.std.proofs.Common.{◌≡◌, List, [], ◌∷◌, ◌++◌, length, refl, subst, arith}
-use Rattle.mvo_world.specs.Past.{Past, with_event, with_events}
-use Rattle.mvo_world.specs.Steps.{AreSteps}
+-- A world that was just opened, one event more of a run, and what each stretch of it leaves.
+use Rattle.std.proofs.Common.{◌≡◌, List, [], ◌∷◌, ◌++◌, length, refl, subst, arith, ap, ℕ, Ok, sym}
+use Rattle.mvo_world.specs.Past.{Past, with_event, with_events, opened_over}
+use Rattle.mvo_world.specs.Steps.{AreSteps, IsRunStep}
 use Rattle.mvo_world.specs.declared.event.Event.{Event}
 use Rattle.mvo_world.specs.declared.reply.Reply.{Reply}
+use Rattle.mvo_disk.specs.declared.disk.Disk.{Ghosts}
+use Rattle.mvo_store.specs.Seen.{disk_of, mark_of}
+use Rattle.mvo_world.specs.WorldData.{WorldData, IsJustOpened}
+use Rattle.mvo_world.specs.Standing.{IsAfter, MayLeavePrefix, IsPrefix, RecoversPrefix}
+use Rattle.mvo_world.specs.Promise.{LeavePrefixes}
+use Rattle.mvo_world.proofs.Standing.{prefix_image}
+use Rattle.mvo_types.specs.Keys.{Map}
+use Rattle.mvo_disk.specs.Disk.{Image}
+use Rattle.mvo_store.specs.Standing.{Gives, HasSlots, KeepsRows}
+use Rattle.mvo_store.specs.Opening.{IsAnswer, HasBegun}
+use Rattle.mvo_store.proofs.Marked.{same_answer, same_rows}
+use Rattle.mvo_core.specs.Standing.{OpensAs}
+use Rattle.mvo_world.proofs.Moves.{begun}
 
 pub with_events-push : (p : Past) (es : List Event) (rs : List Reply) (e : Event) (r : Reply) → length rs ≡ length es → with_events p (es ++ e ∷ []) (rs ++ r ∷ []) ≡ with_event (with_events p es rs) e r
 with_events-push p [] [] e r h = refl
@@ -16,3 +29,48 @@ steps-push IsOne w [] [] last e r w' h k = (w', subst (λ v. IsOne v e r w') h k
 steps-push IsOne w [] (x ∷ rs) last e r w' h k = absurd h
 steps-push IsOne w (x ∷ es) [] last e r w' h k = absurd h
 steps-push IsOne w (x ∷ es) (y ∷ rs) last e r w' h k = (h.0, h.1, steps-push IsOne h.0 es rs last e r w' h.2 k)
+
+module _ {D : Type 0} (d : Ghosts D) where
+  -- a stop now leaves what recovers a prefix
+  pub may_leave_prefix : (p : Past) (w : WorldData D) → IsAfter d p w → MayLeavePrefix d p (disk_of w.store)
+  may_leave_prefix p w h = λ image now. prefix_image d p w h image (h.store.images image now)
+
+  pub leave_prefixes : (p : Past) (w : WorldData D) (es : List Event) (rs : List Reply) (w' : WorldData D) → IsAfter d p w → AreSteps (IsRunStep d) w es rs w' → LeavePrefixes d p (disk_of w.store) es rs (disk_of w'.store)
+  leave_prefixes p w [] [] w' after steps = (ap (λ (v : WorldData D). disk_of v.store) steps, may_leave_prefix p w after)
+  leave_prefixes p w [] (r ∷ rs) w' after steps = absurd steps
+  leave_prefixes p w (e ∷ es) [] w' after steps = absurd steps
+  leave_prefixes p w (e ∷ es) (r ∷ rs) w' after steps =
+      (disk_of steps.0.store, steps.1.any_moment p after, leave_prefixes (with_event p e r) steps.0 es rs w' (steps.1.after p after) steps.2)
+
+pub answer_prefix : (content : Image) (rows : Map) (mark : ℕ) → IsAnswer content (Ok (rows, mark)) → (past : Past) → RecoversPrefix past content → IsPrefix past rows mark
+answer_prefix content rows mark answer past h =
+    subst (λ (x : Map × ℕ). IsPrefix past x.0 x.1) (same_answer content rows mark answer h.rows h.mark h.gives) h.prefix
+
+module _ {D : Type 0} (d : Ghosts D) where
+  -- the rows that the store answered are those that the world is opened over
+  module _ (old : D) (w : WorldData D) (rows : Map) (mark : ℕ) (answer : IsAnswer (d.content old) (Ok (rows, mark))) (begins : HasBegun d old w.store mark) (core : OpensAs rows mark w.core) (none : w.ring ≡ []) where
+    pub answer_here : IsAnswer (d.content old) (Ok (rows, mark_of w.store))
+    answer_here = subst (λ (m : ℕ). IsAnswer (d.content old) (Ok (rows, m))) (sym begins.mark_is) answer
+
+    begins_here : IsJustOpened rows w
+    begins_here = record {
+      core = subst (λ (m : ℕ). OpensAs rows m w.core) (sym begins.mark_is) core;
+      ring = none;
+      store = record {
+        pending = begins.pending;
+        written = begins.written;
+        job = begins.job;
+        down = begins.down;
+      };
+    }
+
+    pub world_begins : (given : Map) → Gives given (mark_of w.store) (d.content old) → IsJustOpened given w
+    world_begins given gives = subst (λ (m : Map). IsJustOpened m w) (sym (same_rows (d.content old) rows (mark_of w.store) answer_here given gives)) begins_here
+
+    pub world_after : (HasSlots (d.content old) → KeepsRows d w.store rows) → (given : Map) → Gives given (mark_of w.store) (d.content old) → HasSlots (d.content old) → IsAfter d (opened_over given (mark_of w.store)) w
+    world_after keeps given gives slots =
+        begun d given w (world_begins given gives) (subst (KeepsRows d w.store) (sym (same_rows (d.content old) rows (mark_of w.store) answer_here given gives)) (keeps slots))
+
+    pub world_prefix : (given : Map) → Gives given (mark_of w.store) (d.content old) → (past : Past) → RecoversPrefix past (d.content old) → IsPrefix past given (mark_of w.store)
+    world_prefix given gives past h =
+        subst (λ (m : Map). IsPrefix past m (mark_of w.store)) (sym (same_rows (d.content old) rows (mark_of w.store) answer_here given gives)) (answer_prefix (d.content old) rows (mark_of w.store) answer_here past h)

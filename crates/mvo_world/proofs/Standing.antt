@@ -19,8 +19,7 @@ use Rattle.mvo_world.specs.Past.{Past}
 use Rattle.mvo_world.specs.WorldData.{WorldData, waiting, Follow}
 use Rattle.mvo_core.specs.Groups.{HasRecordsOf, HaveRecordsOf}
 use Rattle.mvo_world.specs.Standing.{IsOneOf, RecoversPrefix, IsAfter}
-use Rattle.mvo_world.proofs.Rows.{left_by_all}
-use Rattle.mvo_world.proofs.Chain.{rows_up_to_is, chain_rows}
+use Rattle.mvo_world.proofs.Chain.{left_by_all, rows_up_to_is, chain_rows}
 
 -- ---- lists of groups
 pub mark_after-append : (m : ℕ) (gs hs : List GroupData) → mark_after m (gs ++ hs) ≡ mark_after (mark_after m gs) hs

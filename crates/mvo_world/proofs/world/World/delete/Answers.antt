@@ -1,6 +1,6 @@
 use Rattle.std.proofs.Common.{refl}
 use Rattle.mvo_world.specs.View.{world_data}
-use Rattle.mvo_world.proofs.Happened.{done}
+use Rattle.mvo_world.proofs.Justified.{answered}
 use Rattle.mvo_world.proofs.Moves.{told}
 use Rattle.mvo_world.proofs.Sound.{sound_asked}
 use Rattle.mvo_world.proofs.world.World.delete.Goals as goal
@@ -11,6 +11,6 @@ invariant_of-self g c = sound_asked (world_data c.self.inside) c.self.invariant 
 pub returns : goal.returns
 returns g c =
     elim c.match-delete.branch [
-      | goal.in-Ok w ↦ rw (w.result-is, ← c.self.view_is) (told g.D.Disk g.met.D.Disk.only_now (world_data c.self.inside) w.in-Ok.ensures.step (λ asked. (asked, w.in-Ok.ensures.answer)) (λ o xs s h. done s w.in-Ok.answer (w.in-Ok.ensures.answer o xs s h)) (refl, refl))
+      | goal.in-Ok w ↦ rw (w.result-is, ← c.self.view_is) (told g.D.Disk g.met.D.Disk.only_now (world_data c.self.inside) w.in-Ok.ensures.step (λ asked. (asked, w.in-Ok.ensures.answer)) (λ o xs s h. answered s w.in-Ok.answer (w.in-Ok.ensures.answer o xs s h)) (refl, refl))
       | goal.in-Err w ↦ rw (w.result-is, ← c.self.view_is) (told g.D.Disk g.met.D.Disk.only_now (world_data c.self.inside) w.in-Err.ensures.step (λ asked. asked) (λ o xs s h. refl) (refl, refl))
     ]

@@ -1,6 +1,6 @@
 use Rattle.std.proofs.Common.{refl}
 use Rattle.mvo_world.specs.View.{world_data}
-use Rattle.mvo_world.proofs.Happened.{finished}
+use Rattle.mvo_world.proofs.Justified.{finished}
 use Rattle.mvo_world.proofs.Moves.{told}
 use Rattle.mvo_world.proofs.Sound.{sound_asked}
 use Rattle.mvo_world.proofs.world.World.finish.Goals as goal

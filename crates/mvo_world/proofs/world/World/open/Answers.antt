@@ -3,7 +3,7 @@ use Rattle.std.specs.Prelude.{ℕ}
 use Rattle.mvo_store.specs.Standing.{Gives}
 use Rattle.mvo_world.specs.WorldData.{WorldData}
 use Rattle.mvo_store.proofs.Marked.{gives_stamp, not_of_files}
-use Rattle.mvo_world.proofs.Opened.{answer_here, world_begins, world_after, world_prefix}
+use Rattle.mvo_world.proofs.Runs.{answer_here, world_begins, world_after, world_prefix}
 use Rattle.mvo_world.proofs.world.World.open.Goals as goal
 
 pub open-requires-2 : goal.open-requires-2

@@ -1,7 +1,7 @@
 use Rattle.std.proofs.Common.{refl}
 use Rattle.mvo_world.specs.View.{world_data}
 use Rattle.mvo_world.proofs.Asked.{next_stamp}
-use Rattle.mvo_world.proofs.Happened.{prepared}
+use Rattle.mvo_world.proofs.Justified.{prepared}
 use Rattle.mvo_world.proofs.Moves.{told}
 use Rattle.mvo_world.proofs.Sound.{sound_asked}
 use Rattle.mvo_world.proofs.world.World.precommit.Goals as goal

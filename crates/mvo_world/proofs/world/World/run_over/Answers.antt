@@ -2,7 +2,7 @@ use Rattle.std.proofs.Common.{inr, sym, subst}
 use Rattle.mvo_store.specs.Seen.{disk_of, mark_of}
 use Rattle.mvo_world.specs.Past.{Past, opened_over}
 use Rattle.mvo_world.specs.Promise.{LeavePrefixes}
-use Rattle.mvo_world.proofs.Promised.{leave_prefixes}
+use Rattle.mvo_world.proofs.Runs.{leave_prefixes}
 use Rattle.mvo_world.proofs.world.World.run_over.Goals as goal
 
 pub returns-in-Ok-run-clause-promise : goal.returns-in-Ok-run-clause-promise
