@@ -50,11 +50,13 @@ impl<D: Disk> Model for Fresh<D> {
 }
 
 impl<D: Disk> Fresh<D> {
-    ghost use Rattle.std.specs.Prelude.{◌≡◌, IfOk, IfErr};
+    ghost use Rattle.std.specs.Prelude.{◌≡◌, ℕ, IfOk, IfErr};
     ghost use Rattle.mvo_types.specs.declared.refusal.Refusal.{Refusal};
-    ghost use Rattle.mvo_store.specs.Opening.{KeepsContent};
+    ghost use Rattle.mvo_types.specs.Keys.{Map};
+    ghost use Rattle.mvo_store.specs.Standing.{Gives};
+    ghost use Rattle.mvo_store.specs.Opening.{KeepsContent, LeavesAsBefore};
+    ghost use Rattle.mvo_store.specs.Opening.{IsNotOpened, IsNotOfFiles};
     ghost use Rattle.mvo_store.specs.Seen.{disk_of};
-    ghost use Rattle.mvo_world.specs.Promise.{IsNoRun};
     ghost use Rattle.mvo_engine.specs.Opened.{IsOpenedWorld};
 
     /// Opens what is on the disk, and takes the world apart. Refused as `World::open` is, or with
@@ -66,8 +68,13 @@ impl<D: Disk> Fresh<D> {
         disk: D,
     ) -> Result<Fresh<D>, (Refusal, D)>
         ensures content { IfOk result (λ fresh. KeepsContent D.Disk disk (disk_of fresh.store)) }
-        ensures refused { IfErr result (λ e. IsNoRun D.Disk disk e.0 e.1) }
+        ensures any_moment { IfOk result (λ fresh.
+            LeavesAsBefore D.Disk disk (disk_of fresh.store)) }
+        ensures refused { IfErr result (λ e. IsNotOpened D.Disk disk e.0 e.1) }
+        ensures well_formed { IfErr result (λ e. (rows : Map) (mark : ℕ) →
+            Gives rows mark (D.content disk) → IsNotOfFiles e.0) }
         ensures content_err { IfErr result (λ e. KeepsContent D.Disk disk e.1) }
+        ensures any_moment_err { IfErr result (λ e. LeavesAsBefore D.Disk disk e.1) }
     {
         let world = match World::open(rt, alloc, seed, disk) {
             Ok(world) => world,

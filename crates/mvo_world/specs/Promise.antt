@@ -1,11 +1,9 @@
 -- What is promised of a disk over which events ran: their replies, and what a stop leaves.
-use Rattle.std.specs.Prelude.{◌≡◌, ◌⊎◌, ℕ, List, [], ◌∷◌}
-use Rattle.mvo_types.specs.declared.refusal.Refusal.{Refusal}
-use Rattle.mvo_types.specs.declared.refusal.Refusal.TheVariants.{OutOfMemory}
+use Rattle.std.specs.Prelude.{◌≡◌, ℕ, List, [], ◌∷◌}
 use Rattle.mvo_types.specs.Keys.{Map}
 use Rattle.mvo_disk.specs.declared.disk.Disk.{Ghosts}
 use Rattle.mvo_store.specs.Standing.{Gives}
-use Rattle.mvo_store.specs.Opening.{LeavesAsBefore, IsNotOpened}
+use Rattle.mvo_store.specs.Opening.{LeavesAsBefore}
 use Rattle.mvo_world.specs.Past.{Past, opened_over, with_event, with_events, IsSerialPast}
 use Rattle.mvo_world.specs.Standing.{MayLeavePrefix, LeavesPrefix}
 use Rattle.mvo_world.specs.declared.event.Event.{Event}
@@ -33,7 +31,3 @@ pub record KeepsPromise {D : Type 0} (d : Ghosts D) (disk : D) (events : List Ev
   pub opened : D
   pub opening : LeavesAsBefore d disk opened
   pub prefixes : LeavePrefixes d (opened_over rows mark) opened events replies disk'
-
--- the disk wasn't opened, or memory for the rest was refused
-abbrev pub IsNoRun : {D : Type 0} → Ghosts D → D → Refusal → D → Type 0
-IsNoRun d old e new = IsNotOpened d old e new ⊎ (e ≡ OutOfMemory)

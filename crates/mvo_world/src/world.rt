@@ -62,8 +62,9 @@ impl<D: Disk> Model for World<D> {
 }
 
 impl<D: Disk> World<D> {
-    ghost use Rattle.std.specs.Prelude.{◌≡◌, ℕ, length, Ok, IfOk, IfErr, OnErr};
+    ghost use Rattle.std.specs.Prelude.{◌≡◌, ◌<◌, ℕ, length, Ok, IfOk, IfErr, OnErr};
     ghost use Rattle.mvo_types.specs.Keys.{Map};
+    ghost use Rattle.mvo_store.specs.declared.limits.TheConstants.{MAX_FAULTS};
     ghost use Rattle.mvo_store.specs.Standing.{Gives, HasSlots};
     ghost use Rattle.mvo_store.specs.Opening.{IsAnswer, KeepsContent, LeavesAsBefore};
     ghost use Rattle.mvo_store.specs.Opening.{IsNotOpened, IsNotOfFiles};
@@ -99,6 +100,9 @@ impl<D: Disk> World<D> {
             Gives rows (mark_of w.store) (D.content disk) → IsJustOpened rows w) }
         ensures content { IfOk result (λ w. KeepsContent D.Disk disk (disk_of w.store)) }
         ensures any_moment { IfOk result (λ w. LeavesAsBefore D.Disk disk (disk_of w.store)) }
+        ensures few { IfOk result (λ w. D.fault_count disk < MAX_FAULTS) }
+        ensures count { IfOk result (λ w.
+            D.fault_count (disk_of w.store) ≡ D.fault_count disk) }
         ensures refused { IfErr result (λ e. IsNotOpened D.Disk disk e.0 e.1) }
         ensures well_formed { IfErr result (λ e. (rows : Map) (mark : ℕ) →
             Gives rows mark (D.content disk) → IsNotOfFiles e.0) }

@@ -9,8 +9,8 @@ use std::thread::Threads;
 impl<D: Disk> World<D> {
     ghost use Rattle.std.specs.Prelude.{◌≡◌, length, IfOk, IfErr};
     ghost use Rattle.mvo_store.specs.Standing.{HasSlots};
-    ghost use Rattle.mvo_store.specs.Opening.{KeepsContent, LeavesAsBefore};
-    ghost use Rattle.mvo_world.specs.Promise.{KeepsPromise, IsNoRun};
+    ghost use Rattle.mvo_store.specs.Opening.{KeepsContent, LeavesAsBefore, IsNotOpened};
+    ghost use Rattle.mvo_world.specs.Promise.{KeepsPromise};
 
     /// Opens what is on the disk, runs the events, one after another, and gives the disk back with
     /// their replies. Refused as `open` is, or with OutOfMemory; then nothing has run.
@@ -28,7 +28,7 @@ impl<D: Disk> World<D> {
         ensures promise { IfOk result (λ x. HasSlots (D.content disk) →
             KeepsPromise D.Disk disk events.now x.0.items x.1) }
         ensures replies { IfOk result (λ x. length x.0.items ≡ length events.now) }
-        ensures refused { IfErr result (λ e. IsNoRun D.Disk disk e.0 e.1) }
+        ensures refused { IfErr result (λ e. IsNotOpened D.Disk disk e.0 e.1) }
         ensures content { IfErr result (λ e. KeepsContent D.Disk disk e.1) }
         ensures any_moment { IfErr result (λ e. LeavesAsBefore D.Disk disk e.1) }
     {

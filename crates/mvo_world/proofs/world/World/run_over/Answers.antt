@@ -1,4 +1,4 @@
-use Rattle.std.proofs.Common.{inr, sym, subst}
+use Rattle.std.proofs.Common.{sym, subst}
 use Rattle.mvo_store.specs.Seen.{disk_of, mark_of}
 use Rattle.mvo_world.specs.Past.{Past, opened_over}
 use Rattle.mvo_world.specs.Promise.{LeavePrefixes}
@@ -21,6 +21,3 @@ returns-in-Ok-run-clause-promise g c = λ slots.
       prefixes = subst (LeavePrefixes g.D.Disk past (disk_of w.store) c.args.events.now c.in-Ok-run.replies.items) (sym c.into_disk.ensures.disk)
           (leave_prefixes g.D.Disk past w c.args.events.now c.in-Ok-run.replies.items c.run.new.self after c.in-Ok-run.ensures.each);
     }
-
-pub returns-in-Err-run-clause-refused : goal.returns-in-Err-run-clause-refused
-returns-in-Err-run-clause-refused g c = inr c.in-Err-run.ensures.memory
