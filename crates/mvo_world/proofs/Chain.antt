@@ -12,22 +12,25 @@ use Rattle.mvo_types.specs.Write.{Write, content_after, content_after_last}
 use Rattle.mvo_model.specs.History.{History, after_effect, after_history, after_histories}
 use Rattle.mvo_model.proofs.Serials.{get-after_effect, get-after_history}
 use Rattle.mvo_group.specs.Data.{RecordData, GroupData}
-use Rattle.mvo_theory.specs.Groups.{is_due, is_writing}
+use Rattle.mvo_group.specs.Rules.{KeepsRules}
+use Rattle.mvo_theory.specs.Groups.{is_due, is_writing, IsNextGroup}
 use Rattle.mvo_theory.proofs.Footprints.{key_same}
 use Rattle.mvo_theory.proofs.Places.{idle_leaves}
 use Rattle.mvo_store.specs.Rows.{after_record, after_groups}
-use Rattle.mvo_core.specs.Records.{IsRecordOf, AreRecordsOf, write_in}
+use Rattle.mvo_core.specs.Records.{IsRecordOf, AreRecordsOf, write_in, fits}
 use Rattle.std.proofs.lemmas.Bool.{lt-ltb, le-leb, leb-true, leb-false, le-ltb, lt-leb}
 use Rattle.mvo_model.specs.Trace.{Step, history_of, rows_up_to}
 use Rattle.mvo_theory.specs.State.{State, StampedTx, timeline}
 use Rattle.mvo_theory.specs.Sound.{IsRising}
-use Rattle.mvo_theory.specs.Marks.{StaysBelow, settled_to}
+use Rattle.mvo_theory.specs.Marks.{Commit, IsClosedAt, StaysBelow, settled_to}
+use Rattle.mvo_theory.specs.Calls.{IsKept}
+use Rattle.mvo_theory.proofs.Groups.{next_group_closes}
 use Rattle.mvo_theory.specs.AfterTrace.{IsAfterTrace, pairs}
 use Rattle.mvo_theory.proofs.Tales.{pairs-append}
 use Rattle.mvo_theory.proofs.Each.{each_append, each_weaker}
 use Rattle.mvo_store.specs.Frames.{mark_after}
 use Rattle.mvo_store.proofs.Grown.{after_groups-append}
-use Rattle.mvo_core.specs.Groups.{HaveRecordsOf}
+use Rattle.mvo_core.specs.Groups.{HasRecordsOf, HaveRecordsOf}
 use Rattle.std.specs.FinMap as fin
 
 -- ---- one record
@@ -155,6 +158,12 @@ chain_rows s mark (g ∷ more) rows h gs =
     ∙ sym (left_by_all-append (settled_to mark (timeline s)) (filter (is_after mark) (settled_to g.mark (timeline s))) rows)
     ∙ ap (λ cs. left_by_all cs rows) (sym (parts mark g.mark (timeline s) le h)))
     ∙ chain_rows s g.mark more rows h gs.2
+
+-- the group that a core closes holds the commits up to its mark
+pub group_of_next : (opening : Map) (steps : List Step) (s : State) (g : GroupData) (commits : List Commit) → IsKept opening steps s → IsClosedAt s.marks.closed s → IsNextGroup fits s (record { prev = g.prev; mark = g.mark; commits = commits }) → AreRecordsOf commits g.records → KeepsRules g → HasRecordsOf s g
+group_of_next opening steps s g commits kept closed next records rules =
+    let q = next_group_closes opening steps s fits (record { prev = g.prev; mark = g.mark; commits = commits }) kept closed next in
+    record { closed = q.closed; records = subst (λ (cs : List Commit). AreRecordsOf cs g.records) q.commits records; rules = rules }
 
 -- ---- what stays
 pub groups_stay : (s s' : State) (mark : ℕ) (gs : List GroupData) → StaysBelow s s' → HaveRecordsOf s mark gs → HaveRecordsOf s' mark gs
