@@ -8,6 +8,10 @@ use Rattle.std.proofs.lemmas.List.{length-append, map-append}
 use Rattle.mvo_types.specs.declared.refusal.Refusal.{Refusal}
 use Rattle.mvo_types.specs.declared.refusal.Refusal.TheVariants.{Down, Busy, OutOfMemory}
 use Rattle.mvo_types.specs.declared.ids.Stamp.{Stamp}
+use Rattle.mvo_types.specs.declared.ids.TxId.{TxId}
+use Rattle.mvo_types.specs.declared.answer.Answer.{Answer}
+use Rattle.mvo_types.specs.declared.op.Op.{Op}
+use Rattle.mvo_types.specs.declared.op.Op.TheVariants as op
 use Rattle.mvo_types.specs.Keys.{Map}
 use Rattle.mvo_model.specs.Trace.{Step}
 use Rattle.mvo_disk.specs.declared.disk.Disk.{Ghosts}
@@ -17,6 +21,7 @@ use Rattle.mvo_theory.specs.State.{State, Marks, opened}
 use Rattle.mvo_theory.specs.Marks.{IsClosedAt, StaysBelow}
 use Rattle.mvo_theory.specs.Changes.{after_close}
 use Rattle.mvo_theory.specs.Calls.{Call, Result as CallResult, after_call, steps_of}
+use Rattle.mvo_theory.specs.Calls.Call.{Do}
 use Rattle.mvo_theory.proofs.Each.{each_weaker, each_append}
 use Rattle.mvo_theory.specs.Counted.{HasCounts}
 use Rattle.mvo_theory.proofs.Stays.{stays_after_call}
@@ -26,7 +31,7 @@ use Rattle.mvo_core.specs.declared.answers.Closed as closing
 use Rattle.mvo_core.specs.Data.{CoreData}
 use Rattle.mvo_core.specs.Seen.{closed_mark_of, HasNewVersions}
 use Rattle.mvo_core.specs.Collecting.{StandsAsBefore, AreFewer}
-use Rattle.mvo_core.specs.Steps.{LeadsOn}
+use Rattle.mvo_core.specs.Steps.{LeadsOn, IsStep, IsAnswered}
 use Rattle.mvo_core.specs.Standing.{StandsFor}
 use Rattle.mvo_core.proofs.Begun.{still_closed}
 use Rattle.mvo_types.specs.Causes.{when, or_next}
@@ -46,16 +51,16 @@ use Rattle.mvo_world.specs.Past.{Past, happened, acknowledged_by, closed_by, tak
 use Rattle.mvo_core.specs.Groups.{HaveRecordsOf}
 use Rattle.mvo_world.specs.Standing.{IsAfter, RecoversPrefix}
 use Rattle.mvo_world.specs.Ring.{oldest, IsClosingInto}
-use Rattle.mvo_world.specs.Replies.{IsReplyTo, IsAsked, IsStored, HasRow, or_nothing}
+use Rattle.mvo_world.specs.Replies.{IsReplyTo, IsAsked, IsStored, HasRow, event_of, or_nothing}
 use Rattle.mvo_world.specs.Justified.{IsJustifiedBy}
 use Rattle.mvo_world.specs.Steps.{IsStepBy, IsWorldStep}
 use Rattle.mvo_types.specs.declared.limits.TheConstants.{RING_GROUPS}
 use Rattle.mvo_world.specs.declared.event.Event.{Event}
 use Rattle.mvo_world.specs.declared.event.Event.TheVariants.{Insert, Update, Collect, CloseGroup, TakeGroup, AppendOpen, Poll}
 use Rattle.mvo_world.specs.declared.reply.Reply.{Reply}
-use Rattle.mvo_world.specs.declared.reply.Reply.TheVariants.{Collected, Closed, Taken, Durable, Polled, Refused}
+use Rattle.mvo_world.specs.declared.reply.Reply.TheVariants.{Answered, Collected, Closed, Taken, Durable, Polled, Refused}
 use Rattle.mvo_world.proofs.Chain.{groups_stay, group_of_next}
-use Rattle.mvo_world.proofs.Justified.{closing as closing_so, justified_reply}
+use Rattle.mvo_world.proofs.Justified.{answered, closing as closing_so, justified_reply}
 use Rattle.mvo_world.proofs.Standing.{mark_after-append, groups_front, groups_back, groups_push, marks_rise, follow_to, prefix_image}
 
 -- ---- the groups that wait
@@ -249,6 +254,16 @@ module _ {D : Type 0} (d : Ghosts D) where
       where
         w' : WorldData D
         w' = record w { core = core }
+
+    -- an operation is answered
+    pub answered_step : (w : WorldData D) {core : CoreData} (t : TxId) (o : Op) (a : Answer) → IsStep {A = Answer} w.core (Do t.0 o) (Ok a) core → IsAnswered w.core t.0 o a → IsWorldStep d w (event_of t o) (Answered a) (record w { core = core })
+    answered_step w t (op.Read k) a step answer = told w step (λ asked. (asked, answer)) (λ opening xs s h. answered s a (answer opening xs s h)) (refl, refl)
+    answered_step w t o a step answer = told w step (λ asked. (asked, answer)) (λ opening xs s h. answered s a (answer opening xs s h)) (refl, refl)
+
+    -- or refused
+    pub unanswered_step : (w : WorldData D) {core : CoreData} (t : TxId) (o : Op) {r : Refusal} → IsStep {A = Answer} w.core (Do t.0 o) (Err r) core → IsWorldStep d w (event_of t o) (Refused r) (record w { core = core })
+    unanswered_step w t (op.Read k) step = told w step (λ asked. asked) (λ opening xs s h. refl) (refl, refl)
+    unanswered_step w t o step = told w step (λ asked. asked) (λ opening xs s h. refl) (refl, refl)
 
     -- a collection, over which the state stays
     pub collected : (w : WorldData D) {core : CoreData} (c : Collection) → AreFewer w.core c core → StandsAsBefore w.core core → HasNewVersions w.core core → IsWorldStep d w Collect (Collected c) (record w { core = core })
