@@ -1,5 +1,5 @@
 -- What each event makes of a world that stands after a past.
-use Rattle.std.proofs.Common.{◌≡◌, ℕ, ◌+◌, ◌≤◌, length, Bool, true, false, List, [], ◌∷◌, ◌++◌, Option, None, Some, Ok, Err, map, refl, sym, ap, ◌∙◌, subst, arith, append_assoc, append-nil}
+use Rattle.std.proofs.Common.{◌≡◌, ℕ, ◌+◌, ◌≤◌, length, Bool, true, false, List, [], ◌∷◌, ◌++◌, Option, None, Some, Result, Ok, Err, map, refl, sym, ap, ◌∙◌, subst, arith, append_assoc, append-nil}
 use Rattle.std.specs.Prelude.{is_some, nat_le}
 use Rattle.std.specs.Option.{option_to_list}
 use Rattle.std.specs.List.{AllByRecursion}
@@ -51,7 +51,7 @@ use Rattle.mvo_world.specs.Past.{Past, happened, acknowledged_by, closed_by, tak
 use Rattle.mvo_core.specs.Groups.{HaveRecordsOf}
 use Rattle.mvo_world.specs.Standing.{IsAfter, RecoversPrefix}
 use Rattle.mvo_world.specs.Ring.{oldest, IsClosingInto}
-use Rattle.mvo_world.specs.Replies.{IsReplyTo, IsAsked, IsStored, HasRow, event_of, or_nothing}
+use Rattle.mvo_world.specs.Replies.{IsReplyTo, IsAsked, IsStored, HasRow, event_of, or_nothing, reply_to}
 use Rattle.mvo_world.specs.Justified.{IsJustifiedBy}
 use Rattle.mvo_world.specs.Steps.{IsStepBy, IsWorldStep}
 use Rattle.mvo_types.specs.declared.limits.TheConstants.{RING_GROUPS}
@@ -176,6 +176,12 @@ module _ {D : Type 0} (d : Ghosts D) where
       → (IsStored d w call (Err why) (record w { store = store }) → IsReplyTo d w e (Refused why) (record w { store = store })) → IsWorldStep d w e (Refused why) (record w { store = store })
   refused {A} w {store} {call} {why} {e} h silent reply =
       store_moved w store e (Refused why) silent (reply (record { comes = refused_by A d w.store call why store h.comes; rest = refl })) (left_taken d call why w.store store h.comes.left) (refused_rows A d w.store call why store h)
+
+  -- whatever it comes to
+  pub called : (w : WorldData D) {store : StoreData D} {call : StoreCall} {e : Event} (result : Result (Unit {0}) Refusal) (r : Reply) → IsStoreStep d w.store call result store → IsQuiet call → IsSilent e r → ((why : Refusal) → IsSilent e (Refused why)) → (IsStored d w call (Ok tt) (record w { store = store }) → IsReplyTo d w e r (record w { store = store }))
+      → ((why : Refusal) → IsStored d w call (Err why) (record w { store = store }) → IsReplyTo d w e (Refused why) (record w { store = store })) → IsWorldStep d w e (reply_to result r) (record w { store = store })
+  called w (Ok a) r h quiet silent none made left = done w h quiet silent made
+  called w (Err why) r h quiet silent none made left = refused w h (none why) (left why)
 
   -- ---- a group is taken
   pub taken : (w : WorldData D) {ring : List GroupData} {store : StoreData D} (g : GroupData) → why_not_take w.store ≡ None → w.ring ≡ g ∷ ring → IsStoreStep {A = Unit {0}} d w.store (Take g) (Ok tt) store → IsWorldStep d w TakeGroup Taken (record w { ring = ring; store = store })

@@ -108,6 +108,11 @@ pub record IsGroupTaken {D : Type 0} (d : Ghosts D) (w w' : WorldData D) : Type 
 
 -- ---- the reply
 
+-- to a call that answers nothing
+abbrev pub reply_to : Result (Unit {0}) Refusal → Reply → Reply
+reply_to (Ok a) done = done
+reply_to (Err r) done = Refused r
+
 -- The first refusal whose cause stands; where none does, the event's own answer, and what that
 -- makes of the world.
 abbrev pub IsReplyTo : {D : Type 0} → Ghosts D → WorldData D → Event → Reply → WorldData D → Type 0

@@ -6,10 +6,11 @@ mod transactions;
 
 use crate::event::Event;
 use crate::push::push_reserved;
-use crate::reply::Reply;
+use crate::reply::{Reply, reply_to};
 use crate::ring::Ring;
 use mvo_core::Core;
 use mvo_disk::Disk;
+use mvo_store::Progress::{More, Ready};
 use mvo_store::Store;
 use mvo_types::{Op, Refusal, Stamp};
 use std::alloc::Global;
@@ -187,18 +188,21 @@ impl<D: Disk> World<D> {
             Event::Trim(upto) => self.trim(upto),
             Event::CloseGroup => self.close_group(),
             Event::TakeGroup => self.take_group(),
-            Event::AppendBody => self.append_body(),
+            Event::AppendBody => reply_to(self.store.append_body(), Reply::Written),
             Event::AppendOpen => self.append_open(),
             Event::Poll(stamp) => self.poll(stamp),
-            Event::RotateWrite => self.rotate_write(),
-            Event::CheckpointRead => self.checkpoint_read(),
-            Event::CheckpointData => self.checkpoint_data(),
+            Event::RotateWrite => reply_to(self.store.rotate_write(), Reply::Ready),
+            Event::CheckpointRead => reply_to(self.store.checkpoint_read(), Reply::Progress(More)),
+            Event::CheckpointData => reply_to(self.store.checkpoint_data(), Reply::Progress(More)),
             Event::CheckpointDelta => self.checkpoint_delta(),
-            Event::MergeRead(place) => self.merge_read(place),
-            Event::MergeData => self.merge_data(),
-            Event::MergeDelta => self.merge_delta(),
-            Event::InstallClose => self.install_close(),
-            Event::InstallBody => self.install_body(),
+            Event::MergeRead(place) => reply_to(
+                self.store.merge_read(place),
+                Reply::Progress(More),
+            ),
+            Event::MergeData => reply_to(self.store.merge_data(), Reply::Progress(More)),
+            Event::MergeDelta => reply_to(self.store.merge_delta(), Reply::Progress(Ready)),
+            Event::InstallClose => reply_to(self.store.install_close(), Reply::Shut),
+            Event::InstallBody => reply_to(self.store.install_body(), Reply::Written),
             Event::InstallOpen => self.install_open(),
             Event::Reclaim => self.reclaim(),
         }
