@@ -45,7 +45,7 @@ use Rattle.mvo_store.specs.declared.job.Job.{Job}
 use Rattle.mvo_store.specs.declared.job.Job.TheVariants.{Rotation, Checkpoint, Merge, MergeInstall}
 use Rattle.mvo_store.specs.StoreData.{StoreData, opening}
 use Rattle.mvo_store.specs.Causes.{why_not_due, why_not_install_open, is_rotation, has_rotation}
-use Rattle.mvo_store.specs.Jobs.{step_number, step_due, is_due, with_merge, after_step, job_takes_file, takes_file}
+use Rattle.mvo_store.specs.Jobs.{step_number, step_due, is_due, after_step, job_takes_file, takes_file}
 use Rattle.mvo_store.specs.Standing.{HasJob, HasRoom, JobHasRoom, IsUp, MayBeLeft, HasSlots, HasBody, HasWork, MayTakeOver}
 use Rattle.mvo_store.specs.Writing.{StandsWith, StillGives, WritesFor, HasMadeStep, TakesMemory, IsStepRefusal, IsOpened}
 use Rattle.mvo_store.specs.Calls.{call_of, why_not, MayMeet, Makes, HasStepped, IsFileOfJob, MayWrite, KeepsOthers, IsStoreStep, rows_after, StoreCall, HasNoFault, LeftByMemory}
@@ -160,11 +160,8 @@ fault_of step = inr refl
 step_room : (places : PlaceTable) (made : Option ManifestData) (j : Job) → JobHasRoom places j → JobHasRoom places (after_step made j)
 step_room places made (Rotation fresh i) room = tt
 step_room places made (Checkpoint c) room = room
-step_room places made (Merge g) room = go made
-  where
-    go : (o : Option ManifestData) → JobHasRoom places (with_merge o g)
-    go None = tt
-    go (Some next) = tt
+step_room places None (Merge g) room = tt
+step_room places (Some next) (Merge g) room = tt
 step_room places made (MergeInstall g i) room = tt
 
 module _ {D : Type 0} (d : Ghosts D) (s : StoreData D) (j : Job) (is : s.job ≡ Some j) where

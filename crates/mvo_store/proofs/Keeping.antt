@@ -1,5 +1,5 @@
 -- A store keeps its rows over a step, and each slot its gate. What each way through a call comes to, where no cause of a refusal stands.
-use Rattle.std.proofs.Common.{◌≡◌, ◌≢◌, inl, inr, ℕ, ◌<◌, ◌≤◌, true, false, List, [], Option, Some, None, sym, subst, ◌∙◌, arith, Bool, cond, ◌&&◌, length, refl, ◌+◌, Ok, Err}
+use Rattle.std.proofs.Common.{◌≡◌, ◌≢◌, inl, inr, ℕ, ◌<◌, ◌≤◌, true, false, List, [], Option, Some, None, sym, subst, ◌∙◌, arith, Bool, ◌&&◌, ⊎_elim, ◌^◌, length, refl, ◌+◌, Ok, Err}
 use Rattle.std.specs.Prelude.{⊤}
 use Rattle.std.proofs.lemmas.Bool.{cases_eq}
 use Rattle.mvo_types.specs.Causes.{when, or_next}
@@ -53,13 +53,7 @@ module _ {D : Type 0} (d : Ghosts D) where
   both_leave old new P Q first second = record {
     later = first.later;
     each = λ image left. (first.each image left, second.each image left);
-    before = λ t image le left. elim (first.before t image le left) [
-      | inl past ↦ inl past
-      | inr p ↦ elim (second.before t image le left) [
-        | inl past ↦ inl past
-        | inr q ↦ inr (p, q)
-      ]
-    ];
+    before = λ t image le left. ⊎_elim (λ past. inl past) (λ p. ⊎_elim (λ past. inl past) (λ q. inr (p, q)) (second.before t image le left)) (first.before t image le left);
   }
 
   module _ (old : D) (m : ManifestData) (x : Parts) (settled : IsSettled FIRST_FORMAT (d.content old) (d.may_leave old) m x) (slots : HasSlots (d.content old)) where
@@ -134,22 +128,11 @@ module _ {D : Type 0} (d : Ghosts D) where
     -- Its disk, its places and its job are others: the last segment stays, and the job stands.
     pub stays_up : (new : D) (places : PlaceTable) (job : Option Job) → IsSettled FIRST_FORMAT (d.content new) (d.may_leave new) s.manifest up.parts → d.content new s.segment.file ≡ d.content s.disk s.segment.file
         → HasJob (d.content new) (d.may_leave new) s.manifest up.parts job → places.at ≡ s.places.at → HasRoom places job → d.fault_count new ≡ d.fault_count s.disk → IsUp d (record s { disk = new; places = places; job = job }) rows
-    stays_up new places job settled last stands same room count = record {
-      up = up.up;
-      parts = up.parts;
-      settled = settled;
-      rows_are = up.rows_are;
-      mark_is = up.mark_is;
-      last = up.last;
-      gate = up.gate;
-      few = up.few;
-      pending = up.pending;
-      written = λ e. subst (λ (c : List ℕ). HasBody up.parts s.pending s.segment.gate s.segment.next c) (sym last) (up.written e);
-      job = stands;
-      places = subst (λ (at : PlaceMap). ArePlaces s.manifest.pairs up.parts.lives at) (sym same) up.places;
-      room_for = room;
-      room = omega (arith, count, up.room);
-    }
+    stays_up new places job settled last stands same room count =
+        let written : s.written ≡ true → HasBody up.parts s.pending s.segment.gate s.segment.next (d.content new s.segment.file) = λ e. subst (λ (c : List ℕ). HasBody up.parts s.pending s.segment.gate s.segment.next c) (sym last) (up.written e) in
+        let are : ArePlaces s.manifest.pairs up.parts.lives places.at = subst (λ (at : PlaceMap). ArePlaces s.manifest.pairs up.parts.lives at) (sym same) up.places in
+        let few : d.fault_count new + 1 < 2 ^ 64 = omega (arith, count, up.room) in
+        search (up, settled, stands, room, written, are, few)
 
   -- ---- a step
 
@@ -202,20 +185,11 @@ pub may_step : {D : Type 0} (step : Due) (s : StoreData D) → why_not_due step 
 may_step step s e = grind arith
 
 -- the gate of a manifest may be opened
-pub record MayOpen {D : Type 0} (s : StoreData D) : Type 0 where
-  pub due : is_due (Install Open) s.job ≡ true
-  pub free : (s.written && has_rotation s.job) ≡ false
-
-pub may_open : {D : Type 0} (s : StoreData D) → why_not_install_open s ≡ None → MayOpen s
+pub may_open : {D : Type 0} (s : StoreData D) → why_not_install_open s ≡ None → (is_due (Install Open) s.job ≡ true) × ((s.written && has_rotation s.job) ≡ false)
 may_open s e = grind arith
 
 -- a rotation may begin
-pub record MayBegin {D : Type 0} (s : StoreData D) : Type 0 where
-  pub generation : s.manifest.generation < MAX_GENERATION
-  pub some : s.segment.gate ≢ HEADER_LEN
-  pub room : length s.manifest.segments < MAX_SEGMENTS
-
-pub may_begin : {D : Type 0} (s : StoreData D) → why_not_rotate s ≡ None → MayBegin s
+pub may_begin : {D : Type 0} (s : StoreData D) → why_not_rotate s ≡ None → (s.manifest.generation < MAX_GENERATION) × (s.segment.gate ≢ HEADER_LEN) × (length s.manifest.segments < MAX_SEGMENTS)
 may_begin s e = grind arith
 
 -- a group may be taken

@@ -1,6 +1,5 @@
 -- What an image gives: its mark is a timestamp of the clock, and what opening a disk answers is fixed by it.
-use Rattle.std.proofs.Common.{◌≡◌, ℕ, ◌+◌, ◌≤◌, length, Bool, true, false, cond, List, [], ◌∷◌, Option, None, Some, Ok, sym, subst, arith, ◌⊎◌, inl, inr, Err, ap}
-use Rattle.std.specs.Prelude.{nat_lt}
+use Rattle.std.proofs.Common.{◌≡◌, ℕ, ◌+◌, ◌≤◌, length, List, [], ◌∷◌, Ok, sym, subst, arith, ◌⊎◌, inl, inr, Err, ap}
 use Rattle.mvo_types.specs.declared.limits.TheConstants.{MAX_STAMP}
 use Rattle.mvo_types.specs.Keys.{Map}
 use Rattle.mvo_group.specs.Data.{GroupData}
@@ -9,9 +8,7 @@ use Rattle.mvo_format.specs.declared.format.TheConstants.{FIRST_FORMAT}
 use Rattle.mvo_format.specs.declared.header.TheConstants.{HEADER_LEN}
 use Rattle.mvo_frame.specs.Frames.{Frames, sized, mark_after}
 use Rattle.mvo_pair.specs.declared.pair.Pair.{Pair}
-use Rattle.mvo_manifest.specs.Data.{ManifestData}
-use Rattle.mvo_manifest.specs.Rules.{PairsRise, IsManifest}
-use Rattle.mvo_manifest.specs.Slots.{newest, SlotSays}
+use Rattle.mvo_manifest.specs.Rules.{PairsRise}
 use Rattle.mvo_image.specs.Opens.{Image, Outcome}
 use Rattle.mvo_image.specs.Gives.{HaveGroups}
 use Rattle.mvo_image.specs.Files.{SegmentSays}
@@ -20,6 +17,7 @@ use Rattle.mvo_types.specs.declared.refusal.Refusal.{Refusal}
 use Rattle.mvo_types.specs.declared.refusal.Refusal.TheVariants.{OutOfMemory, DiskFault}
 use Rattle.mvo_disk.specs.declared.disk.Disk.{Ghosts}
 use Rattle.mvo_image.proofs.Opening.{exact}
+use Rattle.mvo_recovery.proofs.Opened.{gives_installed}
 use Rattle.mvo_store.specs.Opening.{IsAnswer, IsNotOpened, IsNotOfFiles}
 
 pub after_frames : (place mark : ℕ) (gs : List GroupData) (bytes : List ℕ) → mark ≤ MAX_STAMP → Frames place mark gs bytes → mark_after mark gs ≤ MAX_STAMP
@@ -35,23 +33,9 @@ pub after_pairs : (lo : ℕ) (ps : List Pair) (hi : ℕ) → lo ≤ MAX_STAMP �
 after_pairs lo [] hi le h = subst (λ (m : ℕ). m ≤ MAX_STAMP) h le
 after_pairs lo (p ∷ ps) hi le h = after_pairs p.hi.0 ps hi h.0.top h.1
 
-of_newest : (a b : Option ManifestData) (m : ManifestData) → newest a b ≡ Some m → ((x : ManifestData) → a ≡ Some x → IsManifest x) → ((x : ManifestData) → b ≡ Some x → IsManifest x) → IsManifest m
-of_newest None b m e first second = second m e
-of_newest (Some x) None m e first second = first m e
-of_newest (Some x) (Some y) m e first second = go (nat_lt x.generation y.generation) e
-  where
-    go : (c : Bool) → cond c (Some y) (Some x) ≡ Some m → IsManifest m
-    go true f = second m f
-    go false f = first m f
-
-is_manifest : (slot : ℕ) (bytes : List ℕ) (o : Option ManifestData) → SlotSays FIRST_FORMAT.version slot bytes (Ok o) → (x : ManifestData) → o ≡ Some x → IsManifest x
-is_manifest slot bytes None h x e = absurd (cc e)
-is_manifest slot bytes (Some m) h x e = let same : m ≡ x = cc e in subst IsManifest same h.is
-
 pub gives_stamp : (image : Image) (rows : Map) (mark : ℕ) → Gives rows mark image → mark ≤ MAX_STAMP
 gives_stamp image rows mark h =
-    let i = h.installed in
-    let is = of_newest i.first i.second h.manifest i.is (is_manifest 0 (image 0) i.first i.first_has) (is_manifest 1 (image 1) i.second i.second_has) in
+    let is = (gives_installed FIRST_FORMAT image rows mark h).1.own.is in
     after_segments image h.manifest.segments h.manifest.checkpoint_mark h.groups mark (after_pairs 0 h.manifest.pairs h.manifest.checkpoint_mark (omega arith) is.rules.rise) h.have
 
 -- what an image gives is the one answer of opening it

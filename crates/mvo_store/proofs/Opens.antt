@@ -1,5 +1,5 @@
 -- A disk that is synced, a store over what is found on it, and a new one.
-use Rattle.std.proofs.Common.{◌≡◌, inl, inr, ℕ, refl, sym, subst, ◌∙◌, arith, ◌<◌, false, List, [], ◌∷◌, None, ap, ◌≢◌, zero, suc, Bool, cond, ◌++◌, Some}
+use Rattle.std.proofs.Common.{◌≡◌, inl, inr, ℕ, refl, sym, subst, ◌∙◌, arith, ◌<◌, false, List, [], ◌∷◌, None, ap, ◌≢◌, zero, suc, Bool, ◌++◌}
 use Rattle.std.proofs.lemmas.Bool.{lt-leb}
 use Rattle.std.proofs.lemmas.List.Elements.{All-contains}
 use Rattle.std.specs.FinMap as map
@@ -119,24 +119,15 @@ module _ (shut fresh new : Image) (may_shut may_fresh may_new : ℕ → List ℕ
       → IsSettled FIRST_FORMAT new may_new (first_manifest 0 2) no_parts
   written_settled is_shut shut_only bytes fresh_only is_open open_only =
       first_settled FIRST_FORMAT new may_new 0 2 is_open (subst IsShut (sym same_second) is_shut)
-      (record { frames = λ mark. fresh_frames VERSION mark (new 2) (third.content 2 two ∙ bytes); durable = only_stays FIRST_FORMAT fresh new may_fresh may_new 0 third 2 two fresh_only })
+      (record { frames = λ mark. fresh_frames VERSION mark (new 2) (third.content 2 (λ e. omega (arith, e)) ∙ bytes); durable = only_stays FIRST_FORMAT fresh new may_fresh may_new 0 third 2 (λ e. omega (arith, e)) fresh_only })
       slots
     where
-      two : ◌≢◌ {A = ℕ} 2 0
-      two e = omega (arith, e)
-
-      one : ◌≢◌ {A = ℕ} 1 0
-      one e = omega (arith, e)
-
-      other : ◌≢◌ {A = ℕ} 1 2
-      other e = omega (arith, e)
-
       same_second : new 1 ≡ shut 1
-      same_second = third.content 1 one ∙ second.content 1 other
+      same_second = third.content 1 (λ e. omega (arith, e)) ∙ second.content 1 (λ e. omega (arith, e))
 
       slots : (slot : ℕ) → slot < 2 → Only (new slot) (may_new slot)
       slots zero lt = open_only
-      slots (suc zero) lt = only_stays FIRST_FORMAT fresh new may_fresh may_new 0 third 1 one (only_stays FIRST_FORMAT shut fresh may_shut may_fresh 2 second 1 other shut_only)
+      slots (suc zero) lt = only_stays FIRST_FORMAT fresh new may_fresh may_new 0 third 1 (λ e. omega (arith, e)) (only_stays FIRST_FORMAT shut fresh may_shut may_fresh 2 second 1 (λ e. omega (arith, e)) shut_only)
       slots (suc (suc n)) lt = absurd (omega (arith, lt))
 
 pub none_stands : (faults : ℕ) (content : Image) → faults < MAX_FAULTS → has_open_slot content ≡ false → why_not_format faults content ≡ None
