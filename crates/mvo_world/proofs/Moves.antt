@@ -51,7 +51,7 @@ use Rattle.mvo_world.specs.Past.{Past, happened, acknowledged_by, closed_by, tak
 use Rattle.mvo_core.specs.Groups.{HaveRecordsOf}
 use Rattle.mvo_world.specs.Standing.{IsAfter, RecoversPrefix}
 use Rattle.mvo_world.specs.Ring.{oldest, IsClosingInto}
-use Rattle.mvo_world.specs.Replies.{IsReplyTo, IsAsked, IsStored, HasRow, event_of, or_nothing, reply_to}
+use Rattle.mvo_world.specs.Replies.{IsReplyTo, IsAsked, IsStored, HasRow, operation_event, or_nothing, reply_to}
 use Rattle.mvo_world.specs.Justified.{IsJustifiedBy}
 use Rattle.mvo_world.specs.Steps.{IsStepBy, IsWorldStep}
 use Rattle.mvo_types.specs.declared.limits.TheConstants.{RING_GROUPS}
@@ -262,12 +262,12 @@ module _ {D : Type 0} (d : Ghosts D) where
         w' = record w { core = core }
 
     -- an operation is answered
-    pub answered_step : (w : WorldData D) {core : CoreData} (t : TxId) (o : Op) (a : Answer) → IsStep {A = Answer} w.core (Do t.0 o) (Ok a) core → IsAnswered w.core t.0 o a → IsWorldStep d w (event_of t o) (Answered a) (record w { core = core })
+    pub answered_step : (w : WorldData D) {core : CoreData} (t : TxId) (o : Op) (a : Answer) → IsStep {A = Answer} w.core (Do t.0 o) (Ok a) core → IsAnswered w.core t.0 o a → IsWorldStep d w (operation_event t o) (Answered a) (record w { core = core })
     answered_step w t (op.Read k) a step answer = told w step (λ asked. (asked, answer)) (λ opening xs s h. answered s a (answer opening xs s h)) (refl, refl)
     answered_step w t o a step answer = told w step (λ asked. (asked, answer)) (λ opening xs s h. answered s a (answer opening xs s h)) (refl, refl)
 
     -- or refused
-    pub unanswered_step : (w : WorldData D) {core : CoreData} (t : TxId) (o : Op) {r : Refusal} → IsStep {A = Answer} w.core (Do t.0 o) (Err r) core → IsWorldStep d w (event_of t o) (Refused r) (record w { core = core })
+    pub unanswered_step : (w : WorldData D) {core : CoreData} (t : TxId) (o : Op) {r : Refusal} → IsStep {A = Answer} w.core (Do t.0 o) (Err r) core → IsWorldStep d w (operation_event t o) (Refused r) (record w { core = core })
     unanswered_step w t (op.Read k) step = told w step (λ asked. asked) (λ opening xs s h. refl) (refl, refl)
     unanswered_step w t o step = told w step (λ asked. asked) (λ opening xs s h. refl) (refl, refl)
 

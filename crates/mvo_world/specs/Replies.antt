@@ -56,12 +56,12 @@ pub record IsAsked {D : Type 0} (w : WorldData D) (c : theory.Call) (r : theory.
   pub rest : w' ≡ record w { core = w'.core }
 
 -- the event by which a transaction asks for an operation
-abbrev pub event_of : TxId → Op → Event
-event_of t (op.Read k) = Read t k
-event_of t (op.Scan table lo hi) = Scan t table lo hi
-event_of t (op.Insert row) = Insert t row
-event_of t (op.Update row) = Update t row
-event_of t (op.Delete k) = Delete t k
+abbrev pub operation_event : TxId → Op → Event
+operation_event t (op.Read k) = Read t k
+operation_event t (op.Scan table lo hi) = Scan t table lo hi
+operation_event t (op.Insert row) = Insert t row
+operation_event t (op.Update row) = Update t row
+operation_event t (op.Delete k) = Delete t k
 
 -- an operation was answered: as the serial step answers on the transaction's snapshot
 abbrev pub IsOpAnswered : {D : Type 0} → WorldData D → ℕ → Op → Answer → WorldData D → Type 0

@@ -25,7 +25,7 @@ fn answer_to(core: &mut Core, tx: TxId, op: Op) -> Result<Answer, Refusal>
 }
 
 impl<D: Disk> World<D> {
-    ghost use Rattle.mvo_world.specs.Replies.{event_of};
+    ghost use Rattle.mvo_world.specs.Replies.{operation_event};
     ghost use Rattle.mvo_world.specs.Steps.{IsWorldStep};
 
     pub(super) fn begin(&mut self) -> Reply
@@ -38,7 +38,7 @@ impl<D: Disk> World<D> {
     }
 
     pub(super) fn operate(&mut self, tx: TxId, op: Op) -> Reply
-        ensures { IsWorldStep D.Disk self.old (event_of tx op) result self.new }
+        ensures { IsWorldStep D.Disk self.old (operation_event tx op) result self.new }
     {
         match answer_to(&mut self.core, tx, op) {
             Ok(answer) => Reply::Answered(answer),
