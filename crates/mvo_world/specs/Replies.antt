@@ -7,13 +7,14 @@ use Rattle.mvo_group.specs.Data.{GroupData}
 use Rattle.mvo_types.specs.declared.answer.Answer.{Answer}
 use Rattle.mvo_types.specs.declared.op.Op.{Op}
 use Rattle.mvo_types.specs.declared.op.Op.TheVariants as op
+use Rattle.mvo_types.specs.declared.ids.TxId.{TxId}
 use Rattle.mvo_types.specs.Keys.{Map}
 use Rattle.mvo_model.specs.Trace.{Step}
 use Rattle.mvo_theory.specs.State.{State}
 use Rattle.mvo_theory.specs.Calls as theory
 use Rattle.mvo_theory.specs.Calls.Call.{Begin as BeginCall, Precommit as PrecommitCall, Validate as ValidateCall, Settle as SettleCall, Rollback as RollbackCall, Finish as FinishCall, Trim as TrimCall, Do}
 use Rattle.mvo_theory.specs.Calls.Result.{Accepted, Refused as RefusedCall}
-use Rattle.mvo_collect.specs.declared.collection.Collection.{Collection}
+use Rattle.mvo_core.specs.Collection.{Collection}
 use Rattle.mvo_core.specs.declared.answers.Closed as closing
 use Rattle.mvo_core.specs.Seen.{closed_mark_of, HasNewVersions}
 use Rattle.mvo_core.specs.Standing.{StandsFor}
@@ -53,6 +54,14 @@ pub record IsAsked {D : Type 0} (w : WorldData D) (c : theory.Call) (r : theory.
   pub leads : (opening : Map) (steps : List Step) (s : State) → StandsFor opening steps s w.core
       → LeadsOn opening steps s c r w'.core
   pub rest : w' ≡ record w { core = w'.core }
+
+-- the event by which a transaction asks for an operation
+abbrev pub operation_event : TxId → Op → Event
+operation_event t (op.Read k) = Read t k
+operation_event t (op.Scan table lo hi) = Scan t table lo hi
+operation_event t (op.Insert row) = Insert t row
+operation_event t (op.Update row) = Update t row
+operation_event t (op.Delete k) = Delete t k
 
 -- an operation was answered: as the serial step answers on the transaction's snapshot
 abbrev pub IsOpAnswered : {D : Type 0} → WorldData D → ℕ → Op → Answer → WorldData D → Type 0
@@ -98,6 +107,11 @@ pub record IsGroupTaken {D : Type 0} (d : Ghosts D) (w w' : WorldData D) : Type 
   pub core : w'.core ≡ w.core
 
 -- ---- the reply
+
+-- to a call that answers nothing
+abbrev pub reply_to : Result (Unit {0}) Refusal → Reply → Reply
+reply_to (Ok a) done = done
+reply_to (Err r) done = Refused r
 
 -- The first refusal whose cause stands; where none does, the event's own answer, and what that
 -- makes of the world.

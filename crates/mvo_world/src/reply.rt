@@ -1,3 +1,6 @@
+ghost use Rattle.std.specs.Prelude.{◌≡◌};
+ghost use Rattle.mvo_world.specs.Replies.{reply_to};
+
 use mvo_core::{Closed, Collection, Finishing, Settlement, Validation};
 use mvo_store::{Generation, Progress, Reclaimed};
 use mvo_types::{Answer, Refusal, Stamp, TxId};
@@ -45,4 +48,14 @@ pub enum Reply {
     Reclaimed(Reclaimed),
     /// The step is refused.
     Refused(Refusal),
+}
+
+/// The reply to a call that answers nothing: this one, or that it is refused.
+pub(crate) fn reply_to(came: Result<(), Refusal>, done: Reply) -> Reply
+    ensures { result ≡ reply_to came done }
+{
+    match came {
+        Ok(()) => done,
+        Err(refusal) => Reply::Refused(refusal),
+    }
 }

@@ -6,12 +6,13 @@ mod transactions;
 
 use crate::event::Event;
 use crate::push::push_reserved;
-use crate::reply::Reply;
+use crate::reply::{Reply, reply_to};
 use crate::ring::Ring;
 use mvo_core::Core;
 use mvo_disk::Disk;
+use mvo_store::Progress::{More, Ready};
 use mvo_store::Store;
-use mvo_types::{Refusal, Stamp};
+use mvo_types::{Op, Refusal, Stamp};
 use std::alloc::Global;
 use std::marker::Model;
 use std::thread::Threads;
@@ -41,7 +42,7 @@ impl<D: Disk + Drop> Drop for World<D> {
 
 impl<D: Disk> Model for World<D> {
     ghost use Rattle.std.specs.Coded.{codes};
-    ghost use Rattle.mvo_core.specs.contracts.engine.Core.{the_row as core_row};
+    ghost use Rattle.mvo_core.specs.contracts.event_core.Core.{the_row as core_row};
     ghost use Rattle.mvo_types.specs.Keys.{coded_map as coded_rows};
     ghost use Rattle.mvo_store.specs.Places.{coded_places};
     ghost use Rattle.mvo_world.specs.WorldData.{WorldData, IsSoundWorld};
@@ -177,11 +178,11 @@ impl<D: Disk> World<D> {
     {
         match event {
             Event::Begin => self.begin(),
-            Event::Read(tx, key) => self.read(tx, key),
-            Event::Scan(tx, table, lo, hi) => self.scan(tx, table, lo, hi),
-            Event::Insert(tx, row) => self.insert(tx, row),
-            Event::Update(tx, row) => self.update(tx, row),
-            Event::Delete(tx, key) => self.delete(tx, key),
+            Event::Read(tx, key) => self.operate(tx, Op::Read(key)),
+            Event::Scan(tx, table, lo, hi) => self.operate(tx, Op::Scan(table, lo, hi)),
+            Event::Insert(tx, row) => self.operate(tx, Op::Insert(row)),
+            Event::Update(tx, row) => self.operate(tx, Op::Update(row)),
+            Event::Delete(tx, key) => self.operate(tx, Op::Delete(key)),
             Event::Precommit(tx) => self.precommit(tx),
             Event::Validate(tx) => self.validate(tx),
             Event::Settle(tx) => self.settle(tx),
@@ -191,18 +192,21 @@ impl<D: Disk> World<D> {
             Event::Trim(upto) => self.trim(upto),
             Event::CloseGroup => self.close_group(),
             Event::TakeGroup => self.take_group(),
-            Event::AppendBody => self.append_body(),
+            Event::AppendBody => reply_to(self.store.append_body(), Reply::Written),
             Event::AppendOpen => self.append_open(),
             Event::Poll(stamp) => self.poll(stamp),
-            Event::RotateWrite => self.rotate_write(),
-            Event::CheckpointRead => self.checkpoint_read(),
-            Event::CheckpointData => self.checkpoint_data(),
+            Event::RotateWrite => reply_to(self.store.rotate_write(), Reply::Ready),
+            Event::CheckpointRead => reply_to(self.store.checkpoint_read(), Reply::Progress(More)),
+            Event::CheckpointData => reply_to(self.store.checkpoint_data(), Reply::Progress(More)),
             Event::CheckpointDelta => self.checkpoint_delta(),
-            Event::MergeRead(place) => self.merge_read(place),
-            Event::MergeData => self.merge_data(),
-            Event::MergeDelta => self.merge_delta(),
-            Event::InstallClose => self.install_close(),
-            Event::InstallBody => self.install_body(),
+            Event::MergeRead(place) => reply_to(
+                self.store.merge_read(place),
+                Reply::Progress(More),
+            ),
+            Event::MergeData => reply_to(self.store.merge_data(), Reply::Progress(More)),
+            Event::MergeDelta => reply_to(self.store.merge_delta(), Reply::Progress(Ready)),
+            Event::InstallClose => reply_to(self.store.install_close(), Reply::Shut),
+            Event::InstallBody => reply_to(self.store.install_body(), Reply::Written),
             Event::InstallOpen => self.install_open(),
             Event::Reclaim => self.reclaim(),
         }

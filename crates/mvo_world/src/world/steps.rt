@@ -1,10 +1,9 @@
-//! The step of each event of the log, and the poll.
+//! The step of each event of the log whose reply says more than that it is done, and the poll.
 
 use super::World;
 use crate::event::Event;
 use crate::reply::Reply;
 use mvo_disk::Disk;
-use mvo_store::Progress;
 use mvo_types::{Refusal, Stamp};
 
 impl<D: Disk> World<D> {
@@ -34,15 +33,6 @@ impl<D: Disk> World<D> {
         }
     }
 
-    pub(super) fn append_body(&mut self) -> Reply
-        ensures { IsWorldStep D.Disk self.old Event.AppendBody result self.new }
-    {
-        match self.store.append_body() {
-            Ok(()) => Reply::Written,
-            Err(refusal) => Reply::Refused(refusal),
-        }
-    }
-
     pub(super) fn append_open(&mut self) -> Reply
         ensures { IsWorldStep D.Disk self.old Event.AppendOpen result self.new }
     {
@@ -52,83 +42,11 @@ impl<D: Disk> World<D> {
         }
     }
 
-    pub(super) fn rotate_write(&mut self) -> Reply
-        ensures { IsWorldStep D.Disk self.old Event.RotateWrite result self.new }
-    {
-        match self.store.rotate_write() {
-            Ok(()) => Reply::Ready,
-            Err(refusal) => Reply::Refused(refusal),
-        }
-    }
-
-    pub(super) fn checkpoint_read(&mut self) -> Reply
-        ensures { IsWorldStep D.Disk self.old Event.CheckpointRead result self.new }
-    {
-        match self.store.checkpoint_read() {
-            Ok(()) => Reply::Progress(Progress::More),
-            Err(refusal) => Reply::Refused(refusal),
-        }
-    }
-
-    pub(super) fn checkpoint_data(&mut self) -> Reply
-        ensures { IsWorldStep D.Disk self.old Event.CheckpointData result self.new }
-    {
-        match self.store.checkpoint_data() {
-            Ok(()) => Reply::Progress(Progress::More),
-            Err(refusal) => Reply::Refused(refusal),
-        }
-    }
-
     pub(super) fn checkpoint_delta(&mut self) -> Reply
         ensures { IsWorldStep D.Disk self.old Event.CheckpointDelta result self.new }
     {
         match self.store.checkpoint_delta() {
             Ok(progress) => Reply::Progress(progress),
-            Err(refusal) => Reply::Refused(refusal),
-        }
-    }
-
-    pub(super) fn merge_read(&mut self, place: usize) -> Reply
-        ensures { IsWorldStep D.Disk self.old (Event.MergeRead place) result self.new }
-    {
-        match self.store.merge_read(place) {
-            Ok(()) => Reply::Progress(Progress::More),
-            Err(refusal) => Reply::Refused(refusal),
-        }
-    }
-
-    pub(super) fn merge_data(&mut self) -> Reply
-        ensures { IsWorldStep D.Disk self.old Event.MergeData result self.new }
-    {
-        match self.store.merge_data() {
-            Ok(()) => Reply::Progress(Progress::More),
-            Err(refusal) => Reply::Refused(refusal),
-        }
-    }
-
-    pub(super) fn merge_delta(&mut self) -> Reply
-        ensures { IsWorldStep D.Disk self.old Event.MergeDelta result self.new }
-    {
-        match self.store.merge_delta() {
-            Ok(()) => Reply::Progress(Progress::Ready),
-            Err(refusal) => Reply::Refused(refusal),
-        }
-    }
-
-    pub(super) fn install_close(&mut self) -> Reply
-        ensures { IsWorldStep D.Disk self.old Event.InstallClose result self.new }
-    {
-        match self.store.install_close() {
-            Ok(()) => Reply::Shut,
-            Err(refusal) => Reply::Refused(refusal),
-        }
-    }
-
-    pub(super) fn install_body(&mut self) -> Reply
-        ensures { IsWorldStep D.Disk self.old Event.InstallBody result self.new }
-    {
-        match self.store.install_body() {
-            Ok(()) => Reply::Written,
             Err(refusal) => Reply::Refused(refusal),
         }
     }
