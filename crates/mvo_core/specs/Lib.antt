@@ -1,4 +1,6 @@
 pub use Rattle.mvo_tale.specs.Records
+pub use Rattle.mvo_collect.specs.declared.collection.Collection
+pub use Rattle.mvo_collect.specs.Garbage
 pub mod Data
 pub mod Seen
 pub mod Causes

@@ -1,5 +1,5 @@
 -- What contracts see of a core.
-use Rattle.mvo_core.specs.declared.engine.Core.TheInside.{Inside}
+use Rattle.mvo_core.specs.declared.event_core.Core.TheInside.{Inside}
 use Rattle.mvo_txn.specs.Txns.{state_of}
 use Rattle.mvo_collect.specs.Waiting.{AreWaiting}
 use Rattle.mvo_core.specs.Data.{CoreData}

@@ -1,7 +1,7 @@
 //! Groups of commits, for the log.
 
 use crate::answers::Closed;
-use crate::engine::Core;
+use crate::event_core::Core;
 use crate::trimming::lesser;
 use mvo_group::Group;
 use mvo_tale::NextRecords;

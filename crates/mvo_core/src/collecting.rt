@@ -7,7 +7,7 @@ ghost use Rattle.mvo_core.specs.Collecting.{is_open_end_at, counted_off};
 ghost use Rattle.mvo_core.specs.Standing.{words_in};
 
 use crate::ending::{number_of, word_at};
-use crate::engine::Core;
+use crate::event_core::Core;
 use crate::transaction::Table;
 use mvo_chain::VersionNo;
 use mvo_collect::{Collection, Waiting, collect_one, is_dead};

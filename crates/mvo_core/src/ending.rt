@@ -22,7 +22,7 @@ ghost use Rattle.mvo_core.specs.Fronts.{passes, comes_at_draw, IsInFrontIf, AreI
 
 use crate::answers::{Settlement, Validation};
 use crate::collecting::await_ends;
-use crate::engine::Core;
+use crate::event_core::Core;
 use crate::refusing::{is_failure, not_active, not_preparing, not_undone};
 use crate::transaction::{Table, Transaction};
 use mvo_chain::VersionNo;

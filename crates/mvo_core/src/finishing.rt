@@ -12,7 +12,7 @@ ghost use Rattle.mvo_core.specs.Finishing.{from_own, HasPassed, IsNextReplaced};
 
 use crate::answers::Finishing;
 use crate::collecting::count_off;
-use crate::engine::Core;
+use crate::event_core::Core;
 use crate::transaction::Table;
 use mvo_txn::TxState;
 use mvo_types::{Refusal, TxId};

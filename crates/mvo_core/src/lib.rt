@@ -6,7 +6,7 @@ mod closing;
 mod collecting;
 mod depending;
 mod ending;
-mod engine;
+mod event_core;
 mod finishing;
 mod operating;
 mod refusing;
@@ -16,6 +16,6 @@ mod transaction;
 mod trimming;
 
 pub use answers::{Closed, Finishing, Settlement, Validation};
-pub use engine::Core;
+pub use event_core::Core;
 pub use mvo_collect::Collection;
 pub use mvo_tale::Tale;

@@ -17,7 +17,7 @@ ghost use Rattle.mvo_core.specs.Looking.{row_shown, cause_at, HasSameVersions};
 
 use crate::collecting::{has_open_end, owe_end};
 use crate::depending::{depend, make_room, note_word, record_answer, tell};
-use crate::engine::Core;
+use crate::event_core::Core;
 use crate::refusing::{not_looked, not_put, not_removed};
 use crate::transaction::Table;
 use mvo_chain::VersionNo;

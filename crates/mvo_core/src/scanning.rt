@@ -9,7 +9,7 @@ ghost use Rattle.mvo_core.specs.Scanning.{row_with_sort, is_below, is_up_to, is_
 ghost use Rattle.mvo_core.specs.Scanning.{is_met_at_place, with_named, IsScanned};
 
 use crate::depending::record_answer_on;
-use crate::engine::Core;
+use crate::event_core::Core;
 use crate::refusing::not_looked;
 use crate::transaction::Table;
 use mvo_chain::VersionNo;

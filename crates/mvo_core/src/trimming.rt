@@ -2,7 +2,7 @@
 ghost use Rattle.std.specs.Prelude.{◌≡◌, min};
 ghost use Rattle.mvo_core.specs.Trimming.{is_within};
 
-use crate::engine::Core;
+use crate::event_core::Core;
 use mvo_tale::Tale;
 use mvo_types::{Refusal, Stamp};
 

@@ -1,8 +1,8 @@
 -- What collecting under the lock of the core comes to.
 use Rattle.std.specs.Prelude.{◌≡◌, ◌+◌, ℕ, min}
 use Rattle.mvo_theory.specs.State.{State}
-use Rattle.mvo_collect.specs.declared.collection.Collection.{Collection}
-use Rattle.mvo_collect.specs.Garbage.{horizon, garbage_count}
+use Rattle.mvo_core.specs.Collection.{Collection}
+use Rattle.mvo_core.specs.Garbage.{horizon, garbage_count}
 use Rattle.mvo_core.specs.Steps.{InEach}
 use Rattle.mvo_core.specs.Collecting.{StandsAsBefore, AreFewer}
 use Rattle.mvo_engine.specs.States.{CoreState}

@@ -15,7 +15,7 @@ pub struct CoreGuard<'e, L: Run> {
 impl<'e, L: Run> Model for CoreGuard<'e, L> {
     ghost use Rattle.std.specs.Coded.{codes};
     ghost use Rattle.std.specs.Sync.Mutex.{mutex_guard_value};
-    ghost use Rattle.mvo_core.specs.contracts.engine.Core.{the_row as core_row};
+    ghost use Rattle.mvo_core.specs.contracts.event_core.Core.{the_row as core_row};
     ghost use Rattle.mvo_engine.specs.States.{CoreState};
 
     ghost Value = { CoreState };

@@ -27,7 +27,7 @@ pub struct Fresh<D: Disk> {
 impl<D: Disk> Model for Fresh<D> {
     ghost use Rattle.std.specs.Prelude.{◌≡◌};
     ghost use Rattle.std.specs.Coded.{codes};
-    ghost use Rattle.mvo_core.specs.contracts.engine.Core.{the_row as core_row};
+    ghost use Rattle.mvo_core.specs.contracts.event_core.Core.{the_row as core_row};
     ghost use Rattle.mvo_store.specs.Places.{coded_places};
     ghost use Rattle.mvo_store.specs.Seen.{disk_of, mark_of};
     ghost use Rattle.mvo_engine.specs.Rings.{ring_of, ring_from};

@@ -28,7 +28,7 @@ impl<L: Run> Drop for LockedCore<L> {
 
 impl<L: Run> Model for LockedCore<L> {
     ghost use Rattle.std.specs.Coded.{codes};
-    ghost use Rattle.mvo_core.specs.contracts.engine.Core.{the_row as core_row};
+    ghost use Rattle.mvo_core.specs.contracts.event_core.Core.{the_row as core_row};
     ghost use Rattle.mvo_engine.specs.Sound.{IsSoundCore};
     ghost use Rattle.mvo_engine.specs.States.{CoreState};
 

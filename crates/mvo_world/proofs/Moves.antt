@@ -22,7 +22,7 @@ use Rattle.mvo_theory.proofs.Each.{each_weaker, each_append}
 use Rattle.mvo_theory.specs.Counted.{HasCounts}
 use Rattle.mvo_theory.proofs.Stays.{stays_after_call}
 use Rattle.mvo_theory.proofs.Counting.{counted_after_call, counted_closed, counted_opened}
-use Rattle.mvo_collect.specs.declared.collection.Collection.{Collection}
+use Rattle.mvo_core.specs.Collection.{Collection}
 use Rattle.mvo_core.specs.declared.answers.Closed as closing
 use Rattle.mvo_core.specs.Data.{CoreData}
 use Rattle.mvo_core.specs.Seen.{closed_mark_of, HasNewVersions}

@@ -41,7 +41,7 @@ impl<D: Disk + Drop> Drop for World<D> {
 
 impl<D: Disk> Model for World<D> {
     ghost use Rattle.std.specs.Coded.{codes};
-    ghost use Rattle.mvo_core.specs.contracts.engine.Core.{the_row as core_row};
+    ghost use Rattle.mvo_core.specs.contracts.event_core.Core.{the_row as core_row};
     ghost use Rattle.mvo_types.specs.Keys.{coded_map as coded_rows};
     ghost use Rattle.mvo_store.specs.Places.{coded_places};
     ghost use Rattle.mvo_world.specs.WorldData.{WorldData, IsSoundWorld};

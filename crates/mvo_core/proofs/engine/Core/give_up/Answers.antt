@@ -1,6 +1,0 @@
-use Rattle.std.proofs.Common.{sym, ◌∙◌}
-use Rattle.mvo_core.proofs.GivenUp.{failed}
-use Rattle.mvo_core.proofs.engine.Core.give_up.Goals as goal
-
-pub returns-then-is_failure-clause-left : goal.returns-then-is_failure-clause-left
-returns-then-is_failure-clause-left c = failed c.args.self.now c.abort.new.self c.args.tx.0 c.args.refusal (sym c.is_failure.ensures ∙ c.if-is_failure.true) c.abort.ensures

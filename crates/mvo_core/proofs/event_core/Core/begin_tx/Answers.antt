@@ -1,0 +1,46 @@
+use Rattle.std.proofs.Common.{refl, sym, subst, ap, ◌∙◌}
+use Rattle.mvo_types.specs.declared.refusal.Refusal.TheVariants.{OutOfMemory}
+use Rattle.mvo_txn.specs.Txns.{why_not_begun, IsRefusal}
+use Rattle.mvo_theory.specs.Calls.Call.{Begin}
+use Rattle.mvo_core.specs.Data.{CoreData}
+use Rattle.mvo_core.specs.View.{core_data}
+use Rattle.mvo_core.specs.Standing.{StandsFor}
+use Rattle.mvo_core.specs.Steps.{came, LeadsOn}
+use Rattle.mvo_core.proofs.Begun.{begin_leads, begin_refused, stands_on}
+use Rattle.mvo_core.proofs.Refused.{came_spent}
+use Rattle.mvo_core.proofs.Waits.{begun_waits}
+use Rattle.mvo_core.proofs.event_core.Core.begin_tx.Goals as goal
+
+pub returns-in-Some-clause-step : goal.returns-in-Some-clause-step
+returns-in-Some-clause-step c = λ opening steps s h.
+    begin_refused opening steps s c.args.self.now h c.in-Some.refusal
+    (subst (λ o. IsRefusal o c.in-Some.refusal) (sym (ap (λ (x : CoreData). why_not_begun x.table) (sym c.self.view_is) ∙ sym c.why_not_begun.ensures ∙ c.in-Some.is)) refl)
+
+pub returns-in_err-work-clause-step : goal.returns-in_err-work-clause-step
+returns-in_err-work-clause-step c = λ opening steps s h.
+    let f = c.self.inside in
+    let old : CoreData = core_data f in
+    subst (λ r. LeadsOn opening steps s Begin r old) (came_spent c.from_residual.result c.from_residual.ensures.1)
+    (begin_refused opening steps s old (subst (StandsFor opening steps s) (sym c.self.view_is) h) OutOfMemory
+    (subst (λ o. IsRefusal o OutOfMemory) (sym (sym c.why_not_begun.ensures ∙ c.in_default.is)) refl))
+
+pub invariant_of-self-2 : goal.invariant_of-self-2
+invariant_of-self-2 c =
+    let f = c.self.inside in
+    let i = c.self.invariant.stands in
+    let old : CoreData = core_data f in
+    record {
+      stands =
+          stands_on i Begin (came c.begin.result) (record old { table = c.begin.new.self })
+          (begin_leads i.opening i.steps i.state old i.stands c.begun.result c.begun.ensures.dependencies (ap (λ w. w.history) c.begun.ensures.work ∙ c.in_ok-work.ensures.history) (ap (λ w. w.words) c.begun.ensures.work ∙ c.in_ok-work.ensures.words)
+          c.begin.result c.begin.new.self c.begin.ensures.ok c.begin.ensures.no_cause c.begin.ensures.refused c.begin.ensures.err);
+      waiting = begun_waits f.table c.begin.new.self c.begun.result f.versions.slots f.waiting c.begin.result c.begin.ensures.ok c.begin.ensures.err c.self.invariant.waiting;
+    }
+
+pub returns-clause-step : goal.returns-clause-step
+returns-clause-step c = λ opening steps s h.
+    let f = c.self.inside in
+    let old : CoreData = core_data f in
+    begin_leads opening steps s old (subst (StandsFor opening steps s) (sym c.self.view_is) h)
+    c.begun.result c.begun.ensures.dependencies (ap (λ w. w.history) c.begun.ensures.work ∙ c.in_ok-work.ensures.history) (ap (λ w. w.words) c.begun.ensures.work ∙ c.in_ok-work.ensures.words)
+    c.begin.result c.begin.new.self c.begin.ensures.ok c.begin.ensures.no_cause c.begin.ensures.refused c.begin.ensures.err

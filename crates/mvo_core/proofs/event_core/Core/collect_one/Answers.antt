@@ -1,0 +1,45 @@
+use Rattle.std.proofs.Common.{sym, subst}
+use Rattle.mvo_collect.specs.Garbage.{horizon}
+use Rattle.mvo_collect.specs.Laws.{IsCountedSo}
+use Rattle.mvo_core.specs.Data.{CoreData}
+use Rattle.mvo_core.specs.View.{core_data}
+use Rattle.mvo_core.specs.Collecting.{ShowsSame}
+use Rattle.mvo_core.specs.Standing.{StandsFor}
+use Rattle.mvo_core.proofs.WaitsOn.{collected_stands, collected_waits, collected_counts, collected_shows}
+use Rattle.mvo_core.proofs.event_core.Core.collect_one.Goals as goal
+
+pub invariant_of-self : goal.invariant_of-self
+invariant_of-self c =
+    let f = c.self.inside in
+    let i = c.self.invariant.stands in
+    let old : CoreData = core_data f in
+    record {
+      stands = record {
+        opening = i.opening;
+        steps = i.steps;
+        state = i.state;
+        stands = collected_stands i.opening i.steps i.state old i.stands f.waiting c.self.invariant.waiting c.collect_one.result c.collect_one.new.versions c.collect_one.new.waiting c.collect_one.ensures;
+        closed = i.closed;
+      };
+      waiting = collected_waits i.opening i.steps i.state old i.stands f.waiting c.self.invariant.waiting c.collect_one.result c.collect_one.new.versions c.collect_one.new.waiting c.collect_one.ensures;
+    }
+
+pub returns-clause-stands : goal.returns-clause-stands
+returns-clause-stands c = λ opening steps s h.
+    let f = c.self.inside in
+    let old : CoreData = core_data f in
+    collected_stands opening steps s old (subst (StandsFor opening steps s) (sym c.self.view_is) h) f.waiting c.self.invariant.waiting c.collect_one.result c.collect_one.new.versions c.collect_one.new.waiting c.collect_one.ensures
+
+pub returns-clause-counts : goal.returns-clause-counts
+returns-clause-counts c = λ opening steps s h.
+    let f = c.self.inside in
+    let old : CoreData = core_data f in
+    subst (λ (x : CoreData). IsCountedSo (horizon s) x.versions.slots c.collect_one.new.versions.slots c.collect_one.result) c.self.view_is
+    (collected_counts opening steps s old (subst (StandsFor opening steps s) (sym c.self.view_is) h) f.waiting c.self.invariant.waiting c.collect_one.result c.collect_one.new.versions c.collect_one.new.waiting c.collect_one.ensures)
+
+pub returns-clause-shows : goal.returns-clause-shows
+returns-clause-shows c =
+    let f = c.self.inside in
+    let old : CoreData = core_data f in
+    subst (λ (x : CoreData). ShowsSame x (record old { versions = c.collect_one.new.versions })) c.self.view_is
+    (λ opening steps s h. collected_shows opening steps s old h f.waiting c.self.invariant.waiting c.collect_one.result c.collect_one.new.versions c.collect_one.new.waiting c.collect_one.ensures)

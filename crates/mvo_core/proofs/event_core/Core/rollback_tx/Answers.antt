@@ -1,0 +1,13 @@
+use Rattle.std.proofs.Common.{sym, ap, ◌∙◌}
+use Rattle.mvo_txn.specs.Txns.{state_of}
+use Rattle.mvo_core.specs.Data.{CoreData}
+use Rattle.mvo_core.specs.Causes.{why_not_undo}
+use Rattle.mvo_core.proofs.GivenUp.{rolled_back}
+use Rattle.mvo_core.proofs.event_core.Core.rollback_tx.Goals as goal
+
+pub returns : goal.returns
+returns c = record {
+  step = λ opening steps s h.
+      let none = ap (λ (v : CoreData). why_not_undo (state_of v.table c.args.tx.0)) (sym c.self.view_is) ∙ sym c.not_undone.ensures ∙ c.in_default.is in
+      rolled_back opening steps s c.args.self.now c.abort.new.self h c.args.tx.0 none c.abort.ensures;
+}
