@@ -3,27 +3,27 @@ use Rattle.std.proofs.Common.{◌≡◌, ℕ, ◌≤◌, List, [], ◌∷◌, �
 use Rattle.mvo_types.specs.declared.refusal.Refusal.{Refusal}
 use Rattle.mvo_disk.specs.Disk.{Image}
 use Rattle.mvo_group.specs.Data.{GroupData}
-use Rattle.mvo_theory.specs.State.{StampedTx, Marks}
+use Rattle.mvo_model.specs.Trace.{Step}
+use Rattle.mvo_theory.specs.State.{State, StampedTx, Marks}
 use Rattle.mvo_theory.specs.Marks.{IsClosedAt}
 use Rattle.mvo_theory.specs.Sound.{IsPast, IsPlaced}
 use Rattle.mvo_theory.specs.Changes.{after_close}
-use Rattle.mvo_theory.specs.Calls as theory
 use Rattle.mvo_theory.specs.Calls.{Call, after_call, steps_of, group_of}
 use Rattle.mvo_theory.proofs.Each.{each_append, each_weaker}
 use Rattle.mvo_theory.proofs.Stays.{stays_after_call}
+use Rattle.mvo_theory.proofs.Tales.{serial_after_trace}
 use Rattle.mvo_core.specs.declared.answers.Closed as closing
 use Rattle.mvo_core.specs.Data.{CoreData}
-use Rattle.mvo_core.specs.Seen.{clock_of}
+use Rattle.mvo_core.specs.Seen.{clock_of, closed_mark_of}
 use Rattle.mvo_core.specs.Standing.{Stands, StandsFor}
 use Rattle.mvo_core.specs.Groups.{HaveRecordsOf}
 use Rattle.mvo_core.specs.Steps.{came, IsStep}
 use Rattle.mvo_core.specs.Closing.{IsClosedNow}
 use Rattle.mvo_core.specs.Collecting.{StandsAsBefore}
 use Rattle.mvo_core.proofs.Begun.{still_closed}
-use Rattle.mvo_world.proofs.Asked.{same_closed, stands_serial}
-use Rattle.mvo_world.proofs.Chain.{groups_stay}
-use Rattle.mvo_world.proofs.Closed.{group_of_next}
+use Rattle.mvo_world.proofs.Chain.{groups_stay, group_of_next}
 use Rattle.mvo_world.proofs.Moves.{groups_closed}
+use Rattle.mvo_world.proofs.Sound.{same_closed}
 use Rattle.mvo_world.proofs.Standing.{mark_after-append, groups_push}
 use Rattle.mvo_engine.specs.Sound.{IsSoundCore, last_mark}
 use Rattle.mvo_engine.specs.Legal.{IsLegalCore}
@@ -34,37 +34,24 @@ module _ {image : Image} {c : CoreData} {sent : List GroupData} (i : IsSoundCore
   abbrev standing : Stands c
   standing = record { opening = i.rows; steps = i.steps; state = i.state; stands = i.stands; closed = i.closed }
 
+  -- over the rows that the run opened with, by what it stands for and what was sent
+  so_far : (steps : List Step) (s : State) {new : CoreData} {sent' : List GroupData} → StandsFor i.rows steps s new → IsClosedAt s.marks.closed s → HaveRecordsOf s 0 sent' → last_mark sent' ≡ closed_mark_of new → IsSoundCore image new sent'
+  so_far steps s stands closed groups last = record { rows = i.rows; mark = i.mark; gives = i.gives; steps = steps; state = s; stands = stands; closed = closed; groups = groups; last = last }
+
   -- over a step that closes no group
-  pub stepped : {A : Type 0} (call : Call) (result : Result A Refusal) (new : CoreData) → group_of call (came result) ≡ [] → IsStep c call result new → IsSoundCore image new sent
-  stepped call result new none step =
+  pub stays_sound : {A : Type 0} {call : Call} {new : CoreData} (result : Result A Refusal) → IsStep c call result new → group_of call (came result) ≡ [] → IsSoundCore image new sent
+  stays_sound {call = call} result step none =
       let l = step i.rows i.steps i.state i.stands in
       let kept = i.stands.versions.kept in
       let after = after_call i.state call (came result) in
-      record {
-        rows = i.rows;
-        mark = i.mark;
-        gives = i.gives;
-        steps = i.steps ++ steps_of i.state call (came result);
-        state = after;
-        stands = l.stands;
-        closed = still_closed i.rows i.steps i.state call (came result) l.may kept i.closed;
-        groups = groups_stay i.state after 0 sent (stays_after_call i.state call (came result) kept.sound) i.groups;
-        last = i.last ∙ sym (same_closed standing call (came result) none l);
-      }
+      so_far (i.steps ++ steps_of i.state call (came result)) after l.stands
+      (still_closed i.rows i.steps i.state call (came result) l.may kept i.closed)
+      (groups_stay i.state after 0 sent (stays_after_call i.state call (came result) kept.sound) i.groups)
+      (i.last ∙ sym (same_closed standing call (came result) none l))
 
   -- over a collection
   pub collected : (new : CoreData) → StandsAsBefore c new → new ≡ record c { versions = new.versions } → IsSoundCore image new sent
-  collected new stands rest = record {
-    rows = i.rows;
-    mark = i.mark;
-    gives = i.gives;
-    steps = i.steps;
-    state = i.state;
-    stands = stands i.rows i.steps i.state i.stands;
-    closed = i.closed;
-    groups = i.groups;
-    last = i.last ∙ sym (ap (λ (x : CoreData). x.closed) rest);
-  }
+  collected new stands rest = so_far i.steps i.state (stands i.rows i.steps i.state i.stands) i.closed i.groups (i.last ∙ sym (ap (λ (x : CoreData). x.closed) rest))
 
   -- over the closing of a group
   pub closed_to : (sent' : List GroupData) (new : CoreData) (x : closing.Closed) (g : GroupData) → sent' ≡ sent ++ g ∷ [] → IsClosedNow i.rows i.steps i.state x new g → IsSoundCore image new sent'
@@ -73,31 +60,15 @@ module _ {image : Image} {c : CoreData} {sent : List GroupData} (i : IsSoundCore
       let is = group_of_next i.rows i.steps s g now.commits i.stands.versions.kept i.closed now.next now.records now.rules in
       let up : IsClosedAt x.mark.0 s = subst (λ (m : ℕ). IsClosedAt m s) now.mark is.closed in
       let prev : g.prev ≡ last_mark sent = now.next.prev ∙ ap (λ (m : Marks). m.closed) i.stands.marks ∙ sym i.last in
-      record {
-        rows = i.rows;
-        mark = i.mark;
-        gives = i.gives;
-        steps = i.steps;
-        state = after_close s x.mark.0;
-        stands = now.stands;
-        closed = record { drawn = up.drawn; above = up.above };
-        groups = subst (HaveRecordsOf (after_close s x.mark.0) 0) (sym there) (groups_closed s x.mark.0 0 (sent ++ g ∷ []) (groups_push s 0 sent g i.groups prev is));
-        last = ap last_mark there ∙ mark_after-append 0 sent (g ∷ []) ∙ now.mark ∙ ap (λ (m : Marks). m.closed) now.stands.marks;
-      }
+      so_far i.steps (after_close s x.mark.0) now.stands (record { drawn = up.drawn; above = up.above })
+      (subst (HaveRecordsOf (after_close s x.mark.0) 0) (sym there) (groups_closed s x.mark.0 0 (sent ++ g ∷ []) (groups_push s 0 sent g i.groups prev is)))
+      (ap last_mark there ∙ mark_after-append 0 sent (g ∷ []) ∙ now.mark ∙ ap (λ (m : Marks). m.closed) now.stands.marks)
 
   -- over one that is refused
   unclosed : (sent' : List GroupData) (new : CoreData) → sent' ≡ sent → StandsFor i.rows i.steps i.state new → IsSoundCore image new sent'
-  unclosed sent' new same stands = record {
-    rows = i.rows;
-    mark = i.mark;
-    gives = i.gives;
-    steps = i.steps;
-    state = i.state;
-    stands = stands;
-    closed = i.closed;
-    groups = subst (HaveRecordsOf i.state 0) (sym same) i.groups;
-    last = ap last_mark same ∙ i.last ∙ sym (ap (λ (m : Marks). m.closed) i.stands.marks) ∙ ap (λ (m : Marks). m.closed) stands.marks;
-  }
+  unclosed sent' new same stands =
+      so_far i.steps i.state stands i.closed (subst (HaveRecordsOf i.state 0) (sym same) i.groups)
+      (ap last_mark same ∙ i.last ∙ sym (ap (λ (m : Marks). m.closed) i.stands.marks) ∙ ap (λ (m : Marks). m.closed) stands.marks)
 
   -- over either, by what was sent
   pub after_closing : (old new' : SendsState) → old.sent ≡ sent → (result : Result closing.Closed Refusal) (new : CoreData) → HasSent i.rows i.steps i.state old result new new' → IsSoundCore image new new'.sent
@@ -113,7 +84,7 @@ module _ {image : Image} {c : CoreData} {sent : List GroupData} (i : IsSoundCore
     steps = i.steps;
     state = i.state;
     stands = i.stands;
-    serial = stands_serial i.rows i.steps i.state c i.stands;
+    serial = serial_after_trace i.rows i.steps i.state i.stands.versions.kept.sound i.stands.versions.kept.after_trace;
     ends =
         let is = i.stands.dependencies.stands.clock in
         let started = i.stands.versions.kept.started in
@@ -122,7 +93,3 @@ module _ {image : Image} {c : CoreData} {sent : List GroupData} (i : IsSoundCore
         (each_weaker (IsPlaced i.state.stamped i.state.clock) (λ (x : StampedTx). x.end ≤ clock_of c) (λ x p. let le = p.drawn in omega (arith, is, le)) i.state.stamped i.stands.versions.kept.sound.placed);
     groups = i.groups;
   }
-
--- the same, where the call and what it leaves are known
-pub stays_sound : {image : Image} {c : CoreData} {sent : List GroupData} {A : Type 0} {call : Call} {new : CoreData} → IsSoundCore image c sent → (result : Result A Refusal) → IsStep c call result new → group_of call (came result) ≡ [] → IsSoundCore image new sent
-stays_sound {call = call} {new = new} i result step none = stepped i call result new none step

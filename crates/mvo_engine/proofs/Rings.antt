@@ -1,5 +1,5 @@
 -- A ring keeps its name.
-use Rattle.std.proofs.Common.{◌≡◌, ℕ, ap, ◌∙◌}
+use Rattle.std.proofs.Common.{◌≡◌, ℕ}
 use Rattle.rtrb.specs.declared.producer.Producer.{Producer}
 use Rattle.rtrb.specs.declared.consumer.Consumer.{Consumer}
 use Rattle.rtrb.specs.Ring.{SameProducer, SameConsumer}
@@ -7,10 +7,7 @@ use Rattle.mvo_engine.specs.Rings.{RingName, ring_of, ring_from}
 use denote.RawPtr.{Ptr}
 
 named : {w w' s s' : Ptr} {n n' : ℕ × (ℕ × ℕ)} → w' ≡ w → s' ≡ s → n' ≡ n → ◌≡◌ {A = RingName} (record { words = w'; slots = s'; names = n' }) (record { words = w; slots = s; names = n })
-named {w} {w'} {s} {s'} {n} {n'} a b c =
-    ap (λ (x : Ptr). record { words = x; slots = s'; names = n' }) a
-    ∙ ap (λ (x : Ptr). record { words = w; slots = x; names = n' }) b
-    ∙ ap (λ (x : ℕ × (ℕ × ℕ)). record { words = w; slots = s; names = x }) c
+named a b c = cc
 
 module _ {T A P : Type 0} where
   pub same_of : (p p' : Producer T A P) → SameProducer p p' → ring_of p' ≡ ring_of p

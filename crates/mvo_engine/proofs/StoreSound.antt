@@ -23,18 +23,16 @@ on_ok (Ok a) P p = p
 on_ok (Err e) P p = tt
 
 module _ {D : Type 0} (d : Ghosts D) {image : Image} {s : StoreData D} {received : List GroupData} (i : IsSoundStore d image s received) where
+  -- over the rows that the run opened with, by what is durable and what was received
+  so_far : {t : StoreData D} {received' : List GroupData} (durable : List GroupData) → received' ≡ durable ++ option_to_list (pending_of t) → mark_of t ≡ last_mark durable → FollowsMark (mark_of t) (pending_of t) → (HasSlots image → KeepsRows d t (after_groups i.rows durable)) → IsSoundStore d image t received'
+  so_far durable received_is mark_is follows keeps = record { rows = i.rows; mark = i.mark; gives = i.gives; durable = durable; received_is = received_is; mark_is = mark_is; follows = follows; keeps = keeps }
+
   -- over a step that takes no group and makes none durable
   kept : (t : StoreData D) → KeepsTaken s t → Keeps d s t → IsSoundStore d image t received
-  kept t taken keeps = record {
-    rows = i.rows;
-    mark = i.mark;
-    gives = i.gives;
-    durable = i.durable;
-    received_is = i.received_is ∙ ap (λ (o : Option GroupData). i.durable ++ option_to_list o) (sym taken.pending);
-    mark_is = taken.mark ∙ i.mark_is;
-    follows = subst (λ (o : Option GroupData). FollowsMark (mark_of t) o) (sym taken.pending) (subst (λ (m : ℕ). FollowsMark m (pending_of s)) (sym taken.mark) i.follows);
-    keeps = λ slots. keeps.keeps (after_groups i.rows i.durable) (i.keeps slots);
-  }
+  kept t taken keeps =
+      so_far i.durable (i.received_is ∙ ap (λ (o : Option GroupData). i.durable ++ option_to_list o) (sym taken.pending)) (taken.mark ∙ i.mark_is)
+      (subst (λ (o : Option GroupData). FollowsMark (mark_of t) o) (sym taken.pending) (subst (λ (m : ℕ). FollowsMark m (pending_of s)) (sym taken.mark) i.follows))
+      (λ slots. keeps.keeps (after_groups i.rows i.durable) (i.keeps slots))
 
   -- the groups that were received are those that are durable, where none is being appended
   received_all : pending_of s ≡ None → received ≡ i.durable
@@ -46,30 +44,19 @@ module _ {D : Type 0} (d : Ghosts D) {image : Image} {s : StoreData D} {received
 
   -- over the taking of a group
   pub taken_in : (t : StoreData D) (received' : List GroupData) (g : GroupData) → IsGroup g → pending_of s ≡ None → received' ≡ received ++ g ∷ [] → pending_of t ≡ Some g → mark_of t ≡ mark_of s → g.prev ≡ mark_of s → Keeps d s t → IsSoundStore d image t received'
-  taken_in t received' g is none there pending mark prev keeps = record {
-    rows = i.rows;
-    mark = i.mark;
-    gives = i.gives;
-    durable = i.durable;
-    received_is = there ∙ ap (λ (gs : List GroupData). gs ++ g ∷ []) (received_all none) ∙ ap (λ (o : Option GroupData). i.durable ++ option_to_list o) (sym pending);
-    mark_is = mark ∙ i.mark_is;
-    follows = subst (FollowsMark (mark_of t)) (sym pending) (prev ∙ sym mark, is);
-    keeps = λ slots. keeps.keeps (after_groups i.rows i.durable) (i.keeps slots);
-  }
+  taken_in t received' g is none there pending mark prev keeps =
+      so_far i.durable (there ∙ ap (λ (gs : List GroupData). gs ++ g ∷ []) (received_all none) ∙ ap (λ (o : Option GroupData). i.durable ++ option_to_list o) (sym pending)) (mark ∙ i.mark_is)
+      (subst (FollowsMark (mark_of t)) (sym pending) (prev ∙ sym mark, is))
+      (λ slots. keeps.keeps (after_groups i.rows i.durable) (i.keeps slots))
 
   -- over the opening of a group's gate
   pub appended : (t : StoreData D) (g : GroupData) → pending_of s ≡ Some g → mark_of t ≡ g.mark → pending_of t ≡ None → IsKeeping d (λ rows. after_taken rows (pending_of s)) s t → IsSoundStore d image t received
   appended t g there mark none keeps =
-      record {
-        rows = i.rows;
-        mark = i.mark;
-        gives = i.gives;
-        durable = i.durable ++ g ∷ [];
-        received_is = i.received_is ∙ ap (λ (o : Option GroupData). i.durable ++ option_to_list o) there ∙ sym (append-nil (i.durable ++ g ∷ [])) ∙ ap (λ (o : Option GroupData). (i.durable ++ g ∷ []) ++ option_to_list o) (sym none);
-        follows = subst (FollowsMark (mark_of t)) (sym none) tt;
-        mark_is = mark ∙ sym (mark_after-append 0 i.durable (g ∷ []));
-        keeps = λ slots. subst (KeepsRows d t) (ap (after_taken (after_groups i.rows i.durable)) there ∙ sym (after_groups-append i.rows i.durable (g ∷ []))) (keeps.keeps (after_groups i.rows i.durable) (i.keeps slots));
-      }
+      so_far (i.durable ++ g ∷ [])
+      (i.received_is ∙ ap (λ (o : Option GroupData). i.durable ++ option_to_list o) there ∙ sym (append-nil (i.durable ++ g ∷ [])) ∙ ap (λ (o : Option GroupData). (i.durable ++ g ∷ []) ++ option_to_list o) (sym none))
+      (mark ∙ sym (mark_after-append 0 i.durable (g ∷ [])))
+      (subst (FollowsMark (mark_of t)) (sym none) tt)
+      (λ slots. subst (KeepsRows d t) (ap (after_taken (after_groups i.rows i.durable)) there ∙ sym (after_groups-append i.rows i.durable (g ∷ []))) (keeps.keeps (after_groups i.rows i.durable) (i.keeps slots)))
 
   -- ---- what a stop leaves
   module _ (left : Image) (slots : HasSlots left) where

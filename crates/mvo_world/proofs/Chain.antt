@@ -1,5 +1,5 @@
 -- The groups of a world hold the commits up to the last mark of them, and leave the rows after what these were told.
-use Rattle.std.proofs.Common.{◌≡◌, ℕ, Bool, true, false, cond, List, [], ◌∷◌, ◌++◌, Option, None, Some, map, refl, sym, ap, ◌∙◌, ◌<◌, ◌≤◌, subst, arith, append-nil}
+use Rattle.std.proofs.Common.{◌≡◌, ℕ, Bool, true, false, cond, List, [], ◌∷◌, ◌++◌, None, Some, map, refl, sym, ap, ◌∙◌, ◌<◌, ◌≤◌, subst, arith, append-nil}
 use Rattle.std.specs.Prelude.{nat_lt, ◌&&◌, nat_le}
 use Rattle.std.specs.List.{AllByRecursion, filter, fold}
 use Rattle.std.specs.List.Sorted.{IsStrictlySortedBy}
@@ -12,22 +12,26 @@ use Rattle.mvo_types.specs.Write.{Write, content_after, content_after_last}
 use Rattle.mvo_model.specs.History.{History, after_effect, after_history, after_histories}
 use Rattle.mvo_model.proofs.Serials.{get-after_effect, get-after_history}
 use Rattle.mvo_group.specs.Data.{RecordData, GroupData}
-use Rattle.mvo_theory.specs.Groups.{is_due, is_writing}
+use Rattle.mvo_group.specs.Rules.{KeepsRules}
+use Rattle.mvo_theory.specs.Groups.{is_due, is_writing, IsNextGroup}
 use Rattle.mvo_theory.proofs.Footprints.{key_same}
 use Rattle.mvo_theory.proofs.Places.{idle_leaves}
 use Rattle.mvo_store.specs.Rows.{after_record, after_groups}
-use Rattle.mvo_core.specs.Records.{IsRecordOf, AreRecordsOf, write_in}
+use Rattle.mvo_core.specs.Records.{IsRecordOf, AreRecordsOf, write_in, fits}
+use Rattle.std.proofs.Math.Bool.{and-false}
 use Rattle.std.proofs.lemmas.Bool.{lt-ltb, le-leb, leb-true, leb-false, le-ltb, lt-leb}
 use Rattle.mvo_model.specs.Trace.{Step, history_of, rows_up_to}
 use Rattle.mvo_theory.specs.State.{State, StampedTx, timeline}
 use Rattle.mvo_theory.specs.Sound.{IsRising}
-use Rattle.mvo_theory.specs.Marks.{StaysBelow, settled_to}
+use Rattle.mvo_theory.specs.Marks.{Commit, IsClosedAt, StaysBelow, settled_to}
+use Rattle.mvo_theory.specs.Calls.{IsKept}
+use Rattle.mvo_theory.proofs.Groups.{next_group_closes}
 use Rattle.mvo_theory.specs.AfterTrace.{IsAfterTrace, pairs}
 use Rattle.mvo_theory.proofs.Tales.{pairs-append}
 use Rattle.mvo_theory.proofs.Each.{each_append, each_weaker}
 use Rattle.mvo_store.specs.Frames.{mark_after}
 use Rattle.mvo_store.proofs.Grown.{after_groups-append}
-use Rattle.mvo_core.specs.Groups.{HaveRecordsOf}
+use Rattle.mvo_core.specs.Groups.{HasRecordsOf, HaveRecordsOf}
 use Rattle.std.specs.FinMap as fin
 
 -- ---- one record
@@ -82,16 +86,10 @@ records_rows prev (c ∷ cs) rs m h = go (nat_lt prev c.0) (is_writing c) refl r
 -- ---- rows up to a mark, by the line
 rows_of_line : (m : ℕ) (line : List StampedTx) (steps : List Step) (rows : Map) → AllByRecursion (λ (x : StampedTx). history_of x.id steps ≡ x.history) line → after_histories (map (λ (c : ℕ × ℕ). history_of c.1 steps) (filter (λ (c : ℕ × ℕ). nat_le c.0 m) (pairs line))) rows ≡ left_by_all (settled_to m line) rows
 rows_of_line m [] steps rows h = refl
-rows_of_line m (x ∷ xs) steps rows h = go x.settled (nat_le x.end m) (λ ms. rows_of_line m xs steps ms h.1)
-  where
-    go : (s b : Bool) → ((ms : Map) → after_histories (map (λ (c : ℕ × ℕ). history_of c.1 steps) (filter (λ (c : ℕ × ℕ). nat_le c.0 m) (pairs xs))) ms ≡ left_by_all (settled_to m xs) ms) →
-        after_histories (map (λ (c : ℕ × ℕ). history_of c.1 steps) (filter (λ (c : ℕ × ℕ). nat_le c.0 m) (cond s ((x.end, x.id) ∷ pairs xs) (pairs xs)))) rows ≡ left_by_all (cond (s && nat_le x.end m) ((x.end, x.history) ∷ settled_to m xs) (settled_to m xs)) rows
-    go false b ih = ih rows
-    go true b ih = here (nat_le x.end m)
-      where
-        here : (c : Bool) → after_histories (map (λ (d : ℕ × ℕ). history_of d.1 steps) (cond c ((x.end, x.id) ∷ filter (λ (d : ℕ × ℕ). nat_le d.0 m) (pairs xs)) (filter (λ (d : ℕ × ℕ). nat_le d.0 m) (pairs xs)))) rows ≡ left_by_all (cond c ((x.end, x.history) ∷ settled_to m xs) (settled_to m xs)) rows
-        here true = ih (after_history (history_of x.id steps) rows) ∙ ap (λ (ts : History). left_by_all (settled_to m xs) (after_history ts rows)) h.0
-        here false = ih rows
+rows_of_line m (x ∷ xs) steps rows h =
+    let with = rows_of_line m xs steps (after_history x.history rows) h.1 in
+    let without = rows_of_line m xs steps rows h.1 in
+    grind (arith, h.0, with, without)
 
 -- the tale is not trimmed
 pub rows_up_to_is : (m : ℕ) (opening : Map) (steps : List Step) (s : State) → IsAfterTrace opening steps s → rows_up_to m opening steps ≡ left_by_all (settled_to m (timeline s)) opening
@@ -102,41 +100,22 @@ rows_up_to_is m opening steps s h =
 -- ---- the commits up to one mark, and those up to a later one
 none_to : (m : ℕ) (xs : List StampedTx) → AllByRecursion (λ (x : StampedTx). m < x.end) xs → settled_to m xs ≡ []
 none_to m [] h = refl
-none_to m (x ∷ xs) h = ap (λ (b : Bool). cond (x.settled && b) ((x.end, x.history) ∷ settled_to m xs) (settled_to m xs)) (lt-leb x.end m h.0) ∙ go x.settled (none_to m xs h.1)
-  where
-    go : (s : Bool) → settled_to m xs ≡ [] → cond (s && false) ((x.end, x.history) ∷ settled_to m xs) (settled_to m xs) ≡ []
-    go true e = e
-    go false e = e
+none_to m (x ∷ xs) h = simp (lt-leb x.end m h.0, and-false, none_to m xs h.1)
 
 rows_after_all : (m n : ℕ) (xs : List StampedTx) → AllByRecursion (λ (x : StampedTx). m < x.end) xs → filter (is_after m) (settled_to n xs) ≡ settled_to n xs
 rows_after_all m n [] h = refl
-rows_after_all m n (x ∷ xs) h = go (x.settled && nat_le x.end n) (rows_after_all m n xs h.1)
-  where
-    go : (b : Bool) → filter (is_after m) (settled_to n xs) ≡ settled_to n xs → filter (is_after m) (cond b ((x.end, x.history) ∷ settled_to n xs) (settled_to n xs)) ≡ cond b ((x.end, x.history) ∷ settled_to n xs) (settled_to n xs)
-    go true e = ap (λ (c : Bool). cond c ((x.end, x.history) ∷ filter (is_after m) (settled_to n xs)) (filter (is_after m) (settled_to n xs))) (lt-ltb m x.end h.0) ∙ ap (λ cs. (x.end, x.history) ∷ cs) e
-    go false e = e
+rows_after_all m n (x ∷ xs) h = grind (arith, lt-ltb m x.end h.0, rows_after_all m n xs h.1)
 
 pub parts : (m n : ℕ) (xs : List StampedTx) → m ≤ n → IsRising xs → settled_to n xs ≡ settled_to m xs ++ filter (is_after m) (settled_to n xs)
 parts m n [] le h = refl
 parts m n (x ∷ xs) le h = go (nat_le x.end m) refl (parts m n xs le h.1)
   where
-    go : (b : Bool) → nat_le x.end m ≡ b → settled_to n xs ≡ settled_to m xs ++ filter (is_after m) (settled_to n xs) →
-        cond (x.settled && nat_le x.end n) ((x.end, x.history) ∷ settled_to n xs) (settled_to n xs) ≡ cond (x.settled && nat_le x.end m) ((x.end, x.history) ∷ settled_to m xs) (settled_to m xs) ++ filter (is_after m) (cond (x.settled && nat_le x.end n) ((x.end, x.history) ∷ settled_to n xs) (settled_to n xs))
-    go true e r =
-        let low = leb-true x.end m e in
-        ap (λ (b : Bool). cond (x.settled && b) ((x.end, x.history) ∷ settled_to n xs) (settled_to n xs)) (le-leb x.end n (omega arith))
-        ∙ here x.settled r
-        ∙ sym (ap (λ (b : Bool). cond (x.settled && b) ((x.end, x.history) ∷ settled_to m xs) (settled_to m xs) ++ filter (is_after m) (cond (x.settled && nat_le x.end n) ((x.end, x.history) ∷ settled_to n xs) (settled_to n xs))) e
-        ∙ ap (λ (b : Bool). cond (x.settled && true) ((x.end, x.history) ∷ settled_to m xs) (settled_to m xs) ++ filter (is_after m) (cond (x.settled && b) ((x.end, x.history) ∷ settled_to n xs) (settled_to n xs))) (le-leb x.end n (omega arith)))
-      where
-        here : (s : Bool) → settled_to n xs ≡ settled_to m xs ++ filter (is_after m) (settled_to n xs) → cond (s && true) ((x.end, x.history) ∷ settled_to n xs) (settled_to n xs) ≡ cond (s && true) ((x.end, x.history) ∷ settled_to m xs) (settled_to m xs) ++ filter (is_after m) (cond (s && true) ((x.end, x.history) ∷ settled_to n xs) (settled_to n xs))
-        here false q = q
-        here true q = ap (λ cs. (x.end, x.history) ∷ cs) q ∙ ap (λ (c : Bool). ((x.end, x.history) ∷ settled_to m xs) ++ cond c ((x.end, x.history) ∷ filter (is_after m) (settled_to n xs)) (filter (is_after m) (settled_to n xs))) (sym (le-ltb m x.end (leb-true x.end m e)))
+    go : (b : Bool) → nat_le x.end m ≡ b → settled_to n xs ≡ settled_to m xs ++ filter (is_after m) (settled_to n xs) → settled_to n (x ∷ xs) ≡ settled_to m (x ∷ xs) ++ filter (is_after m) (settled_to n (x ∷ xs))
+    go true e r = let low = leb-true x.end m e in grind (arith, e, le-leb x.end n (omega arith), le-ltb m x.end low, r)
     go false e r =
         let high = leb-false x.end m e in
         let all : AllByRecursion (λ (y : StampedTx). m < y.end) (x ∷ xs) = (high, each_weaker (λ (y : StampedTx). x.end < y.end) (λ (y : StampedTx). m < y.end) (λ y lt. omega arith) xs h.0) in
-        sym (rows_after_all m n (x ∷ xs) all)
-        ∙ ap (λ cs. cs ++ filter (is_after m) (settled_to n (x ∷ xs))) (sym (none_to m (x ∷ xs) all))
+        rw (none_to m (x ∷ xs) all, rows_after_all m n (x ∷ xs) all) refl
 
 -- ---- the rows that the groups leave
 pub chain_rows : (s : State) (mark : ℕ) (gs : List GroupData) (rows : Map) → IsRising (timeline s) → HaveRecordsOf s mark gs → after_groups (left_by_all (settled_to mark (timeline s)) rows) gs ≡ left_by_all (settled_to (mark_after mark gs) (timeline s)) rows
@@ -155,6 +134,12 @@ chain_rows s mark (g ∷ more) rows h gs =
     ∙ sym (left_by_all-append (settled_to mark (timeline s)) (filter (is_after mark) (settled_to g.mark (timeline s))) rows)
     ∙ ap (λ cs. left_by_all cs rows) (sym (parts mark g.mark (timeline s) le h)))
     ∙ chain_rows s g.mark more rows h gs.2
+
+-- the group that a core closes holds the commits up to its mark
+pub group_of_next : (opening : Map) (steps : List Step) (s : State) (g : GroupData) (commits : List Commit) → IsKept opening steps s → IsClosedAt s.marks.closed s → IsNextGroup fits s (record { prev = g.prev; mark = g.mark; commits = commits }) → AreRecordsOf commits g.records → KeepsRules g → HasRecordsOf s g
+group_of_next opening steps s g commits kept closed next records rules =
+    let q = next_group_closes opening steps s fits (record { prev = g.prev; mark = g.mark; commits = commits }) kept closed next in
+    record { closed = q.closed; records = subst (λ (cs : List Commit). AreRecordsOf cs g.records) q.commits records; rules = rules }
 
 -- ---- what stays
 pub groups_stay : (s s' : State) (mark : ℕ) (gs : List GroupData) → StaysBelow s s' → HaveRecordsOf s mark gs → HaveRecordsOf s' mark gs

@@ -3,21 +3,19 @@ use Rattle.std.proofs.Common.{◌≡◌, ◌≢◌, ℕ, ◌-◌, List, [], ◌�
 use Rattle.std.specs.Prelude.{nat_le, ◌==◌}
 use Rattle.std.proofs.lemmas.Bool.{true≢false, leb-true, leb-false, eqb-true, eq-eqb}
 use Rattle.mvo_types.specs.declared.ids.TxId.{TxId}
-use Rattle.mvo_types.specs.declared.ids.Stamp.{Stamp}
 use Rattle.mvo_types.specs.declared.answer.Answer.{Answer}
 use Rattle.mvo_types.specs.declared.op.Op.{Op}
 use Rattle.mvo_types.specs.declared.refusal.Refusal.{Refusal}
 use Rattle.mvo_types.specs.declared.refusal.Refusal.TheVariants.{RingFull, NothingToDo, OutOfMemory}
 use Rattle.mvo_types.specs.AnswerData.{answer_data, AnswerData}
-use Rattle.mvo_model.specs.Trace.{history_of, phase_of}
-use Rattle.mvo_model.specs.Trace.Phase.{Preparing as IsPreparing}
+use Rattle.mvo_model.specs.Trace.{history_of}
 use Rattle.mvo_disk.specs.declared.disk.Disk.{Ghosts}
 use Rattle.mvo_theory.specs.Entries.{entries}
 use Rattle.mvo_theory.specs.State.{StampedTx, State}
 use Rattle.mvo_theory.specs.Marks.{low_water}
 use Rattle.mvo_types.specs.Causes.{when}
 use Rattle.mvo_theory.specs.Causes.{why_not_close, awaited, end_of}
-use Rattle.mvo_theory.specs.Calls.{IsRefusal, steps_of, answer_in, steps_unless}
+use Rattle.mvo_theory.specs.Calls.{Call, Result, IsRefusal, steps_of, answer_in, steps_unless}
 use Rattle.mvo_theory.specs.Calls.Call.{Begin as BeginCall, Precommit as PrecommitCall, Validate as ValidateCall, Settle as SettleCall, Rollback as RollbackCall, Finish as FinishCall, Do}
 use Rattle.mvo_theory.specs.Calls.Result.{Accepted, Refused as RefusedCall}
 use Rattle.mvo_theory.proofs.Snapshots.{answers_traced}
@@ -40,16 +38,15 @@ use Rattle.mvo_world.specs.declared.event.Event.{Event}
 use Rattle.mvo_world.specs.declared.event.Event.TheVariants.{Begin, Read, Scan, Insert, Update, Delete, Precommit, Validate, Settle, Rollback, Finish, Collect, Trim, CloseGroup, TakeGroup, AppendBody, AppendOpen, Poll, RotateWrite, CheckpointRead, CheckpointData, CheckpointDelta, MergeRead, MergeData, MergeDelta, InstallClose, InstallBody, InstallOpen, Reclaim}
 use Rattle.mvo_world.specs.declared.reply.Reply.{Reply}
 use Rattle.mvo_world.specs.declared.reply.Reply.TheVariants.{Began, Answered, Prepared, Validated, Settled, RolledBack, Finished, Closed, Refused}
-use Rattle.mvo_model.specs.Trace.Step.{Begins, Answers, Prepares, Terminates}
+use Rattle.mvo_model.specs.Trace.Step.{Answers, Terminates}
 use Rattle.mvo_theory.specs.Words.{is_done}
 use Rattle.mvo_core.specs.declared.answers.Finishing.TheVariants.{More, Done}
 use Rattle.mvo_types.specs.declared.op.Op.TheVariants as op
-use Rattle.mvo_theory.specs.Calls as theory
 use Rattle.mvo_core.specs.declared.answers.Finishing as finishing
 
 module _ {D : Type 0} (d : Ghosts D) (p : Past) (w : WorldData D) (h : IsAfter d p w) where
   -- what the call came to
-  just : (c : theory.Call) (r : theory.Result) (w' : WorldData D) → IsAsked w c r w' → IsJust p c r
+  just : (c : Call) (r : Result) (w' : WorldData D) → IsAsked w c r w' → IsJust p c r
   just c r w' asked = justified p.rows p.mark p.steps h.state c r h.core.versions.kept h.counted (asked.leads p.rows p.steps h.state h.core).may
 
   drawn : (n : ℕ) → IsDrawn w n → IsNextStamp p n
@@ -98,20 +95,14 @@ module _ {D : Type 0} (d : Ghosts D) (p : Past) (w : WorldData D) (h : IsAfter d
       is_ring : (is_full w.ring ≡ true) → untaken p ≡ RING_GROUPS
       is_ring e = let l = eqb-true (length w.ring) RING_GROUPS e in let u = h.untaken in omega (arith, l, u)
 
-      other : RingFull ≡ NothingToDo → ⊥
-      other e = cc
-
-      spent : RingFull ≡ OutOfMemory → ⊥
-      spent e = cc
-
       first : FirstOf (when (low_water h.state == h.state.marks.closed) NothingToDo ∷ when (is_full w.ring) RingFull ∷ []) RingFull → untaken p ≡ RING_GROUPS
-      first (inl e) = absurd (other (when_some (low_water h.state == h.state.marks.closed) NothingToDo RingFull e).1)
+      first (inl e) = let other = (when_some (low_water h.state == h.state.marks.closed) NothingToDo RingFull e).1 in absurd cc
       first (inr (n, inl e)) = is_ring (when_some (is_full w.ring) RingFull RingFull e).0
       first (inr (n, inr m)) = absurd m.1
 
       go : (v : Option Refusal) → why_not_close h.state (is_full w.ring) ≡ v → IsRefusal true v RingFull → untaken p ≡ RING_GROUPS
       go (Some why) e q' = first (first_is (when (low_water h.state == h.state.marks.closed) NothingToDo ∷ when (is_full w.ring) RingFull ∷ []) RingFull (e ∙ ap (λ (v : Refusal). Some v) (sym q'))).is
-      go None e q' = absurd (spent q')
+      go None e q' = absurd cc
   closing r w' q = tt
 
   pub justified_reply : (e : Event) (r : Reply) (w' : WorldData D) → IsReplyTo d w e r w' → IsJustifiedBy p e r
@@ -139,12 +130,6 @@ module _ {D : Type 0} (d : Ghosts D) (p : Past) (w : WorldData D) (h : IsAfter d
   justified_reply (Finish t) (Refused r) w' q = just (FinishCall t.0) (RefusedCall r) w' q
   justified_reply CloseGroup r w' q = closing r w' q
   justified_reply e r w' q = search
-
-pub begun : (s : State) (t : TxId) → t.0 ≡ s.clock + 1 → happened Begin (Began t) ≡ steps_of s BeginCall Accepted
-begun s t e = ap (λ (n : ℕ). Begins n ∷ []) e
-
-pub prepared : (s : State) (t : TxId) (e : Stamp) → e.0 ≡ s.clock + 1 → happened (Precommit t) (Prepared e) ≡ steps_of s (PrecommitCall t.0) Accepted
-prepared s t e is = ap (λ (n : ℕ). Prepares t.0 n ∷ []) is
 
 -- the answer to an operation is that of the serial step on the snapshot
 pub answered : (s : State) {t : ℕ} {o : Op} (a : Answer) → answer_data a ≡ answer_in s t o → Answers t o (answer_data a) ∷ [] ≡ steps_of s (Do t o) Accepted

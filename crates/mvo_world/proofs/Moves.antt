@@ -1,5 +1,5 @@
 -- What each event makes of a world that stands after a past.
-use Rattle.std.proofs.Common.{◌≡◌, ℕ, ◌+◌, ◌≤◌, length, Bool, true, false, List, [], ◌∷◌, ◌++◌, Option, None, Some, Result, Ok, Err, map, refl, sym, ap, ◌∙◌, subst, arith, append_assoc, append-nil}
+use Rattle.std.proofs.Common.{◌≡◌, ℕ, ◌+◌, ◌≤◌, length, Bool, true, false, List, [], ◌∷◌, ◌++◌, Option, None, Some, Ok, Err, map, refl, sym, ap, ◌∙◌, subst, arith, append_assoc, append-nil}
 use Rattle.std.specs.Prelude.{is_some, nat_le}
 use Rattle.std.specs.Option.{option_to_list}
 use Rattle.std.specs.List.{AllByRecursion}
@@ -8,6 +8,10 @@ use Rattle.std.proofs.lemmas.List.{length-append, map-append}
 use Rattle.mvo_types.specs.declared.refusal.Refusal.{Refusal}
 use Rattle.mvo_types.specs.declared.refusal.Refusal.TheVariants.{Down, Busy, OutOfMemory}
 use Rattle.mvo_types.specs.declared.ids.Stamp.{Stamp}
+use Rattle.mvo_types.specs.declared.ids.TxId.{TxId}
+use Rattle.mvo_types.specs.declared.answer.Answer.{Answer}
+use Rattle.mvo_types.specs.declared.op.Op.{Op}
+use Rattle.mvo_types.specs.declared.op.Op.TheVariants as op
 use Rattle.mvo_types.specs.Keys.{Map}
 use Rattle.mvo_model.specs.Trace.{Step}
 use Rattle.mvo_disk.specs.declared.disk.Disk.{Ghosts}
@@ -16,8 +20,8 @@ use Rattle.mvo_group.specs.Data.{GroupData}
 use Rattle.mvo_theory.specs.State.{State, Marks, opened}
 use Rattle.mvo_theory.specs.Marks.{IsClosedAt, StaysBelow}
 use Rattle.mvo_theory.specs.Changes.{after_close}
-use Rattle.mvo_theory.specs.Calls as theory
-use Rattle.mvo_theory.specs.Calls.{Call, after_call, steps_of}
+use Rattle.mvo_theory.specs.Calls.{Call, Result as CallResult, after_call, steps_of}
+use Rattle.mvo_theory.specs.Calls.Call.{Do}
 use Rattle.mvo_theory.proofs.Each.{each_weaker, each_append}
 use Rattle.mvo_theory.specs.Counted.{HasCounts}
 use Rattle.mvo_theory.proofs.Stays.{stays_after_call}
@@ -27,7 +31,7 @@ use Rattle.mvo_core.specs.declared.answers.Closed as closing
 use Rattle.mvo_core.specs.Data.{CoreData}
 use Rattle.mvo_core.specs.Seen.{closed_mark_of, HasNewVersions}
 use Rattle.mvo_core.specs.Collecting.{StandsAsBefore, AreFewer}
-use Rattle.mvo_core.specs.Steps.{LeadsOn}
+use Rattle.mvo_core.specs.Steps.{LeadsOn, IsStep, IsAnswered}
 use Rattle.mvo_core.specs.Standing.{StandsFor}
 use Rattle.mvo_core.proofs.Begun.{still_closed}
 use Rattle.mvo_types.specs.Causes.{when, or_next}
@@ -36,7 +40,7 @@ use Rattle.mvo_store.specs.Rows.{after_groups}
 use Rattle.mvo_store.proofs.Grown.{after_groups-append}
 use Rattle.mvo_store.specs.Seen.{disk_of, mark_of, pending_of}
 use Rattle.mvo_store.specs.StoreData.{StoreData, opening}
-use Rattle.mvo_store.specs.Standing.{MayBeLeft, KeepsRows, LeavesRows, after_taken, IsKeeping, Keeps}
+use Rattle.mvo_store.specs.Standing.{MayBeLeft, KeepsRows, after_taken, IsKeeping, Keeps}
 use Rattle.mvo_store.specs.Causes.{why_not_take}
 use Rattle.mvo_store.specs.Calls.{StoreCall, ComesTo, IsStoreStep}
 use Rattle.mvo_store.specs.Calls.StoreCall.{Take, AppendOpen as AppendOpenCall}
@@ -45,19 +49,18 @@ use Rattle.mvo_store.proofs.Keeping.{OnlyNow, refused_keeps}
 use Rattle.mvo_world.specs.WorldData.{WorldData, waiting, Follow, IsLinked, IsSoundWorld, IsJustOpened}
 use Rattle.mvo_world.specs.Past.{Past, happened, acknowledged_by, closed_by, taken_by, with_event, opened_over}
 use Rattle.mvo_core.specs.Groups.{HaveRecordsOf}
-use Rattle.mvo_world.specs.Standing.{IsAfter, RecoversPrefix, LeavesPrefix}
+use Rattle.mvo_world.specs.Standing.{IsAfter, RecoversPrefix}
 use Rattle.mvo_world.specs.Ring.{oldest, IsClosingInto}
-use Rattle.mvo_world.specs.Replies.{IsReplyTo, IsAsked, IsStored, HasRow, or_nothing}
+use Rattle.mvo_world.specs.Replies.{IsReplyTo, IsAsked, IsStored, HasRow, operation_event, or_nothing}
 use Rattle.mvo_world.specs.Justified.{IsJustifiedBy}
 use Rattle.mvo_world.specs.Steps.{IsStepBy, IsWorldStep}
 use Rattle.mvo_types.specs.declared.limits.TheConstants.{RING_GROUPS}
 use Rattle.mvo_world.specs.declared.event.Event.{Event}
 use Rattle.mvo_world.specs.declared.event.Event.TheVariants.{Insert, Update, Collect, CloseGroup, TakeGroup, AppendOpen, Poll}
 use Rattle.mvo_world.specs.declared.reply.Reply.{Reply}
-use Rattle.mvo_world.specs.declared.reply.Reply.TheVariants.{Collected, Closed, Taken, Durable, Polled, Refused}
-use Rattle.mvo_world.proofs.Chain.{groups_stay}
-use Rattle.mvo_world.proofs.Closed.{group_of_next}
-use Rattle.mvo_world.proofs.Justified.{closing as closing_so, justified_reply}
+use Rattle.mvo_world.specs.declared.reply.Reply.TheVariants.{Answered, Collected, Closed, Taken, Durable, Polled, Refused}
+use Rattle.mvo_world.proofs.Chain.{groups_stay, group_of_next}
+use Rattle.mvo_world.proofs.Justified.{answered, closing as closing_so, justified_reply}
 use Rattle.mvo_world.proofs.Standing.{mark_after-append, groups_front, groups_back, groups_push, marks_rise, follow_to, prefix_image}
 
 -- ---- the groups that wait
@@ -84,11 +87,7 @@ nothing_taken s e = go _ _ e
 -- ---- a past with an event more
 past_is : (p : Past) (e : Event) (r : Reply) (steps : List Step) (acked closed : List ℕ) (took : ℕ) → p.steps ++ happened e r ≡ steps → p.acknowledged ++ acknowledged_by e r ≡ acked → p.closed ++ closed_by e r ≡ closed → p.taken + taken_by e r ≡ took
     → record { rows = p.rows; mark = p.mark; steps = steps; acknowledged = acked; closed = closed; taken = took } ≡ with_event p e r
-past_is p e r steps acked closed took a b c n =
-    ap (λ (xs : List Step). record { rows = p.rows; mark = p.mark; steps = xs; acknowledged = acked; closed = closed; taken = took }) (sym a)
-    ∙ ap (λ (ms : List ℕ). record { rows = p.rows; mark = p.mark; steps = p.steps ++ happened e r; acknowledged = ms; closed = closed; taken = took }) (sym b)
-    ∙ ap (λ (ms : List ℕ). record { rows = p.rows; mark = p.mark; steps = p.steps ++ happened e r; acknowledged = p.acknowledged ++ acknowledged_by e r; closed = ms; taken = took }) (sym c)
-    ∙ ap (λ (i : ℕ). record { rows = p.rows; mark = p.mark; steps = p.steps ++ happened e r; acknowledged = p.acknowledged ++ acknowledged_by e r; closed = p.closed ++ closed_by e r; taken = i }) (sym n)
+past_is p e r steps acked closed took a b c n = cc
 
 none_more : (n : ℕ) → n + 0 ≡ n
 none_more n = omega arith
@@ -101,26 +100,14 @@ groups_by e r = (closed_by e r, taken_by e r)
 abbrev pub IsSilent : Event → Reply → Type 0
 IsSilent e r = (happened e r ≡ []) × (acknowledged_by e r ≡ []) × (groups_by e r ≡ ([], 0))
 
-pub silent_refused : (e : Event) (r : Refusal) → happened e (Refused r) ≡ [] → IsSilent e (Refused r)
-silent_refused AppendOpen r is = (is, refl, refl)
-silent_refused (Poll stamp) r is = (is, refl, refl)
-silent_refused CloseGroup r is = (is, refl, refl)
-silent_refused TakeGroup r is = (is, refl, refl)
-silent_refused e r is = (is, refl, refl)
-
--- nor is an event whose copy was refused
+-- so it is with an event whose copy was refused
 pub silent_copy : (e : Event) → HasRow e → IsSilent e (Refused OutOfMemory)
 silent_copy (Insert t row) h = (refl, refl, refl)
 silent_copy (Update t row) h = (refl, refl, refl)
 silent_copy e h = absurd h
 
 silent_past : (p : Past) (e : Event) (r : Reply) → IsSilent e r → p ≡ with_event p e r
-silent_past p e r s =
-    past_is p e r p.steps p.acknowledged p.closed p.taken
-    (ap (λ xs. p.steps ++ xs) s.0 ∙ append-nil p.steps)
-    (ap (λ ms. p.acknowledged ++ ms) s.1 ∙ append-nil p.acknowledged)
-    (ap (λ (g : List ℕ × ℕ). p.closed ++ g.0) s.2 ∙ append-nil p.closed)
-    (ap (λ (g : List ℕ × ℕ). p.taken + g.1) s.2 ∙ none_more p.taken)
+silent_past p e r s = simp (s.0, s.1, ap (λ (g : List ℕ × ℕ). g.0) s.2, ap (λ (g : List ℕ × ℕ). g.1) s.2, append-nil, none_more)
 
 -- a state stays as it is
 unchanged : (s : State) → StaysBelow s s
@@ -131,14 +118,6 @@ abbrev HasRoomFor : ℕ → List ℕ → List GroupData → Type 0
 HasRoomFor took closed ring = (took + length ring ≡ length closed) × (length ring ≤ RING_GROUPS)
 
 module _ {D : Type 0} (d : Ghosts D) where
-  -- the ring stays
-  same_room : (p : Past) (w w' : WorldData D) → w'.ring ≡ w.ring → IsAfter d p w → HasRoomFor p.taken p.closed w'.ring
-  same_room p w w' ring h = subst (HasRoomFor p.taken p.closed) (sym ring) (h.untaken, h.room)
-
-  -- ---- what a stop leaves meanwhile
-  meanwhile : (p : Past) (w w' : WorldData D) (h : IsAfter d p w) → LeavesRows d (after_groups p.rows h.sent) w.store w'.store → LeavesPrefix d p (disk_of w.store) (disk_of w'.store)
-  meanwhile p w w' h only = weaker d.moment d.left_since (disk_of w.store) (disk_of w'.store) (MayBeLeft (after_groups p.rows h.sent) (mark_of w.store) (opening w.store)) (RecoversPrefix p) (λ image gives. prefix_image d p w h image gives) only
-
   -- ---- a step, by what it makes of the rows of the store
   stepped : (IsReply : WorldData D → Event → Reply → WorldData D → Type 0) (Justifies : Past → Event → Reply → Type 0) (w w' : WorldData D) (e : Event) (r : Reply) (made : Map → Map) → IsReply w e r w' → ((p : Past) → IsAfter d p w → Justifies p e r) → IsKeeping d made w.store w'.store
       → ((p : Past) (h : IsAfter d p w) → KeepsRows d w'.store (made (after_groups p.rows h.sent)) → IsAfter d (with_event p e r) w') → IsStepBy IsReply Justifies d w e r w'
@@ -146,7 +125,9 @@ module _ {D : Type 0} (d : Ghosts D) where
     reply = reply;
     justified = just;
     after = λ p h. after p h (keeps.keeps (after_groups p.rows h.sent) h.store);
-    any_moment = λ p h. meanwhile p w w' h (keeps.any_moment (after_groups p.rows h.sent) h.store);
+    any_moment = λ p h.
+        let rows = after_groups p.rows h.sent in
+        weaker d.moment d.left_since (disk_of w.store) (disk_of w'.store) (MayBeLeft rows (mark_of w.store) (opening w.store)) (RecoversPrefix p) (prefix_image d p w h) (keeps.any_moment rows h.store);
   }
 
   -- no group becomes durable and none is closed
@@ -175,7 +156,7 @@ module _ {D : Type 0} (d : Ghosts D) where
       → ((p : Past) (h : IsAfter d p w) → StandsFor p.rows p.steps h.state w'.core) → w'.ring ≡ w.ring → waiting w' ≡ waiting w → mark_of w'.store ≡ mark_of w.store → Keeps d w.store w'.store → IsStepBy IsReply Justifies d w e r w'
   moved IsReply Justifies w w' e r silent reply just core ring wait mark keeps =
       stepped IsReply Justifies w w' e r (λ rows. rows) reply just keeps (λ p h store.
-      subst (λ (q : Past). IsAfter d q w') (silent_past p e r silent) (goes_on p w w' h p.steps h.state (core p h) h.counted h.closed (unchanged h.state) wait mark store p.acknowledged (subst (λ m. AllByRecursion (λ n. n ≤ m) p.acknowledged) (sym mark) h.covers) p.taken (same_room p w w' ring h)))
+      subst (λ (q : Past). IsAfter d q w') (silent_past p e r silent) (goes_on p w w' h p.steps h.state (core p h) h.counted h.closed (unchanged h.state) wait mark store p.acknowledged (subst (λ m. AllByRecursion (λ n. n ≤ m) p.acknowledged) (sym mark) h.covers) p.taken (subst (HasRoomFor p.taken p.closed) (sym ring) (h.untaken, h.room))))
 
   -- ---- a call of the store that takes no group and makes none durable
   store_moved : (w : WorldData D) (store : StoreData D) (e : Event) (r : Reply) → IsSilent e r → IsReplyTo d w e r (record w { store = store }) → KeepsTaken w.store store → Keeps d w.store store → IsWorldStep d w e r (record w { store = store })
@@ -191,10 +172,10 @@ module _ {D : Type 0} (d : Ghosts D) where
       store_moved w store e r silent (reply (stored w store call a h.comes)) (quiet_taken d w.store call (Ok a) store quiet h.comes) (quiet_rows d w.store call (Ok a) store quiet h)
 
   -- and one that is refused
-  pub refused : {A : Type 0} (w : WorldData D) {store : StoreData D} {call : StoreCall} {why : Refusal} {e : Event} → IsStoreStep {A = A} d w.store call (Err why) store → happened e (Refused why) ≡ []
+  pub refused : {A : Type 0} (w : WorldData D) {store : StoreData D} {call : StoreCall} {why : Refusal} {e : Event} → IsStoreStep {A = A} d w.store call (Err why) store → IsSilent e (Refused why)
       → (IsStored d w call (Err why) (record w { store = store }) → IsReplyTo d w e (Refused why) (record w { store = store })) → IsWorldStep d w e (Refused why) (record w { store = store })
   refused {A} w {store} {call} {why} {e} h silent reply =
-      store_moved w store e (Refused why) (silent_refused e why silent) (reply (record { comes = refused_by A d w.store call why store h.comes; rest = refl })) (left_taken d call why w.store store h.comes.left) (refused_rows A d w.store call why store h)
+      store_moved w store e (Refused why) silent (reply (record { comes = refused_by A d w.store call why store h.comes; rest = refl })) (left_taken d call why w.store store h.comes.left) (refused_rows A d w.store call why store h)
 
   -- ---- a group is taken
   pub taken : (w : WorldData D) {ring : List GroupData} {store : StoreData D} (g : GroupData) → why_not_take w.store ≡ None → w.ring ≡ g ∷ ring → IsStoreStep {A = Unit {0}} d w.store (Take g) (Ok tt) store → IsWorldStep d w TakeGroup Taken (record w { ring = ring; store = store })
@@ -257,7 +238,7 @@ module _ {D : Type 0} (d : Ghosts D) where
     still IsReply Justifies w e r silent reply just = moved IsReply Justifies w w e r silent reply just (λ p h. h.core) refl refl refl (refused_keeps d only_now w.store)
 
     -- a call of the core that closes no group
-    pub told : (w : WorldData D) {core : CoreData} {c : Call} {result : theory.Result} {e : Event} {r : Reply}
+    pub told : (w : WorldData D) {core : CoreData} {c : Call} {result : CallResult} {e : Event} {r : Reply}
         → ((opening : Map) (steps : List Step) (s : State) → StandsFor opening steps s w.core → LeadsOn opening steps s c result core)
         → (IsAsked w c result (record w { core = core }) → IsReplyTo d w e r (record w { core = core }))
         → ((opening : Map) (steps : List Step) (s : State) → StandsFor opening steps s w.core → happened e r ≡ steps_of s c result)
@@ -273,6 +254,16 @@ module _ {D : Type 0} (d : Ghosts D) where
       where
         w' : WorldData D
         w' = record w { core = core }
+
+    -- an operation is answered
+    pub answered_step : (w : WorldData D) {core : CoreData} (t : TxId) (o : Op) (a : Answer) → IsStep {A = Answer} w.core (Do t.0 o) (Ok a) core → IsAnswered w.core t.0 o a → IsWorldStep d w (operation_event t o) (Answered a) (record w { core = core })
+    answered_step w t (op.Read k) a step answer = told w step (λ asked. (asked, answer)) (λ opening xs s h. answered s a (answer opening xs s h)) (refl, refl)
+    answered_step w t o a step answer = told w step (λ asked. (asked, answer)) (λ opening xs s h. answered s a (answer opening xs s h)) (refl, refl)
+
+    -- or refused
+    pub unanswered_step : (w : WorldData D) {core : CoreData} (t : TxId) (o : Op) {r : Refusal} → IsStep {A = Answer} w.core (Do t.0 o) (Err r) core → IsWorldStep d w (operation_event t o) (Refused r) (record w { core = core })
+    unanswered_step w t (op.Read k) step = told w step (λ asked. asked) (λ opening xs s h. refl) (refl, refl)
+    unanswered_step w t o step = told w step (λ asked. asked) (λ opening xs s h. refl) (refl, refl)
 
     -- a collection, over which the state stays
     pub collected : (w : WorldData D) {core : CoreData} (c : Collection) → AreFewer w.core c core → StandsAsBefore w.core core → HasNewVersions w.core core → IsWorldStep d w Collect (Collected c) (record w { core = core })

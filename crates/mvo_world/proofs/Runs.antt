@@ -1,5 +1,5 @@
 -- A world that was just opened, one event more of a run, and what each stretch of it leaves.
-use Rattle.std.proofs.Common.{◌≡◌, List, [], ◌∷◌, ◌++◌, length, refl, subst, arith, ap, ℕ, Ok, sym}
+use Rattle.std.proofs.Common.{◌≡◌, List, [], ◌∷◌, ◌++◌, length, refl, subst, arith, ap, ◌∙◌, ℕ, Ok, sym}
 use Rattle.mvo_world.specs.Past.{Past, with_event, with_events, opened_over}
 use Rattle.mvo_world.specs.Steps.{AreSteps, IsRunStep}
 use Rattle.mvo_world.specs.declared.event.Event.{Event}
@@ -11,7 +11,6 @@ use Rattle.mvo_world.specs.Standing.{IsAfter, MayLeavePrefix, IsPrefix, Recovers
 use Rattle.mvo_world.specs.Promise.{LeavePrefixes}
 use Rattle.mvo_world.proofs.Standing.{prefix_image}
 use Rattle.mvo_types.specs.Keys.{Map}
-use Rattle.mvo_disk.specs.Disk.{Image}
 use Rattle.mvo_store.specs.Standing.{Gives, HasSlots, KeepsRows}
 use Rattle.mvo_store.specs.Opening.{IsAnswer, HasBegun}
 use Rattle.mvo_store.proofs.Marked.{same_answer, same_rows}
@@ -42,11 +41,6 @@ module _ {D : Type 0} (d : Ghosts D) where
   leave_prefixes p w (e ∷ es) (r ∷ rs) w' after steps =
       (disk_of steps.0.store, steps.1.any_moment p after, leave_prefixes (with_event p e r) steps.0 es rs w' (steps.1.after p after) steps.2)
 
-pub answer_prefix : (content : Image) (rows : Map) (mark : ℕ) → IsAnswer content (Ok (rows, mark)) → (past : Past) → RecoversPrefix past content → IsPrefix past rows mark
-answer_prefix content rows mark answer past h =
-    subst (λ (x : Map × ℕ). IsPrefix past x.0 x.1) (same_answer content rows mark answer h.rows h.mark h.gives) h.prefix
-
-module _ {D : Type 0} (d : Ghosts D) where
   -- the rows that the store answered are those that the world is opened over
   module _ (old : D) (w : WorldData D) (rows : Map) (mark : ℕ) (answer : IsAnswer (d.content old) (Ok (rows, mark))) (begins : HasBegun d old w.store mark) (core : OpensAs rows mark w.core) (none : w.ring ≡ []) where
     pub answer_here : IsAnswer (d.content old) (Ok (rows, mark_of w.store))
@@ -56,12 +50,7 @@ module _ {D : Type 0} (d : Ghosts D) where
     begins_here = record {
       core = subst (λ (m : ℕ). OpensAs rows m w.core) (sym begins.mark_is) core;
       ring = none;
-      store = record {
-        pending = begins.pending;
-        written = begins.written;
-        job = begins.job;
-        down = begins.down;
-      };
+      store = record { pending = begins.pending; written = begins.written; job = begins.job; down = begins.down };
     }
 
     pub world_begins : (given : Map) → Gives given (mark_of w.store) (d.content old) → IsJustOpened given w
@@ -73,4 +62,5 @@ module _ {D : Type 0} (d : Ghosts D) where
 
     pub world_prefix : (given : Map) → Gives given (mark_of w.store) (d.content old) → (past : Past) → RecoversPrefix past (d.content old) → IsPrefix past given (mark_of w.store)
     world_prefix given gives past h =
-        subst (λ (m : Map). IsPrefix past m (mark_of w.store)) (sym (same_rows (d.content old) rows (mark_of w.store) answer_here given gives)) (answer_prefix (d.content old) rows (mark_of w.store) answer_here past h)
+        let same = same_answer (d.content old) rows (mark_of w.store) answer_here in
+        subst (λ (x : Map × ℕ). IsPrefix past x.0 x.1) (same h.rows h.mark h.gives ∙ sym (same given (mark_of w.store) gives)) h.prefix

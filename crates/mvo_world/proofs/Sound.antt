@@ -1,28 +1,39 @@
 -- A world stays sound over a call of its core.
-use Rattle.std.proofs.Common.{◌≡◌, ℕ, List, [], ◌∷◌, ◌++◌, Result, Ok, Err, sym, ap, ◌∙◌, subst}
+use Rattle.std.proofs.Common.{◌≡◌, ℕ, ◌+◌, List, [], ◌∷◌, ◌++◌, Result, Ok, Err, refl, sym, ap, ◌∙◌, subst}
 use Rattle.std.specs.Option.{option_to_list}
 use Rattle.mvo_types.specs.declared.refusal.Refusal.{Refusal}
 use Rattle.mvo_group.specs.Data.{GroupData}
 use Rattle.mvo_theory.specs.State.{Marks}
 use Rattle.mvo_theory.specs.Marks.{IsClosedAt}
 use Rattle.mvo_theory.specs.Changes.{after_close}
-use Rattle.mvo_theory.specs.Calls.{Call, group_of}
+use Rattle.mvo_theory.specs.Groups.{Group, AreGroupsOf}
+use Rattle.mvo_theory.specs.Calls.{Call, Result as CallResult, after_call, group_of}
+use Rattle.mvo_theory.proofs.Chain.{chained_after_call}
 use Rattle.mvo_core.specs.declared.answers.Closed as closing
 use Rattle.mvo_core.specs.Data.{CoreData}
-use Rattle.mvo_core.specs.Seen.{closed_mark_of, HasNewVersions}
-use Rattle.mvo_core.specs.Steps.{came, IsStep}
+use Rattle.mvo_core.specs.Seen.{clock_of, closed_mark_of, HasNewVersions}
+use Rattle.mvo_core.specs.Standing.{Stands}
+use Rattle.mvo_core.specs.Steps.{came, IsStep, LeadsOn}
 use Rattle.mvo_core.specs.Collecting.{StandsAsBefore}
 use Rattle.mvo_core.proofs.Begun.{stands_on}
 use Rattle.mvo_world.specs.Ring.{IsClosingInto}
 use Rattle.mvo_world.specs.WorldData.{WorldData, waiting, Follow, IsSoundWorld}
-use Rattle.mvo_world.proofs.Asked.{same_closed}
-use Rattle.mvo_world.proofs.Closed.{group_of_next}
+use Rattle.mvo_world.specs.Replies.{IsDrawn}
+use Rattle.mvo_world.proofs.Chain.{group_of_next}
 use Rattle.mvo_store.specs.Seen.{mark_of, pending_of}
 use Rattle.mvo_world.proofs.Moves.{linked_closed}
 
--- the mark of the last closed group, by the state that both stand for
-same_mark : {old new : ℕ} (opening opening' : ℕ) (m : Marks) → m ≡ record { opening = opening; closed = old } → m ≡ record { opening = opening'; closed = new } → new ≡ old
-same_mark opening opening' m a b = sym (ap (λ (x : Marks). x.closed) b) ∙ ap (λ (x : Marks). x.closed) a
+-- the mark of the group that was closed last stays
+pub same_closed : {old new : CoreData} (i : Stands old) (c : Call) (r : CallResult) → group_of c r ≡ [] → LeadsOn i.opening i.steps i.state c r new → closed_mark_of new ≡ closed_mark_of old
+same_closed {old} {new} i c r none l =
+    let s = i.state in
+    let chained = chained_after_call i.opening i.steps s.marks.closed [] s c r l.may i.stands.versions.kept (record { closed = i.closed; groups = refl }) in
+    let same : s.marks.closed ≡ (after_call s c r).marks.closed = subst (λ (gs : List Group). AreGroupsOf (after_call s c r) s.marks.closed gs) none chained.groups in
+    sym (ap (λ (m : Marks). m.closed) l.stands.marks) ∙ sym same ∙ ap (λ (m : Marks). m.closed) i.stands.marks
+
+-- the timestamp behind the clock is the next one in each state
+pub next_stamp : {D : Type 0} (w : WorldData D) (n : ℕ) → n ≡ clock_of w.core + 1 → IsDrawn w n
+next_stamp w n e = λ opening steps s h. e ∙ ap (λ (m : ℕ). m + 1) h.dependencies.stands.clock
 
 module _ {D : Type 0} (w : WorldData D) (i : IsSoundWorld w) where
   -- over one that closes no group
@@ -76,5 +87,5 @@ module _ {D : Type 0} (w : WorldData D) (i : IsSoundWorld w) where
       record {
         core = record { opening = i.core.opening; steps = i.core.steps; state = s; stands = told.0.stands; closed = i.core.closed };
         linked = subst (λ (gs : List GroupData). Follow (mark_of w.store) (option_to_list (pending_of w.store) ++ gs) (closed_mark_of core)) (sym told.1)
-            (subst (λ (n : ℕ). Follow (mark_of w.store) (waiting w) n) (sym (same_mark w.core.opening core.opening s.marks i.core.stands.marks told.0.stands.marks)) i.linked);
+            (subst (λ (n : ℕ). Follow (mark_of w.store) (waiting w) n) (sym (ap (λ (m : Marks). m.closed) i.core.stands.marks) ∙ ap (λ (m : Marks). m.closed) told.0.stands.marks) i.linked);
       }

@@ -7,6 +7,7 @@ use Rattle.mvo_group.specs.Data.{GroupData}
 use Rattle.mvo_types.specs.declared.answer.Answer.{Answer}
 use Rattle.mvo_types.specs.declared.op.Op.{Op}
 use Rattle.mvo_types.specs.declared.op.Op.TheVariants as op
+use Rattle.mvo_types.specs.declared.ids.TxId.{TxId}
 use Rattle.mvo_types.specs.Keys.{Map}
 use Rattle.mvo_model.specs.Trace.{Step}
 use Rattle.mvo_theory.specs.State.{State}
@@ -53,6 +54,14 @@ pub record IsAsked {D : Type 0} (w : WorldData D) (c : theory.Call) (r : theory.
   pub leads : (opening : Map) (steps : List Step) (s : State) → StandsFor opening steps s w.core
       → LeadsOn opening steps s c r w'.core
   pub rest : w' ≡ record w { core = w'.core }
+
+-- the event by which a transaction asks for an operation
+abbrev pub operation_event : TxId → Op → Event
+operation_event t (op.Read k) = Read t k
+operation_event t (op.Scan table lo hi) = Scan t table lo hi
+operation_event t (op.Insert row) = Insert t row
+operation_event t (op.Update row) = Update t row
+operation_event t (op.Delete k) = Delete t k
 
 -- an operation was answered: as the serial step answers on the transaction's snapshot
 abbrev pub IsOpAnswered : {D : Type 0} → WorldData D → ℕ → Op → Answer → WorldData D → Type 0

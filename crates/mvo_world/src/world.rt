@@ -11,7 +11,7 @@ use crate::ring::Ring;
 use mvo_core::Core;
 use mvo_disk::Disk;
 use mvo_store::Store;
-use mvo_types::{Refusal, Stamp};
+use mvo_types::{Op, Refusal, Stamp};
 use std::alloc::Global;
 use std::marker::Model;
 use std::thread::Threads;
@@ -173,11 +173,11 @@ impl<D: Disk> World<D> {
     {
         match event {
             Event::Begin => self.begin(),
-            Event::Read(tx, key) => self.read(tx, key),
-            Event::Scan(tx, table, lo, hi) => self.scan(tx, table, lo, hi),
-            Event::Insert(tx, row) => self.insert(tx, row),
-            Event::Update(tx, row) => self.update(tx, row),
-            Event::Delete(tx, key) => self.delete(tx, key),
+            Event::Read(tx, key) => self.operate(tx, Op::Read(key)),
+            Event::Scan(tx, table, lo, hi) => self.operate(tx, Op::Scan(table, lo, hi)),
+            Event::Insert(tx, row) => self.operate(tx, Op::Insert(row)),
+            Event::Update(tx, row) => self.operate(tx, Op::Update(row)),
+            Event::Delete(tx, key) => self.operate(tx, Op::Delete(key)),
             Event::Precommit(tx) => self.precommit(tx),
             Event::Validate(tx) => self.validate(tx),
             Event::Settle(tx) => self.settle(tx),

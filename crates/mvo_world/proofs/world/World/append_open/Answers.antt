@@ -7,5 +7,5 @@ pub returns : goal.returns
 returns g c =
     elim c.match-append_open.branch [
       | goal.in-Ok w ↦ rw (w.result-is, ← c.self.view_is) (durable g.D.Disk (world_data c.self.inside) w.mark.result w.in-Ok.ensures.step (w.mark.ensures ∙ w.in-Ok.ensures.mark))
-      | goal.in-Err w ↦ rw (w.result-is, ← c.self.view_is) (refused g.D.Disk (world_data c.self.inside) w.in-Err.ensures.step refl (λ left. left))
+      | goal.in-Err w ↦ rw (w.result-is, ← c.self.view_is) (refused g.D.Disk (world_data c.self.inside) w.in-Err.ensures.step (refl, refl, refl) (λ left. left))
     ]

@@ -1,9 +1,8 @@
-use Rattle.std.proofs.Common.{refl}
+use Rattle.std.proofs.Common.{ℕ, [], ◌∷◌, refl, ap}
+use Rattle.mvo_model.specs.Trace.Step.{Begins}
 use Rattle.mvo_world.specs.View.{world_data}
-use Rattle.mvo_world.proofs.Asked.{next_stamp}
-use Rattle.mvo_world.proofs.Justified.{begun}
 use Rattle.mvo_world.proofs.Moves.{told}
-use Rattle.mvo_world.proofs.Sound.{sound_asked}
+use Rattle.mvo_world.proofs.Sound.{next_stamp, sound_asked}
 use Rattle.mvo_world.proofs.world.World.begin.Goals as goal
 
 pub invariant_of-self : goal.invariant_of-self
@@ -14,6 +13,6 @@ returns g c =
     elim c.match-begin_tx.branch [
       | goal.in-Ok w ↦ rw (w.result-is, ← c.self.view_is) (
           let drawn = next_stamp (world_data c.self.inside) w.in-Ok.tx.0 w.in-Ok.ensures.id in
-          told g.D.Disk g.met.D.Disk.only_now (world_data c.self.inside) w.in-Ok.ensures.step (λ asked. (asked, drawn)) (λ o xs s h. begun s w.in-Ok.tx (drawn o xs s h)) (refl, refl))
+          told g.D.Disk g.met.D.Disk.only_now (world_data c.self.inside) w.in-Ok.ensures.step (λ asked. (asked, drawn)) (λ o xs s h. ap (λ (n : ℕ). Begins n ∷ []) (drawn o xs s h)) (refl, refl))
       | goal.in-Err w ↦ rw (w.result-is, ← c.self.view_is) (told g.D.Disk g.met.D.Disk.only_now (world_data c.self.inside) w.in-Err.ensures.step (λ asked. asked) (λ o xs s h. refl) (refl, refl))
     ]

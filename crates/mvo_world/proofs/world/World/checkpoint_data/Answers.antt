@@ -7,5 +7,5 @@ pub returns : goal.returns
 returns g c =
     elim c.match-checkpoint_data.branch [
       | goal.in-Ok w ↦ rw (w.result-is, ← c.self.view_is) (done g.D.Disk (world_data c.self.inside) w.in-Ok.ensures tt (refl, refl, refl) (λ made. made))
-      | goal.in-Err w ↦ rw (w.result-is, ← c.self.view_is) (refused g.D.Disk (world_data c.self.inside) w.in-Err.ensures refl (λ left. left))
+      | goal.in-Err w ↦ rw (w.result-is, ← c.self.view_is) (refused g.D.Disk (world_data c.self.inside) w.in-Err.ensures (refl, refl, refl) (λ left. left))
     ]

@@ -7,5 +7,5 @@ pub returns : goal.returns
 returns g c =
     elim c.match-install_open.branch [
       | goal.in-Ok w ↦ rw (w.result-is, ← c.self.view_is) (done g.D.Disk (world_data c.self.inside) w.in-Ok.ensures.step tt (refl, refl, refl) (λ made. (made, w.in-Ok.ensures.generation)))
-      | goal.in-Err w ↦ rw (w.result-is, ← c.self.view_is) (refused g.D.Disk (world_data c.self.inside) w.in-Err.ensures.step refl (λ left. left))
+      | goal.in-Err w ↦ rw (w.result-is, ← c.self.view_is) (refused g.D.Disk (world_data c.self.inside) w.in-Err.ensures.step (refl, refl, refl) (λ left. left))
     ]
