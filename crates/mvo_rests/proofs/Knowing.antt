@@ -358,5 +358,9 @@ known_after_call c s call (Refused r) m k h = go (why_not s call) refl (takes_me
     go None e true q = subst (λ (v : Refusal). KnowsRests (record c { steps = c.steps ++ steps_of_refused call v; trims = trims_after c call (Refused v) }) (after_refused s call v)) (sym q) (known_spent c s call h)
     go None e false q = absurd q
 
+-- a mark that was closed changes nothing of it
+pub known_closed : (c : Course) (s : State) (n : ℕ) → KnowsRests c s → KnowsRests c (after_close s n)
+known_closed c s n h = record { start = h.start; earlier = h.earlier; active = h.active; preparing = h.preparing }
+
 pub known_opened : (rows : Map) (mark : ℕ) → KnowsRests (record { rows = rows; mark = mark; steps = []; trims = [] }) (opened rows mark)
 known_opened rows mark = record { start = refl; earlier = tt; active = tt; preparing = tt }

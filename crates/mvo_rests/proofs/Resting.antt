@@ -119,13 +119,10 @@ start_later mark n k (d ∷ ds) le h =
     ∙ start_later d.1 n k ds le h.1
     ∙ ap (λ (b : Bool). cond b (start_behind d.1 ds n) mark) (sym (le-leb d.0 n h.0))
 
-one_of : {X : Type 0} (xs before after : List X) (z : X) → xs ≡ before ++ (z ∷ after) → length before < length xs
-one_of xs before after z e =
+start_then : (c : Course) (m : ℕ) (before after : List Step) (z : Step) → c.steps ≡ before ++ (z ∷ after) → start_behind c.mark (c.trims ++ (length c.steps, m) ∷ []) (length before) ≡ start_behind c.mark c.trims (length before)
+start_then c m before after z e =
     let l = ap length e ∙ length-append before (z ∷ after) in
-    omega (arith, l)
-
-same_start : (c : Course) (m t x e : ℕ) (h : RestsOn c t x e) → start_behind c.mark (c.trims ++ (length c.steps, m) ∷ []) (length h.before) ≡ start_behind c.mark c.trims (length h.before)
-same_start c m t x e h = start_kept c.mark (length c.steps) m (length h.before) c.trims (one_of c.steps h.before h.after (Answers t h.op h.answer) h.then')
+    start_kept c.mark (length c.steps) m (length before) c.trims (omega (arith, l))
 
 trim_later : (c : Course) (m t x e : ℕ) → RestsOn c t x e → RestsOn (with_trim c m) t x e
 trim_later c m t x e h = record {
@@ -134,7 +131,7 @@ trim_later c m t x e h = record {
   answer = h.answer;
   after = h.after;
   then' = h.then';
-  depends = subst (λ (n : ℕ). DependsNow c.rows h.before n t h.op x e) (sym (same_start c m t x e h)) h.depends;
+  depends = subst (λ (n : ℕ). DependsNow c.rows h.before n t h.op x e) (sym (start_then c m h.before h.after (Answers t h.op h.answer) h.then')) h.depends;
 }
 
 trim_before : (c : Course) (m t x e : ℕ) → RestsOn (with_trim c m) t x e → RestsOn c t x e
@@ -144,7 +141,7 @@ trim_before c m t x e h = record {
   answer = h.answer;
   after = h.after;
   then' = h.then';
-  depends = subst (λ (n : ℕ). DependsNow c.rows h.before n t h.op x e) (start_kept c.mark (length c.steps) m (length h.before) c.trims (one_of c.steps h.before h.after (Answers t h.op h.answer) h.then')) h.depends;
+  depends = subst (λ (n : ℕ). DependsNow c.rows h.before n t h.op x e) (start_then c m h.before h.after (Answers t h.op h.answer) h.then') h.depends;
 }
 
 flag_trimmed : (c : Course) (m t : ℕ) (f : Option ℕ) → IsFlag c t f → IsFlag (with_trim c m) t f

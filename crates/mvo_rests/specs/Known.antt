@@ -12,7 +12,8 @@ IsFlag c t None = RestsOnNoAborted c t
 IsFlag c t (Some x) = IsFirstAborted c t x
 
 -- these are the ends of those on whom t rests
-pub record Knows (c : Course) (t : ℕ) (depends_on : List ℕ) (aborted : Option ℕ) : Type 0 where
+pub record Knows (c : Course) (t : ℕ) (depends_on : List ℕ) (aborted : Option ℕ) :
+    Type 0 where
   pub all : (x e : ℕ) → RestsOn c t x e → has_end depends_on e ≡ true
   pub only : (e : ℕ) → has_end depends_on e ≡ true → (x : ℕ) × RestsOn c t x e
   pub flag : IsFlag c t aborted
