@@ -36,16 +36,16 @@ use Rattle.mvo_theory.proofs.Phases.{IsUnended}
 use Rattle.mvo_theory.proofs.Who.{active_holds, id_of, active_done, active_after_prepare, preparing_after_check, preparing_settled, unended_rolled_back, unended_done, unended_after_prepare, unended_after_check, unended_settled}
 use Rattle.mvo_rests.specs.Course.{Course, start_behind, trims_after, with_steps, with_trim}
 use Rattle.mvo_rests.specs.Resting.{DependsNow, RestsOn, RestsOnNoAborted}
-use Rattle.mvo_rests.specs.Known.{IsFlag, Knows, KnowsRests}
+use Rattle.mvo_rests.specs.Known.{IsFlag, KnowsOne, KnowsRests}
 use Rattle.mvo_rests.proofs.Looking.{depends_in, depends_out}
 use Rattle.mvo_rests.proofs.Reached.{reached, in_timeline, its_end, its_id, unaborted}
 use Rattle.mvo_rests.proofs.Resting.{split_last, IsNoAnswer, AbortsNone, rests_later, aborted_push, knows_later, no_abort, start_trimmed, start_later, knows_trimmed, flag_aborted}
 
 abbrev ActiveKnown : Course → ActiveTx → Type 0
-ActiveKnown c r = Knows c r.id r.depends_on r.aborted_dependency
+ActiveKnown c r = KnowsOne c r.id r.depends_on r.aborted_dependency
 
 abbrev OpenKnown : Course → StampedTx → Type 0
-OpenKnown c x = x.settled ≡ false → Knows c x.id x.depends_on x.aborted_dependency
+OpenKnown c x = x.settled ≡ false → KnowsOne c x.id x.depends_on x.aborted_dependency
 
 -- ---- a step that says nothing of resting
 -- the step is no answer, and aborts none
@@ -103,7 +103,7 @@ known_begun : (c : Course) (s : State) → IsKept c.rows c.steps s → KnowsRest
 known_begun c s k h =
     let t = s.clock + 1 in
     let none : (x e : ℕ) → RestsOn c t x e → ⊥ = λ x e. none_yet c t x e (k.after_trace.fresh t (omega arith)) in
-    let new : Knows c t [] None = record { all = λ x e r. absurd (none x e r); only = λ e r. absurd (false≢true r); flag = λ x e r. absurd (none x e r) } in
+    let new : KnowsOne c t [] None = record { all = λ x e r. absurd (none x e r); only = λ e r. absurd (false≢true r); flag = λ x e r. absurd (none x e r) } in
     known_with c (Begins t) s (after_begin s t) refl h
     (actives_idle c (Begins t) (s.active ++ new_active t ∷ []) (idle_begins t) (each_append (ActiveKnown c) s.active (new_active t ∷ []) h.active (new, tt)))
     (open_idle c (Begins t) s.stamped (idle_begins t) h.preparing)
@@ -131,8 +131,8 @@ module _ (c : Course) (s : State) (t : ℕ) (op : Op) (a : AnswerData) (r : Acti
   abbrev after_it : Course
   after_it = with_steps c (Answers t op a ∷ [])
 
-  mine : Knows c t r.depends_on r.aborted_dependency
-  mine = let q = active_holds (ActiveKnown c) t s.active r f h.active in subst (λ (i : ℕ). Knows c i r.depends_on r.aborted_dependency) q.1 q.0
+  mine : KnowsOne c t r.depends_on r.aborted_dependency
+  mine = let q = active_holds (ActiveKnown c) t s.active r f h.active in subst (λ (i : ℕ). KnowsOne c i r.depends_on r.aborted_dependency) q.1 q.0
 
   -- t rested on it before, or the operation depends on it
   before_or_now : (x e : ℕ) → RestsOn after_it t x e → RestsOn c t x e ⊎ DependsNow c.rows c.steps s.start t op x e
@@ -143,7 +143,7 @@ module _ (c : Course) (s : State) (t : ℕ) (op : Op) (a : AnswerData) (r : Acti
         (subst (λ (bs : List Step). DependsNow c.rows bs (start_behind c.mark c.trims (length bs)) t n.op x e) q.0 n.depends)))
   ]
 
-  known_mine : Knows after_it t (dependencies s op r) r.aborted_dependency
+  known_mine : KnowsOne after_it t (dependencies s op r) r.aborted_dependency
   known_mine = record {
     all = λ x e n. elim (before_or_now x e n) [
       | inl old ↦ depends_more r.depends_on (unwritten r.history (keys_for (entry_of op) r.id s.base s.stamped)) r.id s.stamped e (mine.all x e old)
@@ -179,10 +179,10 @@ module _ (c : Course) (s : State) (t : ℕ) (op : Op) (a : AnswerData) (r : Acti
       other : (u : ℕ) → u ≢ t → IsNoAnswer u (Answers t op a)
       other u n op' a' e = n (same_owner u t op' op a' a e)
 
-      one : (q : ActiveTx) → (q.id ≡ t → q ≡ r) → ActiveKnown c q → (b : Bool) → (q.id == t) ≡ b → Knows after_it q.id (cond b (dependencies s op q) q.depends_on) q.aborted_dependency
+      one : (q : ActiveTx) → (q.id ≡ t → q ≡ r) → ActiveKnown c q → (b : Bool) → (q.id == t) ≡ b → KnowsOne after_it q.id (cond b (dependencies s op q) q.depends_on) q.aborted_dependency
       one q is_r g true e =
-          subst (λ (v : ActiveTx). Knows after_it v.id (dependencies s op v) v.aborted_dependency) (sym (is_r (eqb-true q.id t e)))
-          (subst (λ (i : ℕ). Knows after_it i (dependencies s op r) r.aborted_dependency) (sym is) known_mine)
+          subst (λ (v : ActiveTx). KnowsOne after_it v.id (dependencies s op v) v.aborted_dependency) (sym (is_r (eqb-true q.id t e)))
+          (subst (λ (i : ℕ). KnowsOne after_it i (dependencies s op r) r.aborted_dependency) (sym is) known_mine)
       one q is_r g false e = knows_later c (Answers t op a) q.id q.depends_on q.aborted_dependency (other q.id (λ i. true≢false (sym (eq-eqb q.id t i) ∙ e))) (λ z n _. refl) g
 
 known_over : (c : Course) (s : State) (w : Option Claim) → KnowsRests c s → KnowsRests c (taken_over w s)
@@ -276,14 +276,14 @@ known_aborted c s t u k h = go (preparing_of t s.stamped) refl
     go : (w : Option StampedTx) → preparing_of t s.stamped ≡ w → KnowsRests (aborting c t) (after_abort_of s t w)
     go None e =
         let r = u e in
-        let later : (v : ℕ) (ds : List ℕ) (f : Option ℕ) → Knows c v ds f → Knows (aborting c t) v ds f = λ v ds f. knows_later c (Aborts t) v ds f (no_abort v t) (by_active r.0 r.1 v) in
+        let later : (v : ℕ) (ds : List ℕ) (f : Option ℕ) → KnowsOne c v ds f → KnowsOne (aborting c t) v ds f = λ v ds f. knows_later c (Aborts t) v ds f (no_abort v t) (by_active r.0 r.1 v) in
         known_with c (Aborts t) s (after_abort_of_active s t) refl h
         (each_part (λ q. not (q.id == t)) (ActiveKnown (aborting c t)) s.active (each_weaker (ActiveKnown c) (ActiveKnown (aborting c t)) (λ q g. later q.id q.depends_on q.aborted_dependency g) s.active h.active))
         (each_weaker (OpenKnown c) (OpenKnown (aborting c t)) (λ x g o. later x.id x.depends_on x.aborted_dependency (g o)) s.stamped h.preparing)
     go (Some x) e =
         let m = found_in t s.stamped x e in
         let there : IsIn x (timeline s) = in_timeline s x m.0 in
-        let later : (v : ℕ) (ds : List ℕ) (f : Option ℕ) → Knows c v ds f → Knows (aborting c t) v ds (aborted_dependency_after t x.end ds f) =
+        let later : (v : ℕ) (ds : List ℕ) (f : Option ℕ) → KnowsOne c v ds f → KnowsOne (aborting c t) v ds (aborted_dependency_after t x.end ds f) =
         λ v ds f. flag_aborted c v t x.end ds f
         (λ z n a. its_id c.rows c.steps s x z k there (reached c s v z x.end k n a) ∙ m.1)
         (λ d n a. its_end c.rows c.steps s x t d k there m.1 (reached c s v t d k n a)) in

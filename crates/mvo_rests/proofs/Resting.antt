@@ -15,7 +15,7 @@ use Rattle.mvo_theory.specs.Traced.{is_abort_of}
 use Rattle.mvo_theory.specs.Snapshots.{is_aborted}
 use Rattle.mvo_rests.specs.Course.{Course, start_behind, with_steps, with_trim}
 use Rattle.mvo_rests.specs.Resting.{DependsNow, RestsOn, RestsOnNoAborted, IsFirstAborted}
-use Rattle.mvo_rests.specs.Known.{IsFlag, Knows}
+use Rattle.mvo_rests.specs.Known.{IsFlag, KnowsOne}
 
 -- ---- one step more
 same_head : {X : Type 0} (x y : X) (xs ys : List X) → x ∷ xs ≡ y ∷ ys → x ≡ y
@@ -90,7 +90,7 @@ flag_later : (c : Course) (y : Step) (t : ℕ) (f : Option ℕ) → IsNoAnswer t
 flag_later c y t None n q h = none_later c y t n q h
 flag_later c y t (Some u) n q h = first_later c y t u n h
 
-pub knows_later : (c : Course) (y : Step) (t : ℕ) (ds : List ℕ) (f : Option ℕ) → IsNoAnswer t y → AbortsNone c t y → Knows c t ds f → Knows (with_steps c (y ∷ [])) t ds f
+pub knows_later : (c : Course) (y : Step) (t : ℕ) (ds : List ℕ) (f : Option ℕ) → IsNoAnswer t y → AbortsNone c t y → KnowsOne c t ds f → KnowsOne (with_steps c (y ∷ [])) t ds f
 knows_later c y t ds f n q k = record {
   all = λ x e h. k.all x e (rests_before c y t x e n h);
   only = λ e h. let r = k.only e h in (r.0, rests_later c y t r.0 e r.1);
@@ -155,7 +155,7 @@ flag_trimmed c m t (Some u) h = record {
   first = λ z e q. h.first z e (trim_before c m t z e q);
 }
 
-pub knows_trimmed : (c : Course) (m t : ℕ) (ds : List ℕ) (f : Option ℕ) → Knows c t ds f → Knows (with_trim c m) t ds f
+pub knows_trimmed : (c : Course) (m t : ℕ) (ds : List ℕ) (f : Option ℕ) → KnowsOne c t ds f → KnowsOne (with_trim c m) t ds f
 knows_trimmed c m t ds f k = record {
   all = λ x e h. k.all x e (trim_before c m t x e h);
   only = λ e h. let r = k.only e h in (r.0, trim_later c m t r.0 e r.1);
@@ -167,7 +167,7 @@ pub no_abort : (t v : ℕ) → IsNoAnswer t (Aborts v)
 no_abort t v op a e = cc
 
 pub flag_aborted : (c : Course) (t u e : ℕ) (ds : List ℕ) (f : Option ℕ) → ((x : ℕ) → RestsOn c t x e → is_aborted x c.steps ≡ false → x ≡ u) → ((n : ℕ) → RestsOn c t u n → is_aborted u c.steps ≡ false → n ≡ e)
-    → Knows c t ds f → Knows (with_steps c (Aborts u ∷ [])) t ds (aborted_dependency_after u e ds f)
+    → KnowsOne c t ds f → KnowsOne (with_steps c (Aborts u ∷ [])) t ds (aborted_dependency_after u e ds f)
 flag_aborted c t u e ds f its_id its_end k = record {
   all = λ x n h. k.all x n (rests_before c (Aborts u) t x n (no_abort t u) h);
   only = λ n h. let r = k.only n h in (r.0, rests_later c (Aborts u) t r.0 n r.1);

@@ -31,8 +31,8 @@ use Rattle.mvo_theory.proofs.LastWriter.{preparing_phase, preparing_there, found
 use Rattle.mvo_theory.proofs.Who.{active_holds, preparing_settled}
 use Rattle.mvo_rests.specs.Course.{Course}
 use Rattle.mvo_rests.specs.Resting.{RestsOn, RestsOnNoAborted}
-use Rattle.mvo_rests.specs.Known.{IsFlag, Knows, KnowsRests}
-use Rattle.mvo_rests.specs.Laws.{TellsAborted, TellsRests, TellsAwaited}
+use Rattle.mvo_rests.specs.Known.{IsFlag, KnowsOne, KnowsRests}
+use Rattle.mvo_rests.specs.Laws.{TellsAborted, TellsRests, TellsSettling}
 use Rattle.mvo_rests.proofs.Reached.{reached, in_timeline, its_id}
 
 -- ---- which causes name an aborted one
@@ -102,14 +102,14 @@ module _ (c : Course) (s : State) (k : IsKept c.rows c.steps s) (h : KnowsRests 
   Tells t r = TellsAborted c t (Refused r)
 
   -- ---- what the state knows of one that is Active, and of one that is Preparing
-  active_known : (t : ℕ) (r : ActiveTx) → active_of t s.active ≡ Some r → Knows c t r.depends_on r.aborted_dependency
-  active_known t r f = let q = active_holds (λ (v : ActiveTx). Knows c v.id v.depends_on v.aborted_dependency) t s.active r f h.active in subst (λ (i : ℕ). Knows c i r.depends_on r.aborted_dependency) q.1 q.0
+  active_known : (t : ℕ) (r : ActiveTx) → active_of t s.active ≡ Some r → KnowsOne c t r.depends_on r.aborted_dependency
+  active_known t r f = let q = active_holds (λ (v : ActiveTx). KnowsOne c v.id v.depends_on v.aborted_dependency) t s.active r f h.active in subst (λ (i : ℕ). KnowsOne c i r.depends_on r.aborted_dependency) q.1 q.0
 
-  open_known : (t : ℕ) (x : StampedTx) → preparing_of t s.stamped ≡ Some x → Knows c t x.depends_on x.aborted_dependency
+  open_known : (t : ℕ) (x : StampedTx) → preparing_of t s.stamped ≡ Some x → KnowsOne c t x.depends_on x.aborted_dependency
   open_known t x f =
       let m = found_in t s.stamped x f in
-      subst (λ (i : ℕ). Knows c i x.depends_on x.aborted_dependency) m.1
-      (m.0 (λ v. v.settled ≡ false → Knows c v.id v.depends_on v.aborted_dependency) h.preparing (split_at t s.stamped x f).4)
+      subst (λ (i : ℕ). KnowsOne c i x.depends_on x.aborted_dependency) m.1
+      (m.0 (λ v. v.settled ≡ false → KnowsOne c v.id v.depends_on v.aborted_dependency) h.preparing (split_at t s.stamped x f).4)
 
   -- ---- along the list of causes
   by_flag : (t : ℕ) (d : Option ℕ) (r : Refusal) → IsFlag c t d → flagged d ≡ Some r → Tells t r
@@ -228,19 +228,19 @@ module _ (c : Course) (s : State) (k : IsKept c.rows c.steps s) (h : KnowsRests 
   open_there : (x e : ℕ) → phase_of x c.steps ≡ Preparing e → (y : StampedTx) × (preparing_of x s.stamped ≡ Some y) × (y.end ≡ e)
   open_there x e p = preparing_there (active_of x s.active) (preparing_of x s.stamped) (ended_of x s.ended) e (sym (k.after_trace.phases x) ∙ p)
 
-  pub told_awaited : (t : ℕ) → MayCome s (Settle t) Accepted → TellsAwaited c t (awaited s t)
-  told_awaited t m = subst (TellsAwaited c t) (sym (ap (awaited_by s.stamped) found.1)) (go (waiting_for found.0.depends_on s.stamped) refl)
+  pub told_settling : (t : ℕ) → MayCome s (Settle t) Accepted → TellsSettling c t (awaited s t)
+  told_settling t m = subst (TellsSettling c t) (sym (ap (awaited_by s.stamped) found.1)) (go (waiting_for found.0.depends_on s.stamped) refl)
     where
       found : (x : StampedTx) × (preparing_of t s.stamped ≡ Some x)
       found = preparing_settled s t m.0
 
-      known : Knows c t found.0.depends_on found.0.aborted_dependency
+      known : KnowsOne c t found.0.depends_on found.0.aborted_dependency
       known = open_known t found.0 found.1
 
       none : RestsOnNoAborted c t
       none = (all_free (Settle t) m.0).0
 
-      go : (v : Option StampedTx) → waiting_for found.0.depends_on s.stamped ≡ v → TellsAwaited c t v
+      go : (v : Option StampedTx) → waiting_for found.0.depends_on s.stamped ≡ v → TellsSettling c t v
       go None w = λ x e a.
           let y = open_there x e a.preparing in
           let open' = (split_at x s.stamped y.0 y.1).4 in

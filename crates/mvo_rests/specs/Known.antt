@@ -12,7 +12,7 @@ IsFlag c t None = RestsOnNoAborted c t
 IsFlag c t (Some x) = IsFirstAborted c t x
 
 -- these are the ends of those on whom t rests
-pub record Knows (c : Course) (t : ℕ) (depends_on : List ℕ) (aborted : Option ℕ) :
+pub record KnowsOne (c : Course) (t : ℕ) (depends_on : List ℕ) (aborted : Option ℕ) :
     Type 0 where
   pub all : (x e : ℕ) → RestsOn c t x e → has_end depends_on e ≡ true
   pub only : (e : ℕ) → has_end depends_on e ≡ true → (x : ℕ) × RestsOn c t x e
@@ -23,8 +23,8 @@ pub record KnowsRests (c : Course) (s : State) : Type 0 where
   pub start : start_behind c.mark c.trims (length c.steps) ≡ s.start
   pub earlier : AllByRecursion (λ d. d.0 ≤ length c.steps) c.trims
   pub active :
-      AllByRecursion (λ (r : ActiveTx). Knows c r.id r.depends_on r.aborted_dependency) s.active
+      AllByRecursion (λ (r : ActiveTx). KnowsOne c r.id r.depends_on r.aborted_dependency) s.active
   pub preparing :
       AllByRecursion
-      (λ (x : StampedTx). x.settled ≡ false → Knows c x.id x.depends_on x.aborted_dependency)
+      (λ (x : StampedTx). x.settled ≡ false → KnowsOne c x.id x.depends_on x.aborted_dependency)
       s.stamped

@@ -8,7 +8,7 @@ use Rattle.mvo_theory.specs.Calls.{Call, Result, MayCome, after_call, steps_of, 
 use Rattle.mvo_theory.specs.Calls.Call.{Do, Precommit, Validate, Settle}
 use Rattle.mvo_theory.specs.Calls.Result.{Accepted, Refused}
 use Rattle.mvo_rests.specs.Course.{Course, trims_after}
-use Rattle.mvo_rests.specs.Resting.{RestsOnNoAborted, IsFirstAborted, IsAwaited, AwaitsNone}
+use Rattle.mvo_rests.specs.Resting.{RestsOnNoAborted, IsFirstAborted, IsFirstAwaited, AwaitsNone}
 use Rattle.mvo_rests.specs.Known.{KnowsRests}
 
 -- DependencyAborted names the first aborted one of those on whom t rests, and where it isn't
@@ -31,9 +31,9 @@ TellsRests c call r = ⊤
 
 -- one that is settled rests on none that is Preparing, and one that waits is told the one with the
 -- least end
-abbrev pub TellsAwaited : Course → ℕ → Option StampedTx → Type 0
-TellsAwaited c t None = AwaitsNone c t
-TellsAwaited c t (Some x) = IsAwaited c t x.id
+abbrev pub TellsSettling : Course → ℕ → Option StampedTx → Type 0
+TellsSettling c t None = AwaitsNone c t
+TellsSettling c t (Some x) = IsFirstAwaited c t x.id
 
 -- What a call may come to, in a state after what happened, tells whom its transaction rests on.
 abbrev pub EachCallTells : Type 0
@@ -44,7 +44,7 @@ EachCallTells = (c : Course) (s : State) (call : Call) (r : Result)
 abbrev pub EachSettlingTells : Type 0
 EachSettlingTells = (c : Course) (s : State) (t : ℕ)
     → IsKept c.rows c.steps s → KnowsRests c s → MayCome s (Settle t) Accepted
-    → TellsAwaited c t (awaited s t)
+    → TellsSettling c t (awaited s t)
 
 -- A state that was just opened knows whom its transactions rest on, and so it does after each call.
 abbrev pub OpensKnowing : Type 0

@@ -71,7 +71,7 @@ pub record Awaits (c : Course) (t x e : ℕ) : Type 0 where
   pub preparing : phase_of x c.steps ≡ Preparing e
 
 -- of those that are Preparing and on whom t rests, x has the least end
-pub record IsAwaited (c : Course) (t x : ℕ) : Type 0 where
+pub record IsFirstAwaited (c : Course) (t x : ℕ) : Type 0 where
   pub end' : ℕ
   pub awaits : Awaits c t x end'
   pub least : (y e : ℕ) → Awaits c t y e → end' ≤ e

@@ -28,8 +28,8 @@ use Rattle.mvo_core.specs.declared.answers.Validation.TheVariants.{More, Valid}
 use Rattle.mvo_core.specs.declared.answers.Settlement.{Settlement}
 use Rattle.mvo_core.specs.Steps.{settled_as, IsValidation, IsSettlement}
 use Rattle.mvo_world.specs.WorldData.{WorldData}
-use Rattle.mvo_rests.specs.Laws.{TellsAwaited}
-use Rattle.mvo_rests.proofs.Telling.{told_rests, told_awaited}
+use Rattle.mvo_rests.specs.Laws.{TellsSettling}
+use Rattle.mvo_rests.proofs.Telling.{told_rests, told_settling}
 use Rattle.mvo_world.specs.Past.{Past, course_of, happened}
 use Rattle.mvo_world.specs.Ring.{is_full}
 use Rattle.mvo_world.specs.Standing.{IsAfter}
@@ -76,12 +76,12 @@ module _ {D : Type 0} (d : Ghosts D) (p : Past) (w : WorldData D) (h : IsAfter d
       go false f g = subst (IsJustCheck p t) (sym g) (leb-false entry_count checks f)
 
   settlement : (t : ℕ) (a : Settlement) (w' : WorldData D) → IsAsked w (SettleCall t) Accepted w' → IsSettlement w.core t a → IsJustSettlement p t a
-  settlement t a w' asked e = go (awaited h.state t) (told_awaited (course_of p) h.state h.core.versions.kept h.rests t may) (e p.rows p.steps h.state h.core)
+  settlement t a w' asked e = go (awaited h.state t) (told_settling (course_of p) h.state h.core.versions.kept h.rests t may) (e p.rows p.steps h.state h.core)
     where
       may : MayCome h.state (SettleCall t) Accepted
       may = (asked.leads p.rows p.steps h.state h.core).may
 
-      go : (v : Option StampedTx) → TellsAwaited (course_of p) t v → a ≡ settled_as h.state t v → IsJustSettlement p t a
+      go : (v : Option StampedTx) → TellsSettling (course_of p) t v → a ≡ settled_as h.state t v → IsJustSettlement p t a
       go None told g = subst (IsJustSettlement p t) (sym g) (settles_so p.rows p.steps h.state t may.0 h.core.versions.kept, told)
       go (Some y) told g = subst (IsJustSettlement p t) (sym g) told
 

@@ -15,7 +15,7 @@ use Rattle.mvo_theory.specs.Calls.Call.{Begin as BeginCall, Precommit as Precomm
 use Rattle.mvo_theory.specs.Calls.Result.{Accepted, Refused as RefusedCall}
 use Rattle.mvo_theory.specs.Counts.{draws, checks_in}
 use Rattle.mvo_theory.specs.Justified.{IsJustified}
-use Rattle.mvo_rests.specs.Resting.{IsAwaited, AwaitsNone}
+use Rattle.mvo_rests.specs.Resting.{IsFirstAwaited, AwaitsNone}
 use Rattle.mvo_rests.specs.Laws.{TellsRests}
 use Rattle.mvo_core.specs.declared.answers.Validation.{Validation}
 use Rattle.mvo_core.specs.declared.answers.Validation.TheVariants.{More, Valid}
@@ -55,7 +55,7 @@ IsJustCheck p t More = checks_in t p.steps + 1 < length (entries (history_of t p
 abbrev pub IsJustSettlement : Past → ℕ → Settlement → Type 0
 IsJustSettlement p t (Committed e) =
     (phase_of t p.steps ≡ Preparing e.0) × AwaitsNone (course_of p) t
-IsJustSettlement p t (Waiting x) = IsAwaited (course_of p) t x.0
+IsJustSettlement p t (Waiting x) = IsFirstAwaited (course_of p) t x.0
 
 -- how many closed groups the store hasn't taken
 abbrev pub untaken : Past → ℕ
