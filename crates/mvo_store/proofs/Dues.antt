@@ -1,5 +1,5 @@
 -- A store whose job makes a step, or has opened the gate of its manifest; and one beside calls that look at the disk, or empty a file that is not used.
-use Rattle.std.proofs.Common.{◌≡◌, ◌≢◌, inl, inr, ℕ, ◌+◌, eqb, ◌&&◌, Bool, true, false, List, [], ◌∷◌, length, get_or, Option, Some, None, Ok, Err, refl, sym, ap, subst, ◌∙◌, arith, ◌<◌, ◌++◌, ◌⊎◌, ◌||◌, eq-eqb}
+use Rattle.std.proofs.Common.{rules, ◌≡◌, ◌≢◌, inl, inr, ℕ, ◌+◌, eqb, ◌&&◌, Bool, true, false, List, [], ◌∷◌, length, get_or, Option, Some, None, Ok, Err, refl, sym, ap, subst, ◌∙◌, arith, ◌<◌, ◌++◌, ◌⊎◌, ◌||◌, eq-eqb}
 use Rattle.std.specs.Prelude.{map, nat_eq, ⊤, MatchOption}
 use Rattle.std.specs.Bool.{OnTrue, OnFalse}
 use Rattle.std.proofs.Math.Bool.{or-true}
@@ -45,7 +45,7 @@ use Rattle.mvo_store.specs.declared.job.Job.{Job}
 use Rattle.mvo_store.specs.declared.job.Job.TheVariants.{Rotation, Checkpoint, Merge, MergeInstall}
 use Rattle.mvo_store.specs.StoreData.{StoreData, opening}
 use Rattle.mvo_store.specs.Causes.{why_not_due, why_not_install_open, is_rotation, has_rotation}
-use Rattle.mvo_store.specs.Jobs.{step_number, step_due, is_due, with_merge, after_step, job_takes_file, takes_file}
+use Rattle.mvo_store.specs.Jobs.{step_number, step_due, is_due, after_step, job_takes_file, takes_file}
 use Rattle.mvo_store.specs.Standing.{HasJob, HasRoom, JobHasRoom, IsUp, MayBeLeft, HasSlots, HasBody, HasWork, MayTakeOver}
 use Rattle.mvo_store.specs.Writing.{StandsWith, StillGives, WritesFor, HasMadeStep, TakesMemory, IsStepRefusal, IsOpened}
 use Rattle.mvo_store.specs.Calls.{call_of, why_not, MayMeet, Makes, HasStepped, IsFileOfJob, MayWrite, KeepsOthers, IsStoreStep, rows_after, StoreCall, HasNoFault, LeftByMemory}
@@ -58,7 +58,7 @@ use Rattle.mvo_store.specs.Merging.{pairs_of, IsMerging, IsMergeReady}
 use Rattle.mvo_store.specs.Steps.{manifest_after, places_after, segment_after}
 use Rattle.mvo_store.proofs.Keeping.{give_or, stays_up, AllLeave, OnlyNow, CountsNow, slots_as, now_left, touched_left, may_step, Begins, begins, file_others, fault_step, other_step, err_is, all_others, done_step, looked_step}
 use Rattle.mvo_store.proofs.Neighbours.{rise_two, apart_two}
-use Rattle.mvo_store.proofs.Working.{Installing, Installs, rotation_installs, checkpoint_installs, merge_installs, install_due, slot_of_install, IsOfPair, RestsOn, JobRestsOn, job_framed, written_of_pair, merged_of_pair}
+use Rattle.mvo_store.proofs.Working.{Installing, Installs, installs, installing, due_installs, slot_of_install, IsOfPair, RestsOn, JobRestsOn, job_framed, written_of_pair, merged_of_pair}
 use Rattle.mvo_store.proofs.Working.Installing.{OfRotation, OfCheckpoint, OfMerge}
 use Rattle.mvo_load.specs.Read.{HasRead}
 use Rattle.mvo_recovery.proofs.Framed.{files_stay_others, settled_all, settled_framed}
@@ -92,20 +92,14 @@ open_cause s e is = grind arith
 
 -- only a fault refuses the opening of a gate
 pub fault_only : {D : Type 0} (fault_count : D → ℕ) (due : Due) (old new : D) (e : Refusal) → due ≡ Install Open → IsStepRefusal fault_count due old new e → (e ≡ DiskFault) × (fault_count new ≡ fault_count old + 1)
-fault_only fault_count due old new e at refused = go refused.refusal
-  where
-    go : IsWriteRefusal fault_count old new e → (e ≡ DiskFault) × (fault_count new ≡ fault_count old + 1)
-    go (inl memory) = absurd (subst TakesMemory at (refused.memory memory.0))
-    go (inr counted) = counted
+fault_only fault_count due old new e at refused = grind arith
 
 -- a fault is counted, and memory leaves the disk
 pub count_of : {D : Type 0} (fault_count : D → ℕ) (old new : D) (e : Refusal) → e ≡ DiskFault → IsWriteRefusal fault_count old new e → fault_count new ≡ fault_count old + 1
-count_of fault_count old new e fault (inl memory) = absurd (cc (memory.0, fault))
-count_of fault_count old new e fault (inr counted) = counted.1
+count_of fault_count old new e fault refused = grind arith
 
 pub memory_left : {D : Type 0} (fault_count : D → ℕ) (old new : D) (e : Refusal) → e ≢ DiskFault → IsWriteRefusal fault_count old new e → (e ≡ OutOfMemory) × (new ≡ old)
-memory_left fault_count old new e ne (inl memory) = memory
-memory_left fault_count old new e ne (inr counted) = absurd (ne counted.0)
+memory_left fault_count old new e ne refused = grind arith
 
 -- a job is there where a step is due
 pub none_due : (step : Due) (o : Option Job) → o ≡ None → is_due step o ≡ true → ⊥
@@ -116,31 +110,27 @@ none_due step o none due = absurd (cc (sym (subst (λ (k : Option Job). is_due s
 -- each but the opening of a manifest's gate is a step of a job
 pub why_of : {D : Type 0} (s : StoreData D) (step : Due) → step ≢ Install Open → why_not s (call_of step) ≡ why_not_due step s
 why_of s (Install Open) other = absurd (other refl)
-why_of s (Install Close) other = refl
 why_of s step other = refl
 
 module _ {D : Type 0} (d : Ghosts D) (old new : StoreData D) where
   pub makes_of : (step : Due) → step ≢ Install Open → HasStepped old new → Makes d (call_of step) old new
   makes_of (Install Open) other h = absurd (other refl)
-  makes_of (Install Close) other h = h
   makes_of step other h = h
 
   due_file : (step : Due) (n : ℕ) → IsFileOfJob old.manifest old.job n → MayWrite d old (call_of step) n
   due_file (Install Close) n h = h
-  due_file (Install Body) n h = h
   due_file step n h = h
 
 -- and keeps the rows
 pub rows_of : {D A : Type 0} (s : StoreData D) (a : A) (step : Due) (rows : Map) → rows_after {A = A} s (call_of step) (Ok a) rows ≡ rows
 rows_of s a (Install Close) rows = refl
-rows_of s a (Install Body) rows = refl
 rows_of s a step rows = refl
 
 pub begins_due : {D : Type 0} (d : Ghosts D) (s t : StoreData D) (step : Due) → step ≢ Install Open → s ≡ t → why_not_due step t ≡ None → (s.down ≡ false → (rows : Map) × IsUp d s rows) → Begins d s (call_of step)
 begins_due d s t step other same none = begins d s t (call_of step) same (why_of t step other ∙ none)
 
 pub due_in : {D : Type 0} (s : StoreData D) (step : Due) → step ≢ Install Open → why_not s (call_of step) ≡ None → is_due step s.job ≡ true
-due_in s step other none = (may_step step s (sym (why_of s step other) ∙ none)).due
+due_in s step other none = may_step step s (sym (why_of s step other) ∙ none)
 
 pub due_of_job : {D : Type 0} (s : StoreData D) (step : Due) → step ≢ Install Open → why_not s (call_of step) ≡ None → (j : Job) → s.job ≡ Some j → step_due j ≡ step
 due_of_job s step other none j is = due_is step s.job j is (due_in s step other none)
@@ -160,11 +150,8 @@ fault_of step = inr refl
 step_room : (places : PlaceTable) (made : Option ManifestData) (j : Job) → JobHasRoom places j → JobHasRoom places (after_step made j)
 step_room places made (Rotation fresh i) room = tt
 step_room places made (Checkpoint c) room = room
-step_room places made (Merge g) room = go made
-  where
-    go : (o : Option ManifestData) → JobHasRoom places (with_merge o g)
-    go None = tt
-    go (Some next) = tt
+step_room places None (Merge g) room = tt
+step_room places (Some next) (Merge g) room = tt
 step_room places made (MergeInstall g i) room = tt
 
 module _ {D : Type 0} (d : Ghosts D) (s : StoreData D) (j : Job) (is : s.job ≡ Some j) where
@@ -220,10 +207,6 @@ files_stay : (new : NewNumbers) (ps : List Pair) → map file_of (map (raise new
 files_stay new [] = refl
 files_stay new (p ∷ ps) = ap (λ (ns : List ℕ). p.data_file ∷ ns) (files_stay new ps)
 
-unwritten : (b : Bool) → (b && true) ≡ false → b ≡ false
-unwritten true e = absurd cc
-unwritten false e = refl
-
 -- a body is written behind parts of the same groups
 body_as : (x y : Parts) → y.middle ≡ x.middle → y.last ≡ x.last → (o : Option GroupData) (gate next : ℕ) (bytes : List ℕ) → HasBody x o gate next bytes → HasBody y o gate next bytes
 body_as x y middle last None gate next bytes has = has
@@ -264,22 +247,10 @@ module _ {D : Type 0} (d : Ghosts D) (s : StoreData D) (rows : Map) (up : IsUp d
     with_next : (next : ManifestData) (i : Installs (d.content s.disk) (d.may_leave s.disk) up.parts next) (places : PlaceTable) (segment : Segment) → IsSettled FIRST_FORMAT (d.content new) (d.may_leave new) next i.parts → IsLastFile next segment.file
         → segment.gate ≡ gate_of i.parts.last → segment.gate < MAX_SEGMENT_LEN → (s.written ≡ true → HasBody i.parts s.pending segment.gate segment.next (d.content new segment.file)) → ArePlaces next.pairs i.parts.lives places.at
         → IsUp d (record s { disk = new; manifest = next; places = places; segment = segment; job = None }) rows
-    with_next next i places segment settled last gate few written are = record {
-      up = up.up;
-      parts = i.parts;
-      settled = settled;
-      rows_are = up.rows_are ∙ sym i.same.rows;
-      mark_is = up.mark_is ∙ sym i.same.mark;
-      last = last;
-      gate = gate;
-      few = few;
-      pending = up.pending;
-      written = written;
-      job = tt;
-      places = are;
-      room_for = tt;
-      room = omega (arith, count, up.room);
-    }
+    with_next next i places segment settled last gate few written are =
+        let rows_are = up.rows_are ∙ sym i.same.rows in
+        let mark_is = up.mark_is ∙ sym i.same.mark in
+        search (rules, arith)
 
     -- the segment that took frames takes them then
     installed_up : (next : ManifestData) (i : Installs (d.content s.disk) (d.may_leave s.disk) up.parts next) (places : PlaceTable) → IsSettled FIRST_FORMAT (d.content new) (d.may_leave new) next i.parts
@@ -326,11 +297,11 @@ module _ {D : Type 0} (d : Ghosts D) (s : StoreData D) (rows : Map) (up : IsUp d
     open_up : {j : Job} {i : InstallData} → Installing j i → HasWork (d.content s.disk) (d.may_leave s.disk) m up.parts j → (places : PlaceTable) → IsOpened d new m (manifest_after j m) → places.at ≡ places_after j s.places.at → (s.written && is_rotation j) ≡ false
         → IsUp d (record s { disk = new; manifest = manifest_after j m; places = places; segment = segment_after j s.segment; job = None }) rows
     open_up (OfRotation fresh k) has places opened to free =
-        let i = rotation_installs (d.content s.disk) (d.may_leave s.disk) m up.parts up.settled fresh k.next has in
+        let i = installs (d.content s.disk) (d.may_leave s.disk) m up.parts up.settled (OfRotation fresh k) has in
         with_next k.next i places fresh (next_settled k.next (ap (λ (n : ManifestData). n.generation) has.next_is) i opened) (subst (λ (n : ManifestData). IsLastFile n fresh.file) (sym has.next_is) (rotated_last m fresh.file))
-        has.gate (omega (arith, has.gate)) (λ e. absurd (cc (e, unwritten s.written free))) (rw (to, has.next_is) up.places)
+        has.gate (omega (arith, has.gate)) (λ e. absurd (grind arith)) (rw (to, has.next_is) up.places)
     open_up (OfCheckpoint pair c next step) has places opened to free =
-        let i = checkpoint_installs (d.content s.disk) (d.may_leave s.disk) m up.parts up.settled pair c next has.into has.have has.written in
+        let i = installs (d.content s.disk) (d.may_leave s.disk) m up.parts up.settled (OfCheckpoint pair c next step) has in
         let settled = next_settled next (ap (λ (n : ManifestData). n.generation) has.into.next_is) i opened in
         let made = made_of pair c has.into.segment in
         let log = has.into.log in
@@ -340,7 +311,7 @@ module _ {D : Type 0} (d : Ghosts D) (s : StoreData D) (rows : Map) (up : IsUp d
         (subst (λ (n : ManifestData). IsLastFile n s.segment.file) (sym has.into.next_is) (subst (IsLastFile (checkpointed m made)) (sym it) (last_after FIRST_FORMAT (d.content s.disk) (d.may_leave s.disk) m up.parts made log)))
         (checkpoint_places (record { pair = pair; made = c; next = next; stage = AtInstall step }) places has.into settled to)
     open_up (OfMerge g k) has places opened to free =
-        let i = merge_installs (d.content s.disk) (d.may_leave s.disk) m up.parts up.settled g k.next has in
+        let i = installs (d.content s.disk) (d.may_leave s.disk) m up.parts up.settled (OfMerge g k) has in
         let settled = next_settled k.next (ap (λ (n : ManifestData). n.generation) has.next_is) i opened in
         installed_up k.next i places settled refl refl (subst (λ (n : ManifestData). IsLastFile n s.segment.file) (sym has.next_is) (up.last.0, up.last.1)) (merge_places g k.next places has settled to)
 
@@ -351,8 +322,8 @@ module _ {D : Type 0} (d : Ghosts D) (s : StoreData D) (rows : Map) (up : IsUp d
   opened_up j is due new writes made makes count places to free =
       let stands : StandsWith d s.disk m up.parts j = record { settled = up.settled; job = subst (λ (o : Option Job). HasJob (d.content s.disk) (d.may_leave s.disk) m up.parts o) is up.job } in
       let w = writes up.parts stands in
-      let i = install_due j Open due in
-      open_up new w.file (slot_of_install m w.file i.1 w.is) w.rest count i.1 stands.job.work places ((makes up.parts stands).opened due) to (subst (λ (o : Option Job). (s.written && has_rotation o) ≡ false) is free)
+      let i = installing j _ (due_installs m j Open due) in
+      open_up new w.file (slot_of_install m w.file i w.is) w.rest count i stands.job.work places ((makes up.parts stands).opened due) to (subst (λ (o : Option Job). (s.written && has_rotation o) ≡ false) is free)
 
 -- ---- looks at the disk
 

@@ -1,18 +1,16 @@
 -- A store keeps its rows over a step, and each slot its gate. What each way through a call comes to, where no cause of a refusal stands.
-use Rattle.std.proofs.Common.{◌≡◌, ◌≢◌, inl, inr, ℕ, ◌<◌, ◌≤◌, true, false, List, [], Option, Some, None, sym, subst, ◌∙◌, arith, Bool, cond, ◌&&◌, length, refl, ◌+◌, Ok, Err}
+use Rattle.std.proofs.Common.{◌≡◌, ◌≢◌, inl, inr, ℕ, ◌<◌, ◌≤◌, true, false, List, [], Option, Some, None, sym, subst, ◌∙◌, arith, rules, ◌&&◌, ⊎_elim, length, refl, ◌+◌, Ok, Err}
 use Rattle.std.specs.Prelude.{⊤}
 use Rattle.std.proofs.lemmas.Bool.{cases_eq}
-use Rattle.mvo_types.specs.Causes.{when, or_next}
 use Rattle.mvo_types.specs.Keys.{Map}
 use Rattle.mvo_disk.specs.declared.disk.Disk.{Ghosts}
 use Rattle.mvo_disk.specs.Disk.{Image, AllOf, OthersStay, Touched, LeavesOnly, AllStay}
 use Rattle.mvo_disk.specs.Moments.{weaker, started, at_end}
 use Rattle.mvo_group.specs.Data.{GroupData}
 use Rattle.mvo_format.specs.declared.format.TheConstants.{FIRST_FORMAT}
-use Rattle.mvo_image.specs.Files.{GivesRows}
 use Rattle.mvo_manifest.specs.Data.{ManifestData}
 use Rattle.mvo_places.specs.Places.{PlaceMap, PlaceTable, ArePlaces}
-use Rattle.mvo_recovery.specs.Parts.{Parts, rows_of_parts}
+use Rattle.mvo_recovery.specs.Parts.{Parts}
 use Rattle.mvo_recovery.specs.Settled.{IsSettled, IsUsed, GivesParts}
 use Rattle.mvo_recovery.proofs.Framed.{settled_gives, within_unused}
 use Rattle.mvo_store.specs.declared.job.Job.{Job}
@@ -53,13 +51,7 @@ module _ {D : Type 0} (d : Ghosts D) where
   both_leave old new P Q first second = record {
     later = first.later;
     each = λ image left. (first.each image left, second.each image left);
-    before = λ t image le left. elim (first.before t image le left) [
-      | inl past ↦ inl past
-      | inr p ↦ elim (second.before t image le left) [
-        | inl past ↦ inl past
-        | inr q ↦ inr (p, q)
-      ]
-    ];
+    before = λ t image le left. ⊎_elim (λ past. inl past) (λ p. ⊎_elim (λ past. inl past) (λ q. inr (p, q)) (second.before t image le left)) (first.before t image le left);
   }
 
   module _ (old : D) (m : ManifestData) (x : Parts) (settled : IsSettled FIRST_FORMAT (d.content old) (d.may_leave old) m x) (slots : HasSlots (d.content old)) where
@@ -109,11 +101,8 @@ module _ {D : Type 0} (d : Ghosts D) where
 
   module _ (s : StoreData D) (rows : Map) (up : IsUp d s rows) where
     -- what the parts give are its rows and its mark
-    pub parts_give : (image : Image) → GivesParts FIRST_FORMAT up.parts image → Gives rows s.mark image
-    parts_give image g = subst (λ (r : Map). GivesRows FIRST_FORMAT image r s.mark) (sym up.rows_are) (subst (λ (k : ℕ). GivesRows FIRST_FORMAT image (rows_of_parts up.parts) k) (sym up.mark_is) g)
-
     pub give_or : (image : Image) → GivesParts FIRST_FORMAT up.parts image → GivesOr rows s.mark (opening s) image
-    give_or image g = gives_or rows s.mark (opening s) image (parts_give image g)
+    give_or image g = gives_or rows s.mark (opening s) image (rw (up.rows_are, up.mark_is) g)
 
     pub now_left : HasSlots (d.content s.disk) → (image : Image) → AllOf (d.may_leave s.disk) image → MayBeLeft rows s.mark (opening s) image
     now_left slots image all = record {
@@ -134,22 +123,10 @@ module _ {D : Type 0} (d : Ghosts D) where
     -- Its disk, its places and its job are others: the last segment stays, and the job stands.
     pub stays_up : (new : D) (places : PlaceTable) (job : Option Job) → IsSettled FIRST_FORMAT (d.content new) (d.may_leave new) s.manifest up.parts → d.content new s.segment.file ≡ d.content s.disk s.segment.file
         → HasJob (d.content new) (d.may_leave new) s.manifest up.parts job → places.at ≡ s.places.at → HasRoom places job → d.fault_count new ≡ d.fault_count s.disk → IsUp d (record s { disk = new; places = places; job = job }) rows
-    stays_up new places job settled last stands same room count = record {
-      up = up.up;
-      parts = up.parts;
-      settled = settled;
-      rows_are = up.rows_are;
-      mark_is = up.mark_is;
-      last = up.last;
-      gate = up.gate;
-      few = up.few;
-      pending = up.pending;
-      written = λ e. subst (λ (c : List ℕ). HasBody up.parts s.pending s.segment.gate s.segment.next c) (sym last) (up.written e);
-      job = stands;
-      places = subst (λ (at : PlaceMap). ArePlaces s.manifest.pairs up.parts.lives at) (sym same) up.places;
-      room_for = room;
-      room = omega (arith, count, up.room);
-    }
+    stays_up new places job settled last stands same room count =
+        let written : s.written ≡ true → HasBody up.parts s.pending s.segment.gate s.segment.next (d.content new s.segment.file) = λ e. subst (λ (c : List ℕ). HasBody up.parts s.pending s.segment.gate s.segment.next c) (sym last) (up.written e) in
+        let are : ArePlaces s.manifest.pairs up.parts.lives places.at = subst (λ (at : PlaceMap). ArePlaces s.manifest.pairs up.parts.lives at) (sym same) up.places in
+        search arith
 
   -- ---- a step
 
@@ -183,39 +160,21 @@ module _ {D : Type 0} (d : Ghosts D) where
     keeps = λ rows k. up_keeps t (made rows) (ups rows (k.up is).0) (slots (k.up is).1);
   }
 
--- the first cause doesn't stand
-first_false : (b : Bool) (r : Refusal) (others : Option Refusal) → or_next (when b r) others ≡ None → b ≡ false
-first_false true r others e = absurd (cc e)
-first_false false r others e = refl
-
 -- the store is up
-pub up_of : {D : Type 0} (s : StoreData D) (call : StoreCall) → why_not s call ≡ None → s.down ≡ false
-up_of s (Take g) e = first_false _ _ _ e
-up_of s call e = first_false _ _ _ e
+up_of : {D : Type 0} (s : StoreData D) (call : StoreCall) → why_not s call ≡ None → s.down ≡ false
+up_of s (Take g) e = grind arith
+up_of s call e = grind arith
 
 -- a step of a job may be made
-pub record MayStep {D : Type 0} (step : Due) (s : StoreData D) : Type 0 where
-  pub up : s.down ≡ false
-  pub due : is_due step s.job ≡ true
-
-pub may_step : {D : Type 0} (step : Due) (s : StoreData D) → why_not_due step s ≡ None → MayStep step s
+pub may_step : {D : Type 0} (step : Due) (s : StoreData D) → why_not_due step s ≡ None → is_due step s.job ≡ true
 may_step step s e = grind arith
 
 -- the gate of a manifest may be opened
-pub record MayOpen {D : Type 0} (s : StoreData D) : Type 0 where
-  pub due : is_due (Install Open) s.job ≡ true
-  pub free : (s.written && has_rotation s.job) ≡ false
-
-pub may_open : {D : Type 0} (s : StoreData D) → why_not_install_open s ≡ None → MayOpen s
+pub may_open : {D : Type 0} (s : StoreData D) → why_not_install_open s ≡ None → (is_due (Install Open) s.job ≡ true) × ((s.written && has_rotation s.job) ≡ false)
 may_open s e = grind arith
 
 -- a rotation may begin
-pub record MayBegin {D : Type 0} (s : StoreData D) : Type 0 where
-  pub generation : s.manifest.generation < MAX_GENERATION
-  pub some : s.segment.gate ≢ HEADER_LEN
-  pub room : length s.manifest.segments < MAX_SEGMENTS
-
-pub may_begin : {D : Type 0} (s : StoreData D) → why_not_rotate s ≡ None → MayBegin s
+pub may_begin : {D : Type 0} (s : StoreData D) → why_not_rotate s ≡ None → (s.manifest.generation < MAX_GENERATION) × (s.segment.gate ≢ HEADER_LEN) × (length s.manifest.segments < MAX_SEGMENTS)
 may_begin s e = grind arith
 
 -- a group may be taken
@@ -316,15 +275,10 @@ module _ {D : Type 0} {d : Ghosts D} {s : StoreData D} {call : StoreCall} (b : B
   module _ (t : StoreData D) (leaves : AllLeave d s t.disk) (slots : HasSlots (d.content s.disk) → HasSlots (d.content t.disk)) (others : KeepsOthers d call s t) where
     -- the call does what it is for
     pub done_step : {A : Type 0} (a : A) → Makes d call s t → HasNoFault d s t → ((rows : Map) → IsUp d s rows → IsUp d t (rows_after {A = A} s call (Ok a) rows)) → IsStoreStep d s call (Ok a) t
-    done_step {A} a makes no_fault ups = record {
-      comes = record {
-        refused = subst (λ (o : Option Refusal). IsRefused {A = A} call o (Ok a)) (sym b.none) tt;
-        made = record { makes = makes; no_fault = no_fault };
-        left = tt;
-      };
-      keeps = step_keeps d (rows_after {A = A} s call (Ok a)) s t b.up leaves ups slots;
-      others = others;
-    }
+    done_step {A} a makes no_fault ups =
+        let refused : IsRefused {A = A} call (why_not s call) (Ok a) = subst (λ (o : Option Refusal). IsRefused {A = A} call o (Ok a)) (sym b.none) tt in
+        let keeps = step_keeps d (rows_after {A = A} s call (Ok a)) s t b.up leaves ups slots in
+        search rules
 
     -- it has looked at the disk before memory is refused
     pub looked_step : {A : Type 0} → MayMeet call OutOfMemory → LeftByMemory d call s t → ((rows : Map) → IsUp d s rows → IsUp d t rows) → IsStoreStep {A = A} d s call (Err OutOfMemory) t

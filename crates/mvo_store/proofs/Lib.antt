@@ -1,5 +1,4 @@
 pub use Rattle.mvo_recovery.proofs.Grown
-pub mod Named
 pub mod Keeping
 pub mod Taken
 pub mod Working
@@ -8,5 +7,4 @@ pub mod Checkpoints
 pub mod Written
 pub mod Neighbours
 pub mod Dues
-pub mod Opens
 pub mod Marked

@@ -1,26 +1,49 @@
--- What an image gives: its mark is a timestamp of the clock, and what opening a disk answers is fixed by it.
-use Rattle.std.proofs.Common.{◌≡◌, ℕ, ◌+◌, ◌≤◌, length, Bool, true, false, cond, List, [], ◌∷◌, Option, None, Some, Ok, sym, subst, arith, ◌⊎◌, inl, inr, Err, ap}
-use Rattle.std.specs.Prelude.{nat_lt}
+-- What an image gives: its mark is a timestamp of the clock, and what opening a disk answers is fixed by it. A disk that is synced, a store over what is found on it, and a new one.
+use Rattle.std.proofs.Common.{◌≡◌, ℕ, ◌+◌, ◌≤◌, rules, ⊎_elim, length, List, [], ◌∷◌, Ok, sym, subst, arith, inl, inr, Err, ap, ◌∙◌, ◌<◌, false, None, zero, suc, Bool, ◌++◌}
 use Rattle.mvo_types.specs.declared.limits.TheConstants.{MAX_STAMP}
 use Rattle.mvo_types.specs.Keys.{Map}
 use Rattle.mvo_group.specs.Data.{GroupData}
 use Rattle.mvo_group.specs.Body.{body_of}
 use Rattle.mvo_format.specs.declared.format.TheConstants.{FIRST_FORMAT}
-use Rattle.mvo_format.specs.declared.header.TheConstants.{HEADER_LEN}
+use Rattle.mvo_format.specs.declared.header.TheConstants.{HEADER_LEN, VERSION}
 use Rattle.mvo_frame.specs.Frames.{Frames, sized, mark_after}
 use Rattle.mvo_pair.specs.declared.pair.Pair.{Pair}
-use Rattle.mvo_manifest.specs.Data.{ManifestData}
-use Rattle.mvo_manifest.specs.Rules.{PairsRise, IsManifest}
-use Rattle.mvo_manifest.specs.Slots.{newest, SlotSays}
-use Rattle.mvo_image.specs.Opens.{Image, Outcome}
+use Rattle.mvo_manifest.specs.Rules.{PairsRise, IsManifest, IsFile}
+use Rattle.mvo_image.specs.Opens.{Outcome}
 use Rattle.mvo_image.specs.Gives.{HaveGroups}
 use Rattle.mvo_image.specs.Files.{SegmentSays}
-use Rattle.mvo_store.specs.Standing.{Gives}
+use Rattle.mvo_store.specs.Standing.{Gives, IsUp, HasSlots, MayBeLeft, KeepsRows}
 use Rattle.mvo_types.specs.declared.refusal.Refusal.{Refusal}
-use Rattle.mvo_types.specs.declared.refusal.Refusal.TheVariants.{OutOfMemory, DiskFault}
+use Rattle.mvo_types.specs.declared.refusal.Refusal.TheVariants.{ClockSpent, AlreadyFormatted}
 use Rattle.mvo_disk.specs.declared.disk.Disk.{Ghosts}
 use Rattle.mvo_image.proofs.Opening.{exact}
-use Rattle.mvo_store.specs.Opening.{IsAnswer, IsNotOpened, IsNotOfFiles}
+use Rattle.mvo_recovery.proofs.Opened.{gives_installed, newest_stands}
+use Rattle.mvo_store.specs.Opening.{IsAnswer, IsNotOpened, IsNotOfFiles, HasSynced}
+use Rattle.std.proofs.lemmas.Bool.{lt-leb}
+use Rattle.std.proofs.lemmas.List.Elements.{All-contains}
+use Rattle.std.specs.FinMap as map
+use Rattle.mvo_disk.specs.Disk.{Only, AllOf, Image, OthersStay}
+use Rattle.mvo_format.specs.declared.format.Format.{Format}
+use Rattle.mvo_format.specs.Found.{header}
+use Rattle.mvo_frame.specs.declared.magic.TheConstants.{MAGIC}
+use Rattle.mvo_manifest.specs.Data.{ManifestData, named}
+use Rattle.mvo_manifest.specs.Slots.{IsShut, IsOpen}
+use Rattle.mvo_image.specs.Rows.{rows_of, after_groups}
+use Rattle.mvo_places.specs.Places.{PlaceTable}
+use Rattle.mvo_load.specs.Loaded.{SealedSays, IsLoaded}
+use Rattle.mvo_load.specs.Parts.{HavePlaces}
+use Rattle.mvo_recovery.specs.Parts.{Parts, HaveSealed, IsLastFile}
+use Rattle.mvo_recovery.specs.Settled.{IsUsed, IsInstalled, IsSettled}
+use Rattle.mvo_recovery.proofs.Framed.{installed_framed, settled_gives}
+use Rattle.mvo_recovery.specs.Beginning.{first_manifest, no_parts}
+use Rattle.mvo_recovery.proofs.Appended.{only_stays}
+use Rattle.mvo_recovery.proofs.Rotated.{fresh_frames}
+use Rattle.mvo_recovery.proofs.Begun.{first_settled}
+use Rattle.mvo_types.specs.Causes.{when, or_next}
+use Rattle.mvo_store.specs.declared.limits.TheConstants.{MAX_FAULTS}
+use Rattle.mvo_store.specs.StoreData.{StoreData}
+use Rattle.mvo_store.specs.Formatting.{has_open_slot, why_not_format, IsFormatted}
+use Rattle.mvo_store.proofs.Keeping.{slots_as, up_keeps, settled_slots}
 
 pub after_frames : (place mark : ℕ) (gs : List GroupData) (bytes : List ℕ) → mark ≤ MAX_STAMP → Frames place mark gs bytes → mark_after mark gs ≤ MAX_STAMP
 after_frames place mark [] bytes le f = le
@@ -35,23 +58,9 @@ pub after_pairs : (lo : ℕ) (ps : List Pair) (hi : ℕ) → lo ≤ MAX_STAMP �
 after_pairs lo [] hi le h = subst (λ (m : ℕ). m ≤ MAX_STAMP) h le
 after_pairs lo (p ∷ ps) hi le h = after_pairs p.hi.0 ps hi h.0.top h.1
 
-of_newest : (a b : Option ManifestData) (m : ManifestData) → newest a b ≡ Some m → ((x : ManifestData) → a ≡ Some x → IsManifest x) → ((x : ManifestData) → b ≡ Some x → IsManifest x) → IsManifest m
-of_newest None b m e first second = second m e
-of_newest (Some x) None m e first second = first m e
-of_newest (Some x) (Some y) m e first second = go (nat_lt x.generation y.generation) e
-  where
-    go : (c : Bool) → cond c (Some y) (Some x) ≡ Some m → IsManifest m
-    go true f = second m f
-    go false f = first m f
-
-is_manifest : (slot : ℕ) (bytes : List ℕ) (o : Option ManifestData) → SlotSays FIRST_FORMAT.version slot bytes (Ok o) → (x : ManifestData) → o ≡ Some x → IsManifest x
-is_manifest slot bytes None h x e = absurd (cc e)
-is_manifest slot bytes (Some m) h x e = let same : m ≡ x = cc e in subst IsManifest same h.is
-
 pub gives_stamp : (image : Image) (rows : Map) (mark : ℕ) → Gives rows mark image → mark ≤ MAX_STAMP
 gives_stamp image rows mark h =
-    let i = h.installed in
-    let is = of_newest i.first i.second h.manifest i.is (is_manifest 0 (image 0) i.first i.first_has) (is_manifest 1 (image 1) i.second i.second_has) in
+    let is = (gives_installed FIRST_FORMAT image rows mark h).1.own.is in
     after_segments image h.manifest.segments h.manifest.checkpoint_mark h.groups mark (after_pairs 0 h.manifest.pairs h.manifest.checkpoint_mark (omega arith) is.rules.rise) h.have
 
 -- what an image gives is the one answer of opening it
@@ -71,8 +80,92 @@ module _ {D : Type 0} (d : Ghosts D) where
   -- what gives rows isn't refused for its bytes
   pub not_of_files : (old new : D) (e : Refusal) → IsNotOpened d old e new → (rows : Map) (mark : ℕ) → Gives rows mark (d.content old) → IsNotOfFiles e
   not_of_files old new e (inl spent) rows mark gives = inl spent.refusal
-  not_of_files old new e (inr refused) rows mark gives = go refused.why
+  not_of_files old new e (inr refused) rows mark gives = ⊎_elim (λ stop. inr stop) (λ answer. let same = same_outcome (d.content old) (Err e) answer rows mark gives in absurd (cc same)) refused.why
+
+-- ---- what is opened
+
+have_sealed : (f : Format) (image : Image) (ns : List ℕ) (mark : ℕ) (gs : List GroupData) (upto : ℕ) → HaveGroups (SealedSays f) image ns mark gs upto → HaveSealed f image ns mark gs upto
+have_sealed f image [] mark gs upto have = have
+have_sealed f image (n ∷ ns) mark gs upto have = (have.0, have.1, have.2, have.3, have_sealed f image ns (mark_after mark have.0) have.1 upto have.4)
+
+-- each file that is used is one of the disk
+used_below : (m : ManifestData) → IsManifest m → (n : ℕ) → IsUsed m n → n < 1024
+used_below m is n (inl lt) = omega (arith, lt)
+used_below m is n (inr has) = let file : IsFile n = All-contains IsFile (named m) n is.rules.files has in omega (arith, file.1)
+
+module _ (f : Format) (image : Image) (m : ManifestData) (rows : Map) (mark gate : ℕ) (loaded : IsLoaded f image m rows mark gate) where
+  abbrev pub parts_loaded : Parts
+  parts_loaded = record { lives = loaded.lives; sealed = loaded.log.last.earlier; middle = loaded.log.last.middle; last = loaded.log.last.own }
+
+  pub installed_loaded : IsInstalled f image m parts_loaded
+  installed_loaded =
+      let i = loaded.installed in
+      let last = loaded.log.last in
+      let s = newest_stands f image m (record { even = i.first; odd = i.second; even_has = i.first_has; odd_has = i.second_has; greatest = i.is }) in
+      record {
+        own = s.own;
+        other = s.other;
+        parts = let sealed = have_sealed f image last.sealed m.checkpoint_mark last.earlier last.middle last.before in search (rules, loaded, last, sealed);
+      }
+
+module _ {D : Type 0} (d : Ghosts D) (old new : D) (m : ManifestData) (rows : Map) (mark gate file : ℕ) (loaded : IsLoaded FIRST_FORMAT (d.content old) m rows mark gate) (places : PlaceTable) (have : HavePlaces FIRST_FORMAT (d.content old) m.pairs places.at) (synced : HasSynced d (IsUsed m) 1024 old new) (is : IsLastFile m file) (few : d.fault_count old < MAX_FAULTS) where
+  abbrev pub opened_store : StoreData D
+  opened_store = record {
+    disk = new;
+    manifest = m;
+    places = places;
+    segment = record { file = file; gate = gate; next = gate };
+    mark = mark;
+    pending = None;
+    written = false;
+    job = None;
+    down = false;
+  }
+
+  settled_opened : IsSettled FIRST_FORMAT (d.content new) (d.may_leave new) m (parts_loaded FIRST_FORMAT (d.content old) m rows mark gate loaded)
+  settled_opened =
+      let was = installed_loaded FIRST_FORMAT (d.content old) m rows mark gate loaded in
+      record {
+        installed = installed_framed FIRST_FORMAT (d.content old) (d.content new) m (parts_loaded FIRST_FORMAT (d.content old) m rows mark gate loaded) (λ n _. synced.content n) was;
+        durable = λ n used. synced.durable n (used_below m was.own.is n used) used;
+      }
+
+  pub opened_up : IsUp d opened_store rows
+  opened_up =
+      let log = loaded.log.last in
+      let rows_are = loaded.log.rows_are ∙ ap (after_groups (rows_of loaded.lives)) log.all in
+      let are = have.are loaded.lives loaded.live in
+      search (rules, arith, settled_opened, log.upto, log.stands, log.few, synced.count)
+
+  pub opened_keeps : HasSlots (d.content old) → KeepsRows d opened_store rows
+  opened_keeps slots = up_keeps d opened_store rows opened_up (slots_as (d.content old) (d.content new) (synced.content 0) (synced.content 1) slots)
+
+-- slot 1 is shut, then file 2 fresh, then slot 0 open
+module _ (shut fresh new : Image) (may_shut may_fresh may_new : ℕ → List ℕ → Type 0) (second : OthersStay 2 shut fresh may_shut may_fresh) (third : OthersStay 0 fresh new may_fresh may_new) where
+  pub written_settled : IsShut (shut 1) → Only (shut 1) (may_shut 1) → fresh 2 ≡ header MAGIC VERSION ++ 0 ∷ [] → Only (fresh 2) (may_fresh 2) → IsOpen VERSION 0 (first_manifest 0 2) (new 0) → Only (new 0) (may_new 0)
+      → IsSettled FIRST_FORMAT new may_new (first_manifest 0 2) no_parts
+  written_settled is_shut shut_only bytes fresh_only is_open open_only =
+      first_settled FIRST_FORMAT new may_new 0 2 is_open (subst IsShut (sym same_second) is_shut)
+      (record { frames = λ mark. fresh_frames VERSION mark (new 2) (third.content 2 (λ e. omega (arith, e)) ∙ bytes); durable = only_stays FIRST_FORMAT fresh new may_fresh may_new 0 third 2 (λ e. omega (arith, e)) fresh_only })
+      slots
     where
-      go : ((e ≡ OutOfMemory) ⊎ (e ≡ DiskFault)) ⊎ IsAnswer (d.content old) (Err e) → IsNotOfFiles e
-      go (inl stop) = inr stop
-      go (inr answer) = let same = same_outcome (d.content old) (Err e) answer rows mark gives in absurd (cc same)
+      same_second : new 1 ≡ shut 1
+      same_second = third.content 1 (λ e. omega (arith, e)) ∙ second.content 1 (λ e. omega (arith, e))
+
+      slots : (slot : ℕ) → slot < 2 → Only (new slot) (may_new slot)
+      slots zero lt = open_only
+      slots (suc zero) lt = only_stays FIRST_FORMAT fresh new may_fresh may_new 0 third 1 (λ e. omega (arith, e)) (only_stays FIRST_FORMAT shut fresh may_shut may_fresh 2 second 1 (λ e. omega (arith, e)) shut_only)
+      slots (suc (suc n)) lt = absurd (omega (arith, lt))
+
+pub none_stands : (faults : ℕ) (content : Image) → faults < MAX_FAULTS → has_open_slot content ≡ false → why_not_format faults content ≡ None
+none_stands faults content few shut =
+    ap (λ (b : Bool). or_next (when b ClockSpent) (or_next (when (has_open_slot content) AlreadyFormatted) None)) (lt-leb MAX_FAULTS faults few) ∙ ap (λ (b : Bool). or_next (when b AlreadyFormatted) None) shut
+
+module _ {D : Type 0} (d : Ghosts D) (old new : D) where
+  pub is_formatted : why_not_format (d.fault_count old) (d.content old) ≡ None → ((n : ℕ) → d.may_leave new n (d.content new n)) → IsSettled FIRST_FORMAT (d.content new) (d.may_leave new) (first_manifest 0 2) no_parts → HasSlots (d.content new) → d.fault_count new ≡ d.fault_count old
+      → IsFormatted d old new
+  is_formatted free stays settled slots count =
+      let gives : (image : Image) → AllOf (d.may_leave new) image → Gives map.empty 0 image = settled_gives FIRST_FORMAT (d.content new) (d.may_leave new) (first_manifest 0 2) no_parts settled in
+      let images : (image : Image) → AllOf (d.may_leave new) image → MayBeLeft map.empty 0 None image = λ image all. record { slots = settled_slots d new (first_manifest 0 2) no_parts settled slots image all; gives = gives image all } in
+      let now = gives (d.content new) stays in
+      search

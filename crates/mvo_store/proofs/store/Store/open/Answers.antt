@@ -1,4 +1,4 @@
-use Rattle.mvo_store.proofs.Opens.{opened_up, opened_keeps}
+use Rattle.mvo_store.proofs.Marked.{opened_up, opened_keeps}
 use Rattle.mvo_store.proofs.store.Store.open.Goals as goal
 
 pub invariant_of-store : goal.invariant_of-store
