@@ -1,6 +1,5 @@
 -- What justifies the reply to an event of a transaction: what was asked and answered before it.
 use Rattle.std.specs.Prelude.{◌≡◌, ◌⊎◌, ◌+◌, ◌-◌, ◌<◌, ◌≤◌, ℕ, length, ⊤}
-use Rattle.mvo_types.specs.declared.answer.Answer.{Answer}
 use Rattle.mvo_types.specs.declared.op.Op.{Op}
 use Rattle.mvo_types.specs.declared.refusal.Refusal.TheVariants.{RingFull, OutOfMemory}
 use Rattle.mvo_types.specs.declared.op.Op.TheVariants as op
