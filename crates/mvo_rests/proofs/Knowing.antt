@@ -48,18 +48,25 @@ abbrev OpenKnown : Course → StampedTx → Type 0
 OpenKnown c x = x.settled ≡ false → KnowsOne c x.id x.depends_on x.aborted_dependency
 
 -- ---- a step that says nothing of resting
--- the step is no answer, and aborts none
-record IsIdle (y : Step) : Type 0 where
-  pub answers : (t : ℕ) → IsNoAnswer t y
-  pub aborts : (x : ℕ) → is_abort_of x y ≡ false
+-- the step is no answer and no abort
+abbrev is_idle : Step → Bool
+is_idle (Answers t op a) = false
+is_idle (Aborts t) = false
+is_idle y = true
 
-more_steps : (xs : List Step) (y : Step) → length (xs ++ y ∷ []) ≡ length xs + 1
-more_steps xs y = length-append xs (y ∷ [])
+idle_answers : (y : Step) (t : ℕ) → is_idle y ≡ true → IsNoAnswer t y
+idle_answers (Answers u op' a') t i op a e = absurd (false≢true i)
+idle_answers y t i op a e = cc
+
+idle_aborts : (y : Step) (x : ℕ) → is_idle y ≡ true → is_abort_of x y ≡ false
+idle_aborts (Answers u op a) x i = absurd (false≢true i)
+idle_aborts (Aborts u) x i = absurd (false≢true i)
+idle_aborts y x i = refl
 
 -- where the history starts, behind one step more
 known_with : (c : Course) (y : Step) (s s' : State) → s'.start ≡ s.start → KnowsRests c s → AllByRecursion (ActiveKnown (with_steps c (y ∷ []))) s'.active → AllByRecursion (OpenKnown (with_steps c (y ∷ []))) s'.stamped → KnowsRests (with_steps c (y ∷ [])) s'
 known_with c y s s' e k a o =
-    let l = more_steps c.steps y in
+    let l = length-append c.steps (y ∷ []) in
     record {
       start = start_later c.mark (length c.steps) (length (c.steps ++ y ∷ [])) c.trims (omega (arith, l)) k.earlier ∙ k.start ∙ sym e;
       earlier = each_weaker (λ d. d.0 ≤ length c.steps) (λ d. d.0 ≤ length (c.steps ++ y ∷ [])) (λ d le. omega (arith, l, le)) c.trims k.earlier;
@@ -67,11 +74,11 @@ known_with c y s s' e k a o =
       preparing = o;
     }
 
-actives_idle : (c : Course) (y : Step) (rs : List ActiveTx) → IsIdle y → AllByRecursion (ActiveKnown c) rs → AllByRecursion (ActiveKnown (with_steps c (y ∷ []))) rs
-actives_idle c y rs i h = each_weaker (ActiveKnown c) (ActiveKnown (with_steps c (y ∷ []))) (λ r k. knows_later c y r.id r.depends_on r.aborted_dependency (i.answers r.id) (λ x e _. i.aborts x) k) rs h
-
-open_idle : (c : Course) (y : Step) (xs : List StampedTx) → IsIdle y → AllByRecursion (OpenKnown c) xs → AllByRecursion (OpenKnown (with_steps c (y ∷ []))) xs
-open_idle c y xs i h = each_weaker (OpenKnown c) (OpenKnown (with_steps c (y ∷ []))) (λ x k o. knows_later c y x.id x.depends_on x.aborted_dependency (i.answers x.id) (λ z e _. i.aborts z) (k o)) xs h
+known_idle : (c : Course) (y : Step) (s s' : State) → is_idle y ≡ true → s'.start ≡ s.start → KnowsRests c s → AllByRecursion (ActiveKnown c) s'.active → AllByRecursion (OpenKnown c) s'.stamped → KnowsRests (with_steps c (y ∷ [])) s'
+known_idle c y s s' i e k a o =
+    let later : (t : ℕ) (ds : List ℕ) (f : Option ℕ) → KnowsOne c t ds f → KnowsOne (with_steps c (y ∷ [])) t ds f = λ t ds f. knows_later c y t ds f (idle_answers y t i) (λ x n _. idle_aborts y x i) in
+    known_with c y s s' e k (each_weaker (ActiveKnown c) (ActiveKnown (with_steps c (y ∷ []))) (λ r g. later r.id r.depends_on r.aborted_dependency g) s'.active a)
+    (each_weaker (OpenKnown c) (OpenKnown (with_steps c (y ∷ []))) (λ x g o. later x.id x.depends_on x.aborted_dependency (g o)) s'.stamped o)
 
 -- no step
 known_still : (c : Course) (s s' : State) → s'.start ≡ s.start → KnowsRests c s → AllByRecursion (ActiveKnown c) s'.active → AllByRecursion (OpenKnown c) s'.stamped → KnowsRests (with_steps c []) s'
@@ -81,9 +88,6 @@ known_same : (c : Course) (s : State) → KnowsRests c s → KnowsRests (with_st
 known_same c s k = known_still c s s refl k k.active k.preparing
 
 -- ---- begin
-idle_begins : (t : ℕ) → IsIdle (Begins t)
-idle_begins t = record { answers = λ u op a e. cc; aborts = λ x. refl }
-
 history_there : (t : ℕ) (before after : List Step) (op : Op) (a : AnswerData) → history_of t (before ++ (Answers t op a ∷ after)) ≡ [] → ⊥
 history_there t [] after op a e = go (t == t) (eq-eqb t t refl) e
   where
@@ -104,9 +108,7 @@ known_begun c s k h =
     let t = s.clock + 1 in
     let none : (x e : ℕ) → RestsOn c t x e → ⊥ = λ x e. none_yet c t x e (k.after_trace.fresh t (omega arith)) in
     let new : KnowsOne c t [] None = record { all = λ x e r. absurd (none x e r); only = λ e r. absurd (false≢true r); flag = λ x e r. absurd (none x e r) } in
-    known_with c (Begins t) s (after_begin s t) refl h
-    (actives_idle c (Begins t) (s.active ++ new_active t ∷ []) (idle_begins t) (each_append (ActiveKnown c) s.active (new_active t ∷ []) h.active (new, tt)))
-    (open_idle c (Begins t) s.stamped (idle_begins t) h.preparing)
+    known_idle c (Begins t) s (after_begin s t) refl refl h (each_append (ActiveKnown c) s.active (new_active t ∷ []) h.active (new, tt)) h.preparing
 
 -- ---- an operation
 same_op : (t u : ℕ) (op op' : Op) (a a' : AnswerData) → Answers t op a ≡ Answers u op' a' → op ≡ op'
@@ -190,42 +192,26 @@ known_over c s None h = h
 known_over c s (Some w) h = record { start = h.start; earlier = h.earlier; active = h.active; preparing = h.preparing }
 
 -- ---- precommit, a check and a settling
-idle_prepares : (t e : ℕ) → IsIdle (Prepares t e)
-idle_prepares t e = record { answers = λ u op a f. cc; aborts = λ x. refl }
-
 known_prepared : (c : Course) (s : State) (t : ℕ) → why_not_precommit s t ≡ None → KnowsRests c s → KnowsRests (with_steps c (Prepares t (s.clock + 1) ∷ [])) (after_precommit s t)
 known_prepared c s t w h =
     let found = active_after_prepare s t w in
     let r = found.0 in
     let e = s.clock + 1 in
     let y = Prepares t e in
-    let all = actives_idle c y s.active (idle_prepares t e) h.active in
     subst (KnowsRests (with_steps c (y ∷ []))) (sym (ap (after_precommit_of s) found.1))
-    (known_with c y s (after_prepare s r e) refl h (each_part (λ q. not (q.id == r.id)) (ActiveKnown (with_steps c (y ∷ []))) s.active all)
-    (each_append (OpenKnown (with_steps c (y ∷ []))) s.stamped (to_stamped e r ∷ []) (open_idle c y s.stamped (idle_prepares t e) h.preparing) ((λ _. (active_holds (ActiveKnown (with_steps c (y ∷ []))) t s.active r found.1 all).0), tt)))
-
-idle_checks : (t : ℕ) → IsIdle (Checks t)
-idle_checks t = record { answers = λ u op a f. cc; aborts = λ x. refl }
+    (known_idle c y s (after_prepare s r e) refl refl h (each_part (λ q. not (q.id == r.id)) (ActiveKnown c) s.active h.active)
+    (each_append (OpenKnown c) s.stamped (to_stamped e r ∷ []) h.preparing ((λ _. (active_holds (ActiveKnown c) t s.active r found.1 h.active).0), tt)))
 
 known_checked : (c : Course) (s : State) (t : ℕ) → why_not_validate s t ≡ None → KnowsRests c s → KnowsRests (with_steps c (Checks t ∷ [])) (after_validate s t)
 known_checked c s t w h =
     let found = preparing_after_check s t w in
     subst (KnowsRests (with_steps c (Checks t ∷ []))) (sym (ap (after_validate_of s) found.1)) (go found.0 found.0.valid)
   where
-    actives : AllByRecursion (ActiveKnown (with_steps c (Checks t ∷ []))) s.active
-    actives = actives_idle c (Checks t) s.active (idle_checks t) h.active
-
-    opens : AllByRecursion (OpenKnown (with_steps c (Checks t ∷ []))) s.stamped
-    opens = open_idle c (Checks t) s.stamped (idle_checks t) h.preparing
-
     go : (x : StampedTx) (b : Bool) → KnowsRests (with_steps c (Checks t ∷ [])) (cond b s (after_check s x.end (nat_le (length (entries x.history)) (x.checked + 1))))
-    go x true = known_with c (Checks t) s s refl h actives opens
+    go x true = known_idle c (Checks t) s s refl refl h h.active h.preparing
     go x false =
         let v = nat_le (length (entries x.history)) (x.checked + 1) in
-        known_with c (Checks t) s (after_check s x.end v) refl h actives (each_map (with_check x.end v) (OpenKnown (with_steps c (Checks t ∷ []))) (OpenKnown (with_steps c (Checks t ∷ []))) (λ y q. q) s.stamped opens)
-
-idle_commits : (t e : ℕ) → IsIdle (Commits t e)
-idle_commits t e = record { answers = λ u op a f. cc; aborts = λ x. refl }
+        known_idle c (Checks t) s (after_check s x.end v) refl refl h h.active (each_map (with_check x.end v) (OpenKnown c) (OpenKnown c) (λ y q. q) s.stamped h.preparing)
 
 still_open : (a b : Bool) → (a || b) ≡ false → a ≡ false
 still_open true b h = absurd (true≢false h)
@@ -242,8 +228,7 @@ known_settled c s t w h = go (awaited s t)
         let found = preparing_settled s t w in
         let e = found.0.end in
         subst (KnowsRests (with_steps c (y ∷ []))) (sym (ap (after_commit_of s t) found.1))
-        (known_with c y s (after_commit s t e) refl h (actives_idle c y s.active (idle_commits t (end_of s t)) h.active)
-        (each_map (with_settled e) (OpenKnown (with_steps c (y ∷ []))) (OpenKnown (with_steps c (y ∷ []))) (λ x q o. q (still_open x.settled (x.end == e) o)) s.stamped (open_idle c y s.stamped (idle_commits t (end_of s t)) h.preparing)))
+        (known_idle c y s (after_commit s t e) refl refl h h.active (each_map (with_settled e) (OpenKnown c) (OpenKnown c) (λ x q o. q (still_open x.settled (x.end == e) o)) s.stamped h.preparing))
 
     go : (v : Option StampedTx) → KnowsRests (with_steps c (steps_unless t (end_of s t) v)) (after_settle_unless s t v)
     go (Some x) = known_same c s h
@@ -299,14 +284,11 @@ known_failed c s t r f k h = go (is_failure r) refl
     go false e = known_same c s h
 
 -- ---- finish, trim and close
-idle_terminates : (t : ℕ) → IsIdle (Terminates t)
-idle_terminates t = record { answers = λ u op a f. cc; aborts = λ x. refl }
-
 known_finished : (c : Course) (s : State) (t : ℕ) → KnowsRests c s → KnowsRests (with_steps c (steps_of_accepted s (Finish t))) (after_finish s t)
 known_finished c s t h = go (is_done s t)
   where
     go : (b : Bool) → KnowsRests (with_steps c (cond b (Terminates t ∷ []) [])) (cond b (after_termination s t) (with_words (words_left t) s))
-    go true = known_with c (Terminates t) s (after_termination s t) refl h (actives_idle c (Terminates t) s.active (idle_terminates t) h.active) (open_idle c (Terminates t) s.stamped (idle_terminates t) h.preparing)
+    go true = known_idle c (Terminates t) s (after_termination s t) refl refl h h.active h.preparing
     go false = known_still c s (with_words (words_left t) s) refl h h.active h.preparing
 
 known_trimmed : (c : Course) (s : State) (m : ℕ) → KnowsRests c s → KnowsRests (with_steps (with_trim c m) []) (after_trim s m)
@@ -339,11 +321,7 @@ known_refused c s (Do t op) r w k h = known_failed c s t r (unended_done s t op 
 known_refused c s (Precommit t) r w k h = known_failed c s t r (unended_after_prepare s t r w) k h
 known_refused c s (Validate t) r w k h = known_failed c s t r (unended_after_check s t r w) k h
 known_refused c s (Settle t) r w k h = known_failed c s t r (unended_settled s t r w) k h
-known_refused c s Begin r w k h = known_same c s h
-known_refused c s (Rollback t) r w k h = known_same c s h
-known_refused c s (Finish t) r w k h = known_same c s h
-known_refused c s (Trim m) r w k h = known_same c s h
-known_refused c s (Close fits g full) r w k h = known_same c s h
+known_refused c s call r w k h = known_same c s h
 
 known_spent : (c : Course) (s : State) (call : Call) → KnowsRests c s → KnowsRests (record c { steps = c.steps ++ steps_of_refused call OutOfMemory; trims = trims_after c call (Refused OutOfMemory) }) (after_refused s call OutOfMemory)
 known_spent c s (Trim m) h = known_same c s h

@@ -111,48 +111,46 @@ module _ (c : Course) (s : State) (k : IsKept c.rows c.steps s) (h : KnowsRests 
       subst (λ (i : ℕ). KnowsOne c i x.depends_on x.aborted_dependency) m.1
       (m.0 (λ v. v.settled ≡ false → KnowsOne c v.id v.depends_on v.aborted_dependency) h.preparing (split_at t s.stamped x f).4)
 
-  -- ---- along the list of causes
-  by_flag : (t : ℕ) (d : Option ℕ) (r : Refusal) → IsFlag c t d → flagged d ≡ Some r → Tells t r
-  by_flag t d r flag e =
-      let p = flagged_some d r e in
-      subst (Tells t) (sym p.2) (subst (IsFlag c t) p.1 flag)
+  active_flag : (t : ℕ) → is_absent (phase_in s t) ≡ false → is_ended (phase_in s t) ≡ false → is_preparing (phase_in s t) ≡ false → IsFlag c t (flag_of_active (active_of t s.active))
+  active_flag t a b d =
+      let there = runs (active_of t s.active) (preparing_of t s.stamped) (ended_of t s.ended) a b d in
+      subst (IsFlag c t) (sym (ap flag_of_active there.1)) (active_known t there.0 there.1).flag
 
-  -- those that an Active one's call has
-  at_active : (t : ℕ) (r : Refusal) (rest : List (Option Refusal)) → NoneNames rest → FirstOf (unless_active s t ++ rest) r → Tells t r
-  at_active t r rest n (inl e) = subst (Tells t) (sym (when_some (is_absent (phase_in s t)) NoSuchTransaction r e).1) tt
-  at_active t r rest n (inr (a, inl e)) = subst (Tells t) (sym (when_some (is_ended (phase_in s t)) Ended r e).1) tt
-  at_active t r rest n (inr (a, inr (b, inl e))) = subst (Tells t) (sym (when_some (is_preparing (phase_in s t)) NotActive r e).1) tt
-  at_active t r rest n (inr (a, inr (b, inr (p, q)))) =
-      let there = runs (active_of t s.active) (preparing_of t s.stamped) (ended_of t s.ended) (when_none (is_absent (phase_in s t)) NoSuchTransaction a) (when_none (is_ended (phase_in s t)) Ended b) (when_none (is_preparing (phase_in s t)) NotActive p) in
-      let flag : IsFlag c t (flag_of_active (active_of t s.active)) = subst (IsFlag c t) (sym (ap flag_of_active there.1)) (active_known t there.0 there.1).flag in
-      elim q [
-        | inl e ↦ by_flag t (flag_of_active (active_of t s.active)) r flag e
-        | inr e ↦ other_tells c t r (first_names rest r n e.1) (subst (IsFlag c t) (none_flagged (flag_of_active (active_of t s.active)) e.0) flag)
-      ]
+  open_flag : (t : ℕ) → is_absent (phase_in s t) ≡ false → is_ended (phase_in s t) ≡ false → is_active (phase_in s t) ≡ false → IsFlag c t (flag_of_preparing (preparing_of t s.stamped))
+  open_flag t a b d =
+      let there = prepares (active_of t s.active) (preparing_of t s.stamped) (ended_of t s.ended) a b d in
+      subst (IsFlag c t) (sym (ap flag_of_preparing there.1)) (open_known t there.0 there.1).flag
 
-  -- those that a Preparing one's call has
-  at_open : (t : ℕ) (r : Refusal) (rest : List (Option Refusal)) → NoneNames rest → FirstOf (unless_preparing s t ++ rest) r → Tells t r
-  at_open t r rest n (inl e) = subst (Tells t) (sym (when_some (is_absent (phase_in s t)) NoSuchTransaction r e).1) tt
-  at_open t r rest n (inr (a, inl e)) = subst (Tells t) (sym (when_some (is_ended (phase_in s t)) Ended r e).1) tt
-  at_open t r rest n (inr (a, inr (b, inl e))) = subst (Tells t) (sym (when_some (is_active (phase_in s t)) NotPreparing r e).1) tt
-  at_open t r rest n (inr (a, inr (b, inr (p, q)))) =
-      let there = prepares (active_of t s.active) (preparing_of t s.stamped) (ended_of t s.ended) (when_none (is_absent (phase_in s t)) NoSuchTransaction a) (when_none (is_ended (phase_in s t)) Ended b) (when_none (is_active (phase_in s t)) NotPreparing p) in
-      let flag : IsFlag c t (flag_of_preparing (preparing_of t s.stamped)) = subst (IsFlag c t) (sym (ap flag_of_preparing there.1)) (open_known t there.0 there.1).flag in
-      elim q [
-        | inl e ↦ by_flag t (flag_of_preparing (preparing_of t s.stamped)) r flag e
-        | inr e ↦ other_tells c t r (first_names rest r n e.1) (subst (IsFlag c t) (none_flagged (flag_of_preparing (preparing_of t s.stamped)) e.0) flag)
-      ]
+  -- ---- along the list of causes, whose third is of one that stands elsewhere
+  module _ (t : ℕ) (elsewhere : Bool) (v : Refusal) (d : Option ℕ) (flag : is_absent (phase_in s t) ≡ false → is_ended (phase_in s t) ≡ false → elsewhere ≡ false → IsFlag c t d) (rest : List (Option Refusal)) where
+    abbrev causes : List (Option Refusal)
+    causes = when (is_absent (phase_in s t)) NoSuchTransaction ∷ when (is_ended (phase_in s t)) Ended ∷ when elsewhere v ∷ flagged d ∷ rest
 
-  -- where none of them stands
-  active_free : (t : ℕ) (rest : List (Option Refusal)) → AllByRecursion (λ w. w ≡ None) (unless_active s t ++ rest) → RestsOnNoAborted c t
-  active_free t rest n =
-      let there = runs (active_of t s.active) (preparing_of t s.stamped) (ended_of t s.ended) (when_none (is_absent (phase_in s t)) NoSuchTransaction n.0) (when_none (is_ended (phase_in s t)) Ended n.1.0) (when_none (is_preparing (phase_in s t)) NotActive n.1.1.0) in
-      subst (IsFlag c t) (sym (ap flag_of_active there.1) ∙ none_flagged (flag_of_active (active_of t s.active)) n.1.1.1.0) (active_known t there.0 there.1).flag
+    first_tells : (r : Refusal) → Tells t v → NoneNames rest → FirstOf causes r → Tells t r
+    first_tells r told n (inl e) = subst (Tells t) (sym (when_some (is_absent (phase_in s t)) NoSuchTransaction r e).1) tt
+    first_tells r told n (inr (a, inl e)) = subst (Tells t) (sym (when_some (is_ended (phase_in s t)) Ended r e).1) tt
+    first_tells r told n (inr (a, inr (b, inl e))) = subst (Tells t) (sym (when_some elsewhere v r e).1) told
+    first_tells r told n (inr (a, inr (b, inr (p, q)))) =
+        let known = flag (when_none (is_absent (phase_in s t)) NoSuchTransaction a) (when_none (is_ended (phase_in s t)) Ended b) (when_none elsewhere v p) in
+        elim q [
+          | inl e ↦ (let f = flagged_some d r e in subst (Tells t) (sym f.2) (subst (IsFlag c t) f.1 known))
+          | inr e ↦ other_tells c t r (first_names rest r n e.1) (subst (IsFlag c t) (none_flagged d e.0) known)
+        ]
 
-  open_free : (t : ℕ) (rest : List (Option Refusal)) → AllByRecursion (λ w. w ≡ None) (unless_preparing s t ++ rest) → RestsOnNoAborted c t
-  open_free t rest n =
-      let there = prepares (active_of t s.active) (preparing_of t s.stamped) (ended_of t s.ended) (when_none (is_absent (phase_in s t)) NoSuchTransaction n.0) (when_none (is_ended (phase_in s t)) Ended n.1.0) (when_none (is_active (phase_in s t)) NotPreparing n.1.1.0) in
-      subst (IsFlag c t) (sym (ap flag_of_preparing there.1) ∙ none_flagged (flag_of_preparing (preparing_of t s.stamped)) n.1.1.1.0) (open_known t there.0 there.1).flag
+    free_tells : AllByRecursion (λ w. w ≡ None) causes → RestsOnNoAborted c t
+    free_tells n = subst (IsFlag c t) (none_flagged d n.1.1.1.0) (flag (when_none (is_absent (phase_in s t)) NoSuchTransaction n.0) (when_none (is_ended (phase_in s t)) Ended n.1.0) (when_none elsewhere v n.1.1.0))
+
+  active_first : (t : ℕ) (rest : List (Option Refusal)) (r : Refusal) → NoneNames rest → first_cause (unless_active s t ++ rest) ≡ Some r → Tells t r
+  active_first t rest r n w = first_tells t (is_preparing (phase_in s t)) NotActive (flag_of_active (active_of t s.active)) (active_flag t) rest r tt n (first_is (unless_active s t ++ rest) r w).is
+
+  active_free : (t : ℕ) (rest : List (Option Refusal)) → first_cause (unless_active s t ++ rest) ≡ None → RestsOnNoAborted c t
+  active_free t rest w = free_tells t (is_preparing (phase_in s t)) NotActive (flag_of_active (active_of t s.active)) (active_flag t) rest (none_is (unless_active s t ++ rest) w)
+
+  open_first : (t : ℕ) (rest : List (Option Refusal)) (r : Refusal) → NoneNames rest → first_cause (unless_preparing s t ++ rest) ≡ Some r → Tells t r
+  open_first t rest r n w = first_tells t (is_active (phase_in s t)) NotPreparing (flag_of_preparing (preparing_of t s.stamped)) (open_flag t) rest r tt n (first_is (unless_preparing s t ++ rest) r w).is
+
+  open_free : (t : ℕ) (rest : List (Option Refusal)) → first_cause (unless_preparing s t ++ rest) ≡ None → RestsOnNoAborted c t
+  open_free t rest w = free_tells t (is_active (phase_in s t)) NotPreparing (flag_of_preparing (preparing_of t s.stamped)) (open_flag t) rest (none_is (unless_preparing s t ++ rest) w)
 
   -- the causes behind those
   abbrev bad_table : ℕ → Option Refusal
@@ -202,17 +200,17 @@ module _ (c : Course) (s : State) (k : IsKept c.rows c.steps s) (h : KnowsRests 
 
   -- ---- each call
   all_free : (call : Call) → why_not s call ≡ None → TellsRests c call Accepted × TellsRests c call (Refused OutOfMemory)
-  all_free (Do t op) w = let n = active_free t (causes_of t op) (none_is (unless_active s t ++ causes_of t op) (sym (causes_are t op) ∙ w)) in (n, n)
-  all_free (Precommit t) w = let n = active_free t (when (nat_le MAX_STAMP s.clock) ClockSpent ∷ []) (none_is (unless_active s t ++ when (nat_le MAX_STAMP s.clock) ClockSpent ∷ []) w) in (n, n)
-  all_free (Validate t) w = let n = open_free t (next_differs s.stamped (preparing_of t s.stamped) ∷ []) (none_is (unless_preparing s t ++ next_differs s.stamped (preparing_of t s.stamped) ∷ []) w) in (n, n)
-  all_free (Settle t) w = let n = open_free t (when (not (was_valid (preparing_of t s.stamped))) NotValidated ∷ []) (none_is (unless_preparing s t ++ when (not (was_valid (preparing_of t s.stamped))) NotValidated ∷ []) w) in (n, n)
+  all_free (Do t op) w = let n = active_free t (causes_of t op) (sym (causes_are t op) ∙ w) in (n, n)
+  all_free (Precommit t) w = let n = active_free t (when (nat_le MAX_STAMP s.clock) ClockSpent ∷ []) w in (n, n)
+  all_free (Validate t) w = let n = open_free t (next_differs s.stamped (preparing_of t s.stamped) ∷ []) w in (n, n)
+  all_free (Settle t) w = let n = open_free t (when (not (was_valid (preparing_of t s.stamped))) NotValidated ∷ []) w in (n, n)
   all_free call w = (tt, tt)
 
   all_refused : (call : Call) (r : Refusal) → why_not s call ≡ Some r → TellsRests c call (Refused r)
-  all_refused (Do t op) r w = at_active t r (causes_of t op) (none_names t op) (first_is (unless_active s t ++ causes_of t op) r (sym (causes_are t op) ∙ w)).is
-  all_refused (Precommit t) r w = at_active t r (when (nat_le MAX_STAMP s.clock) ClockSpent ∷ []) (no_when (nat_le MAX_STAMP s.clock) ClockSpent refl, tt) (first_is (unless_active s t ++ when (nat_le MAX_STAMP s.clock) ClockSpent ∷ []) r w).is
-  all_refused (Validate t) r w = at_open t r (next_differs s.stamped (preparing_of t s.stamped) ∷ []) (no_difference s.stamped (preparing_of t s.stamped), tt) (first_is (unless_preparing s t ++ next_differs s.stamped (preparing_of t s.stamped) ∷ []) r w).is
-  all_refused (Settle t) r w = at_open t r (when (not (was_valid (preparing_of t s.stamped))) NotValidated ∷ []) (no_when (not (was_valid (preparing_of t s.stamped))) NotValidated refl, tt) (first_is (unless_preparing s t ++ when (not (was_valid (preparing_of t s.stamped))) NotValidated ∷ []) r w).is
+  all_refused (Do t op) r w = active_first t (causes_of t op) r (none_names t op) (sym (causes_are t op) ∙ w)
+  all_refused (Precommit t) r w = active_first t (when (nat_le MAX_STAMP s.clock) ClockSpent ∷ []) r (no_when (nat_le MAX_STAMP s.clock) ClockSpent refl, tt) w
+  all_refused (Validate t) r w = open_first t (next_differs s.stamped (preparing_of t s.stamped) ∷ []) r (no_difference s.stamped (preparing_of t s.stamped), tt) w
+  all_refused (Settle t) r w = open_first t (when (not (was_valid (preparing_of t s.stamped))) NotValidated ∷ []) r (no_when (not (was_valid (preparing_of t s.stamped))) NotValidated refl, tt) w
   all_refused call r w = tt
 
   pub told_rests : (call : Call) (r : Result) → MayCome s call r → TellsRests c call r
