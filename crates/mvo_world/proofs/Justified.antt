@@ -15,20 +15,22 @@ use Rattle.mvo_theory.specs.State.{StampedTx, State}
 use Rattle.mvo_theory.specs.Marks.{low_water}
 use Rattle.mvo_types.specs.Causes.{when}
 use Rattle.mvo_theory.specs.Causes.{why_not_close, awaited, end_of}
-use Rattle.mvo_theory.specs.Calls.{Call, Result, IsRefusal, steps_of, answer_in, steps_unless}
+use Rattle.mvo_theory.specs.Calls.{Call, Result, IsRefusal, MayCome, steps_of, answer_in, steps_unless}
 use Rattle.mvo_theory.specs.Calls.Call.{Begin as BeginCall, Precommit as PrecommitCall, Validate as ValidateCall, Settle as SettleCall, Rollback as RollbackCall, Finish as FinishCall, Do}
 use Rattle.mvo_theory.specs.Calls.Result.{Accepted, Refused as RefusedCall}
 use Rattle.mvo_theory.proofs.Snapshots.{answers_traced}
 use Rattle.mvo_theory.specs.Counts.{checks_in}
 use Rattle.mvo_theory.proofs.Firsts.{FirstOf, first_is, none_is, when_none, when_some}
 use Rattle.mvo_theory.proofs.Justified.{justified}
-use Rattle.mvo_theory.proofs.Answered.{next_drawn, valid_is, settles_so, waits_so}
+use Rattle.mvo_theory.proofs.Answered.{next_drawn, valid_is, settles_so}
 use Rattle.mvo_core.specs.declared.answers.Validation.{Validation}
 use Rattle.mvo_core.specs.declared.answers.Validation.TheVariants.{More, Valid}
 use Rattle.mvo_core.specs.declared.answers.Settlement.{Settlement}
 use Rattle.mvo_core.specs.Steps.{settled_as, IsValidation, IsSettlement}
 use Rattle.mvo_world.specs.WorldData.{WorldData}
-use Rattle.mvo_world.specs.Past.{Past, happened}
+use Rattle.mvo_rests.specs.Laws.{TellsSettling}
+use Rattle.mvo_rests.proofs.Telling.{told_rests, told_settling}
+use Rattle.mvo_world.specs.Past.{Past, course_of, happened}
 use Rattle.mvo_world.specs.Ring.{is_full}
 use Rattle.mvo_world.specs.Standing.{IsAfter}
 use Rattle.mvo_types.specs.declared.limits.TheConstants.{RING_GROUPS}
@@ -47,7 +49,9 @@ use Rattle.mvo_core.specs.declared.answers.Finishing as finishing
 module _ {D : Type 0} (d : Ghosts D) (p : Past) (w : WorldData D) (h : IsAfter d p w) where
   -- what the call came to
   just : (c : Call) (r : Result) (w' : WorldData D) → IsAsked w c r w' → IsJust p c r
-  just c r w' asked = justified p.rows p.mark p.steps h.state c r h.core.versions.kept h.counted (asked.leads p.rows p.steps h.state h.core).may
+  just c r w' asked =
+      let may = (asked.leads p.rows p.steps h.state h.core).may in
+      (justified p.rows p.mark p.steps h.state c r h.core.versions.kept h.counted may, told_rests (course_of p) h.state h.core.versions.kept h.rests c r may)
 
   drawn : (n : ℕ) → IsDrawn w n → IsNextStamp p n
   drawn n e = next_drawn p.mark p.steps h.state n h.counted (e p.rows p.steps h.state h.core)
@@ -72,11 +76,14 @@ module _ {D : Type 0} (d : Ghosts D) (p : Past) (w : WorldData D) (h : IsAfter d
       go false f g = subst (IsJustCheck p t) (sym g) (leb-false entry_count checks f)
 
   settlement : (t : ℕ) (a : Settlement) (w' : WorldData D) → IsAsked w (SettleCall t) Accepted w' → IsSettlement w.core t a → IsJustSettlement p t a
-  settlement t a w' asked e = go (awaited h.state t) refl (e p.rows p.steps h.state h.core)
+  settlement t a w' asked e = go (awaited h.state t) (told_settling (course_of p) h.state h.core.versions.kept h.rests t may) (e p.rows p.steps h.state h.core)
     where
-      go : (v : Option StampedTx) → awaited h.state t ≡ v → a ≡ settled_as h.state t v → IsJustSettlement p t a
-      go None f g = subst (IsJustSettlement p t) (sym g) (settles_so p.rows p.steps h.state t (asked.leads p.rows p.steps h.state h.core).may.0 h.core.versions.kept)
-      go (Some y) f g = subst (IsJustSettlement p t) (sym g) (waits_so p.rows p.steps h.state t y f h.core.versions.kept)
+      may : MayCome h.state (SettleCall t) Accepted
+      may = (asked.leads p.rows p.steps h.state h.core).may
+
+      go : (v : Option StampedTx) → TellsSettling (course_of p) t v → a ≡ settled_as h.state t v → IsJustSettlement p t a
+      go None told g = subst (IsJustSettlement p t) (sym g) (settles_so p.rows p.steps h.state t may.0 h.core.versions.kept, told)
+      go (Some y) told g = subst (IsJustSettlement p t) (sym g) told
 
   -- the cause of closing, by the ring
   pub closing : (r : Reply) (w' : WorldData D) → IsReplyTo d w CloseGroup r w' → IsJustClosing p r

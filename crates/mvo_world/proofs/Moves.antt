@@ -21,7 +21,8 @@ use Rattle.mvo_theory.specs.State.{State, Marks, opened}
 use Rattle.mvo_theory.specs.Marks.{IsClosedAt, StaysBelow}
 use Rattle.mvo_theory.specs.Changes.{after_close}
 use Rattle.mvo_theory.specs.Calls.{Call, Result as CallResult, after_call, steps_of}
-use Rattle.mvo_theory.specs.Calls.Call.{Do}
+use Rattle.mvo_theory.specs.Calls.Call.{Do, Trim}
+use Rattle.mvo_theory.specs.Calls.Result.{Accepted}
 use Rattle.mvo_theory.proofs.Each.{each_weaker, each_append}
 use Rattle.mvo_theory.specs.Counted.{HasCounts}
 use Rattle.mvo_theory.proofs.Stays.{stays_after_call}
@@ -47,7 +48,10 @@ use Rattle.mvo_store.specs.Calls.StoreCall.{Take, AppendOpen as AppendOpenCall}
 use Rattle.mvo_store.proofs.Taken.{KeepsTaken, IsQuiet, left_taken, quiet_taken, quiet_rows, refused_rows, accepted_by, refused_by}
 use Rattle.mvo_store.proofs.Keeping.{OnlyNow, refused_keeps}
 use Rattle.mvo_world.specs.WorldData.{WorldData, waiting, Follow, IsLinked, IsSoundWorld, IsJustOpened}
-use Rattle.mvo_world.specs.Past.{Past, happened, acknowledged_by, closed_by, taken_by, with_event, opened_over}
+use Rattle.mvo_rests.specs.Course.{trims_after}
+use Rattle.mvo_rests.specs.Known.{KnowsRests}
+use Rattle.mvo_rests.proofs.Knowing.{known_opened, known_after_call, known_closed}
+use Rattle.mvo_world.specs.Past.{Past, course_of, happened, trimmed_by, acknowledged_by, closed_by, taken_by, with_event, opened_over}
 use Rattle.mvo_core.specs.Groups.{HaveRecordsOf}
 use Rattle.mvo_world.specs.Standing.{IsAfter, RecoversPrefix}
 use Rattle.mvo_world.specs.Ring.{oldest, IsClosingInto}
@@ -85,20 +89,31 @@ nothing_taken s e = go _ _ e
     go false (Some g) f = absurd cc
 
 -- ---- a past with an event more
-past_is : (p : Past) (e : Event) (r : Reply) (steps : List Step) (acked closed : List ℕ) (took : ℕ) → p.steps ++ happened e r ≡ steps → p.acknowledged ++ acknowledged_by e r ≡ acked → p.closed ++ closed_by e r ≡ closed → p.taken + taken_by e r ≡ took
-    → record { rows = p.rows; mark = p.mark; steps = steps; acknowledged = acked; closed = closed; taken = took } ≡ with_event p e r
-past_is p e r steps acked closed took a b c n = cc
+abbrev trims_with : Past → List ℕ → List (ℕ × ℕ)
+trims_with p ms = p.trims ++ map (λ m. (length p.steps, m)) ms
+
+past_is : (p : Past) (e : Event) (r : Reply) (steps : List Step) (trims : List (ℕ × ℕ)) (acked closed : List ℕ) (took : ℕ) → p.steps ++ happened e r ≡ steps → trims_with p (trimmed_by e r) ≡ trims → p.acknowledged ++ acknowledged_by e r ≡ acked → p.closed ++ closed_by e r ≡ closed → p.taken + taken_by e r ≡ took
+    → record { rows = p.rows; mark = p.mark; steps = steps; trims = trims; acknowledged = acked; closed = closed; taken = took } ≡ with_event p e r
+past_is p e r steps trims acked closed took a t b c n = cc
 
 none_more : (n : ℕ) → n + 0 ≡ n
 none_more n = omega arith
 
--- the mark of a group that was closed, and how many the store took
-abbrev pub groups_by : Event → Reply → List ℕ × ℕ
-groups_by e r = (closed_by e r, taken_by e r)
+-- the mark of a group that was closed, how many the store took, and up to where it was trimmed
+abbrev pub groups_by : Event → Reply → List ℕ × ℕ × List ℕ
+groups_by e r = (closed_by e r, taken_by e r, trimmed_by e r)
+
+abbrev trimmed_to : Call → CallResult → List ℕ
+trimmed_to (Trim m) Accepted = m ∷ []
+trimmed_to c r = []
+
+trims_are : (p : Past) (c : Call) (r : CallResult) → trims_with p (trimmed_to c r) ≡ trims_after (course_of p) c r
+trims_are p (Trim m) Accepted = refl
+trims_are p c r = append-nil p.trims
 
 -- nothing that a past remembers
 abbrev pub IsSilent : Event → Reply → Type 0
-IsSilent e r = (happened e r ≡ []) × (acknowledged_by e r ≡ []) × (groups_by e r ≡ ([], 0))
+IsSilent e r = (happened e r ≡ []) × (acknowledged_by e r ≡ []) × (groups_by e r ≡ ([], 0, []))
 
 -- so it is with an event whose copy was refused
 pub silent_copy : (e : Event) → HasRow e → IsSilent e (Refused OutOfMemory)
@@ -107,7 +122,7 @@ silent_copy (Update t row) h = (refl, refl, refl)
 silent_copy e h = absurd h
 
 silent_past : (p : Past) (e : Event) (r : Reply) → IsSilent e r → p ≡ with_event p e r
-silent_past p e r s = simp (s.0, s.1, ap (λ (g : List ℕ × ℕ). g.0) s.2, ap (λ (g : List ℕ × ℕ). g.1) s.2, append-nil, none_more)
+silent_past p e r s = simp (s.0, s.1, ap (λ (g : List ℕ × ℕ × List ℕ). g.0) s.2, ap (λ (g : List ℕ × ℕ × List ℕ). g.1) s.2, ap (λ (g : List ℕ × ℕ × List ℕ). g.2) s.2, append-nil, none_more)
 
 -- a state stays as it is
 unchanged : (s : State) → StaysBelow s s
@@ -131,14 +146,15 @@ module _ {D : Type 0} (d : Ghosts D) where
   }
 
   -- no group becomes durable and none is closed
-  goes_on : (p : Past) (w w' : WorldData D) (h : IsAfter d p w) (steps : List Step) (s : State) → StandsFor p.rows steps s w'.core → HasCounts p.mark steps s → IsClosedAt s.marks.closed s → StaysBelow h.state s
+  goes_on : (p : Past) (w w' : WorldData D) (h : IsAfter d p w) (steps : List Step) (trims : List (ℕ × ℕ)) (s : State) → StandsFor p.rows steps s w'.core → HasCounts p.mark steps s → KnowsRests (record { rows = p.rows; mark = p.mark; steps = steps; trims = trims }) s → IsClosedAt s.marks.closed s → StaysBelow h.state s
       → waiting w' ≡ waiting w → mark_of w'.store ≡ mark_of w.store → KeepsRows d w'.store (after_groups p.rows h.sent)
-      → (acked : List ℕ) → AllByRecursion (λ n. n ≤ mark_of w'.store) acked → (took : ℕ) → HasRoomFor took p.closed w'.ring → IsAfter d (record p { steps = steps; acknowledged = acked; taken = took }) w'
-  goes_on p w w' h steps s core counted closed stays wait mark store acked covers took room = record {
+      → (acked : List ℕ) → AllByRecursion (λ n. n ≤ mark_of w'.store) acked → (took : ℕ) → HasRoomFor took p.closed w'.ring → IsAfter d (record p { steps = steps; trims = trims; acknowledged = acked; taken = took }) w'
+  goes_on p w w' h steps trims s core counted rests closed stays wait mark store acked covers took room = record {
     sent = h.sent;
     state = s;
     core = core;
     counted = counted;
+    rests = rests;
     closed = closed;
     before = (stays p.mark h.before).0;
     none = (stays p.mark h.before).1 ∙ h.none;
@@ -156,7 +172,7 @@ module _ {D : Type 0} (d : Ghosts D) where
       → ((p : Past) (h : IsAfter d p w) → StandsFor p.rows p.steps h.state w'.core) → w'.ring ≡ w.ring → waiting w' ≡ waiting w → mark_of w'.store ≡ mark_of w.store → Keeps d w.store w'.store → IsStepBy IsReply Justifies d w e r w'
   moved IsReply Justifies w w' e r silent reply just core ring wait mark keeps =
       stepped IsReply Justifies w w' e r (λ rows. rows) reply just keeps (λ p h store.
-      subst (λ (q : Past). IsAfter d q w') (silent_past p e r silent) (goes_on p w w' h p.steps h.state (core p h) h.counted h.closed (unchanged h.state) wait mark store p.acknowledged (subst (λ m. AllByRecursion (λ n. n ≤ m) p.acknowledged) (sym mark) h.covers) p.taken (subst (HasRoomFor p.taken p.closed) (sym ring) (h.untaken, h.room))))
+      subst (λ (q : Past). IsAfter d q w') (silent_past p e r silent) (goes_on p w w' h p.steps p.trims h.state (core p h) h.counted h.rests h.closed (unchanged h.state) wait mark store p.acknowledged (subst (λ m. AllByRecursion (λ n. n ≤ m) p.acknowledged) (sym mark) h.covers) p.taken (subst (HasRoomFor p.taken p.closed) (sym ring) (h.untaken, h.room))))
 
   -- ---- a call of the store that takes no group and makes none durable
   store_moved : (w : WorldData D) (store : StoreData D) (e : Event) (r : Reply) → IsSilent e r → IsReplyTo d w e r (record w { store = store }) → KeepsTaken w.store store → Keeps d w.store store → IsWorldStep d w e r (record w { store = store })
@@ -196,8 +212,8 @@ module _ {D : Type 0} (d : Ghosts D) where
       let mark = ap (λ (s : StoreData D). mark_of s) made in
       let untaken = a.untaken in
       let room = a.room in
-      subst (λ (q : Past). IsAfter d q (record w { ring = ring; store = store })) (past_is p TakeGroup Taken p.steps p.acknowledged p.closed (p.taken + 1) (append-nil p.steps) (append-nil p.acknowledged) (append-nil p.closed) refl)
-      (goes_on p w (record w { ring = ring; store = store }) a p.steps a.state a.core a.counted a.closed (unchanged a.state) (later ∙ sym before) mark rows p.acknowledged
+      subst (λ (q : Past). IsAfter d q (record w { ring = ring; store = store })) (past_is p TakeGroup Taken p.steps p.trims p.acknowledged p.closed (p.taken + 1) (append-nil p.steps) (append-nil p.trims) (append-nil p.acknowledged) (append-nil p.closed) refl)
+      (goes_on p w (record w { ring = ring; store = store }) a p.steps p.trims a.state a.core a.counted a.rests a.closed (unchanged a.state) (later ∙ sym before) mark rows p.acknowledged
       (subst (λ m. AllByRecursion (λ n. n ≤ m) p.acknowledged) (sym mark) a.covers) (p.taken + 1) ((omega (arith, ends, untaken)), (omega (arith, ends, room)))))
 
   -- ---- a group becomes durable
@@ -221,11 +237,12 @@ module _ {D : Type 0} (d : Ghosts D) where
           let list : b.sent ++ waiting w ≡ (b.sent ++ g ∷ []) ++ waiting w' = ap (λ gs. b.sent ++ gs) before ∙ sym (append_assoc b.sent (g ∷ []) w.ring) ∙ ap (λ gs. (b.sent ++ g ∷ []) ++ gs) (sym later) in
           let groups = subst (HaveRecordsOf b.state first) list b.groups in
           let up : mark_after first b.sent ≤ g.mark = marks_rise b.state (mark_after first b.sent) (g ∷ []) (groups_back b.state first b.sent (g ∷ []) (groups_front b.state first (b.sent ++ g ∷ []) (waiting w') groups)) in
-          subst (λ (q : Past). IsAfter d q w') (past_is p AppendOpen (Durable mark) p.steps (p.acknowledged ++ mark.0 ∷ []) p.closed p.taken (append-nil p.steps) refl (append-nil p.closed) (none_more p.taken)) (record {
+          subst (λ (q : Past). IsAfter d q w') (past_is p AppendOpen (Durable mark) p.steps p.trims (p.acknowledged ++ mark.0 ∷ []) p.closed p.taken (append-nil p.steps) (append-nil p.trims) refl (append-nil p.closed) (none_more p.taken)) (record {
             sent = b.sent ++ g ∷ [];
             state = b.state;
             core = b.core;
             counted = b.counted;
+            rests = b.rests;
             closed = b.closed;
             before = b.before;
             none = b.none;
@@ -248,15 +265,15 @@ module _ {D : Type 0} (d : Ghosts D) where
         → ((opening : Map) (steps : List Step) (s : State) → StandsFor opening steps s w.core → LeadsOn opening steps s c result core)
         → (IsAsked w c result (record w { core = core }) → IsReplyTo d w e r (record w { core = core }))
         → ((opening : Map) (steps : List Step) (s : State) → StandsFor opening steps s w.core → happened e r ≡ steps_of s c result)
-        → (acknowledged_by e r ≡ []) × (groups_by e r ≡ ([], 0)) → IsWorldStep d w e r (record w { core = core })
+        → (acknowledged_by e r ≡ []) × (groups_by e r ≡ ([], 0, trimmed_to c result)) → IsWorldStep d w e r (record w { core = core })
     told w {core} {c} {result} {e} {r} leads reply is silent =
         stepped (IsReplyTo d) IsJustifiedBy w w' e r (λ rows. rows) (reply (record { leads = leads; rest = refl })) (λ p h. justified_reply d p w h e r w' (reply (record { leads = leads; rest = refl }))) (refused_keeps d only_now w.store) (λ p h store.
         let l = leads p.rows p.steps h.state h.core in
         let kept = h.core.versions.kept in
         let next = after_call h.state c result in
         subst (λ (q : Past). IsAfter d q w')
-        (past_is p e r (p.steps ++ steps_of h.state c result) p.acknowledged p.closed p.taken (ap (λ xs. p.steps ++ xs) (is p.rows p.steps h.state h.core)) (ap (λ ms. p.acknowledged ++ ms) silent.0 ∙ append-nil p.acknowledged) (ap (λ (g : List ℕ × ℕ). p.closed ++ g.0) silent.1 ∙ append-nil p.closed) (ap (λ (g : List ℕ × ℕ). p.taken + g.1) silent.1 ∙ none_more p.taken))
-        (goes_on p w w' h (p.steps ++ steps_of h.state c result) next l.stands (counted_after_call p.rows p.mark p.steps h.state c result l.may kept h.counted) (still_closed p.rows p.steps h.state c result l.may kept h.closed) (stays_after_call h.state c result kept.sound) refl refl store p.acknowledged h.covers p.taken (h.untaken, h.room)))
+        (past_is p e r (p.steps ++ steps_of h.state c result) (trims_after (course_of p) c result) p.acknowledged p.closed p.taken (ap (λ xs. p.steps ++ xs) (is p.rows p.steps h.state h.core)) (ap (λ (g : List ℕ × ℕ × List ℕ). trims_with p g.2) silent.1 ∙ trims_are p c result) (ap (λ ms. p.acknowledged ++ ms) silent.0 ∙ append-nil p.acknowledged) (ap (λ (g : List ℕ × ℕ × List ℕ). p.closed ++ g.0) silent.1 ∙ append-nil p.closed) (ap (λ (g : List ℕ × ℕ × List ℕ). p.taken + g.1) silent.1 ∙ none_more p.taken))
+        (goes_on p w w' h (p.steps ++ steps_of h.state c result) (trims_after (course_of p) c result) next l.stands (counted_after_call p.rows p.mark p.steps h.state c result l.may kept h.counted) (known_after_call (course_of p) h.state c result l.may kept h.rests) (still_closed p.rows p.steps h.state c result l.may kept h.closed) (stays_after_call h.state c result kept.sound) refl refl store p.acknowledged h.covers p.taken (h.untaken, h.room)))
       where
         w' : WorldData D
         w' = record w { core = core }
@@ -307,11 +324,12 @@ module _ {D : Type 0} (d : Ghosts D) where
             ∙ sym (follow_to (mark_of w.store) (closed_mark_of w.core) (waiting w) linked)
             ∙ ap (λ (m : ℕ). mark_after m (waiting w)) h.mark
             ∙ sym (mark_after-append first h.sent (waiting w)) in
-            subst (λ (q : Past). IsAfter d q w') (past_is p CloseGroup (Closed c) p.steps p.acknowledged (p.closed ++ g.mark ∷ []) p.taken (append-nil p.steps) (append-nil p.acknowledged) (ap (λ n. p.closed ++ n ∷ []) (sym now.mark)) (none_more p.taken)) (record {
+            subst (λ (q : Past). IsAfter d q w') (past_is p CloseGroup (Closed c) p.steps p.trims p.acknowledged (p.closed ++ g.mark ∷ []) p.taken (append-nil p.steps) (append-nil p.trims) (append-nil p.acknowledged) (ap (λ n. p.closed ++ n ∷ []) (sym now.mark)) (none_more p.taken)) (record {
               sent = h.sent;
               state = after_close s c.mark.0;
               core = now.stands;
               counted = counted_closed p.mark p.steps s c.mark.0 h.counted;
+              rests = known_closed (course_of p) s c.mark.0 h.rests;
               closed = record { drawn = up.drawn; above = up.above };
               before = record { drawn = h.before.drawn; above = h.before.above };
               none = h.none;
@@ -338,8 +356,8 @@ module _ {D : Type 0} (d : Ghosts D) where
     polled_step w stamp true is =
         stepped (IsReplyTo d) IsJustifiedBy w w (Poll stamp) (Polled true) (λ rows. rows) (is, refl) (λ p h. tt) (refused_keeps d only_now w.store) (λ p h store.
         let acked = p.acknowledged ++ stamp.0 ∷ [] in
-        subst (λ (q : Past). IsAfter d q w) (past_is p (Poll stamp) (Polled true) p.steps acked p.closed p.taken (append-nil p.steps) refl (append-nil p.closed) (none_more p.taken))
-        (goes_on p w w h p.steps h.state h.core h.counted h.closed (unchanged h.state) refl refl store acked (each_append (λ m. m ≤ mark_of w.store) p.acknowledged (stamp.0 ∷ []) h.covers (leb-true stamp.0 (mark_of w.store) (sym is), tt)) p.taken (h.untaken, h.room)))
+        subst (λ (q : Past). IsAfter d q w) (past_is p (Poll stamp) (Polled true) p.steps p.trims acked p.closed p.taken (append-nil p.steps) (append-nil p.trims) refl (append-nil p.closed) (none_more p.taken))
+        (goes_on p w w h p.steps p.trims h.state h.core h.counted h.rests h.closed (unchanged h.state) refl refl store acked (each_append (λ m. m ≤ mark_of w.store) p.acknowledged (stamp.0 ∷ []) h.covers (leb-true stamp.0 (mark_of w.store) (sym is), tt)) p.taken (h.untaken, h.room)))
 
   -- ---- a world that was just opened
   pub begun : (rows : Map) (w : WorldData D) → IsJustOpened rows w → KeepsRows d w.store rows → IsAfter d (opened_over rows (mark_of w.store)) w
@@ -351,6 +369,7 @@ module _ {D : Type 0} (d : Ghosts D) where
         state = opened rows (mark_of w.store);
         core = is.core;
         counted = counted_opened rows (mark_of w.store);
+        rests = known_opened rows (mark_of w.store);
         closed = record { drawn = omega arith; above = tt };
         before = record { drawn = omega arith; above = tt };
         none = refl;

@@ -13,13 +13,14 @@ use Rattle.mvo_theory.specs.Calls as theory
 use Rattle.mvo_theory.specs.Calls.Call.{Begin as BeginCall, Precommit as PrecommitCall, Validate as ValidateCall, Settle as SettleCall, Rollback as RollbackCall, Finish as FinishCall, Do}
 use Rattle.mvo_theory.specs.Calls.Result.{Accepted, Refused as RefusedCall}
 use Rattle.mvo_theory.specs.Counts.{draws, checks_in}
-use Rattle.mvo_theory.specs.Rests.{WaitsFor}
 use Rattle.mvo_theory.specs.Justified.{IsJustified}
+use Rattle.mvo_rests.specs.Resting.{IsFirstAwaited, AwaitsNone}
+use Rattle.mvo_rests.specs.Laws.{TellsRests}
 use Rattle.mvo_core.specs.declared.answers.Validation.{Validation}
 use Rattle.mvo_core.specs.declared.answers.Validation.TheVariants.{More, Valid}
 use Rattle.mvo_core.specs.declared.answers.Settlement.{Settlement}
 use Rattle.mvo_core.specs.declared.answers.Settlement.TheVariants.{Committed, Waiting}
-use Rattle.mvo_world.specs.Past.{Past}
+use Rattle.mvo_world.specs.Past.{Past, course_of}
 use Rattle.mvo_world.specs.Replies.{HasRow}
 use Rattle.mvo_types.specs.declared.limits.TheConstants.{RING_GROUPS}
 use Rattle.mvo_world.specs.declared.event.Event.{Event}
@@ -27,9 +28,10 @@ use Rattle.mvo_world.specs.declared.event.Event.TheVariants.{Begin, Read, Scan, 
 use Rattle.mvo_world.specs.declared.reply.Reply.{Reply}
 use Rattle.mvo_world.specs.declared.reply.Reply.TheVariants.{Began, Answered, Prepared, Validated, Settled, RolledBack, Finished, Closed, Refused}
 
--- what the call came to: with its cause where it is refused, and else with none
+-- what the call came to: with its cause where it is refused, and else with none; and 22 just where
+-- one on whom its transaction rests was aborted
 abbrev pub IsJust : Past → theory.Call → theory.Result → Type 0
-IsJust p c r = IsJustified p.rows p.mark p.steps c r
+IsJust p c r = IsJustified p.rows p.mark p.steps c r × TellsRests (course_of p) c r
 
 -- the timestamp behind those that were drawn
 abbrev pub IsNextStamp : Past → ℕ → Type 0
@@ -47,10 +49,12 @@ abbrev pub IsJustCheck : Past → ℕ → Validation → Type 0
 IsJustCheck p t Valid = length (entries (history_of t p.steps)) ≤ checks_in t p.steps + 1
 IsJustCheck p t More = checks_in t p.steps + 1 < length (entries (history_of t p.steps))
 
--- it is settled with its end, or waits for one that it depends on and that is Preparing
+-- It is settled with its end, and rests on none that is Preparing; or it waits for one of those on
+-- whom it rests and that are Preparing, which has the least end.
 abbrev pub IsJustSettlement : Past → ℕ → Settlement → Type 0
-IsJustSettlement p t (Committed e) = phase_of t p.steps ≡ Preparing e.0
-IsJustSettlement p t (Waiting x) = WaitsFor p.rows p.steps t x.0
+IsJustSettlement p t (Committed e) =
+    (phase_of t p.steps ≡ Preparing e.0) × AwaitsNone (course_of p) t
+IsJustSettlement p t (Waiting x) = IsFirstAwaited (course_of p) t x.0
 
 -- how many closed groups the store hasn't taken
 abbrev pub untaken : Past → ℕ

@@ -1,17 +1,18 @@
 -- What a world remembers of its past.
-use Rattle.std.specs.Prelude.{ℕ, ◌+◌, true, List, [], ◌∷◌, ◌++◌}
+use Rattle.std.specs.Prelude.{ℕ, ◌+◌, true, List, [], ◌∷◌, ◌++◌, length, map}
 use Rattle.mvo_model.specs.Trace.{Step, IsSerial}
 use Rattle.mvo_model.specs.Trace.Step.{Begins, Answers, Prepares, Checks, Commits, Aborts, Terminates}
 use Rattle.mvo_types.specs.Keys.{Map}
 use Rattle.mvo_types.specs.declared.op.Op.TheVariants as op
 use Rattle.mvo_types.specs.AnswerData.{answer_data}
 use Rattle.mvo_theory.specs.Steps.{steps_of_refusal}
+use Rattle.mvo_rests.specs.Course.{Course}
 use Rattle.mvo_core.specs.declared.answers.Settlement.TheVariants.{Committed}
 use Rattle.mvo_core.specs.declared.answers.Finishing.TheVariants.{Done}
 use Rattle.mvo_world.specs.declared.event.Event.{Event}
-use Rattle.mvo_world.specs.declared.event.Event.TheVariants.{Begin, Read, Scan, Insert, Update, Delete, Precommit, Validate, Settle, Rollback, Finish, CloseGroup, TakeGroup, AppendOpen, Poll}
+use Rattle.mvo_world.specs.declared.event.Event.TheVariants.{Begin, Read, Scan, Insert, Update, Delete, Precommit, Validate, Settle, Rollback, Finish, Trim, CloseGroup, TakeGroup, AppendOpen, Poll}
 use Rattle.mvo_world.specs.declared.reply.Reply.{Reply}
-use Rattle.mvo_world.specs.declared.reply.Reply.TheVariants.{Began, Answered, Prepared, Validated, Settled, RolledBack, Finished, Closed, Taken, Durable, Polled, Refused}
+use Rattle.mvo_world.specs.declared.reply.Reply.TheVariants.{Began, Answered, Prepared, Validated, Settled, RolledBack, Finished, Trimmed, Closed, Taken, Durable, Polled, Refused}
 
 pub record Past : Type 0 where
   -- the rows and the mark that it was opened with
@@ -19,6 +20,8 @@ pub record Past : Type 0 where
   pub mark : ℕ
   -- the steps of the transactions since
   pub steps : List Step
+  -- each trim: how many steps were before it, and where the history starts from then on
+  pub trims : List (ℕ × ℕ)
   -- the opening mark, the marks that were answered durable, and the timestamps polled with yes
   pub acknowledged : List ℕ
   -- the marks of the groups that were closed, and how many of them the store took
@@ -31,10 +34,15 @@ opened_over rows mark = record {
   rows = rows;
   mark = mark;
   steps = [];
+  trims = [];
   acknowledged = mark ∷ [];
   closed = [];
   taken = 0;
 }
+
+-- what happened to its transactions, and the trims
+abbrev pub course_of : Past → Course
+course_of p = record { rows = p.rows; mark = p.mark; steps = p.steps; trims = p.trims }
 
 -- the committed transactions were told what they are told one after another
 abbrev pub IsSerialPast : Past → Type 0
@@ -66,6 +74,11 @@ happened (Rollback t) RolledBack = Aborts t.0 ∷ []
 happened (Finish t) (Finished Done) = Terminates t.0 ∷ []
 happened e r = []
 
+-- up to where the history was trimmed
+abbrev pub trimmed_by : Event → Reply → List ℕ
+trimmed_by (Trim upto) (Trimmed stamp) = upto.0 ∷ []
+trimmed_by e r = []
+
 -- an answered durable mark, or a timestamp whose poll answered yes
 abbrev pub acknowledged_by : Event → Reply → List ℕ
 acknowledged_by AppendOpen (Durable mark) = mark.0 ∷ []
@@ -87,6 +100,7 @@ with_event p e r = record {
   rows = p.rows;
   mark = p.mark;
   steps = p.steps ++ happened e r;
+  trims = p.trims ++ map (λ m. (length p.steps, m)) (trimmed_by e r);
   acknowledged = p.acknowledged ++ acknowledged_by e r;
   closed = p.closed ++ closed_by e r;
   taken = p.taken + taken_by e r;

@@ -1,0 +1,4 @@
+pub mod Course
+pub mod Resting
+pub mod Known
+pub mod Laws
