@@ -1,10 +1,10 @@
 -- What collections under the lock of the core come to, one after another.
-use Rattle.std.proofs.Common.{◌≡◌, ◌+◌, ◌<◌, ◌≤◌, ℕ, refl, sym, ap, ◌∙◌, arith}
+use Rattle.std.proofs.Common.{◌+◌, ◌≤◌, ℕ, refl, sym, ap, ◌∙◌, arith}
 use Rattle.std.proofs.Math.Nat.{min-eq_left, min-eq_right}
 use Rattle.mvo_core.specs.Collection.TheVariants.{Collected, Nothing}
 use Rattle.mvo_core.specs.Data.{CoreData}
 use Rattle.mvo_engine.specs.States.{CoreState}
-use Rattle.mvo_engine.specs.Collecting.{IsCoreCollection, garbage_in, HasCollectedUpTo}
+use Rattle.mvo_engine.specs.Collecting.{IsCoreCollection, HasCollectedUpTo}
 
 -- none so far
 pub collected_none : (c : CoreState) → HasCollectedUpTo c 0 0 c

@@ -1,5 +1,5 @@
 -- What contracts see of the values under the locks, and of a session.
-use Rattle.std.specs.Prelude.{ℕ, List, Option, None}
+use Rattle.std.specs.Prelude.{ℕ, List, Option}
 use Rattle.mvo_group.specs.Data.{GroupData}
 use Rattle.mvo_core.specs.Data.{CoreData}
 use Rattle.mvo_store.specs.StoreData.{StoreData}
