@@ -1,7 +1,5 @@
 -- The core under its lock stays sound.
 use Rattle.std.proofs.Common.{◌≡◌, ℕ, ◌≤◌, List, [], ◌∷◌, ◌++◌, Result, Ok, Err, sym, ap, ◌∙◌, subst, arith}
-use Rattle.rtrb.specs.declared.producer.Producer.{Producer}
-use Rattle.rtrb.specs.Ring.{sent as ring_sent}
 use Rattle.mvo_types.specs.declared.refusal.Refusal.{Refusal}
 use Rattle.mvo_disk.specs.Disk.{Image}
 use Rattle.mvo_group.specs.Data.{GroupData}
@@ -19,7 +17,7 @@ use Rattle.mvo_core.specs.Seen.{clock_of}
 use Rattle.mvo_core.specs.Standing.{Stands, StandsFor}
 use Rattle.mvo_core.specs.Groups.{HaveRecordsOf}
 use Rattle.mvo_core.specs.Steps.{came, IsStep}
-use Rattle.mvo_core.specs.Closing.{IsClosedNow, HasClosed}
+use Rattle.mvo_core.specs.Closing.{IsClosedNow}
 use Rattle.mvo_core.specs.Collecting.{StandsAsBefore}
 use Rattle.mvo_core.proofs.Begun.{still_closed}
 use Rattle.mvo_world.proofs.Asked.{same_closed, stands_serial}
@@ -29,6 +27,8 @@ use Rattle.mvo_world.proofs.Moves.{groups_closed}
 use Rattle.mvo_world.proofs.Standing.{mark_after-append, groups_push}
 use Rattle.mvo_engine.specs.Sound.{IsSoundCore, last_mark}
 use Rattle.mvo_engine.specs.Legal.{IsLegalCore}
+use Rattle.mvo_engine.specs.States.{SendsState}
+use Rattle.mvo_engine.specs.Calls.{HasSent}
 
 module _ {image : Image} {c : CoreData} {sent : List GroupData} (i : IsSoundCore image c sent) where
   abbrev standing : Stands c
@@ -99,10 +99,10 @@ module _ {image : Image} {c : CoreData} {sent : List GroupData} (i : IsSoundCore
     last = ap last_mark same ∙ i.last ∙ sym (ap (λ (m : Marks). m.closed) i.stands.marks) ∙ ap (λ (m : Marks). m.closed) stands.marks;
   }
 
-  -- over either, by what went into the ring
-  pub after_closing : {A P : Type 0} (ring ring' : Producer GroupData A P) → ring_sent ring ≡ sent → (result : Result closing.Closed Refusal) (new : CoreData) → HasClosed i.rows i.steps i.state ring result new ring' → IsSoundCore image new (ring_sent ring')
-  after_closing ring ring' is (Ok x) new h = closed_to (ring_sent ring') new x h.1.0 (h.1.1 ∙ ap (λ (gs : List GroupData). gs ++ h.1.0 ∷ []) is) h.1.2
-  after_closing ring ring' is (Err r) new h = unclosed (ring_sent ring') new (h.1.1 ∙ is) h.0.stands
+  -- over either, by what was sent
+  pub after_closing : (old new' : SendsState) → old.sent ≡ sent → (result : Result closing.Closed Refusal) (new : CoreData) → HasSent i.rows i.steps i.state old result new new' → IsSoundCore image new new'.sent
+  after_closing old new' is (Ok x) new h = closed_to new'.sent new x h.1.0 (h.1.1 ∙ ap (λ (gs : List GroupData). gs ++ h.1.0 ∷ []) is) h.1.2
+  after_closing old new' is (Err r) new h = unclosed new'.sent new (h.0 ∙ is) h.1.1.stands
 
   -- what is known of it
   pub legal : IsLegalCore image c sent
@@ -122,8 +122,3 @@ module _ {image : Image} {c : CoreData} {sent : List GroupData} (i : IsSoundCore
         (each_weaker (IsPlaced i.state.stamped i.state.clock) (λ (x : StampedTx). x.end ≤ clock_of c) (λ x p. let le = p.drawn in omega (arith, is, le)) i.state.stamped i.stands.versions.kept.sound.placed);
     groups = i.groups;
   }
-
--- what stands beside it stays over a step that closes no group
-pub stays_sound : {image : Image} {c : CoreData} {sent : List GroupData} {A P Q : Type 0} {call : Call} {new : CoreData} → IsSoundCore image c sent × P × Q → (result : Result A Refusal) → IsStep c call result new → group_of call (came result) ≡ []
-    → IsSoundCore image new sent × P × Q
-stays_sound {call = call} {new = new} i result step none = (stepped i.0 call result new none step, i.1, i.2)

@@ -6,3 +6,8 @@ pub mod Calls
 pub mod Legal
 pub mod Logging
 pub mod Collecting
+pub mod Watching
+pub mod Booked
+pub mod Receiving
+pub mod Audited
+pub mod Gathering

@@ -9,7 +9,7 @@ use std::sync::MutexGuard;
 /// can ask for any more: each step of a transaction is a session's.
 #[derive(Drop)]
 pub struct CoreGuard<'e, L: Run> {
-    held: MutexGuard<'e, LockedCore<L>>,
+    pub(crate) held: MutexGuard<'e, LockedCore<L>>,
 }
 
 impl<'e, L: Run> Model for CoreGuard<'e, L> {
@@ -42,7 +42,7 @@ impl<'e, L: Run> CoreGuard<'e, L> {
     /// of transactions that ran one after another by their ends, and none ended above the clock.
     pub fn clock(&self) -> Stamp
         ensures value { result.0 ≡ self.now.core.table.clock }
-        ensures legal { IsLegalCore L.image self.now.core self.now.sent }
+        ensures legal { IsLegalCore L.image self.now.core self.now.sends.sent }
     {
         self.held.clock()
     }
@@ -60,6 +60,13 @@ impl<'e, L: Run> CoreGuard<'e, L> {
         ensures { result.0 ≡ self.now.core.start }
     {
         self.held.tale_start()
+    }
+
+    /// How many sessions were made.
+    pub fn made(&self) -> u32
+        ensures { result ≡ self.now.made }
+    {
+        self.held.made()
     }
 
     /// Makes the stamp the start of the tale, and forgets the commits that are trimmed and in a

@@ -3,24 +3,34 @@
 #![tactic(auto)]
 
 mod chain;
+mod copying;
 mod core_guard;
+mod counting;
 mod ends;
 mod engine;
 mod fresh;
 mod gate;
+mod gathering;
 mod locked_core;
 mod locked_store;
 mod place;
+mod receipt;
+mod receipts;
 mod run;
+mod sends;
 mod session;
 mod store_guard;
+mod transaction;
 
 pub use chain::Chain;
 pub use core_guard::CoreGuard;
 pub use engine::Engine;
 pub use fresh::Fresh;
 pub use gate::{Gate, OpenGate};
+pub use gathering::{Gathered, gather};
 pub use place::Place;
+pub use receipt::Receipt;
 pub use run::{MAX_SESSIONS, Run};
 pub use session::Session;
 pub use store_guard::StoreGuard;
+pub use transaction::Transaction;

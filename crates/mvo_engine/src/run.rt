@@ -1,28 +1,36 @@
 use std::marker::Brand;
+use std::sync::ledger::Ledger;
 
-/// So many sessions may be made of one engine.
+/// So many sessions may be made of one engine: each has one part of the ledger.
 pub const MAX_SESSIONS: u32 = 1_048_576;
 
-/// Names one run of an engine: what its disk held when it was opened, its marks and its ring. The
-/// values under the locks and the sessions agree on it.
-pub trait Run {
+/// Names one run of an engine: what its disk held when it was opened, its marks and its ring, a
+/// ledger of `MAX_SESSIONS` parts, and the receipt that the ledger counts, which may be any: no code
+/// knows which. The values under the locks and the sessions agree on it.
+pub trait Run: Ledger {
     ghost use Rattle.mvo_disk.specs.Disk.{Image};
     ghost use Rattle.atomic_table.specs.Seated.{TableId};
     ghost use Rattle.mvo_engine.specs.Rings.{RingName};
+    ghost use Rattle.mvo_engine.specs.Watching.{Watched};
 
     ghost image: { Image };
 
     ghost marks: { TableId };
 
     ghost ring: { RingName };
+
+    ghost watched: { Watched };
 }
 
 impl Run for Brand {
     ghost use Rattle.mvo_engine.specs.Rings.{no_image, no_marks, no_ring};
+    ghost use Rattle.mvo_engine.specs.Watching.{nothing_watched};
 
     ghost image = { no_image };
 
     ghost marks = { no_marks };
 
     ghost ring = { no_ring };
+
+    ghost watched = { nothing_watched };
 }

@@ -14,7 +14,7 @@ use std::sync::MutexGuard;
 /// The lock of the store, taken. It lends the steps of the log.
 #[derive(Drop)]
 pub struct StoreGuard<'e, L: Run, D: Disk> {
-    held: MutexGuard<'e, LockedStore<L, D>>,
+    pub(crate) held: MutexGuard<'e, LockedStore<L, D>>,
     marks: &'e Marks,
     ghost named: { marks.now ≡ L.marks },
 }

@@ -1,0 +1,23 @@
+use Rattle.std.proofs.Common.{refl, ◌∙◌}
+use Rattle.mvo_engine.proofs.Rings.{same_of}
+use Rattle.mvo_engine.proofs.sends.Sends.close_group.Goals as goal
+
+pub invariant_of-self : goal.invariant_of-self
+invariant_of-self g c =
+    let i = c.self.invariant in
+    (c.raise_closed.ensures.closed.marks ∙ i.0, same_of c.self.inside.ring c.close_group.new.ring c.close_group.ensures.ring ∙ i.1)
+
+pub invariant_of-self-in-Err : goal.invariant_of-self-in-Err
+invariant_of-self-in-Err g c =
+    let i = c.self.invariant in
+    (i.0, same_of c.self.inside.ring c.close_group.new.ring c.close_group.ensures.ring ∙ i.1)
+
+pub returns-in-Ok : goal.returns-in-Ok
+returns-in-Ok g c = rw (← c.self.view_is) (λ rows steps s h.
+    let told = c.in-Ok.ensures.step rows steps s h in
+    (told.0, told.1, c.raise_closed.ensures.raised))
+
+pub returns-in-Err : goal.returns-in-Err
+returns-in-Err g c = rw (← c.self.view_is) (λ rows steps s h.
+    let told = c.in-Err.ensures.step rows steps s h in
+    (told.1.1, (_, told.0), refl))
