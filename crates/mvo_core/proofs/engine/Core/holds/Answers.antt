@@ -3,8 +3,8 @@ use Rattle.mvo_theory.specs.Told.{history_told}
 use Rattle.mvo_core.specs.Data.{CoreData}
 use Rattle.mvo_core.specs.View.{core_data}
 use Rattle.mvo_core.specs.Standing.{StandsFor}
-use Rattle.mvo_core.proofs.Holding.{has_just}
-use Rattle.mvo_core.proofs.holding.Core.holds.Goals as goal
+use Rattle.mvo_core.proofs.ToldJust.{has_just}
+use Rattle.mvo_core.proofs.engine.Core.holds.Goals as goal
 
 pub returns : goal.returns
 returns c = λ opening steps s h.
