@@ -1,4 +1,3 @@
-pub mod Rings
 pub mod Sound
 pub mod Opened
 pub mod States
@@ -6,3 +5,7 @@ pub mod Calls
 pub mod Legal
 pub mod Logging
 pub mod Collecting
+pub mod Booked
+pub mod Settling
+pub mod Audited
+pub mod Gathering
