@@ -14,12 +14,13 @@ use Rattle.mvo_disk.specs.declared.disk.Disk.{Ghosts}
 use Rattle.mvo_group.specs.Data.{GroupData}
 use Rattle.mvo_theory.specs.State.{State}
 use Rattle.mvo_theory.specs.Calls.{Call}
-use Rattle.mvo_theory.specs.Calls.Call.{Settle}
+use Rattle.mvo_theory.specs.Calls.Call.{Begin, Settle}
 use Rattle.mvo_theory.specs.Causes.{is_failure, why_not_close}
 use Rattle.mvo_core.specs.declared.answers.Closed.{Closed}
 use Rattle.mvo_core.specs.declared.answers.Settlement.{Settlement}
 use Rattle.mvo_core.specs.Holding.{HoldsJust}
 use Rattle.mvo_core.specs.Data.{CoreData}
+use Rattle.mvo_core.specs.Seen.{clock_of}
 use Rattle.mvo_core.specs.Standing.{StandsFor}
 use Rattle.mvo_core.specs.Steps.{IsStep}
 use Rattle.mvo_core.specs.Closing.{IsClosedNow, IsNotClosed}
@@ -38,16 +39,18 @@ pub record IsCoreStep {A : Type 0} (old : CoreState) (call : Call) (result : Res
   pub sends : new.sends ≡ old.sends
   pub made : new.made ≡ old.made
 
--- such a step where the test stands, and else it is refused with Busy
-abbrev pub IsStepIf : {A : Type 0} → Bool → CoreState → Call → Result A Refusal → CoreState
-    → Type 0
-IsStepIf true old call result new = IsCoreStep old call result new
-IsStepIf false old call result new = (result ≡ Err Busy) × (new ≡ old)
+-- The core begins a transaction; or it is refused with Busy, since the clock is below the stamp.
+abbrev pub IsBeginning : {A : Type 0} → CoreState → ℕ → Result A Refusal → CoreState → Type 0
+IsBeginning old last result new =
+    ((last ≤ clock_of old.core) × IsCoreStep old Begin result new)
+    ⊎ ((clock_of old.core < last) × (result ≡ Err Busy) × (new ≡ old))
 
--- so it is settled where the transaction was told just this
+-- The core settles the transaction, which was told just this; or it is refused with Busy, since the
+-- transaction was told something else.
 abbrev pub IsSettling : CoreState → ℕ → History → Result Settlement Refusal → CoreState → Type 0
 IsSettling old t told result new =
-    (b : Bool) × HoldsJust old.core t told b × IsStepIf b old (Settle t) result new
+    (HoldsJust old.core t told true × IsCoreStep old (Settle t) result new)
+    ⊎ (HoldsJust old.core t told false × (result ≡ Err Busy) × (new ≡ old))
 
 -- one session more was made; or none, as many were made as may be
 abbrev pub IsAnother : {A : Type 0} → CoreState → Option A → CoreState → Type 0

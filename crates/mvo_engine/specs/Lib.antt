@@ -1,3 +1,4 @@
+pub use Rattle.mvo_run.specs.Watching
 pub mod Sound
 pub mod Opened
 pub mod States

@@ -58,10 +58,10 @@ impl<L: Run> Model for LockedCore<L> {
 }
 
 impl<L: Run> LockedCore<L> {
-    ghost use Rattle.std.specs.Prelude.{◌≡◌, ◌≤◌, ◌+◌, ◌<◌, [], nat_le, true, IfOk, IfErr, IfSome};
+    ghost use Rattle.std.specs.Prelude.{◌≡◌, ◌≤◌, ◌+◌, ◌<◌, [], true, IfOk, IfErr, IfSome};
     ghost use Rattle.mvo_types.specs.declared.op.Op.TheVariants as Op;
     ghost use Rattle.mvo_types.specs.declared.refusal.Refusal.{Refusal};
-    ghost use Rattle.mvo_theory.specs.Calls.Call.{Begin, Do, Precommit, Validate};
+    ghost use Rattle.mvo_theory.specs.Calls.Call.{Do, Precommit, Validate};
     ghost use Rattle.mvo_theory.specs.Calls.Call.{Rollback, Finish, Trim};
     ghost use Rattle.mvo_core.specs.Steps.{IsAnswered, IsValidation, IsSettlement, IsFinishing};
     ghost use Rattle.mvo_core.specs.Trimming.{HasForgotten};
@@ -71,7 +71,7 @@ impl<L: Run> LockedCore<L> {
     ghost use Rattle.mvo_engine.specs.Settling.{HasSettled};
     ghost use Rattle.mvo_engine.specs.Sound.{IsSoundCore};
     ghost use Rattle.mvo_engine.specs.Legal.{IsLegalCore};
-    ghost use Rattle.mvo_engine.specs.Calls.{IsCoreStep, IsStepIf, IsSettling};
+    ghost use Rattle.mvo_engine.specs.Calls.{IsCoreStep, IsBeginning, IsSettling};
     ghost use Rattle.mvo_engine.specs.Calls.{IsCoreSending, IsAnother};
     ghost use Rattle.mvo_engine.specs.Collecting.{IsCoreCollection, HasCollectedUpTo};
 
@@ -221,8 +221,7 @@ impl<L: Run> LockedCore<L> {
     /// As `Core::begin_tx`, for a session whose commits end at most there; refused with Busy where
     /// the clock is below that, which no run meets.
     pub fn begin_tx(&mut self, last: Stamp) -> Result<TxId, Refusal>
-        ensures step { IsStepIf (nat_le last.0 self.old.core.table.clock) self.old Begin result
-            self.new }
+        ensures step { IsBeginning self.old last.0 result self.new }
         ensures above { IfOk result (λ t. last.0 < t.0) }
     {
         if self.core.clock() < last {
