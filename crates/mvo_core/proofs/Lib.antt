@@ -52,3 +52,4 @@ pub mod ScanAnswered
 pub mod Awaiting
 pub mod Waits
 pub mod WaitsOn
+pub mod ToldJust

@@ -76,6 +76,13 @@ impl Work {
         self.lists.written.len() >= MAX_WRITES && !is_among(&self.lists.written, key)
     }
 
+    /// Its operations with their answers, in order.
+    pub fn operations(&self) -> &[(Op, Answer)]
+        ensures { history_told result.now ≡ self.now.history }
+    {
+        self.lists.operations.as_slice()
+    }
+
     /// Whether it has written the key.
     pub fn has_written(&self, key: RowKey) -> bool
         ensures { result ≡ is_some (net_write key self.now.history) }
