@@ -4,8 +4,8 @@ ghost use Rattle.mvo_theory.specs.Told.{history_told};
 ghost use Rattle.mvo_core.specs.Data.{own_of};
 ghost use Rattle.mvo_core.specs.Holding.{own_told};
 
-use crate::event_core::Core;
 use crate::equal::same_operations;
+use crate::event_core::Core;
 use crate::transaction::Table;
 use mvo_types::{Answer, Op, TxId};
 
