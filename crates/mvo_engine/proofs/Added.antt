@@ -9,10 +9,6 @@ use Rattle.mvo_theory.specs.Calls.Call.{Settle}
 use Rattle.mvo_theory.specs.Calls.Result.{Accepted}
 use Rattle.mvo_core.specs.Receipts.{Receipt, receipt_of, receipts_of}
 
--- a weight on receipts that is 0 but at one end
-abbrev pub IsAt : ℕ → (Receipt → ℕ) → Type 0
-IsAt e h = (r : Receipt) → r.end ≢ e → h r ≡ 0
-
 -- what the entries of the tale weigh
 abbrev pub weight : (Receipt → ℕ) → StampedTx → ℕ
 weight h x = cond x.settled (h (receipt_of x)) 0

@@ -17,8 +17,8 @@ use Rattle.mvo_theory.specs.Sound.{IsRising, IsSound}
 use Rattle.mvo_theory.specs.Calls.{Call, Result, answer_in, after_accepted, after_refused, after_call}
 use Rattle.mvo_theory.specs.Calls.Call.{Begin, Do, Precommit, Validate, Settle, Rollback, Finish, Trim, Close}
 use Rattle.mvo_theory.specs.Calls.Result.{Accepted, Refused}
-use Rattle.mvo_core.specs.Receipts.{Receipt, receipt_of}
-use Rattle.mvo_engine.proofs.Added.{IsAt, weight, tale_weight, found_weight, unless_waiting, added}
+use Rattle.mvo_core.specs.Receipts.{Receipt, receipt_of, IsAt}
+use Rattle.mvo_engine.proofs.Added.{weight, tale_weight, found_weight, unless_waiting, added}
 
 none_some : (z : StampedTx) → ◌≡◌ {A = Option StampedTx} None (Some z) → ⊥
 none_some z q = cc
