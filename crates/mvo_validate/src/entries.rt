@@ -65,6 +65,7 @@ impl Entries {
 
     /// Sees to it that one more can be noted. It takes memory where there is no room, and alone
     /// does.
+    #[inline(always)]
     pub fn make_room(&mut self) -> Result<(), AllocError>
         ensures same { self.new.noted ≡ self.old.noted }
         ensures ok { OnOk result (0 < self.new.room) }
@@ -78,6 +79,7 @@ impl Entries {
     }
 
     /// Notes an entry, and answers whether it is a new one. One that is there isn't added again.
+    #[inline(always)]
     pub fn note(&mut self, entry: Entry) -> bool
         requires { 0 < self.old.room }
         ensures noted { self.new.noted ≡ with_entry self.old.noted entry }
@@ -95,6 +97,7 @@ impl Entries {
     }
 
     /// Forgets all entries. The memory of few is kept for those of another transaction.
+    #[inline(always)]
     pub fn clear(&mut self)
         ensures { self.new.noted ≡ [] }
     {
@@ -118,6 +121,7 @@ impl Entries {
 }
 
 /// Whether the entry is among these.
+#[inline(always)]
 fn is_among(few: &[Entry], entry: Entry) -> bool
     ensures { result ≡ has_entry few.now entry }
 {
