@@ -3,3 +3,4 @@ pub mod CoreSound
 pub mod Collected
 pub mod StoreSound
 pub mod Begun
+pub mod Flushed

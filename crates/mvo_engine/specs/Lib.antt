@@ -5,4 +5,5 @@ pub mod States
 pub mod Calls
 pub mod Legal
 pub mod Logging
+pub mod Flushing
 pub mod Collecting

@@ -1,3 +1,5 @@
+mod jobs;
+
 ghost use Rattle.std.specs.Prelude.{◌≡◌};
 
 use crate::core_guard::CoreGuard;
@@ -12,7 +14,6 @@ use crate::session::Session;
 use crate::store_guard::StoreGuard;
 use mvo_disk::Disk;
 use mvo_marks::Marks;
-use mvo_store::turn;
 use mvo_types::{Refusal, Stamp};
 use std::sync::{Mutex, MutexGuard, Wait};
 use std::thread;
@@ -94,13 +95,16 @@ impl<L: Run, D: Disk, G: Gate + Drop> Engine<L, D, G> {
     /// mark, which any session polls with yes from then on. Other threads may begin, read, write
     /// and commit meanwhile.
     ///
+    /// The lock of the store is taken anew for each group (`StoreGuard::flush_one`).
+    ///
     /// Refused, what was made durable stays so: OutOfMemory, Down, DiskFault, and where the log has
-    /// to be rotated ClockSpent and SegmentsFull.
+    /// to be rotated ClockSpent, SegmentsFull, and Busy beside a job: a job that a refusal stopped
+    /// is brought on by its own steps alone, under the guard of the store.
     pub fn flush<R: Wait>(&self, rt: &R) -> Result<Stamp, Refusal> {
         self.close_group(rt)?;
         for _ in rt.forever() {
             let mut store = self.lock_store(rt);
-            if !turn(&mut store)? {
+            if !store.flush_one()? {
                 return Ok(store.mark());
             }
         }
