@@ -1,12 +1,12 @@
 //! What is done with the engine: the accounts are made, eight threads transfer while another keeps
-//! the memory steady, and all is counted.
+//! the memory and the log steady, and all is counted, then and over the disk opened again.
 ghost use Rattle.mvo_engine.specs.Opened.{IsNamedBy};
 
 use crate::transfers::{ACCOUNTS, START, TIMES, Transfer, money_in, row_of};
 use crate::upkeep::{is_let_go, keep_up};
 use anyhow::bail;
 use mvo_disk::{Disk, MemDisk};
-use mvo_engine::{Engine, Fresh, OpenGate, Run};
+use mvo_engine::{Engine, Fresh, OpenGate, Run, Session};
 use mvo_store::format;
 use mvo_types::{Answer, Refusal, Stamp};
 use std::alloc::{AllocError, Global};
@@ -27,7 +27,7 @@ pub struct Told {
     pub transfers: usize,
     pub total: u64,
     pub durable: bool,
-    /// Whether all that could be asked for only before is gone from memory.
+    /// Whether all that could be asked for only before is gone from memory and from the log.
     pub let_go: bool,
 }
 
@@ -43,17 +43,38 @@ fn new_disk(alloc: Global) -> Result<MemDisk, AllocError> {
     MemDisk::new(alloc)
 }
 
-/// Opens the disk, and has all threads transfer.
+/// Opens the disk, and has all threads transfer. The disk comes back.
 pub fn on_disk<D: Disk + Drop + Send, R: Threads + Wait + Sync>(
     rt: &R,
     alloc: Global,
     seed: u64,
     disk: D,
-) -> Result<Told, Refusal> {
+) -> Result<(Told, D), Refusal> {
     match Fresh::open(rt, alloc, seed, disk) {
         Ok(fresh) => run::<Brand, D, R>(rt, alloc, fresh),
         Err((refusal, _)) => Err(refusal),
     }
+}
+
+/// Opens the disk, and counts what all accounts have.
+pub fn total_on_disk<D: Disk + Drop, R: Threads + Wait + Sync>(
+    rt: &R,
+    alloc: Global,
+    seed: u64,
+    disk: D,
+) -> Result<u64, Refusal> {
+    match Fresh::open(rt, alloc, seed, disk) {
+        Ok(fresh) => run_total::<Brand, D, R>(rt, fresh),
+        Err((refusal, _)) => Err(refusal),
+    }
+}
+
+fn run_total<L: Run, D: Disk + Drop, R: Wait>(rt: &R, fresh: Fresh<D>) -> Result<u64, Refusal>
+    requires { IsNamedBy D.Disk L.image L.marks L.ring fresh }
+{
+    let engine = Engine::<L, D, OpenGate>::new(fresh, OpenGate);
+    let mut session = engine.session(rt)?;
+    total(rt, &mut session)
 }
 
 /// Makes an engine and the accounts, has all threads transfer, and counts. It is written for every
@@ -62,17 +83,18 @@ fn run<L: Run + Send + Sync, D: Disk + Drop + Send, R: Threads + Wait + Sync>(
     rt: &R,
     alloc: Global,
     fresh: Fresh<D>,
-) -> Result<Told, Refusal>
+) -> Result<(Told, D), Refusal>
     requires { IsNamedBy D.Disk L.image L.marks L.ring fresh }
 {
     let engine = Engine::<L, D, OpenGate>::new(fresh, OpenGate);
     open_accounts(rt, alloc, &engine)?;
     let ends = transfers(rt, alloc, &engine)?;
-    count(rt, &engine, ends)
+    let told = count(rt, &engine, ends)?;
+    Ok((told, engine.into_disk()))
 }
 
 /// The transfers of all threads, and the end of each one's last. Meanwhile another thread flushes,
-/// trims and collects.
+/// makes checkpoints and merges, trims and collects.
 fn transfers<L: Run + Send + Sync, D: Disk + Send, R: Threads + Wait + Sync>(
     rt: &R,
     alloc: Global,
@@ -168,18 +190,26 @@ fn count<L: Run, D: Disk, R: Wait>(
     for end in ends {
         durable &= session.poll_durable(end?);
     }
+    Ok(Told {
+        transfers,
+        total: total(rt, &mut session)?,
+        durable,
+        let_go: is_let_go(rt, engine)?,
+    })
+}
+
+/// What all accounts have, as one scan finds it.
+fn total<L: Run, D: Disk, R: Wait>(
+    rt: &R,
+    session: &mut Session<'_, L, D, OpenGate>,
+) -> Result<u64, Refusal> {
     session.begin_tx(rt)?;
     let total = match session.scan(rt, 0, 0, ACCOUNTS)? {
         Answer::Rows(rows) => total_of(&rows),
         _ => 0,
     };
     session.commit_tx(rt)?;
-    Ok(Told {
-        transfers,
-        total,
-        durable,
-        let_go: is_let_go(rt, engine)?,
-    })
+    Ok(total)
 }
 
 fn total_of(rows: &[mvo_types::Row]) -> u64 {

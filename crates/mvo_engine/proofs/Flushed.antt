@@ -22,7 +22,7 @@ use Rattle.mvo_world.proofs.Moves.{nothing_taken}
 use Rattle.mvo_engine.specs.States.{StoreState}
 use Rattle.mvo_engine.specs.Calls.{IsQuietStep, IsAppendStep, HasTaken, IsNotTaken, is_refusal_to_take}
 use Rattle.mvo_engine.specs.Logging.{IsGuardStep}
-use Rattle.mvo_engine.specs.Flushing.{IsNextGroup, HasFlushed, HasNoneToFlush, HasNotFlushed, IsFlushOfOne}
+use Rattle.mvo_engine.specs.Flushing.{IsGroupToFlush, HasFlushed, HasNoneToFlush, HasNotFlushed, IsFlushOfOne}
 
 -- no group is taken, made durable or published
 record Stays {D : Type 0} (old new : StoreState D) : Type 0 where
@@ -35,14 +35,14 @@ then_stays : {D : Type 0} {a b c : StoreState D} → Stays a b → Stays b c →
 then_stays x y = record { mark = y.mark ∙ x.mark; pending = y.pending ∙ x.pending; received = y.received ∙ x.received; published = y.published ∙ x.published }
 
 -- this group was pending, and is durable and published
-record HasOpened {D : Type 0} (g : GroupData) (old new : StoreState D) : Type 0 where
+record IsOpenedFor {D : Type 0} (g : GroupData) (old new : StoreState D) : Type 0 where
   mark : mark_of new.store ≡ g.mark
   pending : pending_of new.store ≡ None
   received : new.received ≡ old.received
   published : new.published ≡ max old.published g.mark
 
-then_opened : {D : Type 0} {g : GroupData} {a b c : StoreState D} → Stays a b → HasOpened g b c → HasOpened g a c
-then_opened {g = g} x y = record { mark = y.mark; pending = y.pending; received = y.received ∙ x.received; published = y.published ∙ ap (λ n. max n g.mark) x.published }
+then_opens : {D : Type 0} {g : GroupData} {a b c : StoreState D} → Stays a b → IsOpenedFor g b c → IsOpenedFor g a c
+then_opens {g = g} x y = record { mark = y.mark; pending = y.pending; received = y.received ∙ x.received; published = y.published ∙ ap (λ n. max n g.mark) x.published }
 
 -- ---- the steps that are quiet
 quiet_stays : {D A : Type 0} (d : Ghosts D) (old : StoreState D) (call : StoreCall) (result : Result A Refusal) (new : StoreState D) → IsQuiet call → IsQuietStep d old call result new → Stays old new
@@ -80,7 +80,7 @@ body_stays : {D : Type 0} (d : Ghosts D) (old : StoreState D) (r : Result (Unit 
 body_stays d old r new h = quiet_stays d old AppendBody r new tt h
 
 rotation_stays : {D : Type 0} (d : Ghosts D) (old : StoreState D) (r : Result (Unit {0}) Refusal) (new : StoreState D) → AreUntilStop (IsGuardStep d) log_rotation old r new → Stays old new
-unfolding IsQuietLog, AreQuiet
+unfolding IsQuietLog AreQuiet
 rotation_stays d old r new h = steps_stay d log_rotation old r new (tt, tt, tt, tt, tt) h
 
 -- ---- the gate
@@ -89,8 +89,8 @@ refused_stays d old e new h =
     let taken = left_taken d AppendOpen e old.store new.store h.step.comes.left in
     record { mark = taken.mark; pending = taken.pending; received = h.received; published = h.published }
 
-opened : {D : Type 0} (d : Ghosts D) (old : StoreState D) (g : GroupData) (new : StoreState D) → pending_of old.store ≡ Some g → IsGuardStep d old step.AppendOpen (Ok tt) new → HasOpened g old new
-opened d old g new there h =
+opens_gate : {D : Type 0} (d : Ghosts D) (old : StoreState D) (g : GroupData) (new : StoreState D) → pending_of old.store ≡ Some g → IsGuardStep d old step.AppendOpen (Ok tt) new → IsOpenedFor g old new
+opens_gate d old g new there h =
     let made = h.step.comes.made.makes in
     let its : made.group ≡ g = cc (made.there, there) in
     let mark : mark_of new.store ≡ g.mark = ap (λ (y : StoreData _). mark_of y) made.after ∙ ap (λ (x : GroupData). x.mark) its in
@@ -102,26 +102,26 @@ opened d old g new there h =
     }
 
 -- ---- an append
-appended_here : {D : Type 0} (d : Ghosts D) (old : StoreState D) (g : GroupData) (new : StoreState D) → pending_of old.store ≡ Some g → AreUntilStop (IsGuardStep d) (step.AppendBody ∷ step.AppendOpen ∷ []) old (Ok tt) new → HasOpened g old new
+appended_here : {D : Type 0} (d : Ghosts D) (old : StoreState D) (g : GroupData) (new : StoreState D) → pending_of old.store ≡ Some g → AreUntilStop (IsGuardStep d) (step.AppendBody ∷ step.AppendOpen ∷ []) old (Ok tt) new → IsOpenedFor g old new
 appended_here d old g new there (inl h) = absurd (true≢false h.1)
 appended_here d old g new there (inr h) =
     let stays = body_stays d old h.0 h.1 h.2 in
-    then_opened stays (opened d h.1 g new (stays.pending ∙ there) h.4)
+    then_opens stays (opens_gate d h.1 g new (stays.pending ∙ there) h.4)
 
-appended_rotated : {D : Type 0} (d : Ghosts D) (old : StoreState D) (g : GroupData) (new : StoreState D) → pending_of old.store ≡ Some g → IsRotatedAppend (IsGuardStep d) old (Ok tt) new → HasOpened g old new
+appended_rotated : {D : Type 0} (d : Ghosts D) (old : StoreState D) (g : GroupData) (new : StoreState D) → pending_of old.store ≡ Some g → IsRotatedAppend (IsGuardStep d) old (Ok tt) new → IsOpenedFor g old new
 appended_rotated d old g new there (AtRotation e is h) = absurd cc
 appended_rotated d old g new there (AtAppend m rotated h) =
     let stays = rotation_stays d old (Ok tt) m rotated in
-    then_opened stays (appended_here d m g new (stays.pending ∙ there) h)
+    then_opens stays (appended_here d m g new (stays.pending ∙ there) h)
 
-appended_group : {D : Type 0} (d : Ghosts D) (old : StoreState D) (g : GroupData) (new : StoreState D) → pending_of old.store ≡ Some g → IsAppend (IsGuardStep d) old (Ok tt) new → HasOpened g old new
+appended_group : {D : Type 0} (d : Ghosts D) (old : StoreState D) (g : GroupData) (new : StoreState D) → pending_of old.store ≡ Some g → IsAppend (IsGuardStep d) old (Ok tt) new → IsOpenedFor g old new
 appended_group d old g new there (AtBody apart stops h) = absurd (true≢false stops)
 appended_group d old g new there (AtOpen q m on body h) =
     let stays = body_stays d old q m body in
-    then_opened stays (opened d m g new (stays.pending ∙ there) h)
+    then_opens stays (opens_gate d m g new (stays.pending ∙ there) h)
 appended_group d old g new there (AtFull m body h) =
     let stays = body_stays d old (Err _) m body in
-    then_opened stays (appended_rotated d m g new (stays.pending ∙ there) h)
+    then_opens stays (appended_rotated d m g new (stays.pending ∙ there) h)
 
 -- one that is refused
 refused_here : {D : Type 0} (d : Ghosts D) (old : StoreState D) (e : Refusal) (new : StoreState D) → AreUntilStop (IsGuardStep d) (step.AppendBody ∷ step.AppendOpen ∷ []) old (Err e) new → Stays old new
@@ -165,7 +165,7 @@ flushed d old m new (Ok a) taken on h =
     let o = appended_group d m g new (ap (λ (y : StoreData _). pending_of y) made) h in
     record {
       group = g;
-      next = subst (λ (x : Option GroupData). IsNextGroup x g old.received new.received) (sym none) (o.received ∙ taken.received);
+      next = subst (λ (x : Option GroupData). IsGroupToFlush x g old.received new.received) (sym none) (o.received ∙ taken.received);
       durable = o.mark;
       published = o.published ∙ ap (λ n. max n g.mark) taken.published;
       pending = o.pending;
@@ -177,7 +177,7 @@ flushed d old m new (Err e) taken on h =
     let o = appended_group d m g new (ap (λ (y : StoreData _). pending_of y) taken.store ∙ there.1) h in
     record {
       group = g;
-      next = subst (λ (x : Option GroupData). IsNextGroup x g old.received new.received) (sym there.1) (refl, o.received ∙ taken.received);
+      next = subst (λ (x : Option GroupData). IsGroupToFlush x g old.received new.received) (sym there.1) (refl, o.received ∙ taken.received);
       durable = o.mark;
       published = o.published ∙ ap (λ n. max n g.mark) taken.published;
       pending = o.pending;

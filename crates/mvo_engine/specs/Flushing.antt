@@ -8,14 +8,14 @@ use Rattle.mvo_engine.specs.States.{StoreState}
 
 -- The group that is being appended, or else the next one that is received: what was received
 -- before, and what is now.
-abbrev pub IsNextGroup : Option GroupData → GroupData → List GroupData → List GroupData → Type 0
-IsNextGroup (Some pending) g old new = (g ≡ pending) × (new ≡ old)
-IsNextGroup None g old new = new ≡ old ++ g ∷ []
+abbrev pub IsGroupToFlush : Option GroupData → GroupData → List GroupData → List GroupData → Type 0
+IsGroupToFlush (Some pending) g old new = (g ≡ pending) × (new ≡ old)
+IsGroupToFlush None g old new = new ≡ old ++ g ∷ []
 
 -- the next group is durable and published
 pub record HasFlushed {D : Type 0} (old new : StoreState D) : Type 0 where
   pub group : GroupData
-  pub next : IsNextGroup (pending_of old.store) group old.received new.received
+  pub next : IsGroupToFlush (pending_of old.store) group old.received new.received
   pub durable : mark_of new.store ≡ group.mark
   pub published : new.published ≡ max old.published group.mark
   pub pending : pending_of new.store ≡ None
@@ -29,8 +29,8 @@ pub record HasNoneToFlush {D : Type 0} (old new : StoreState D) : Type 0 where
 pub record HasNotFlushed {D : Type 0} (old new : StoreState D) : Type 0 where
   pub durable : mark_of new.store ≡ mark_of old.store
   pub published : new.published ≡ old.published
-  pub taken : (new.received ≡ old.received)
-      ⊎ ((g : GroupData) × (pending_of new.store ≡ Some g) × (new.received ≡ old.received ++ g ∷ []))
+  pub taken : (new.received ≡ old.received) ⊎ ((g : GroupData)
+      × (pending_of new.store ≡ Some g) × (new.received ≡ old.received ++ g ∷ []))
 
 abbrev pub IsFlushOfOne : {D : Type 0} → StoreState D → Result Bool Refusal → StoreState D → Type 0
 IsFlushOfOne old (Ok true) new = HasFlushed old new

@@ -1,7 +1,7 @@
 use atomic_table::TableRule;
 
-/// What a seat knows: what it has seen of both words, what it published, and the greatest stamp that
-/// it raised the closed word to. No value of it is made.
+/// What a seat knows: what it has seen of both words, what it published, and the greatest stamp to
+/// which it raised the closed word. No value of it is made.
 pub struct Known {
     pub closed: u64,
     pub durable: u64,
