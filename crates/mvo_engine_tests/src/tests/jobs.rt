@@ -75,6 +75,7 @@ fn whole<L: Run, D: Disk, G: Gate + Drop, R: Wait>(
     told.push(engine.flush(rt)? == Stamp(4))?;
     told.push(engine.rotate(rt)? == Generation(3))?;
     told.push(engine.checkpoint(rt)? == Generation(4))?;
+    told.push(has_nothing(engine.merge(rt, 1)))?;
     told.push(engine.merge(rt, 0)? == Generation(5))?;
     Ok(())
 }
@@ -149,14 +150,14 @@ fn reclaims<L: Run, D: Disk, G: Gate + Drop, R: Wait>(
     told: &mut Vec<bool>,
 ) -> Result<(), Refusal> {
     told.push(engine.lock_store(rt).reclaim()? == Reclaimed::More)?;
-    let mut left = 0;
+    let mut is_done = false;
     for _ in 0..20 {
         if engine.lock_store(rt).reclaim()? == Reclaimed::Done {
+            is_done = true;
             break;
         }
-        left += 1;
     }
-    told.push(left < 20)?;
+    told.push(is_done)?;
     told.push(engine.lock_store(rt).reclaim()? == Reclaimed::Done)?;
     Ok(())
 }
@@ -186,7 +187,7 @@ fn jobs_are_done_whole_and_by_steps(rt: HostRuntime) -> Result<(), Fail> {
     let gate = CountingStore { passes: &passes };
     let trial = Jobs { passes: &passes };
     let (told, disk) = tried(&rt, alloc, formatted(alloc)?, gate, &trial)?;
-    all_right(&rt, &told, 26);
+    all_right(&rt, &told, 27);
     let (told, _) = tried(&rt, alloc, disk, OpenGate, &Finds)?;
     all_right(&rt, &told, 1);
     Ok(())

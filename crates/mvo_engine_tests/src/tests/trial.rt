@@ -8,9 +8,9 @@ use mvo_engine::{Engine, Fresh, Gate, Run};
 use mvo_types::Refusal;
 use std::alloc::Global;
 use std::marker::Brand;
+use std::process::Abort;
 use std::sync::Wait;
 use std::sync::atomic::{AtomicU64, Ordering};
-use std::test::*;
 use std::thread::{Threads, yield_now};
 
 /// How many turns a thread waits at most, and how often it yields in each.
@@ -57,7 +57,7 @@ fn run_tried<
 }
 
 /// Asserts that so many things were told, and that each is right.
-pub fn all_right(rt: &HostRuntime, told: &[bool], count: usize) {
+pub fn all_right(rt: &impl Abort, told: &[bool], count: usize) {
     for (place, right) in told.iter().enumerate() {
         assert!(rt; *right, "answer {place}");
     }

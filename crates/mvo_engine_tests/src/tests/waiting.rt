@@ -30,11 +30,10 @@ impl<'c> Trial<MemDisk, CountingStore<'c>> for Waiting<'c> {
     ) -> Result<Vec<bool>, Refusal> {
         let mut one = engine.session(rt)?;
         let mut two = engine.session(rt)?;
-        let (passes, holds) = (self.passes, self.holds);
         let (in_time, (first, second)) = join(
             rt,
-            || hold(rt, engine, passes, holds),
-            || flush_twice(rt, alloc, engine, &mut one, &mut two, passes, holds),
+            || hold(rt, engine, self),
+            || flush_twice(rt, alloc, engine, &mut one, &mut two, self),
         );
         let mut told = Vec::new(alloc);
         told.push(in_time)?;
@@ -45,37 +44,31 @@ impl<'c> Trial<MemDisk, CountingStore<'c>> for Waiting<'c> {
     }
 }
 
-// Holds the store until both others have come to its lock. Whether they have.
+// Holds the store until both others have come to its lock. Whether they have, and nothing is
+// durable by then.
 fn hold<L: Run, D: Disk, G: Gate + Drop, R: Wait>(
     rt: &R,
     engine: &Engine<L, D, G>,
-    passes: &AtomicU64,
-    holds: &AtomicU64,
+    words: &Waiting<'_>,
 ) -> bool {
-    let mut store = engine.lock_store(rt);
-    holds.store(1, Ordering::SeqCst);
-    let in_time = has_come(passes, 3);
-    // What the ring had for the store while it was held: it is taken by the flushes.
-    in_time && store.append_body().is_err()
+    let store = engine.lock_store(rt);
+    words.holds.store(1, Ordering::SeqCst);
+    let in_time = has_come(words.passes, 3);
+    in_time && store.mark() == Stamp(0)
 }
 
-#[expect(clippy::too_many_arguments)]
-fn flush_twice<'e, L: Run + Send + Sync, D: Disk + Send, G: Gate + Drop + Sync, R>(
+fn flush_twice<'c, L: Run + Send + Sync, R: Threads + Wait + Sync>(
     rt: &R,
     alloc: Global,
-    engine: &'e Engine<L, D, G>,
-    one: &mut Session<'e, L, D, G>,
-    two: &mut Session<'e, L, D, G>,
-    passes: &AtomicU64,
-    holds: &AtomicU64,
-) -> (Result<Stamp, Refusal>, Result<Stamp, Refusal>)
-where
-    R: Threads + Wait + Sync,
-{
+    engine: &Engine<L, MemDisk, CountingStore<'c>>,
+    one: &mut Session<'_, L, MemDisk, CountingStore<'c>>,
+    two: &mut Session<'_, L, MemDisk, CountingStore<'c>>,
+    words: &Waiting<'c>,
+) -> (Result<Stamp, Refusal>, Result<Stamp, Refusal>) {
     join(
         rt,
-        || put_and_flush(rt, alloc, engine, one, holds),
-        || change_and_flush(rt, alloc, engine, two, passes),
+        || put_and_flush(rt, alloc, engine, one, words.holds),
+        || change_and_flush(rt, alloc, engine, two, words.passes),
     )
 }
 
