@@ -52,6 +52,7 @@ impl<L: Run, D: Disk + Drop, G: Gate + Drop> Drop for Engine<L, D, G> {
 impl<L: Run, D: Disk, G: Gate + Drop> Engine<L, D, G> {
     ghost use Rattle.std.specs.Prelude.{◌≡◌, None, IfOk, IfErr};
     ghost use Rattle.mvo_types.specs.declared.refusal.Refusal.{Refusal};
+    ghost use Rattle.mvo_disk.specs.Disk.{Image, AllOf};
     ghost use Rattle.mvo_store.specs.Standing.{HasSlots};
     ghost use Rattle.mvo_engine.specs.Opened.{IsNamedBy};
     ghost use Rattle.mvo_engine.specs.Sound.{GivesSome};
@@ -148,9 +149,11 @@ impl<L: Run, D: Disk, G: Gate + Drop> Engine<L, D, G> {
     }
 
     /// The disk, as it stands. Where it was formatted, it gives the opening rows followed by groups
-    /// that were received.
+    /// that were received, and so does each image that a stop may leave of it from now on.
     pub fn into_disk(self) -> D
-        ensures { HasSlots L.image → GivesSome L.image (D.content result) }
+        ensures gives { HasSlots L.image → GivesSome L.image (D.content result) }
+        ensures images { HasSlots L.image → (image : Image) →
+            AllOf (D.may_leave result) image → GivesSome L.image image }
     {
         let Engine {
             gate: _,

@@ -100,6 +100,7 @@ impl<L: Run, D: Disk> LockedStore<L, D> {
     /// The disk, as it stands.
     pub fn into_disk(self) -> D
         ensures disk { result ≡ disk_of self.store }
+        ensures images { LeavesReceived D.Disk L.image self.received self.store }
         ensures gives { HasSlots L.image →
             GivesReceived L.image self.received (mark_of self.store) (D.content result) }
     {
