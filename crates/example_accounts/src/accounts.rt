@@ -1,5 +1,6 @@
 //! What is done with the engine: the accounts are made, eight threads transfer while another keeps
-//! the memory steady, and all is counted, gathered and audited.
+//! the memory and the log steady, and all is counted, gathered and audited, and counted over the
+//! disk opened again.
 ghost use Rattle.mvo_engine.specs.Opened.{IsNamedBy};
 
 use crate::transfers::{ACCOUNTS, START, TIMES, Transfer, money_in, row_of};
@@ -27,7 +28,7 @@ pub struct Told {
     pub transfers: usize,
     pub total: u64,
     pub durable: bool,
-    /// Whether all that could be asked for only before is gone from memory.
+    /// Whether all that could be asked for only before is gone from memory and from the log.
     pub let_go: bool,
     /// How many receipts all sessions have.
     pub receipts: usize,
@@ -45,17 +46,38 @@ fn new_disk(alloc: Global) -> Result<MemDisk, AllocError> {
     MemDisk::new(alloc)
 }
 
-/// Opens the disk, and has all threads transfer.
+/// Opens the disk, and has all threads transfer. The disk comes back.
 pub fn on_disk<D: Disk + Drop + Send, R: Threads + Wait + Sync>(
     rt: &R,
     alloc: Global,
     seed: u64,
     disk: D,
-) -> Result<Told, Refusal> {
+) -> Result<(Told, D), Refusal> {
     match Fresh::open(rt, alloc, seed, disk) {
         Ok(fresh) => run::<Brand, D, R>(rt, alloc, fresh),
         Err((refusal, _)) => Err(refusal),
     }
+}
+
+/// Opens the disk, and counts what all accounts have.
+pub fn total_on_disk<D: Disk + Drop, R: Threads + Wait + Sync>(
+    rt: &R,
+    alloc: Global,
+    seed: u64,
+    disk: D,
+) -> Result<u64, Refusal> {
+    match Fresh::open(rt, alloc, seed, disk) {
+        Ok(fresh) => run_total::<Brand, D, R>(rt, fresh),
+        Err((refusal, _)) => Err(refusal),
+    }
+}
+
+fn run_total<L: Run, D: Disk + Drop, R: Wait>(rt: &R, fresh: Fresh<D>) -> Result<u64, Refusal>
+    requires { IsNamedBy D.Disk L.image L.marks L.ring L.name L.parts fresh }
+{
+    let engine = Engine::<L, D, OpenGate>::new(fresh, OpenGate);
+    let mut session = engine.session(rt)?;
+    total(rt, &mut session)
 }
 
 /// Makes an engine and the accounts, has all threads transfer, and counts. It is written for every
@@ -64,11 +86,12 @@ fn run<L: Run + Send + Sync, D: Disk + Drop + Send, R: Threads + Wait + Sync>(
     rt: &R,
     alloc: Global,
     fresh: Fresh<D>,
-) -> Result<Told, Refusal>
+) -> Result<(Told, D), Refusal>
     requires { IsNamedBy D.Disk L.image L.marks L.ring L.name L.parts fresh }
 {
     let engine = Engine::<L, D, OpenGate>::new(fresh, OpenGate);
-    go(rt, alloc, &engine)
+    let told = go(rt, alloc, &engine)?;
+    Ok((told, engine.into_disk()))
 }
 
 fn go<L: Run + Send + Sync, D: Disk + Drop + Send, R: Threads + Wait + Sync>(
@@ -80,7 +103,7 @@ fn go<L: Run + Send + Sync, D: Disk + Drop + Send, R: Threads + Wait + Sync>(
     open_accounts(rt, alloc, &mut session)?;
     let mut sessions = transfers(rt, alloc, engine)?;
     let (transfers, durable) = ask_all(&mut sessions);
-    let total = count(rt, &mut session)?;
+    let total = total(rt, &mut session)?;
     sessions.push(session)?;
     let receipts = gather_all(rt, alloc, engine, sessions)?;
     Ok(Told {
@@ -92,8 +115,8 @@ fn go<L: Run + Send + Sync, D: Disk + Drop + Send, R: Threads + Wait + Sync>(
     })
 }
 
-/// The transfers of all threads, and their sessions. Meanwhile another thread flushes, trims and
-/// collects.
+/// The transfers of all threads, and their sessions. Meanwhile another thread flushes, makes
+/// checkpoints and merges, trims and collects.
 fn transfers<'e, L: Run + Send + Sync, D: Disk + Send, R: Threads + Wait + Sync>(
     rt: &R,
     alloc: Global,
@@ -200,10 +223,6 @@ fn last_end(receipts: &[Receipt]) -> Stamp {
         Some(receipt) => receipt.end,
         None => Stamp(0),
     }
-}
-
-/// Counts what all accounts have.
-fn count<L: Run, D: Disk, R: Wait>(
     rt: &R,
     session: &mut Session<'_, L, D, OpenGate>,
 ) -> Result<u64, Refusal> {

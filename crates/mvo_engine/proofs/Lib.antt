@@ -9,3 +9,4 @@ pub mod Starts
 pub mod Booked
 pub mod SentRows
 pub mod Sessions
+pub mod Flushed

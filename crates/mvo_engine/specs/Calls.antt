@@ -58,14 +58,15 @@ IsAnother old (Some seat) new =
     (old.made < MAX_SESSIONS) × (new ≡ record old { made = old.made + 1 })
 IsAnother old None new = (MAX_SESSIONS ≤ old.made) × (new ≡ old)
 
--- The next group is sent, and the closed mark raised to its mark; or none, by the first cause that
--- stands, and else for want of memory. Whether the ring is full is what the closing saw of it.
+-- The next group is sent, and the closed mark raised to its mark and no further; or none, by the
+-- first cause that stands, and else for want of memory. Whether the ring is full is what the
+-- closing saw of it.
 abbrev pub HasSent : Map → List Step → State → SendsState → Result Closed Refusal → CoreData
     → SendsState → Type 0
 HasSent rows steps s old (Ok c) core new =
     (why_not_close s false ≡ None)
     × ((g : GroupData) × (new.sent ≡ old.sent ++ g ∷ []) × IsClosedNow rows steps s c core g)
-    × (c.mark.0 ≤ new.raised)
+    × (new.raised ≡ max old.raised c.mark.0)
 HasSent rows steps s old (Err r) core new =
     (new.sent ≡ old.sent) × ((full : Bool) × IsNotClosed rows steps s full r core)
     × (new.raised ≡ old.raised)

@@ -5,6 +5,7 @@ pub mod States
 pub mod Calls
 pub mod Legal
 pub mod Logging
+pub mod Flushing
 pub mod Collecting
 pub mod Booked
 pub mod Settling

@@ -6,7 +6,7 @@ use Rattle.mvo_core.specs.Data.{CoreData}
 use Rattle.mvo_core.specs.Receipts.{Receipt}
 use Rattle.mvo_store.specs.StoreData.{StoreData}
 
--- the groups that were sent so far, and up to where the closed mark was seen to be raised
+-- the groups that were sent so far, and up to where the closed mark was raised for them
 pub record SendsState : Type 0 where
   pub sent : List GroupData
   pub raised : ℕ

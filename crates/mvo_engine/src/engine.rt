@@ -1,3 +1,5 @@
+mod jobs;
+
 ghost use Rattle.std.specs.Prelude.{◌≡◌};
 
 use crate::core_guard::CoreGuard;
@@ -12,7 +14,6 @@ use crate::store_guard::StoreGuard;
 use mvo_disk::Disk;
 use mvo_marks::Marks;
 use mvo_run::Run;
-use mvo_store::turn;
 use mvo_types::{Refusal, Stamp};
 use std::sync::{Mutex, MutexGuard, Wait};
 use std::thread;
@@ -51,6 +52,7 @@ impl<L: Run, D: Disk + Drop, G: Gate + Drop> Drop for Engine<L, D, G> {
 impl<L: Run, D: Disk, G: Gate + Drop> Engine<L, D, G> {
     ghost use Rattle.std.specs.Prelude.{◌≡◌, [], None, IfOk, IfErr};
     ghost use Rattle.mvo_types.specs.declared.refusal.Refusal.{Refusal};
+    ghost use Rattle.mvo_disk.specs.Disk.{Image, AllOf};
     ghost use Rattle.mvo_store.specs.Standing.{HasSlots};
     ghost use Rattle.mvo_engine.specs.Audited.{IsAudited};
     ghost use Rattle.mvo_engine.specs.Opened.{IsNamedBy};
@@ -100,13 +102,16 @@ impl<L: Run, D: Disk, G: Gate + Drop> Engine<L, D, G> {
     /// mark, which any session polls with yes from then on. Other threads may begin, read, write
     /// and commit meanwhile.
     ///
+    /// The lock of the store is taken anew for each group (`StoreGuard::flush_one`).
+    ///
     /// Refused, what was made durable stays so: OutOfMemory, Down, DiskFault, and where the log has
-    /// to be rotated ClockSpent and SegmentsFull.
+    /// to be rotated ClockSpent, SegmentsFull, and Busy beside a job: a job that a refusal stopped
+    /// is brought on by its own steps alone, under the guard of the store.
     pub fn flush<R: Wait>(&self, rt: &R) -> Result<Stamp, Refusal> {
         self.close_group(rt)?;
         for _ in rt.forever() {
             let mut store = self.lock_store(rt);
-            if !turn(&mut store)? {
+            if !store.flush_one()? {
                 return Ok(store.mark());
             }
         }
@@ -161,9 +166,11 @@ impl<L: Run, D: Disk, G: Gate + Drop> Engine<L, D, G> {
     }
 
     /// The disk, as it stands. Where it was formatted, it gives the opening rows followed by groups
-    /// that were received.
+    /// that were received, and so does each image that a stop may leave of it from now on.
     pub fn into_disk(self) -> D
-        ensures { HasSlots L.image → GivesSome L.image (D.content result) }
+        ensures gives { HasSlots L.image → GivesSome L.image (D.content result) }
+        ensures images { HasSlots L.image → (image : Image) →
+            AllOf (D.may_leave result) image → GivesSome L.image image }
     {
         let Engine {
             gate: _,

@@ -78,6 +78,8 @@ impl<D: Disk> Fresh<D> {
         ensures content { IfOk result (λ fresh. KeepsContent D.Disk disk (disk_of fresh.store)) }
         ensures any_moment { IfOk result (λ fresh.
             LeavesAsBefore D.Disk disk (disk_of fresh.store)) }
+        ensures count { IfOk result (λ fresh.
+            D.fault_count (disk_of fresh.store) ≡ D.fault_count disk) }
         ensures refused { IfErr result (λ e. IsNotOpened D.Disk disk e.0 e.1) }
         ensures well_formed { IfErr result (λ e. (rows : Map) (mark : ℕ) →
             Gives rows mark (D.content disk) → IsNotOfFiles e.0) }

@@ -36,7 +36,7 @@ impl<L: Run> Model for Sends<L> {
 
     ghost Value = { SendsState };
 
-    ghost view = { λ s. record { sent = sent s.ring; raised = s.seat.known.closed } };
+    ghost view = { λ s. record { sent = sent s.ring; raised = s.seat.known.raised } };
 
     ghost invariant = { λ s. (s.seat.marks ≡ L.marks) × (ring_of s.ring ≡ L.ring) };
 }
@@ -55,7 +55,7 @@ impl<L: Run> Sends<L> {
         requires seat { seat.marks ≡ L.marks }
         requires ring { ring_of ring ≡ L.ring }
         ensures sent { result.sent ≡ sent ring }
-        ensures raised { result.raised ≡ seat.known.closed }
+        ensures raised { result.raised ≡ seat.known.raised }
     {
         Sends {
             ring,
@@ -85,7 +85,7 @@ impl<L: Run> Sends<L> {
     }
 
     /// Closes the core's next group into the ring, as `Core::close_group` does, and raises the
-    /// closed mark to that of the group.
+    /// closed mark to that of the group and no further.
     pub fn close_group(&mut self, core: &mut Core, marks: &Marks) -> Result<Closed, Refusal>
         requires marks { marks.now ≡ L.marks }
         requires last { last_mark self.old.sent ≡ closed_mark_of core.old }
