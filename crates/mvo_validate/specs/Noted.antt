@@ -9,7 +9,7 @@ pub record EntriesData : Type 0 where
   pub room : ℕ
 
 -- the first few lie in a list, and those behind them in a set, which has none before
-pub record IsFilled (few behind : List Entry) : Type 0 where
+pub record FewComeFirst (few behind : List Entry) : Type 0 where
   pub most : length few ≤ FEW
   pub order : length few < FEW → behind ≡ []
 

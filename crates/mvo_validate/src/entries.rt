@@ -26,7 +26,7 @@ pub struct Entries {
 impl Model for Entries {
     ghost use Rattle.std.specs.Prelude.{◌++◌, vec_len, vec_capacity};
     ghost use Rattle.indexmap.specs.IndexSet.{spare};
-    ghost use Rattle.mvo_validate.specs.Noted.{EntriesData, IsFilled, entry_room};
+    ghost use Rattle.mvo_validate.specs.Noted.{EntriesData, FewComeFirst, entry_room};
 
     ghost Value = { EntriesData };
 
@@ -35,7 +35,7 @@ impl Model for Entries {
       room = entry_room (vec_len e.few) (vec_capacity e.few) (spare e.set);
     } };
 
-    ghost invariant = { λ e. IsFilled e.few.items e.set.keys };
+    ghost invariant = { λ e. FewComeFirst e.few.items e.set.keys };
 }
 
 impl Entries {
