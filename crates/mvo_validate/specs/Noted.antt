@@ -9,10 +9,10 @@ pub record EntriesData : Type 0 where
   pub room : ℕ
 
 -- the first few lie in a list, and those behind them in a set, which has none before
-pub record IsFilled (few behind : List Entry) : Type 0 where
+pub record FewComeFirst (few behind : List Entry) : Type 0 where
   pub most : length few ≤ FEW
   pub order : length few < FEW → behind ≡ []
 
 -- room for one where so many and no more lie in a list with this capacity, or else that of the set
-abbrev pub room_of : (few capacity spare : ℕ) → ℕ
-room_of few capacity spare = cond (nat_lt few FEW) (min 1 (capacity - few)) spare
+abbrev pub entry_room : (few capacity spare : ℕ) → ℕ
+entry_room few capacity spare = cond (nat_lt few FEW) (min 1 (capacity - few)) spare

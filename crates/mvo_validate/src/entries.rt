@@ -26,16 +26,16 @@ pub struct Entries {
 impl Model for Entries {
     ghost use Rattle.std.specs.Prelude.{◌++◌, vec_len, vec_capacity};
     ghost use Rattle.indexmap.specs.IndexSet.{spare};
-    ghost use Rattle.mvo_validate.specs.Noted.{EntriesData, IsFilled, room_of};
+    ghost use Rattle.mvo_validate.specs.Noted.{EntriesData, FewComeFirst, entry_room};
 
     ghost Value = { EntriesData };
 
     ghost view = { λ e. record {
       noted = e.few.items ++ e.set.keys;
-      room = room_of (vec_len e.few) (vec_capacity e.few) (spare e.set);
+      room = entry_room (vec_len e.few) (vec_capacity e.few) (spare e.set);
     } };
 
-    ghost invariant = { λ e. IsFilled e.few.items e.set.keys };
+    ghost invariant = { λ e. FewComeFirst e.few.items e.set.keys };
 }
 
 impl Entries {

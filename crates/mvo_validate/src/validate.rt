@@ -15,7 +15,7 @@ use mvo_types::{Entry, Stamp};
 
 /// Whether others have changed what an entry looks at with a stamp above the begin and below the
 /// end, also those that are only Preparing: a key by any change of it, a range by any change on a
-/// version whose sort lies in it. Where the end is the next one behind the begin, there is none, and
+/// version whose sort lies in it. Where the end is the next one behind the begin there is none, and
 /// it looks at no version.
 pub fn check_entry<P>(
     chains: &Chains,
