@@ -187,7 +187,7 @@ fn jobs_are_done_whole_and_by_steps(rt: HostRuntime) -> Result<(), Fail> {
     let gate = CountingStore { passes: &passes };
     let trial = Jobs { passes: &passes };
     let (told, disk) = tried(&rt, alloc, formatted(alloc)?, gate, &trial)?;
-    all_right(&rt, &told, 27);
+    all_right(&rt, &told, 26);
     let (told, _) = tried(&rt, alloc, disk, OpenGate, &Finds)?;
     all_right(&rt, &told, 1);
     Ok(())
