@@ -223,6 +223,10 @@ fn last_end(receipts: &[Receipt]) -> Stamp {
         Some(receipt) => receipt.end,
         None => Stamp(0),
     }
+}
+
+/// What all accounts have, as one scan finds it.
+fn total<L: Run, D: Disk, R: Wait>(
     rt: &R,
     session: &mut Session<'_, L, D, OpenGate>,
 ) -> Result<u64, Refusal> {
