@@ -81,7 +81,7 @@ body_stays d old r new h = quiet_stays d old AppendBody r new tt h
 
 rotation_stays : {D : Type 0} (d : Ghosts D) (old : StoreState D) (r : Result (Unit {0}) Refusal) (new : StoreState D) → AreUntilStop (IsGuardStep d) log_rotation old r new → Stays old new
 unfolding IsQuietLog AreQuiet
-rotation_stays d old r new h = steps_stay d log_rotation old r new (tt, tt, tt, tt, tt) h
+rotation_stays d old r new h = steps_stay d log_rotation old r new (tt, (tt, (tt, (tt, tt)))) h
 
 -- ---- the gate
 refused_stays : {D : Type 0} (d : Ghosts D) (old : StoreState D) (e : Refusal) (new : StoreState D) → IsGuardStep d old step.AppendOpen (Err e) new → Stays old new
