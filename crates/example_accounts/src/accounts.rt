@@ -63,7 +63,7 @@ fn run<L: Run + Send + Sync, D: Disk + Drop + Send, R: Threads + Wait + Sync>(
     alloc: Global,
     fresh: Fresh<D>,
 ) -> Result<Told, Refusal>
-    requires { IsNamedBy D.Disk L.image L.marks L.ring fresh }
+    requires { IsNamedBy D.Disk L.image L.marks L.ring L.name L.parts fresh }
 {
     let engine = Engine::<L, D, OpenGate>::new(fresh, OpenGate);
     open_accounts(rt, alloc, &engine)?;

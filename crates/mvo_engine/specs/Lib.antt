@@ -1,4 +1,4 @@
-pub mod Rings
+pub use Rattle.mvo_run.specs.Watching
 pub mod Sound
 pub mod Opened
 pub mod States
@@ -6,3 +6,7 @@ pub mod Calls
 pub mod Legal
 pub mod Logging
 pub mod Collecting
+pub mod Booked
+pub mod Settling
+pub mod Audited
+pub mod Gathering

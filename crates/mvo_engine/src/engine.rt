@@ -6,12 +6,12 @@ use crate::gate::Gate;
 use crate::locked_core::LockedCore;
 use crate::locked_store::LockedStore;
 use crate::place::Place;
-use crate::run::Run;
 use crate::sends::Sends;
 use crate::session::Session;
 use crate::store_guard::StoreGuard;
 use mvo_disk::Disk;
 use mvo_marks::Marks;
+use mvo_run::Run;
 use mvo_store::turn;
 use mvo_types::{Refusal, Stamp};
 use std::sync::{Mutex, MutexGuard, Wait};
@@ -49,17 +49,19 @@ impl<L: Run, D: Disk + Drop, G: Gate + Drop> Drop for Engine<L, D, G> {
 }
 
 impl<L: Run, D: Disk, G: Gate + Drop> Engine<L, D, G> {
-    ghost use Rattle.std.specs.Prelude.{◌≡◌, None, IfOk, IfErr};
+    ghost use Rattle.std.specs.Prelude.{◌≡◌, [], None, IfOk, IfErr};
     ghost use Rattle.mvo_types.specs.declared.refusal.Refusal.{Refusal};
     ghost use Rattle.mvo_store.specs.Standing.{HasSlots};
+    ghost use Rattle.mvo_engine.specs.Audited.{IsAudited};
     ghost use Rattle.mvo_engine.specs.Opened.{IsNamedBy};
     ghost use Rattle.mvo_engine.specs.Sound.{GivesSome};
 
     /// An engine of these parts, which name its run.
     pub fn new(fresh: Fresh<D>, gate: G) -> Engine<L, D, G>
-        requires { IsNamedBy D.Disk L.image L.marks L.ring fresh }
+        requires { IsNamedBy D.Disk L.image L.marks L.ring L.name L.parts fresh }
     {
         let Fresh {
+            alloc,
             core,
             store,
             producer,
@@ -67,24 +69,28 @@ impl<L: Run, D: Disk, G: Gate + Drop> Engine<L, D, G> {
             marks,
             publisher,
             seat,
+            blank,
         } = fresh;
+        let sends = Sends::new(producer, seat);
+        let ledger = blank.open::<L>();
         Engine {
             gate,
             marks,
-            core: Mutex::new(LockedCore::new(core, Sends::new(producer, seat))),
+            core: Mutex::new(LockedCore::new(alloc, core, sends, ledger)),
             store: Mutex::new(LockedStore::new(store, consumer, publisher)),
         }
     }
 
-    /// A session, which has begun no transaction. Refused with TableFull where as many were made as
-    /// may be (`MAX_SESSIONS`).
+    /// A session, which has begun no transaction and has no receipts. Refused with TableFull where
+    /// as many were made as may be (`MAX_SESSIONS`).
     pub fn session<R: Wait>(&self, rt: &R) -> Result<Session<'_, L, D, G>, Refusal>
         ensures ok { IfOk result (λ session. session.tx ≡ None) }
+        ensures receipts { IfOk result (λ session. session.receipts ≡ []) }
         ensures err { IfErr result (λ r. r ≡ Refusal.TableFull) }
     {
         let mut core = self.enter_core(rt);
         match core.another(&self.marks) {
-            Some(seat) => Ok(Session::new(self, seat)),
+            Some((seat, receipts)) => Ok(Session::new(self, seat, receipts)),
             None => Err(Refusal::TableFull),
         }
     }
@@ -141,6 +147,17 @@ impl<L: Run, D: Disk, G: Gate + Drop> Engine<L, D, G> {
     /// The lock of the store, taken.
     pub fn lock_store<R: Wait>(&self, rt: &R) -> StoreGuard<'_, L, D> {
         StoreGuard::new(self.enter_store(rt), &self.marks)
+    }
+
+    /// What is known with both locks: the groups that were received are a beginning of those that
+    /// were sent, which agree with the history, and so does each image that a stop now may leave. It
+    /// changes nothing, takes no memory and waits for nobody.
+    pub fn audit(&self, core: &mut CoreGuard<'_, L>, store: &mut StoreGuard<'_, L, D>)
+        ensures audited { IsAudited D.Disk L.image core.old store.old }
+        ensures core { core.new ≡ core.old }
+        ensures store { store.new ≡ store.old }
+    {
+        core.held.audit(&mut *store.held);
     }
 
     /// The disk, as it stands. Where it was formatted, it gives the opening rows followed by groups

@@ -1,11 +1,11 @@
 use crate::chain::Chain;
-use crate::run::Run;
 use mvo_disk::Disk;
 use mvo_group::Group;
 use mvo_marks::{Marks, Publisher, Seat};
+use mvo_run::Run;
 use mvo_store::{Durable, Generation, Manifest, Store};
 use mvo_types::{Refusal, Stamp};
-use rtrb::Consumer;
+use rtrb::{Consumer, Producer};
 use std::alloc::Global;
 use std::marker::{Model, PhantomData};
 
@@ -38,7 +38,7 @@ impl<L: Run, D: Disk> Model for LockedStore<L, D> {
     ghost use Rattle.mvo_store.specs.Places.{coded_places};
     ghost use Rattle.rtrb.specs.Ring.{received};
     ghost use Rattle.mvo_store.specs.Seen.{mark_of};
-    ghost use Rattle.mvo_engine.specs.Rings.{ring_from};
+    ghost use Rattle.mvo_run.specs.Rings.{ring_from};
     ghost use Rattle.mvo_engine.specs.Sound.{IsSoundStore};
     ghost use Rattle.mvo_engine.specs.States.{StoreState};
 
@@ -58,16 +58,17 @@ impl<L: Run, D: Disk> Model for LockedStore<L, D> {
 }
 
 impl<L: Run, D: Disk> LockedStore<L, D> {
-    ghost use Rattle.std.specs.Prelude.{◌≡◌, ◌≤◌, Some};
+    ghost use Rattle.std.specs.Prelude.{◌≡◌, ◌≤◌, ◌++◌, List, Some};
     ghost use Rattle.std.specs.Prelude.{OnOk, IfOk, IfErr};
-    ghost use Rattle.rtrb.specs.Ring.{received};
+    ghost use Rattle.rtrb.specs.Ring.{sent, received};
+    ghost use Rattle.mvo_group.specs.Data.{GroupData};
     ghost use Rattle.mvo_store.specs.Standing.{HasSlots};
     ghost use Rattle.mvo_store.specs.Seen.{disk_of, mark_of, installed_manifest};
     ghost use Rattle.mvo_store.specs.Causes.{why_not_take};
     ghost use Rattle.mvo_store.specs.Calls.StoreCall.{AppendBody, RotateWrite};
     ghost use Rattle.mvo_store.specs.Calls.StoreCall.{InstallClose, InstallBody, InstallOpen};
     ghost use Rattle.mvo_store.specs.Calls.{AnswersMark, AnswersGeneration};
-    ghost use Rattle.mvo_engine.specs.Rings.{ring_from};
+    ghost use Rattle.mvo_run.specs.Rings.{ring_of, ring_from};
     ghost use Rattle.mvo_engine.specs.Sound.{IsSoundStore, GivesReceived, LeavesReceived};
     ghost use Rattle.mvo_engine.specs.Calls.{IsQuietStep, IsAppendStep, HasTaken, IsNotTaken};
 
@@ -115,6 +116,19 @@ impl<L: Run, D: Disk> LockedStore<L, D> {
         ensures images { LeavesReceived D.Disk L.image self.now.received self.now.store }
     {
         self.store.mark()
+    }
+
+    /// With both ends of the ring in one thread: what was received begins what was sent. It changes
+    /// nothing.
+    pub fn audit(&mut self, producer: &mut Producer<Group, Global, Chain>)
+        requires { ring_of producer.old ≡ L.ring }
+        ensures begins { (rest : List GroupData) × (self.old.received ++ rest ≡ sent producer.old) }
+        ensures images { LeavesReceived D.Disk L.image self.old.received self.old.store }
+        ensures sent { sent producer.new ≡ sent producer.old }
+        ensures ring { ring_of producer.new ≡ ring_of producer.old }
+        ensures same { self.new ≡ self.old }
+    {
+        self.ring.slots_beside(producer);
     }
 
     /// The installed manifest.

@@ -2,10 +2,10 @@ ghost use Rattle.std.specs.Prelude.{◌≡◌};
 
 use crate::gate::Gate;
 use crate::locked_store::LockedStore;
-use crate::run::Run;
 use crate::session::Session;
 use mvo_disk::Disk;
 use mvo_marks::Marks;
+use mvo_run::Run;
 use mvo_store::{Durable, Generation, Log, LogStep, Manifest};
 use mvo_types::{Refusal, Stamp};
 use std::marker::Model;
@@ -14,7 +14,7 @@ use std::sync::MutexGuard;
 /// The lock of the store, taken. It lends the steps of the log.
 #[derive(Drop)]
 pub struct StoreGuard<'e, L: Run, D: Disk> {
-    held: MutexGuard<'e, LockedStore<L, D>>,
+    pub(crate) held: MutexGuard<'e, LockedStore<L, D>>,
     marks: &'e Marks,
     ghost named: { marks.now ≡ L.marks },
 }

@@ -1,3 +1,4 @@
+mod gathering;
 mod held_disk;
 mod meeting;
 mod reads_free;
