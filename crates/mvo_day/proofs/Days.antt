@@ -1,0 +1,52 @@
+-- The stored commits at the places of a tale, and what a day comes to.
+use Rattle.std.proofs.Common.{◌≡◌, ℕ, zero, suc, ◌<◌, ◌+◌, Bool, true, false, cond, List, [], ◌∷◌, ◌++◌, length, take, map, refl, sym, ap, ◌∙◌, subst, absurd, arith}
+use Rattle.std.specs.Prelude.{nat_lt}
+use Rattle.mvo_theory.specs.State.{StampedTx, tale}
+use Rattle.mvo_theory.proofs.Tales.{legal_tale}
+use Rattle.mvo_model.specs.History.{History, Legal}
+use Rattle.mvo_tale.specs.declared.slot.Slot.{Slot}
+use Rattle.mvo_tale.specs.declared.slot.Slot.TheVariants.{Open, Settled, Empty}
+use Rattle.mvo_tale.specs.Slots.{stored_at}
+use Rattle.mvo_core.specs.Data.{CoreData}
+use Rattle.mvo_core.specs.Receipts.{Receipt, receipt, receipt_of, receipts_of, stored_commits}
+use Rattle.mvo_core.specs.Trimming.{stored_above}
+use Rattle.mvo_core.proofs.Trimmed.{tale_is}
+use Rattle.mvo_run.specs.Watching.{Watched, count_of}
+use Rattle.mvo_engine.specs.Booked.{IsBooked}
+use Rattle.mvo_day.specs.Days.{IsDay, if_above}
+
+-- ---- one place more
+pub one_more : (start : ℕ) (slots : List Slot) (i : ℕ) → i < length slots → stored_above start (take (suc i) slots) ≡ stored_above start (take i slots) ++ if_above start (stored_at slots i)
+one_more start [] i h = absurd (omega (arith, h))
+one_more start (Open e ∷ slots) zero h = refl
+one_more start (Settled c ∷ slots) zero h = refl
+one_more start (Empty ∷ slots) zero h = refl
+one_more start (Open e ∷ slots) (suc i) h = one_more start slots i (omega (arith, h))
+one_more start (Settled c ∷ slots) (suc i) h = go (nat_lt start c.end) (one_more start slots i (omega (arith, h)))
+  where
+    go : (b : Bool) → stored_above start (take (suc i) slots) ≡ stored_above start (take i slots) ++ if_above start (stored_at slots i)
+        → cond b (receipt c.id c.end c.history ∷ stored_above start (take (suc i) slots)) (stored_above start (take (suc i) slots)) ≡ cond b (receipt c.id c.end c.history ∷ stored_above start (take i slots)) (stored_above start (take i slots)) ++ if_above start (stored_at slots i)
+    go true e = ap (λ (rs : List Receipt). receipt c.id c.end c.history ∷ rs) e
+    go false e = e
+one_more start (Empty ∷ slots) (suc i) h = one_more start slots i (omega (arith, h))
+
+-- ---- a day
+histories : (xs : List StampedTx) → tale xs ≡ map (λ (r : Receipt). r.history) (receipts_of xs)
+histories [] = refl
+histories (x ∷ xs) = go x.settled (histories xs)
+  where
+    go : (b : Bool) → tale xs ≡ map (λ (r : Receipt). r.history) (receipts_of xs) → cond b (x.history ∷ tale xs) (tale xs) ≡ map (λ (r : Receipt). r.history) (cond b (receipt_of x ∷ receipts_of xs) (receipts_of xs))
+    go true e = ap (λ (ts : List History). x.history ∷ ts) e
+    go false e = e
+
+pub day_is : (w : Watched) (c : CoreData) (receipts commits : List Receipt) (start : ℕ) → start ≡ c.start → commits ≡ stored_above start c.tale → IsBooked w c (count_of w receipts) → IsDay w start receipts commits
+day_is w c receipts commits start at are booked =
+    let s = booked.state in
+    let begins : start ≡ s.start = at ∙ sym booked.stands.start in
+    let is = tale_is booked.rows booked.steps s c booked.stands in
+    let same : commits ≡ stored_commits s = are ∙ ap (λ (n : ℕ). stored_above n c.tale) begins ∙ is.stored in
+    record {
+      counted = λ below. booked.counted (subst (λ (n : ℕ). n < w.end) begins below) ∙ ap (count_of w) (sym same);
+      rows = s.base;
+      serial = subst (Legal s.base) (histories s.stamped ∙ ap (map (λ (r : Receipt). r.history)) (sym same)) (legal_tale s.base s.stamped is.legal);
+    }
