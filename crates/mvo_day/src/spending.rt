@@ -36,12 +36,7 @@ pub fn spend_day<D: Disk + Drop + Send, W: DayWork + Sync, R: Threads + Wait + S
     run::<Brand, D, W, R>(rt, alloc, fresh, sessions, work)
 }
 
-fn run<
-    L: Run + Send + Sync,
-    D: Disk + Drop + Send,
-    W: DayWork + Sync,
-    R: Threads + Wait + Sync,
->(
+fn run<L: Run + Send + Sync, D: Disk + Drop + Send, W: DayWork + Sync, R: Threads + Wait + Sync>(
     rt: &R,
     alloc: Global,
     fresh: Fresh<D>,
