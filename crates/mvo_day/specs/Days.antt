@@ -5,6 +5,7 @@ use Rattle.mvo_model.specs.History.{Legal}
 use Rattle.mvo_tale.specs.Stored.{StoredCommit}
 use Rattle.mvo_core.specs.Receipts.{Receipt}
 use Rattle.mvo_core.specs.Trimming.{and_above}
+use Rattle.mvo_run.specs.Receiving.{Rises}
 use Rattle.mvo_run.specs.Watching.{Watched, count_of}
 
 -- the stored commit, if there is one and it ends above the start
@@ -13,8 +14,10 @@ if_above start None = []
 if_above start (Some c) = and_above start c []
 
 -- Where the tale starts below the end that is watched, the receipts count what the stored commits
--- do. From some rows on, these were told what one map answers that runs them one after another.
+-- do. The ends of these rise. From some rows on, they were told what one map answers that runs them
+-- one after another.
 pub record IsDay (w : Watched) (start : ℕ) (receipts commits : List Receipt) : Type 0 where
   pub counted : start < w.end → count_of w receipts ≡ count_of w commits
+  pub rising : Rises commits
   pub rows : Map
   pub serial : Legal rows (map (λ r. r.history) commits)
