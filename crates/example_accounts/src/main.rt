@@ -35,6 +35,7 @@ fn main(rt: HostRuntime) -> Result<(), anyhow::Error> {
             "not all that is over is let go"
         }
     )?;
+    println!(rt; "{} receipts", told.receipts)?;
     Ok(())
 }
 

@@ -19,7 +19,7 @@ pub record IsBooked (w : Watched) (c : CoreData) (total : ℕ) : Type 0 where
   pub counted : state.start < w.end → total ≡ count_of w (stored_commits state)
 
 -- the parts that no session has count nothing, and are what those made leave of all
-pub record HasParts (parts made spare amount : ℕ) : Type 0 where
+pub record HasSpareParts (parts made spare amount : ℕ) : Type 0 where
   pub all : parts ≡ MAX_SESSIONS
   pub spare_parts : spare + made ≡ parts
   pub spare_amount : amount ≡ 0

@@ -134,15 +134,15 @@ IsNoTx None result = result ≡ Err NoSuchTransaction
 IsNoTx (Some t) result = Unit {0}
 
 -- what a refusal leaves: a failure ends the transaction
-abbrev pub left_by : Refusal → SessionState → SessionState
-left_by r s = record s { tx = if is_failure r then None else s.tx }
+abbrev pub session_after : Refusal → SessionState → SessionState
+session_after r s = record s { tx = if is_failure r then None else s.tx }
 
 -- What an operation was answered is one more of what it was told. Where memory is refused, it may
 -- have been rolled back: then the core had answered, and the copy was refused.
 abbrev pub HasAsked : SessionState → Op → Result Answer Refusal → SessionState → Type 0
 HasAsked old op (Ok a) new = new ≡ record old { told = old.told ++ (op, answer_data a) ∷ [] }
 HasAsked old op (Err r) new =
-    (new ≡ left_by r old) ⊎ ((r ≡ OutOfMemory) × (new ≡ record old { tx = None }))
+    (new ≡ session_after r old) ⊎ ((r ≡ OutOfMemory) × (new ≡ record old { tx = None }))
 
 -- A commit ends the transaction, and adds its receipt: what its calls were answered.
 abbrev pub HasCommitted : SessionState → Result Stamp Refusal → SessionState → Type 0
@@ -151,12 +151,12 @@ HasCommitted old (Ok e) new = IfSome old.tx (λ t. new ≡ record old {
   told = [];
   receipts = old.receipts ++ receipt t e.0 old.told ∷ [];
 })
-HasCommitted old (Err r) new = new ≡ left_by r old
+HasCommitted old (Err r) new = new ≡ session_after r old
 
 -- so does a rollback, without one
 abbrev pub HasLeft : {A : Type 0} → SessionState → Result A Refusal → SessionState → Type 0
 HasLeft old (Ok a) new = new ≡ record old { tx = None }
-HasLeft old (Err r) new = new ≡ left_by r old
+HasLeft old (Err r) new = new ≡ session_after r old
 
 -- the last receipt is of a transaction that ended there
 pub record EndsWith (e : ℕ) (receipts : List Receipt) : Type 0 where

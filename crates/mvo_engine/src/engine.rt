@@ -150,8 +150,8 @@ impl<L: Run, D: Disk, G: Gate + Drop> Engine<L, D, G> {
     }
 
     /// What is known with both locks: the groups that were received are a beginning of those that
-    /// were sent, which agree with the history, and so does each image that a stop now may leave. It
-    /// changes nothing, takes no memory and waits for nobody.
+    /// were sent, which agree with the history, and so does each image that a stop now may leave.
+    /// It changes nothing, takes no memory and waits for nobody.
     pub fn audit(&self, core: &mut CoreGuard<'_, L>, store: &mut StoreGuard<'_, L, D>)
         ensures audited { IsAudited D.Disk L.image core.old store.old }
         ensures core { core.new ≡ core.old }

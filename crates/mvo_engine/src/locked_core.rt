@@ -42,7 +42,7 @@ impl<L: Run> Drop for LockedCore<L> {
 impl<L: Run> Model for LockedCore<L> {
     ghost use Rattle.std.specs.Coded.{codes};
     ghost use Rattle.mvo_core.specs.contracts.event_core.Core.{the_row as core_row};
-    ghost use Rattle.mvo_engine.specs.Booked.{IsBooked, HasParts};
+    ghost use Rattle.mvo_engine.specs.Booked.{IsBooked, HasSpareParts};
     ghost use Rattle.mvo_engine.specs.Sound.{IsSoundCore};
     ghost use Rattle.mvo_engine.specs.States.{CoreState};
 
@@ -54,7 +54,7 @@ impl<L: Run> Model for LockedCore<L> {
 
     ghost invariant = { λ s. IsSoundCore L.image s.core s.sends.sent
         × IsBooked L.watched s.core s.book.total
-        × HasParts L.parts s.made s.spare.parts s.spare.amount };
+        × HasSpareParts L.parts s.made s.spare.parts s.spare.amount };
 }
 
 impl<L: Run> LockedCore<L> {
@@ -66,7 +66,7 @@ impl<L: Run> LockedCore<L> {
     ghost use Rattle.mvo_core.specs.Steps.{IsAnswered, IsValidation, IsSettlement, IsFinishing};
     ghost use Rattle.mvo_core.specs.Trimming.{HasForgotten};
     ghost use Rattle.mvo_engine.specs.Audited.{IsAudited};
-    ghost use Rattle.mvo_engine.specs.Booked.{IsBooked, HasParts};
+    ghost use Rattle.mvo_engine.specs.Booked.{IsBooked, HasSpareParts};
     ghost use Rattle.mvo_run.specs.Receiving.{AreBelow};
     ghost use Rattle.mvo_engine.specs.Settling.{HasSettled};
     ghost use Rattle.mvo_engine.specs.Sound.{IsSoundCore};
@@ -84,7 +84,7 @@ impl<L: Run> LockedCore<L> {
     ) -> LockedCore<L>
         requires sound { IsSoundCore L.image core sends.sent }
         requires booked { IsBooked L.watched core ledger.0.total }
-        requires parts { HasParts L.parts 0 ledger.1.parts ledger.1.amount }
+        requires parts { HasSpareParts L.parts 0 ledger.1.parts ledger.1.amount }
         ensures core { result.core ≡ core }
         ensures sends { result.sends ≡ sends }
         ensures made { result.made ≡ 0 }

@@ -4,8 +4,8 @@ use Rattle.std.specs.List.{sum_by}
 use Rattle.std.proofs.Common.{refl}
 use Rattle.mvo_core.specs.Receipts.{Receipt}
 
--- How much each receipt counts: nothing, but at one end. To count how often one receipt is there, it
--- counts 1, and every other nothing.
+-- How much each receipt counts: nothing, but at one end. To count how often one receipt is there,
+-- it counts 1, and every other nothing.
 pub record Watched : Type 0 where
   pub end : ℕ
   pub weigh : Receipt → ℕ

@@ -28,8 +28,9 @@ impl<L: Run> Model for Receipts<L> {
       room = nat_lt (vec_len s.list) (vec_capacity s.list);
     } };
 
-    ghost invariant = { λ s. (s.share.parts ≡ 1) × (s.share.amount ≡ count_of L.watched s.list.items)
-        × Rises s.list.items × AreUpTo s.last.0 s.list.items };
+    ghost invariant = { λ s. let list = s.list.items in
+        (s.share.parts ≡ 1) × (s.share.amount ≡ count_of L.watched list)
+        × Rises list × AreUpTo s.last.0 list };
 }
 
 impl<L: Run> Receipts<L> {

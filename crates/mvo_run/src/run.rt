@@ -5,8 +5,8 @@ use std::sync::ledger::Ledger;
 pub const MAX_SESSIONS: u32 = 1_048_576;
 
 /// Names one run of an engine: what its disk held when it was opened, its marks and its ring, a
-/// ledger of `MAX_SESSIONS` parts, and the receipt that the ledger counts, which may be any: no code
-/// knows which. The values under the locks and the sessions agree on it.
+/// ledger of `MAX_SESSIONS` parts, and the receipt that the ledger counts, which may be any: no
+/// code knows which. The values under the locks and the sessions agree on it.
 pub trait Run: Ledger {
     ghost use Rattle.mvo_disk.specs.Disk.{Image};
     ghost use Rattle.atomic_table.specs.Seated.{TableId};

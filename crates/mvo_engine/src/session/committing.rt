@@ -29,7 +29,7 @@ ghost use Rattle.mvo_engine.specs.Settling.{HasEnded};
 
 impl<'e, L: Run, D: Disk, G: Gate + Drop> Session<'e, L, D, G> {
     ghost use Rattle.std.specs.Prelude.{◌≡◌, None};
-    ghost use Rattle.mvo_engine.specs.Calls.{HasCommitted, HasLeft, IsNoTx, left_by};
+    ghost use Rattle.mvo_engine.specs.Calls.{HasCommitted, HasLeft, IsNoTx, session_after};
 
     /// Commits the transaction, and answers its end timestamp: makes room for its receipt, draws
     /// the end, checks what was read and scanned, waits until each transaction that it depends on
@@ -49,9 +49,7 @@ impl<'e, L: Run, D: Disk, G: Gate + Drop> Session<'e, L, D, G> {
         let Some(tx) = self.tx else {
             return Err(Refusal::NoSuchTransaction);
         };
-        if self.receipts.reserve().is_err() {
-            return Err(Refusal::OutOfMemory);
-        }
+        self.receipts.reserve()?;
         match settled(rt, self.engine, tx, &mut self.receipts, &mut self.told) {
             Ok(end) => {
                 self.finish(rt, tx);
@@ -87,7 +85,7 @@ impl<'e, L: Run, D: Disk, G: Gate + Drop> Session<'e, L, D, G> {
 
     // Ends the transaction by a refusal that is a failure.
     pub(super) fn end_by<R: Wait>(&mut self, rt: &R, tx: TxId, refusal: Refusal)
-        ensures { self.new ≡ left_by refusal self.old }
+        ensures { self.new ≡ session_after refusal self.old }
     {
         if is_failure(refusal) {
             self.finish(rt, tx);

@@ -44,9 +44,7 @@ impl<'e, L: Run, D: Disk, G: Gate + Drop> Session<'e, L, D, G> {
         let Some(tx) = self.tx else {
             return Err(Refusal::NoSuchTransaction);
         };
-        if self.told.reserve().is_err() {
-            return Err(Refusal::OutOfMemory);
-        }
+        self.told.reserve()?;
         let result = self.enter(rt).read(tx, key);
         self.keep(rt, tx, Op::Read(key), result)
     }
@@ -61,12 +59,8 @@ impl<'e, L: Run, D: Disk, G: Gate + Drop> Session<'e, L, D, G> {
         let Some(tx) = self.tx else {
             return Err(Refusal::NoSuchTransaction);
         };
-        let Ok(copy) = row.copy() else {
-            return Err(Refusal::OutOfMemory);
-        };
-        if self.told.reserve().is_err() {
-            return Err(Refusal::OutOfMemory);
-        }
+        let copy = row.copy()?;
+        self.told.reserve()?;
         let result = self.enter(rt).insert(tx, row);
         self.keep(rt, tx, Op::Insert(copy), result)
     }
@@ -79,12 +73,8 @@ impl<'e, L: Run, D: Disk, G: Gate + Drop> Session<'e, L, D, G> {
         let Some(tx) = self.tx else {
             return Err(Refusal::NoSuchTransaction);
         };
-        let Ok(copy) = row.copy() else {
-            return Err(Refusal::OutOfMemory);
-        };
-        if self.told.reserve().is_err() {
-            return Err(Refusal::OutOfMemory);
-        }
+        let copy = row.copy()?;
+        self.told.reserve()?;
         let result = self.enter(rt).update(tx, row);
         self.keep(rt, tx, Op::Update(copy), result)
     }
@@ -98,9 +88,7 @@ impl<'e, L: Run, D: Disk, G: Gate + Drop> Session<'e, L, D, G> {
         let Some(tx) = self.tx else {
             return Err(Refusal::NoSuchTransaction);
         };
-        if self.told.reserve().is_err() {
-            return Err(Refusal::OutOfMemory);
-        }
+        self.told.reserve()?;
         let result = self.enter(rt).delete(tx, key);
         self.keep(rt, tx, Op::Delete(key), result)
     }
@@ -115,9 +103,7 @@ impl<'e, L: Run, D: Disk, G: Gate + Drop> Session<'e, L, D, G> {
         let Some(tx) = self.tx else {
             return Err(Refusal::NoSuchTransaction);
         };
-        if self.told.reserve().is_err() {
-            return Err(Refusal::OutOfMemory);
-        }
+        self.told.reserve()?;
         let result = self.enter(rt).scan(tx, table, lo, hi);
         self.keep(rt, tx, Op::Scan(table, lo, hi), result)
     }
