@@ -1,39 +1,19 @@
--- The stored commits at the places of a tale, and what a day comes to.
-use Rattle.std.proofs.Common.{◌≡◌, ℕ, zero, suc, ◌<◌, ◌+◌, Bool, true, false, cond, List, [], ◌∷◌, ◌++◌, length, take, map, refl, sym, ap, ◌∙◌, subst, absurd, arith}
-use Rattle.std.specs.Prelude.{nat_lt}
+-- What a day comes to.
+use Rattle.std.proofs.Common.{◌≡◌, ℕ, ◌<◌, Bool, true, false, cond, List, [], ◌∷◌, map, refl, sym, ap, ◌∙◌, subst}
 use Rattle.std.specs.List.{AllByRecursion}
 use Rattle.mvo_theory.specs.State.{StampedTx, tale}
 use Rattle.mvo_theory.specs.Sound.{IsRising}
 use Rattle.mvo_theory.proofs.Tales.{legal_tale}
 use Rattle.mvo_model.specs.History.{History, Legal}
-use Rattle.mvo_tale.specs.declared.slot.Slot.{Slot}
-use Rattle.mvo_tale.specs.declared.slot.Slot.TheVariants.{Open, Settled, Empty}
-use Rattle.mvo_tale.specs.Slots.{stored_at}
 use Rattle.mvo_core.specs.Data.{CoreData}
-use Rattle.mvo_core.specs.Receipts.{Receipt, receipt, receipt_of, receipts_of, stored_commits}
+use Rattle.mvo_core.specs.Receipts.{Receipt, receipt_of, receipts_of, stored_commits}
 use Rattle.mvo_core.specs.Trimming.{stored_above}
 use Rattle.mvo_core.proofs.Trimmed.{tale_is}
 use Rattle.mvo_run.specs.Receiving.{Rises}
 use Rattle.mvo_run.specs.Watching.{Watched, count_of}
 use Rattle.mvo_engine.specs.Booked.{IsBooked}
-use Rattle.mvo_day.specs.Days.{IsDay, if_above}
+use Rattle.mvo_day.specs.Days.{IsDay}
 
--- ---- one place more
-pub one_more : (start : ℕ) (slots : List Slot) (i : ℕ) → i < length slots → stored_above start (take (suc i) slots) ≡ stored_above start (take i slots) ++ if_above start (stored_at slots i)
-one_more start [] i h = absurd (omega (arith, h))
-one_more start (Open e ∷ slots) zero h = refl
-one_more start (Settled c ∷ slots) zero h = refl
-one_more start (Empty ∷ slots) zero h = refl
-one_more start (Open e ∷ slots) (suc i) h = one_more start slots i (omega (arith, h))
-one_more start (Settled c ∷ slots) (suc i) h = go (nat_lt start c.end) (one_more start slots i (omega (arith, h)))
-  where
-    go : (b : Bool) → stored_above start (take (suc i) slots) ≡ stored_above start (take i slots) ++ if_above start (stored_at slots i)
-        → cond b (receipt c.id c.end c.history ∷ stored_above start (take (suc i) slots)) (stored_above start (take (suc i) slots)) ≡ cond b (receipt c.id c.end c.history ∷ stored_above start (take i slots)) (stored_above start (take i slots)) ++ if_above start (stored_at slots i)
-    go true e = ap (λ (rs : List Receipt). receipt c.id c.end c.history ∷ rs) e
-    go false e = e
-one_more start (Empty ∷ slots) (suc i) h = one_more start slots i (omega (arith, h))
-
--- ---- a day
 histories : (xs : List StampedTx) → tale xs ≡ map (λ (r : Receipt). r.history) (receipts_of xs)
 histories [] = refl
 histories (x ∷ xs) = go x.settled (histories xs)

@@ -1,17 +1,10 @@
 -- What a day comes to.
-use Rattle.std.specs.Prelude.{◌≡◌, ◌<◌, ℕ, List, [], map, Option, None, Some}
+use Rattle.std.specs.Prelude.{◌≡◌, ◌<◌, ℕ, List, map}
 use Rattle.mvo_types.specs.Keys.{Map}
 use Rattle.mvo_model.specs.History.{Legal}
-use Rattle.mvo_tale.specs.Stored.{StoredCommit}
 use Rattle.mvo_core.specs.Receipts.{Receipt}
-use Rattle.mvo_core.specs.Trimming.{and_above}
 use Rattle.mvo_run.specs.Receiving.{Rises}
 use Rattle.mvo_run.specs.Watching.{Watched, count_of}
-
--- the stored commit, if there is one and it ends above the start
-abbrev pub if_above : ℕ → Option StoredCommit → List Receipt
-if_above start None = []
-if_above start (Some c) = and_above start c []
 
 -- Where the tale starts below the end that is watched, the receipts count what the stored commits
 -- do. The ends of these rise. From some rows on, they were told what one map answers that runs them

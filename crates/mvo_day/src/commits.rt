@@ -3,7 +3,7 @@ ghost use Rattle.std.specs.Prelude.{◌≡◌, ◌++◌, ◌∷◌, [], IfOk, On
 ghost use Rattle.std.specs.Option.{option_copied};
 ghost use Rattle.mvo_core.specs.Receipts.{receipt};
 ghost use Rattle.mvo_core.specs.Trimming.{stored_above};
-ghost use Rattle.mvo_day.specs.Days.{if_above};
+ghost use Rattle.mvo_day.specs.Places.{if_above};
 
 use crate::copies::copies_of;
 use mvo_run::Receipt;

@@ -1,0 +1,23 @@
+-- The stored commits up to a place of a tale.
+use Rattle.std.proofs.Common.{◌≡◌, ℕ, zero, suc, ◌<◌, ◌+◌, Bool, true, false, cond, List, [], ◌∷◌, ◌++◌, length, take, refl, ap, absurd, arith}
+use Rattle.std.specs.Prelude.{nat_lt}
+use Rattle.mvo_tale.specs.declared.slot.Slot.{Slot}
+use Rattle.mvo_tale.specs.declared.slot.Slot.TheVariants.{Open, Settled, Empty}
+use Rattle.mvo_tale.specs.Slots.{stored_at}
+use Rattle.mvo_core.specs.Receipts.{Receipt, receipt}
+use Rattle.mvo_core.specs.Trimming.{stored_above}
+use Rattle.mvo_day.specs.Places.{if_above}
+
+pub one_more : (start : ℕ) (slots : List Slot) (i : ℕ) → i < length slots → stored_above start (take (suc i) slots) ≡ stored_above start (take i slots) ++ if_above start (stored_at slots i)
+one_more start [] i h = absurd (omega (arith, h))
+one_more start (Open e ∷ slots) zero h = refl
+one_more start (Settled c ∷ slots) zero h = refl
+one_more start (Empty ∷ slots) zero h = refl
+one_more start (Open e ∷ slots) (suc i) h = one_more start slots i (omega (arith, h))
+one_more start (Settled c ∷ slots) (suc i) h = go (nat_lt start c.end) (one_more start slots i (omega (arith, h)))
+  where
+    go : (b : Bool) → stored_above start (take (suc i) slots) ≡ stored_above start (take i slots) ++ if_above start (stored_at slots i)
+        → cond b (receipt c.id c.end c.history ∷ stored_above start (take (suc i) slots)) (stored_above start (take (suc i) slots)) ≡ cond b (receipt c.id c.end c.history ∷ stored_above start (take i slots)) (stored_above start (take i slots)) ++ if_above start (stored_at slots i)
+    go true e = ap (λ (rs : List Receipt). receipt c.id c.end c.history ∷ rs) e
+    go false e = e
+one_more start (Empty ∷ slots) (suc i) h = one_more start slots i (omega (arith, h))
