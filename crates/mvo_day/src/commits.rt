@@ -13,6 +13,7 @@ use std::alloc::{AllocError, Global};
 
 /// Copies of the stored commits that end above the start, by end timestamp. Their rows share the
 /// bytes.
+#[tactic(auto, using(crate::proofs::Places::one_more))]
 pub fn commits_above(alloc: Global, tale: &Tale, start: Stamp) -> Result<Vec<Receipt>, AllocError>
     ensures { IfOk result (λ commits. commits.items ≡ stored_above start.0 tale.now) }
 {
@@ -31,7 +32,7 @@ fn push_above(
     start: Stamp,
 ) -> Result<(), AllocError>
     ensures { OnOk result (commits.new.items ≡
-        commits.old.items ++ if_above start.0 (option_copied entry)) }
+        commits.old.items ++ if_above start.0 (option_copied entry.entry)) }
 {
     let Some(entry) = entry else {
         return Ok(());

@@ -7,12 +7,15 @@ use mvo_types::{Answer, Op, Row};
 use std::alloc::{AllocError, Global};
 
 /// Copies of the operations, each with its answer.
-pub fn copies_of(alloc: Global, told: &[(Op, Answer)]) -> Result<Vec<(Op, Answer)>, AllocError>
-    ensures { IfOk result (λ copies. history_told copies.items ≡ history_told told.now) }
+pub fn copies_of(
+    alloc: Global,
+    operations: &[(Op, Answer)],
+) -> Result<Vec<(Op, Answer)>, AllocError>
+    ensures { IfOk result (λ copies. history_told copies.items ≡ history_told operations.now) }
 {
     let mut copies = Vec::new(alloc);
-    for (op, answer) in told {
-        copies.push((copy_of_op(op)?, copy_of_answer(alloc, answer)?))?;
+    for told in operations {
+        copies.push((copy_of_op(&told.0)?, copy_of_answer(alloc, &told.1)?))?;
     }
     Ok(copies)
 }

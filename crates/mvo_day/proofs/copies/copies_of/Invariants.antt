@@ -3,4 +3,4 @@ use Rattle.mvo_theory.specs.Told.{history_told}
 use Rattle.mvo_day.proofs.copies.copies_of.Given as goal
 
 abbrev pub invariant-loop-told : goal.invariant-loop-told
-invariant-loop-told l = history_told l.copies.items ≡ history_told (take l.told-index l.told)
+invariant-loop-told l = history_told l.copies.items ≡ history_told (take l.told-index l.operations)
