@@ -24,7 +24,7 @@ weight_is h (x ∷ xs) = go x.settled (weight_is h xs)
   where
     go : (b : Bool) → tale_weight h xs ≡ sum_by h (receipts_of xs) → cond b (h (receipt_of x)) 0 + tale_weight h xs ≡ sum_by h (cond b (receipt_of x ∷ receipts_of xs) (receipts_of xs))
     go true ih = let more = sum_by-cons h (receipt_of x) (receipts_of xs) in omega (arith, ih, more)
-    go false ih = ih
+    go false ih = omega (arith, ih)
 
 -- what a call adds: an accepted settle that doesn't wait adds the receipt of the transaction
 abbrev pub found_weight : (Receipt → ℕ) → Option StampedTx → ℕ

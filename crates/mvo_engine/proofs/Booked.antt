@@ -106,7 +106,7 @@ module _ (w : Watched) {c : CoreData} {total : ℕ} (i : IsBooked w c total) whe
 
   -- over one that commits: the book counts the receipt
   pub committed : (t : TxId) (end' : Stamp) (history : History) (b : Bool) (new : CoreData) (total' : ℕ) → IsStep {A = Settlement} c (Settle t.0) (Ok (Committed end')) new → IsSettlement c t.0 (Committed end') → HoldsJust c t.0 history b → IsTrue b → total' ≡ total + w.weigh (receipt t.0 end'.0 history) → IsBooked w new total'
-  committed t end' history b new total' step answer holds yes counts =
+  committed t end' history b new total' step answer holds is_so counts =
       let h = w.weigh in
       let s = i.state in
       let l = step i.rows i.steps s i.stands in
@@ -117,7 +117,7 @@ module _ (w : Watched) {c : CoreData} {total : ℕ} (i : IsBooked w c total) whe
       let x = found.0 in
       let here = found.1 in
       let id = found_id t.0 s.stamped x here in
-      let told' : x.history ≡ history = ((holds i.rows i.steps s i.stands).1 x here).0 yes in
+      let told' : x.history ≡ history = ((holds i.rows i.steps s i.stands).1 x here).0 is_so in
       let ends = end_is s t.0 end' (says ∙ ap (settled_as s t.0) free) ∙ ap end_at here in
       let one : receipt_of x ≡ receipt t.0 end'.0 history = λ k. record { id = id k; begin = id k; end = sym ends k; history = told' k } in
       let adds : added h s (Settle t.0) Accepted ≡ h (receipt t.0 end'.0 history) = ap (unless_waiting h s t.0) free ∙ (ap (found_weight h) here ∙ ap h one) in

@@ -8,3 +8,4 @@ pub mod Counted
 pub mod Starts
 pub mod Booked
 pub mod SentRows
+pub mod Sessions

@@ -1,5 +1,5 @@
 //! The receipts of all sessions, and what they count.
-ghost use Rattle.std.specs.Prelude.{◌≡◌, ◌+◌, ◌<◌, ◌≤◌, [], length, vec_len, vec_capacity};
+ghost use Rattle.std.specs.Prelude.{◌≡◌, ◌+◌, ◌≤◌, ◌++◌, [], length, vec_len, vec_capacity};
 ghost use Rattle.std.specs.Prelude.{IfOk, IfErr, IfSome, IsTrue};
 ghost use Rattle.mvo_types.specs.declared.refusal.Refusal.{Refusal};
 ghost use Rattle.mvo_run.specs.Watching.{count_of};
@@ -91,11 +91,21 @@ fn pour<L: Run, D: Disk + Drop, G: Gate + Drop>(
     let mut whole = nothing;
     let mut left = sessions;
     while let Some(session) = left.pop() {
-        let (mut list, share) = session.into_receipts().into_parts();
-        if all.append(&mut list).is_err() {
-            unreachable!();
-        }
+        let (list, share) = session.into_receipts().into_parts();
+        add_all(all, list);
         whole.merge(share);
     }
     whole
+}
+
+/// Adds these receipts, for which there is room.
+fn add_all(all: &mut Vec<Receipt>, list: Vec<Receipt>)
+    requires { vec_len all.old + vec_len list ≤ vec_capacity all.old }
+    ensures items { all.new.items ≡ all.old.items ++ list.items }
+    ensures length { vec_len all.new ≡ vec_len all.old + vec_len list }
+    ensures capacity { vec_capacity all.old ≤ vec_capacity all.new }
+{
+    let mut list = list;
+    // There is room, so it isn't refused.
+    let _ = all.append(&mut list);
 }

@@ -52,7 +52,8 @@ impl<'e, L: Run, D: Disk, G: Gate + Drop> Session<'e, L, D, G> {
         self.receipts.reserve()?;
         match settled(rt, self.engine, tx, &mut self.receipts, &mut self.told) {
             Ok(end) => {
-                self.finish(rt, tx);
+                let _ = self.tx.take();
+                self.replace_words(rt, tx);
                 Ok(end)
             }
             Err(refusal) => {
