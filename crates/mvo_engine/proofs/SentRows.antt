@@ -22,8 +22,7 @@ use Rattle.mvo_store.specs.Frames.{mark_after}
 use Rattle.mvo_store.specs.Rows.{after_groups}
 use Rattle.mvo_store.specs.Seen.{disk_of, mark_of}
 use Rattle.mvo_store.specs.Standing.{HasSlots}
-use Rattle.mvo_world.proofs.Rows.{left_by_all, left_by_all-append, is_after}
-use Rattle.mvo_world.proofs.Chain.{chain_rows, parts}
+use Rattle.mvo_world.proofs.Chain.{left_by_all, left_by_all-append, is_after, chain_rows, parts}
 use Rattle.mvo_engine.specs.Sound.{IsSoundCore, GivesReceived, LeavesReceived, last_mark}
 use Rattle.mvo_engine.specs.States.{CoreState, SendsState, StoreState}
 use Rattle.mvo_engine.specs.Audited.{after_commits, not_sent, AgreesWithHistory, IsAudited}

@@ -13,8 +13,8 @@ receipts_in sessions = sum_by (λ s. length s.receipts) sessions
 
 -- Where the tale starts below the end that is watched, all receipts count what the stored commits
 -- do. Where fewer sessions are handed in than were made, these come back.
-abbrev pub HasGathered : {A B C D : Type 0} → Watched → CoreState → List SessionState
-    → Gathered A B C D → Type 0
+abbrev pub HasGathered : {A B C : Type 0} → Watched → CoreState → List SessionState
+    → Gathered A B C → Type 0
 HasGathered watched c sessions (All v) =
     (c.made ≤ length sessions) × IsBooked watched c.core (count_of watched v.items)
 HasGathered watched c sessions (Missing v) = (length sessions < c.made) × (v.items ≡ sessions)
