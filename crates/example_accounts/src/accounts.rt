@@ -225,14 +225,14 @@ fn gather_all<L: Run, D: Disk + Drop, R: Wait>(
     sessions: Vec<Session<'_, L, D, OpenGate>>,
 ) -> Result<usize, Refusal> {
     let mut core = engine.lock_core(rt);
-    let receipts = match gather(&mut core, alloc, sessions) {
-        Ok(Gathered::All(receipts)) => receipts.len(),
-        Ok(Gathered::Missing(_)) => 0,
-        Err((refusal, _)) => return Err(refusal),
+    let gathered = match gather(&mut core, alloc, sessions) {
+        Ok(Gathered::All(receipts)) => Ok(receipts.len()),
+        Ok(Gathered::Missing(_sessions)) => Ok(0),
+        Err((refusal, _sessions)) => Err(refusal),
     };
     let mut store = engine.lock_store(rt);
     engine.audit(&mut core, &mut store);
-    Ok(receipts)
+    gathered
 }
 
 fn total_of(rows: &[mvo_types::Row]) -> u64 {

@@ -1,7 +1,6 @@
 -- The book is kept.
-use Rattle.std.proofs.Common.{◌≡◌, ℕ, ◌+◌, ◌<◌, ◌≤◌, ◌↔◌, Bool, true, false, cond, not, List, [], ◌∷◌, ◌++◌, Option, None, Some, Result, Ok, Err, refl, sym, ap, ◌∙◌, subst, arith}
+use Rattle.std.proofs.Common.{◌≡◌, ℕ, ◌+◌, ◌<◌, Bool, true, false, cond, not, List, [], ◌∷◌, ◌++◌, Option, None, Some, Result, Ok, Err, refl, sym, ap, ◌∙◌, arith}
 use Rattle.std.specs.Prelude.{◌==◌, ◌&&◌, IsTrue}
-use Rattle.std.specs.List.{AllByRecursion}
 use Rattle.std.proofs.lemmas.Bool.{eqb-true}
 use Rattle.mvo_types.specs.declared.ids.TxId.{TxId}
 use Rattle.mvo_types.specs.declared.ids.Stamp.{Stamp}
@@ -14,21 +13,20 @@ use Rattle.mvo_theory.specs.State.{State, StampedTx, preparing_of, opened}
 use Rattle.mvo_theory.specs.Sound.{IsPlaced}
 use Rattle.mvo_theory.specs.Causes.{awaited, end_of, end_at}
 use Rattle.mvo_theory.specs.Changes.{after_close}
-use Rattle.mvo_theory.specs.Calls as theory
 use Rattle.mvo_theory.specs.Calls.{Call, after_call, steps_of}
 use Rattle.mvo_theory.specs.Calls.Call.{Settle}
-use Rattle.mvo_theory.specs.Calls.Result.{Accepted, Refused}
+use Rattle.mvo_theory.specs.Calls.Result.{Accepted}
 use Rattle.mvo_theory.proofs.Who.{preparing_settled}
 use Rattle.mvo_core.specs.declared.answers.Closed as closing
 use Rattle.mvo_core.specs.declared.answers.Settlement.{Settlement}
 use Rattle.mvo_core.specs.declared.answers.Settlement.TheVariants.{Committed, Waiting}
 use Rattle.mvo_core.specs.Data.{CoreData}
 use Rattle.mvo_core.specs.Standing.{OpensAs}
-use Rattle.mvo_core.specs.Steps.{came, LeadsOn, IsStep, IsSettlement, settled_as}
+use Rattle.mvo_core.specs.Steps.{came, IsStep, IsSettlement, settled_as}
 use Rattle.mvo_core.specs.Collecting.{StandsAsBefore}
 use Rattle.mvo_core.specs.Holding.{HoldsJust}
-use Rattle.mvo_core.specs.Receipts.{Receipt, receipt, receipt_of, stored_commits}
-use Rattle.mvo_run.specs.Watching.{Watched, count_of}
+use Rattle.mvo_core.specs.Receipts.{Receipt, receipt, receipt_of}
+use Rattle.mvo_run.specs.Watching.{Watched}
 use Rattle.mvo_engine.specs.Booked.{IsBooked}
 use Rattle.mvo_engine.specs.Sound.{IsSoundCore}
 use Rattle.mvo_engine.specs.States.{SendsState}
@@ -36,7 +34,7 @@ use Rattle.mvo_engine.specs.Calls.{HasSent}
 use Rattle.mvo_engine.proofs.Added.{found_weight, unless_waiting, added, weight_is, tale_weight}
 use Rattle.mvo_engine.proofs.Counted.{counted_after_call, found_holds}
 use Rattle.mvo_engine.proofs.CoreSound.{stays_sound as sound_over}
-use Rattle.mvo_engine.proofs.Starts.{start_rises, start_settled, start_refused, is_quiet, quiet_adds, quiet_group}
+use Rattle.mvo_engine.proofs.Starts.{start_rises, start_settled, is_quiet, quiet_adds, quiet_group}
 
 some_same : (v z : StampedTx) → ◌≡◌ {A = Option StampedTx} (Some v) (Some z) → v ≡ z
 some_same v z q = cc

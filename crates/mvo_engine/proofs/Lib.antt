@@ -8,4 +8,3 @@ pub mod Counted
 pub mod Starts
 pub mod Booked
 pub mod SentRows
-pub mod Sessions

@@ -1,30 +1,28 @@
 -- The opening rows followed by the sent groups, and then by the commits that are in no group yet,
 -- are the rows after the whole history.
-use Rattle.std.proofs.Common.{◌≡◌, ℕ, ◌≤◌, ◌<◌, Bool, true, false, cond, List, [], ◌∷◌, ◌++◌, refl, sym, ap, ◌∙◌, subst, arith}
-use Rattle.std.specs.Prelude.{nat_le, nat_lt, ◌&&◌}
+use Rattle.std.proofs.Common.{◌≡◌, ℕ, ◌≤◌, ◌<◌, Bool, true, false, cond, List, [], ◌∷◌, ◌++◌, refl, sym, ap, ◌∙◌, arith}
+use Rattle.std.specs.Prelude.{nat_le, ◌&&◌}
 use Rattle.std.specs.List.{AllByRecursion, filter}
 use Rattle.std.proofs.lemmas.Bool.{le-leb}
 use Rattle.std.proofs.lemmas.List.{append_assoc}
 use Rattle.mvo_types.specs.Keys.{Map}
-use Rattle.mvo_model.specs.History.{History, after_history}
+use Rattle.mvo_model.specs.History.{after_history}
 use Rattle.mvo_model.specs.Trace.{Step}
 use Rattle.mvo_disk.specs.declared.disk.Disk.{Ghosts}
-use Rattle.mvo_disk.specs.Disk.{Image, AllOf}
+use Rattle.mvo_disk.specs.Disk.{Image}
 use Rattle.mvo_group.specs.Data.{GroupData}
 use Rattle.mvo_theory.specs.State.{State, StampedTx, Marks, timeline, after_settled}
 use Rattle.mvo_theory.specs.Marks.{Commit, settled_to}
-use Rattle.mvo_theory.specs.Sound.{IsRising, IsStarted, IsSound, IsPast, IsPlaced}
+use Rattle.mvo_theory.specs.Sound.{IsRising, IsPast, IsPlaced}
 use Rattle.mvo_theory.specs.AfterTrace.{IsAfterTrace}
 use Rattle.mvo_theory.proofs.Each.{each_append, each_weaker}
 use Rattle.mvo_core.specs.Data.{CoreData}
 use Rattle.mvo_core.specs.Groups.{HaveRecordsOf}
 use Rattle.mvo_store.specs.Frames.{mark_after}
 use Rattle.mvo_store.specs.Rows.{after_groups}
-use Rattle.mvo_store.specs.Seen.{disk_of, mark_of}
-use Rattle.mvo_store.specs.Standing.{HasSlots}
 use Rattle.mvo_world.proofs.Chain.{left_by_all, left_by_all-append, is_after, chain_rows, parts}
-use Rattle.mvo_engine.specs.Sound.{IsSoundCore, GivesReceived, LeavesReceived, last_mark}
-use Rattle.mvo_engine.specs.States.{CoreState, SendsState, StoreState}
+use Rattle.mvo_engine.specs.Sound.{IsSoundCore, LeavesReceived}
+use Rattle.mvo_engine.specs.States.{StoreState}
 use Rattle.mvo_engine.specs.Audited.{after_commits, not_sent, AgreesWithHistory, IsAudited}
 
 same_walk : (cs : List Commit) (m : Map) → after_commits cs m ≡ left_by_all cs m

@@ -106,8 +106,8 @@ fn gather_but_one<'e, L: Run, D: Disk + Drop>(
 ) -> Result<Vec<Session<'e, L, D, OpenGate>>, Refusal> {
     match gather(core, alloc, sessions) {
         Ok(Gathered::Missing(sessions)) => Ok(sessions),
-        Ok(Gathered::All(_)) => Err(Refusal::Busy),
-        Err((refusal, _)) => Err(refusal),
+        Ok(Gathered::All(_receipts)) => Err(Refusal::Busy),
+        Err((refusal, _sessions)) => Err(refusal),
     }
 }
 
@@ -119,8 +119,8 @@ fn gather_all<L: Run, D: Disk + Drop>(
 ) -> Result<Vec<Receipt>, Refusal> {
     match gather(core, alloc, sessions) {
         Ok(Gathered::All(receipts)) => Ok(receipts),
-        Ok(Gathered::Missing(_)) => Err(Refusal::Busy),
-        Err((refusal, _)) => Err(refusal),
+        Ok(Gathered::Missing(_sessions)) => Err(Refusal::Busy),
+        Err((refusal, _sessions)) => Err(refusal),
     }
 }
 
