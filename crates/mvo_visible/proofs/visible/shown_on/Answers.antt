@@ -1,6 +1,5 @@
-use Rattle.std.proofs.Common.{◌≡◌, [], ◌∷◌, ◌++◌, map, ap, sym, refl, ◌∙◌, subst, append_assoc, append-nil}
+use Rattle.std.proofs.Common.{◌≡◌, [], ◌∷◌, ◌++◌, ap, sym, refl, ◌∙◌, subst, append_assoc, append-nil}
 use Rattle.std.specs.Option.{option_copied}
-use Rattle.mvo_hash.specs.Lists.{number, numbers_of}
 use Rattle.mvo_txn.specs.Txns.{state_of}
 use Rattle.mvo_visible.specs.declared.walked.Walked.{Walked}
 use Rattle.mvo_visible.specs.Versions.{versions_by}
@@ -8,11 +7,11 @@ use Rattle.mvo_visible.specs.Shown.{own_or, HasFallingStamps, HasOwnInFront}
 use Rattle.mvo_visible.specs.Walked.{walked_over, walked_on}
 use Rattle.mvo_visible.proofs.Walks.{versions_more, versions_same, versions_at_stop, walked_later, walked_more, walked_stop, falling_at, own_first}
 use Rattle.mvo_visible.proofs.Settled.{last_settled, walked_settled}
-use Rattle.mvo_visible.proofs.visible.shown.Goals.{in-None, in-Some+in-Some-get+in-Some-settled_put, in-Some+in-Some-get+in_default-settled_put+else-is_later+then-is_last}
-use Rattle.mvo_visible.proofs.visible.shown.Goals as goal
+use Rattle.mvo_visible.proofs.visible.shown_on.Goals.{in-None, in-Some+in-Some-get+in-Some-settled_put, in-Some+in-Some-get+in_default-settled_put+else-is_later+then-is_last}
+use Rattle.mvo_visible.proofs.visible.shown_on.Goals as goal
 
 pub loop-number-init : goal.loop-number-init
-loop-number-init g c = (refl, sym c.walk-number-items.ensures ∙ sym c.into_iter-number-iterator.ensures.into_iter_gives)
+loop-number-init g c = (refl, sym c.into_iter-number-iterator.ensures.into_iter_gives)
 
 pub loop-number-preserved-else-is_last : goal.loop-number-preserved-else-is_last
 loop-number-preserved-else-is_last g c =
@@ -65,7 +64,7 @@ returns g c order =
     let r = c.args.reader.0 in
     let slots = c.args.chains.now in
     let ns = c.loop-number.yielded in
-    let all = map number (numbers_of c.args.index.now.versions c.args.key) in
+    let all = c.args.walk in
     c.shown_by.ensures
     ∙ ap (λ (k : Walked). own_or k.own k.newest k.change)
     (elim c.match-next.branch as (λ _. c.match-next.walked ≡ walked_over states b r (versions_by slots all)) [
