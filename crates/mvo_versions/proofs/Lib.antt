@@ -6,3 +6,8 @@ pub mod Putting
 pub mod Going
 pub mod Walked
 pub mod Loading
+pub mod Posts
+pub mod Ended
+pub mod Kept
+pub mod Leading
+pub mod Past

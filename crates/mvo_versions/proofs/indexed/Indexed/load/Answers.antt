@@ -11,7 +11,7 @@ use Rattle.mvo_visible.specs.Fronts.{with_new}
 use Rattle.mvo_versions.proofs.Putting.{fresh_number}
 use Rattle.mvo_versions.proofs.Loading.{AreLoading, put_at, one_loaded, all_loaded, loading_begins, loading_ends}
 use Rattle.mvo_versions.proofs.Counted.{indexed}
-use Rattle.mvo_versions.proofs.versions.Versions.load.Goals as goal
+use Rattle.mvo_versions.proofs.indexed.Indexed.load.Goals as goal
 
 pub loop-row-init : goal.loop-row-init
 loop-row-init c = loading_begins (At c.args.mark) _ _ _ c.new-chains.ensures (c.in_ok-reserve.ensures.same ∙ ap (λ i. i.versions) c.new-index.ensures) (c.in_ok-reserve-2.ensures.items ∙ c.new-places.ensures.items)

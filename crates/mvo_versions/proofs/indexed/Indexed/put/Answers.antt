@@ -7,7 +7,7 @@ use Rattle.mvo_representation.specs.Steps.{fresh}
 use Rattle.mvo_versions.specs.Runs.{entered}
 use Rattle.mvo_versions.proofs.Counted.{indexed, few_at}
 use Rattle.mvo_versions.proofs.Putting.{fresh_number, undone, undone_right, put_right, put_there, places_back}
-use Rattle.mvo_versions.proofs.versions.Versions.put.Goals as goal
+use Rattle.mvo_versions.proofs.indexed.Indexed.put.Goals as goal
 
 -- nothing was put
 pub returns-in_err-number-clause-indexed : goal.returns-in_err-number-clause-indexed

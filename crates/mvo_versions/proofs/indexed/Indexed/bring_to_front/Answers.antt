@@ -7,7 +7,7 @@ use Rattle.mvo_versions.specs.Changes.{IsInFront}
 use Rattle.mvo_versions.proofs.Counting.{none_if, some_if}
 use Rattle.mvo_versions.proofs.Counted.{few_at}
 use Rattle.mvo_versions.proofs.Going.{is_held, live_among, came_front, has_entry, same_places, stays_front, key_there, made_anyway}
-use Rattle.mvo_versions.proofs.versions.Versions.bring_to_front.Goals as goal
+use Rattle.mvo_versions.proofs.indexed.Indexed.bring_to_front.Goals as goal
 
 pub newer-newer-requires : goal.newer-newer-requires
 newer-newer-requires c = is_held (record { slots = c.self.inside.chains; lists = c.self.inside.index.versions; places = c.self.inside.order }) c.args.number (subst (λ (v : VersionsData). IsSome (version_at v.slots c.args.number)) (sym c.self.view_is) c.requires) c.self.invariant
