@@ -24,7 +24,7 @@ use Rattle.mvo_versions.specs.Changes.{IsPut, IsRoomed, IsReworded, IsInFront, I
 use Rattle.mvo_versions.specs.Skips.{begin_of_ended, is_ended_from, from_on, leads, skip_at, HasNoMore, IsForgotten, IsSkip, AreSkips, IsUnlessEnded}
 use Rattle.mvo_versions.proofs.Indexing.{number_among, numbers_with, none_of, room_same}
 use Rattle.mvo_versions.proofs.Posts.{none_known}
-use Rattle.mvo_versions.proofs.Ended.{not_ended}
+use Rattle.mvo_versions.proofs.Words.{not_ended}
 
 -- the versions differ at this number alone
 pub record DifferAtOne (old new : Slots) (n : ℕ) : Type 0 where

@@ -7,7 +7,7 @@ pub mod Going
 pub mod Walked
 pub mod Loading
 pub mod Posts
-pub mod Ended
+pub mod Words
 pub mod Kept
-pub mod Leading
+pub mod Older
 pub mod Past

@@ -13,8 +13,8 @@ use Rattle.mvo_visible.proofs.Walks.{versions_by-append}
 use Rattle.mvo_representation.specs.Indexes.{HasNumbers}
 use Rattle.mvo_versions.specs.declared.skip.Skip.{Skip}
 use Rattle.mvo_versions.specs.Skips.{begin_of_ended, is_ended_from, is_later_one, leads, from_on, IsSkip, IsPast}
-use Rattle.mvo_versions.proofs.Ended.{at_least_lower, ended_later}
-use Rattle.mvo_versions.proofs.Leading.{among_split, from_split, once}
+use Rattle.mvo_versions.proofs.Words.{at_least_lower, ended_later}
+use Rattle.mvo_versions.proofs.Older.{among_split, from_split, once}
 
 plain_split : (front : List VersionNo) (n : VersionNo) (rest : List VersionNo) → plain (front ++ n ∷ rest) ≡ plain front ++ n.0 ∷ plain rest
 plain_split [] n rest = refl
