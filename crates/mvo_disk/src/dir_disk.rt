@@ -161,27 +161,32 @@ impl<R: Files<File = File> + Drop> DirDisk<R> {
 }
 
 impl<R: Files<File = File> + Drop> Disk for DirDisk<R> {
-    ghost use Rattle.std.specs.Prelude.{length};
+    ghost use Rattle.std.specs.Prelude.{length, true};
     ghost use Rattle.mvo_disk.specs.History.{content_after, MayLeave, LeftSince};
     ghost use Rattle.mvo_disk.specs.HistoryLaws.{sound, counts_now, only_now, counts_later};
+    ghost use Rattle.std.proofs.Common.{refl};
 
     ghost content = { λ d. content_after d.mirror.history.events };
 
     ghost may_leave = { λ d. MayLeave d.mirror.history.events };
 
-    ghost moment = { λ d. length d.mirror.history.events };
+    ghost moment = { λ d. record { calls = length d.mirror.history.events; honest = true } };
 
-    ghost left_since = { λ d. LeftSince d.mirror.history.events };
+    ghost left_since = { λ d t. LeftSince d.mirror.history.events t.calls };
 
     ghost fault_count = { λ d. d.fault_count };
 
     ghost content_may_stay = { λ d. sound d.mirror.history.events };
 
-    ghost counts_now = { λ d. counts_now d.mirror.history.events };
+    ghost counts_now = { λ d t image before. counts_now d.mirror.history.events t.calls image
+        before.calls };
 
     ghost only_now = { λ d. only_now d.mirror.history.events };
 
-    ghost counts_later = { λ d. counts_later d.mirror.history.events };
+    ghost counts_later = { λ d t u image before. counts_later d.mirror.history.events t.calls
+        u.calls image before.calls };
+
+    ghost always_honest = { λ d. refl };
 
     fn len(&mut self, file: u16) -> Result<usize, DiskFault> {
         Ok(self.mirror.bytes(file).len())

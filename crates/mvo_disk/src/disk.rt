@@ -3,6 +3,7 @@ ghost use Rattle.std.specs.Prelude.{◌≡◌, ◌⊎◌, ◌≤◌, ◌<◌, �
 ghost use Rattle.std.specs.Prelude.{IfOk, OnOk, OnErr, MatchResult};
 ghost use Rattle.mvo_disk.specs.Disk.{Holds, Torn, PartlyHolds, Cut, Follows, Reaches, Keeps, Only};
 ghost use Rattle.mvo_disk.specs.Disk.{OthersStay, AllStay, Settles, AllOf, Elapses, Counts};
+ghost use Rattle.mvo_disk.specs.Disk.{Moment, IsHonest, IsBefore, Answers};
 
 use crate::FILE_COUNT;
 
@@ -12,20 +13,24 @@ pub struct DiskFault;
 
 /// A device of `FILE_COUNT` files, numbered from 0, each a list of bytes.
 ///
+/// What a read answers is the content only as long as the disk is honest: as long as each answer so
+/// far was. No code can tell, so nothing but what is said of values may rest on it. A disk that is
+/// no longer honest keeps all its other clauses.
+///
 /// The clauses about images hold on success and on failure alike. No clause says when a call
 /// succeeds.
 pub trait Disk {
-    /// The bytes of each file, as a read gives them.
+    /// The bytes of each file, as an honest read gives them.
     ghost content: { Self → ℕ → List ℕ };
 
     /// What a stop at this moment may leave of each file. Files fail independently.
     ghost may_leave: { Self → ℕ → List ℕ → Type 0 };
 
-    /// The moment, as a number that doesn't fall.
-    ghost moment: { Self → ℕ };
+    /// The moment, which doesn't fall, and whether the disk was honest up to it.
+    ghost moment: { Self → Moment };
 
     /// The images of the whole disk that a stop at some moment since that one may have left.
-    ghost left_since: { Self → ℕ → (ℕ → List ℕ) → Type 0 };
+    ghost left_since: { Self → Moment → (ℕ → List ℕ) → Type 0 };
 
     /// How many calls have failed.
     ghost fault_count: { Self → ℕ };
@@ -34,20 +39,26 @@ pub trait Disk {
     fn len(&mut self, file: u16) -> Result<usize, DiskFault>
         requires file { file < FILE_COUNT }
         requires room { fault_count self.old + 1 < 2 ^ 64 }
-        ensures len { IfOk result (λ n. n ≡ length (content self.old file)) }
+        ensures len { IfOk result (λ n. IsHonest (moment self.new) →
+            n ≡ length (content self.old file)) }
+        ensures honest { Answers (moment self.old) (moment self.new)
+            (λ n. n ≡ length (content self.old file)) result }
         ensures rest { AllStay (content self.old) (content self.new) (may_leave self.old)
             (may_leave self.new) }
         ensures time { Elapses (moment self.old) (moment self.new) (left_since self.old)
             (left_since self.new) (AllOf (may_leave self.new)) }
         ensures count { Counts (fault_count self.old) (fault_count self.new) result };
 
-    /// Fills the slice from the bytes at an offset.
+    /// Fills the slice from the bytes at an offset. After a failure nothing is said of the slice.
     fn read_at(&mut self, file: u16, at: usize, into: &mut [u8]) -> Result<(), DiskFault>
         requires file { file < FILE_COUNT }
-        requires range { at + length into.old ≤ length (content self.old file) }
+        requires range { IsHonest (moment self.old) →
+            at + length into.old ≤ length (content self.old file) }
         requires room { fault_count self.old + 1 < 2 ^ 64 }
-        ensures bytes { OnOk result (into.new ≡ take (length into.old)
-            (drop at (content self.old file))) }
+        ensures bytes { OnOk result (IsHonest (moment self.new) → into.new ≡
+            take (length into.old) (drop at (content self.old file))) }
+        ensures honest { Answers (moment self.old) (moment self.new)
+            (λ _. into.new ≡ take (length into.old) (drop at (content self.old file))) result }
         ensures rest { AllStay (content self.old) (content self.new) (may_leave self.old)
             (may_leave self.new) }
         ensures time { Elapses (moment self.old) (moment self.new) (left_since self.old)
@@ -58,12 +69,13 @@ pub trait Disk {
     /// range, and any length from the old one to the one that success would give.
     fn write_at(&mut self, file: u16, at: usize, bytes: &[u8]) -> Result<(), DiskFault>
         requires file { file < FILE_COUNT }
-        requires start { at ≤ length (content self.old file) }
+        requires start { IsHonest (moment self.old) → at ≤ length (content self.old file) }
         requires room { fault_count self.old + 1 < 2 ^ 64 }
         ensures written { OnOk result (Holds (content self.old file) at bytes.now
             (content self.new file)) }
         ensures failed { OnErr result (PartlyHolds at (length bytes.now) (content self.old file)
             (content self.new file)) }
+        ensures honest { (moment self.new).honest ≡ (moment self.old).honest }
 
         // The images are exactly the old ones after a write of which any part is missing. A write
         // that failed may have begun or not.
@@ -81,11 +93,12 @@ pub trait Disk {
     /// Cuts a file to a length. A cut that fails leaves the old length or the new one.
     fn cut(&mut self, file: u16, len: usize) -> Result<(), DiskFault>
         requires file { file < FILE_COUNT }
-        requires shorter { len ≤ length (content self.old file) }
+        requires shorter { IsHonest (moment self.old) → len ≤ length (content self.old file) }
         requires room { fault_count self.old + 1 < 2 ^ 64 }
         ensures cut { OnOk result (content self.new file ≡ take len (content self.old file)) }
         ensures failed { OnErr result ((content self.new file ≡ content self.old file) ⊎
             (content self.new file ≡ take len (content self.old file))) }
+        ensures honest { (moment self.new).honest ≡ (moment self.old).honest }
 
         // Until a sync the old bytes may come back, and any others behind the cut.
         ensures images { Follows (Cut len) (may_leave self.old file) (may_leave self.new file) }
@@ -104,6 +117,7 @@ pub trait Disk {
         requires room { fault_count self.old + 1 < 2 ^ 64 }
         ensures durable { OnOk result (Only (content self.old file) (may_leave self.new file)) }
         ensures failed { OnErr result (Keeps (may_leave self.old file) (may_leave self.new file)) }
+        ensures honest { (moment self.new).honest ≡ (moment self.old).honest }
         ensures rest { Settles file (content self.old) (content self.new) (may_leave self.old)
             (may_leave self.new) }
         ensures time { Elapses (moment self.old) (moment self.new) (left_since self.old)
@@ -118,7 +132,7 @@ pub trait Disk {
     ghost content_may_stay: { (disk : Self) (file : ℕ) → may_leave disk file (content disk file) };
 
     /// This moment is one of those since an earlier one.
-    ghost counts_now: { (disk : Self) (t : ℕ) (image : ℕ → List ℕ) → t ≤ moment disk →
+    ghost counts_now: { (disk : Self) (t : Moment) (image : ℕ → List ℕ) → IsBefore t (moment disk) →
         AllOf (may_leave disk) image → left_since disk t image };
 
     /// Since this moment there is no other.
@@ -126,6 +140,9 @@ pub trait Disk {
         left_since disk (moment disk) image → AllOf (may_leave disk) image };
 
     /// The moments since a later one are among those since an earlier one.
-    ghost counts_later: { (disk : Self) (t u : ℕ) (image : ℕ → List ℕ) → t ≤ u →
+    ghost counts_later: { (disk : Self) (t u : Moment) (image : ℕ → List ℕ) → IsBefore t u →
         left_since disk u image → left_since disk t image };
+
+    /// Each disk that there is keeps what it answers in memory, so it is honest.
+    ghost always_honest: { (disk : Self) → IsHonest (moment disk) };
 }
