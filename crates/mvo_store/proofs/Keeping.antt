@@ -4,7 +4,7 @@ use Rattle.std.specs.Prelude.{⊤}
 use Rattle.std.proofs.lemmas.Bool.{cases_eq}
 use Rattle.mvo_types.specs.Keys.{Map}
 use Rattle.mvo_disk.specs.declared.disk.Disk.{Ghosts}
-use Rattle.mvo_disk.specs.Disk.{Image, AllOf, OthersStay, Touched, LeavesOnly, AllStay}
+use Rattle.mvo_disk.specs.Disk.{Image, AllOf, OthersStay, Touched, LeavesOnly, AllStay, Moment, IsBefore}
 use Rattle.mvo_disk.specs.Moments.{weaker, started, at_end}
 use Rattle.mvo_group.specs.Data.{GroupData}
 use Rattle.mvo_format.specs.declared.format.TheConstants.{FIRST_FORMAT}
@@ -95,7 +95,7 @@ module _ {D : Type 0} (d : Ghosts D) where
   OnlyNow = (disk : D) (image : Image) → d.left_since disk (d.moment disk) image → AllOf (d.may_leave disk) image
 
   abbrev pub CountsNow : Type 0
-  CountsNow = (disk : D) (t : ℕ) (image : Image) → t ≤ d.moment disk → AllOf (d.may_leave disk) image → d.left_since disk t image
+  CountsNow = (disk : D) (t : Moment) (image : Image) → IsBefore t (d.moment disk) → AllOf (d.may_leave disk) image → d.left_since disk t image
 
   -- ---- a store that is up
 

@@ -1,5 +1,6 @@
 //! Opens a store over what is on its disk.
 ghost use Rattle.std.specs.Prelude.{◌≡◌, ◌<◌, Ok, OnOk, IfOk, IfErr};
+ghost use Rattle.mvo_disk.specs.Disk.{IsHonest};
 ghost use Rattle.mvo_format.specs.declared.format.TheConstants.{FIRST_FORMAT};
 ghost use Rattle.mvo_recovery.specs.Parts.{IsLastFile};
 ghost use Rattle.mvo_recovery.specs.Settled.{IsUsed};
@@ -37,11 +38,12 @@ fn load_synced<D: Disk>(
     seed: u64,
     disk: &mut D,
 ) -> Result<Loaded, Refusal>
-    ensures loaded { IfOk result (λ l. IsLoaded FIRST_FORMAT (D.content disk.old) l.manifest l.rows
-        l.mark.0 l.gate) }
-    ensures places { IfOk result (λ l. HavePlaces FIRST_FORMAT (D.content disk.old)
-        l.manifest.pairs l.places.at) }
-    ensures answer { IfOk result (λ l. IsAnswer (D.content disk.old) (Ok (l.rows, l.mark.0))) }
+    ensures loaded { IsHonest (D.moment disk.new) → IfOk result (λ l. IsLoaded FIRST_FORMAT
+        (D.content disk.old) l.manifest l.rows l.mark.0 l.gate) }
+    ensures places { IsHonest (D.moment disk.new) → IfOk result (λ l. HavePlaces FIRST_FORMAT
+        (D.content disk.old) l.manifest.pairs l.places.at) }
+    ensures answer { IsHonest (D.moment disk.new) → IfOk result (λ l.
+        IsAnswer (D.content disk.old) (Ok (l.rows, l.mark.0))) }
     ensures synced { IfOk result (λ l.
         HasSynced D.Disk (IsUsed l.manifest) 1024 disk.old disk.new) }
     ensures few { OnOk result (D.fault_count disk.old < MAX_FAULTS) }

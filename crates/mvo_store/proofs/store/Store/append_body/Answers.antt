@@ -1,4 +1,5 @@
-use Rattle.std.proofs.Common.{inr, refl, rules, subst, sym}
+use Rattle.std.proofs.Common.{arith, inr, refl, rules, subst, sym}
+use Rattle.mvo_frame.proofs.Crash.{gate_few}
 use Rattle.mvo_format.specs.declared.header.TheConstants.{VERSION}
 use Rattle.mvo_store.specs.StoreData.{StoreData}
 use Rattle.mvo_store.specs.View.{store_data}
@@ -11,8 +12,14 @@ use Rattle.mvo_store.proofs.store.Store.append_body.Goals as goal
 pub write_body-requires-clause-file : goal.write_body-requires-clause-file
 write_body-requires-clause-file g c = let now = c.self.invariant c.if-self.false in last_file g.D.Disk (store_data c.self.inside) now.0 now.1
 
-pub write_body-requires-clause-durable : goal.write_body-requires-clause-durable
-write_body-requires-clause-durable g c = let now = c.self.invariant c.if-self.false in last_durable g.D.Disk (store_data c.self.inside) now.0 now.1
+pub write_body-requires-clause-few : goal.write_body-requires-clause-few
+write_body-requires-clause-few g c = (c.self.invariant c.if-self.false).1.few
+
+pub write_body-requires-clause-start : goal.write_body-requires-clause-start
+write_body-requires-clause-start g c = λ _.
+    let now = c.self.invariant c.if-self.false in
+    let here = gate_few VERSION now.1.parts.middle now.1.parts.last _ _ (last_stands g.D.Disk (store_data c.self.inside) now.0 now.1) in
+    omega (arith, here.1)
 
 pub invariant_of-self : goal.invariant_of-self
 invariant_of-self g c =
@@ -35,7 +42,7 @@ returns-in-Ok g c =
     let now = c.self.invariant c.if-self.false in
     let b : Begins g.D.Disk (store_data c.self.inside) AppendBody = record { none = search rules; up = c.if-self.false; rows = now.0; is_up = now.1 } in
     let e = c.in-Ok.ensures in
-    rw (← c.self.view_is) (done_step b _ (λ rows up slots. body_leaves g.D.Disk (store_data c.self.inside) rows up _ slots (e.any_moment VERSION up.parts.middle up.parts.last (last_stands g.D.Disk (store_data c.self.inside) rows up))) (slots_stay g.D.Disk (store_data c.self.inside) b.rows b.is_up _ e.rest) (file_others g.D.Disk AppendBody _ _ c.self.inside.segment.file refl e.rest) tt (search rules) e.count
+    rw (← c.self.view_is) (done_step b _ (λ rows up slots. body_leaves g.D.Disk (store_data c.self.inside) rows up _ slots (e.any_moment VERSION up.parts.middle up.parts.last (last_stands g.D.Disk (store_data c.self.inside) rows up) (last_durable g.D.Disk (store_data c.self.inside) rows up))) (slots_stay g.D.Disk (store_data c.self.inside) b.rows b.is_up _ e.rest) (file_others g.D.Disk AppendBody _ _ c.self.inside.segment.file refl e.rest) tt (search rules) e.count
     (λ rows up. body_up g.D.Disk (store_data c.self.inside) rows up _ c.write_body.new.self c.in-Some.group c.in-Some.is e.ok (e.written VERSION up.parts.middle up.parts.last (last_stands g.D.Disk (store_data c.self.inside) rows up) (follows_last g.D.Disk (store_data c.self.inside) rows up c.in-Some.group c.in-Some.is)) e.durable e.rest e.count))
 
 pub returns-then-is_fault : goal.returns-then-is_fault
@@ -43,7 +50,7 @@ returns-then-is_fault g c =
     let now = c.self.invariant c.if-self.false in
     let b : Begins g.D.Disk (store_data c.self.inside) AppendBody = record { none = search rules; up = c.if-self.false; rows = now.0; is_up = now.1 } in
     let e = c.in-Err.ensures in
-    rw (← c.self.view_is) (rw e.err (fault_step b g.met.D.Disk.counts_now _ c.in-Err.refusal (search rules) (inr refl) (search rules) (λ rows up slots. body_leaves g.D.Disk (store_data c.self.inside) rows up _ slots (e.any_moment VERSION up.parts.middle up.parts.last (last_stands g.D.Disk (store_data c.self.inside) rows up))) (file_others g.D.Disk AppendBody _ _ c.self.inside.segment.file refl e.rest)))
+    rw (← c.self.view_is) (rw e.err (fault_step b g.met.D.Disk.counts_now _ c.in-Err.refusal (search rules) (inr refl) (search rules) (λ rows up slots. body_leaves g.D.Disk (store_data c.self.inside) rows up _ slots (e.any_moment VERSION up.parts.middle up.parts.last (last_stands g.D.Disk (store_data c.self.inside) rows up) (last_durable g.D.Disk (store_data c.self.inside) rows up))) (file_others g.D.Disk AppendBody _ _ c.self.inside.segment.file refl e.rest)))
 
 pub returns-else-is_fault : goal.returns-else-is_fault
 returns-else-is_fault g c =
