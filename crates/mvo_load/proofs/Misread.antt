@@ -1,14 +1,13 @@
 -- What is refused of a file that was read breaks a rule of it.
 use Rattle.std.proofs.Common.{◌≡◌, ℕ, List, Result, Ok, Err, inl, inr, sym, subst}
 use Rattle.mvo_types.specs.declared.refusal.Refusal.{Refusal}
-use Rattle.mvo_group.specs.Data.{GroupData}
 use Rattle.mvo_format.specs.declared.format.Format.{Format}
 use Rattle.mvo_frame.specs.declared.kind.Kind.{Kind}
 use Rattle.mvo_pair.specs.declared.pair.Pair.{Pair}
 use Rattle.mvo_pair.specs.declared.unread.Unread.{Unread}
 use Rattle.mvo_pair.specs.declared.unread.Unread.TheVariants.{Memory, Broken, OtherVersion}
 use Rattle.mvo_pair.specs.Answers.{Found, Answers, Goes, After, file_refusal}
-use Rattle.mvo_pair.specs.Data.{EntryData, Numbered, live_of}
+use Rattle.mvo_pair.specs.Data.{Numbered, live_of}
 use Rattle.mvo_pair.specs.Files.{HasEntries, HasNumbers, IsOtherVersion, data_magic, delta_magic}
 use Rattle.mvo_pair.specs.Loading.{LoadsAs}
 use Rattle.mvo_image.specs.Files.{SegmentIs}
