@@ -6,22 +6,22 @@ use Rattle.mvo_frame.specs.declared.kind.Kind.{Kind}
 use Rattle.mvo_pair.specs.declared.pair.Pair.{Pair}
 use Rattle.mvo_pair.specs.declared.unread.Unread.{Unread}
 use Rattle.mvo_pair.specs.declared.unread.Unread.TheVariants.{Memory, Broken, OtherVersion}
-use Rattle.mvo_pair.specs.Answers.{Found, Answers, Goes, After, file_refusal}
+use Rattle.mvo_pair.specs.Answers.{Found, IsFound, Goes, After, file_refusal}
 use Rattle.mvo_pair.specs.Data.{Numbered, live_of}
 use Rattle.mvo_pair.specs.Files.{HasEntries, HasNumbers, IsOtherVersion, data_magic, delta_magic}
 use Rattle.mvo_pair.specs.Loading.{LoadsAs}
 use Rattle.mvo_image.specs.Files.{SegmentIs}
 use Rattle.mvo_load.specs.Read.{IsMisread}
 
-unread : {X : Type 0} (file : ℕ) (Other : Type 0) (Holds : X → Type 0) (u : Unread) → Answers Other Holds (Err u) → IsMisread (file_refusal file u)
+unread : {X : Type 0} (file : ℕ) (Other : Type 0) (Holds : X → Type 0) (u : Unread) → IsFound Other Holds (Err u) → IsMisread (file_refusal file u)
 unread file Other Holds Broken says = tt
 unread file Other Holds OtherVersion says = tt
 unread file Other Holds Memory says = absurd says
 
-after : {X Y : Type 0} (file : ℕ) (Other : Type 0) (Holds : X → Type 0) (next : X → Result Y Refusal → Type 0) → ((x : X) (e : Refusal) → next x (Err e) → IsMisread e) → (e : Refusal) → After file (Answers Other Holds) next (Err e) → IsMisread e
+after : {X Y : Type 0} (file : ℕ) (Other : Type 0) (Holds : X → Type 0) (next : X → Result Y Refusal → Type 0) → ((x : X) (e : Refusal) → next x (Err e) → IsMisread e) → (e : Refusal) → After file (IsFound Other Holds) next (Err e) → IsMisread e
 after {X} {Y} file Other Holds next so e h = go h.0 h.1 h.2
   where
-    go : (found : Found X) → Answers Other Holds found → Goes {Y = Y} file next found (Err e) → IsMisread e
+    go : (found : Found X) → IsFound Other Holds found → Goes {Y = Y} file next found (Err e) → IsMisread e
     go (Ok x) says goes = so x e goes
     go (Err u) says goes = let same : file_refusal file u ≡ e = cc goes in subst IsMisread same (unread file Other Holds u says)
 
