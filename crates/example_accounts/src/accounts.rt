@@ -1,12 +1,13 @@
 //! What is done with the engine: the accounts are made, eight threads transfer while another keeps
-//! the memory steady, and all is counted.
+//! the memory and the log steady, and all is counted, gathered and audited, and counted over the
+//! disk opened again.
 ghost use Rattle.mvo_engine.specs.Opened.{IsNamedBy};
 
 use crate::transfers::{ACCOUNTS, START, TIMES, Transfer, money_in, row_of};
 use crate::upkeep::{is_let_go, keep_up};
 use anyhow::bail;
 use mvo_disk::{Disk, MemDisk};
-use mvo_engine::{Engine, Fresh, OpenGate, Run};
+use mvo_engine::{Engine, Fresh, Gathered, OpenGate, Receipt, Run, Session, gather};
 use mvo_store::format;
 use mvo_types::{Answer, Refusal, Stamp};
 use std::alloc::{AllocError, Global};
@@ -27,8 +28,10 @@ pub struct Told {
     pub transfers: usize,
     pub total: u64,
     pub durable: bool,
-    /// Whether all that could be asked for only before is gone from memory.
+    /// Whether all that could be asked for only before is gone from memory and from the log.
     pub let_go: bool,
+    /// How many receipts all sessions have.
+    pub receipts: usize,
 }
 
 /// A disk in memory with a store that has no rows.
@@ -43,17 +46,38 @@ fn new_disk(alloc: Global) -> Result<MemDisk, AllocError> {
     MemDisk::new(alloc)
 }
 
-/// Opens the disk, and has all threads transfer.
+/// Opens the disk, and has all threads transfer. The disk comes back.
 pub fn on_disk<D: Disk + Drop + Send, R: Threads + Wait + Sync>(
     rt: &R,
     alloc: Global,
     seed: u64,
     disk: D,
-) -> Result<Told, Refusal> {
+) -> Result<(Told, D), Refusal> {
     match Fresh::open(rt, alloc, seed, disk) {
         Ok(fresh) => run::<Brand, D, R>(rt, alloc, fresh),
         Err((refusal, _)) => Err(refusal),
     }
+}
+
+/// Opens the disk, and counts what all accounts have.
+pub fn total_on_disk<D: Disk + Drop, R: Threads + Wait + Sync>(
+    rt: &R,
+    alloc: Global,
+    seed: u64,
+    disk: D,
+) -> Result<u64, Refusal> {
+    match Fresh::open(rt, alloc, seed, disk) {
+        Ok(fresh) => run_total::<Brand, D, R>(rt, fresh),
+        Err((refusal, _)) => Err(refusal),
+    }
+}
+
+fn run_total<L: Run, D: Disk + Drop, R: Wait>(rt: &R, fresh: Fresh<D>) -> Result<u64, Refusal>
+    requires { IsNamedBy D.Disk L.image L.marks L.ring L.name L.parts fresh }
+{
+    let engine = Engine::<L, D, OpenGate>::new(fresh, OpenGate);
+    let mut session = engine.session(rt)?;
+    total(rt, &mut session)
 }
 
 /// Makes an engine and the accounts, has all threads transfer, and counts. It is written for every
@@ -62,56 +86,80 @@ fn run<L: Run + Send + Sync, D: Disk + Drop + Send, R: Threads + Wait + Sync>(
     rt: &R,
     alloc: Global,
     fresh: Fresh<D>,
-) -> Result<Told, Refusal>
-    requires { IsNamedBy D.Disk L.image L.marks L.ring fresh }
+) -> Result<(Told, D), Refusal>
+    requires { IsNamedBy D.Disk L.image L.marks L.ring L.name L.parts fresh }
 {
     let engine = Engine::<L, D, OpenGate>::new(fresh, OpenGate);
-    open_accounts(rt, alloc, &engine)?;
-    let ends = transfers(rt, alloc, &engine)?;
-    count(rt, &engine, ends)
+    let told = go(rt, alloc, &engine)?;
+    Ok((told, engine.into_disk()))
 }
 
-/// The transfers of all threads, and the end of each one's last. Meanwhile another thread flushes,
-/// trims and collects.
-fn transfers<L: Run + Send + Sync, D: Disk + Send, R: Threads + Wait + Sync>(
+fn go<L: Run + Send + Sync, D: Disk + Drop + Send, R: Threads + Wait + Sync>(
     rt: &R,
     alloc: Global,
     engine: &Engine<L, D, OpenGate>,
-) -> Result<Vec<Result<Stamp, Refusal>>, Refusal> {
+) -> Result<Told, Refusal> {
+    let mut session = engine.session(rt)?;
+    open_accounts(rt, alloc, &mut session)?;
+    let mut sessions = transfers(rt, alloc, engine)?;
+    let (transfers, durable) = ask_all(&mut sessions);
+    let total = total(rt, &mut session)?;
+    sessions.push(session)?;
+    let receipts = gather_all(rt, alloc, engine, sessions)?;
+    Ok(Told {
+        transfers,
+        total,
+        durable,
+        let_go: is_let_go(rt, engine)?,
+        receipts,
+    })
+}
+
+/// The transfers of all threads, and their sessions. Meanwhile another thread flushes, makes
+/// checkpoints and merges, trims and collects.
+fn transfers<'e, L: Run + Send + Sync, D: Disk + Send, R: Threads + Wait + Sync>(
+    rt: &R,
+    alloc: Global,
+    engine: &'e Engine<L, D, OpenGate>,
+) -> Result<Vec<Session<'e, L, D, OpenGate>>, Refusal> {
     let over = AtomicU64::new(0);
-    let (ends, kept_up) = thread::join(
+    let (sessions, kept_up) = thread::join(
         rt,
         || {
-            let ends = work_all(rt, alloc, engine);
+            let sessions = work_all(rt, alloc, engine);
             over.store(1, Ordering::SeqCst);
-            ends
+            sessions
         },
         || keep_up(rt, engine, &over),
     );
     kept_up?;
-    Ok(ends?)
+    sessions
 }
 
-fn work_all<L: Run + Send + Sync, D: Disk + Send, R: Threads + Wait + Sync>(
+fn work_all<'e, L: Run + Send + Sync, D: Disk + Send, R: Threads + Wait + Sync>(
     rt: &R,
     alloc: Global,
-    engine: &Engine<L, D, OpenGate>,
-) -> Result<Vec<Result<Stamp, Refusal>>, AllocError> {
-    thread::map_indices(
+    engine: &'e Engine<L, D, OpenGate>,
+) -> Result<Vec<Session<'e, L, D, OpenGate>>, Refusal> {
+    let worked = thread::map_indices(
         rt,
         alloc,
         WORKERS,
         &|worker| work(rt, alloc, engine, worker as u64),
-    )
+    )?;
+    let mut sessions = Vec::new(alloc);
+    for session in worked {
+        sessions.push(session?)?;
+    }
+    Ok(sessions)
 }
 
 /// Makes the accounts, in one transaction.
 fn open_accounts<L: Run, D: Disk, R: Wait>(
     rt: &R,
     alloc: Global,
-    engine: &Engine<L, D, OpenGate>,
+    session: &mut Session<'_, L, D, OpenGate>,
 ) -> Result<Stamp, Refusal> {
-    let mut session = engine.session(rt)?;
     session.begin_tx(rt)?;
     for account in 0..ACCOUNTS {
         session.insert(rt, row_of(alloc, account, START)?)?;
@@ -119,13 +167,13 @@ fn open_accounts<L: Run, D: Disk, R: Wait>(
     session.commit_tx(rt)
 }
 
-/// The transfers of one thread. It waits until its last one is durable.
-fn work<L: Run, D: Disk, R: Wait>(
+/// The transfers of one thread, and its session. It waits until its last one is durable.
+fn work<'e, L: Run, D: Disk, R: Wait>(
     rt: &R,
     alloc: Global,
-    engine: &Engine<L, D, OpenGate>,
+    engine: &'e Engine<L, D, OpenGate>,
     worker: u64,
-) -> Result<Stamp, Refusal> {
+) -> Result<Session<'e, L, D, OpenGate>, Refusal> {
     let mut session = engine.session(rt)?;
     let mut last = Stamp(0);
     for number in 0..TRANSFERS {
@@ -135,7 +183,7 @@ fn work<L: Run, D: Disk, R: Wait>(
     }
     engine.flush(rt)?;
     session.wait_durable(rt, last)?;
-    Ok(last)
+    Ok(session)
 }
 
 /// Which transfer a worker makes.
@@ -156,30 +204,58 @@ fn choice(alloc: Global, worker: u64, number: u64) -> Transfer {
     }
 }
 
-/// Counts what all accounts have, and asks whether all transfers are durable.
-fn count<L: Run, D: Disk, R: Wait>(
-    rt: &R,
-    engine: &Engine<L, D, OpenGate>,
-    ends: Vec<Result<Stamp, Refusal>>,
-) -> Result<Told, Refusal> {
-    let mut session = engine.session(rt)?;
-    let transfers = ends.len().saturating_mul(TRANSFERS as usize);
+/// How many transfers these sessions have made, and whether all are durable.
+fn ask_all<L: Run, D: Disk>(sessions: &mut [Session<'_, L, D, OpenGate>]) -> (usize, bool) {
+    let mut transfers = 0usize;
     let mut durable = true;
-    for end in ends {
-        durable &= session.poll_durable(end?);
+    for session in sessions {
+        let receipts = session.receipts();
+        transfers = transfers.saturating_add(receipts.len());
+        let end = last_end(receipts);
+        durable &= session.poll_durable(end);
     }
+    (transfers, durable)
+}
+
+/// Where the last of them ended.
+fn last_end(receipts: &[Receipt]) -> Stamp {
+    match receipts.last() {
+        Some(receipt) => receipt.end,
+        None => Stamp(0),
+    }
+}
+
+/// What all accounts have, as one scan finds it.
+fn total<L: Run, D: Disk, R: Wait>(
+    rt: &R,
+    session: &mut Session<'_, L, D, OpenGate>,
+) -> Result<u64, Refusal> {
     session.begin_tx(rt)?;
     let total = match session.scan(rt, 0, 0, ACCOUNTS)? {
         Answer::Rows(rows) => total_of(&rows),
         _ => 0,
     };
     session.commit_tx(rt)?;
-    Ok(Told {
-        transfers,
-        total,
-        durable,
-        let_go: is_let_go(rt, engine)?,
-    })
+    Ok(total)
+}
+
+/// How many receipts all sessions have: what they were told of the stored commits, each once. Log
+/// and history agree.
+fn gather_all<L: Run, D: Disk + Drop, R: Wait>(
+    rt: &R,
+    alloc: Global,
+    engine: &Engine<L, D, OpenGate>,
+    sessions: Vec<Session<'_, L, D, OpenGate>>,
+) -> Result<usize, Refusal> {
+    let mut core = engine.lock_core(rt);
+    let gathered = match gather(&mut core, alloc, sessions) {
+        Ok(Gathered::All(receipts)) => Ok(receipts.len()),
+        Ok(Gathered::Missing(_sessions)) => Ok(0),
+        Err((refusal, _sessions)) => Err(refusal),
+    };
+    let mut store = engine.lock_store(rt);
+    engine.audit(&mut core, &mut store);
+    gathered
 }
 
 fn total_of(rows: &[mvo_types::Row]) -> u64 {

@@ -1,22 +1,33 @@
-//! Eight threads move money between a hundred accounts. No money is lost or made, all of it is
-//! durable at the end, and what nobody can ask for any more is gone from memory.
+//! Eight threads move money between a hundred accounts, while another makes checkpoints, merges
+//! them, trims and collects. No money is lost or made, all of it is durable at the end, and what
+//! nobody can ask for any more is gone from memory and from the log.
 #![tactic(auto)]
 
 mod accounts;
 mod transfers;
 mod upkeep;
 
-use accounts::{formatted, on_disk};
+use accounts::{Told, formatted, on_disk, total_on_disk};
 use anyhow::bail;
+use std::io;
 use std::random::RandomSource;
 
 fn main(rt: HostRuntime) -> Result<(), anyhow::Error> {
     let alloc = rt.alloc();
     let disk = formatted(alloc)?;
-    let told = match on_disk(&rt, alloc, draw_seed(&rt)?, disk) {
+    let (told, disk) = match on_disk(&rt, alloc, draw_seed(&rt)?, disk) {
         Ok(told) => told,
         Err(refusal) => bail!("the accounts are left: {refusal}"),
     };
+    tell(&rt, &told)?;
+    match total_on_disk(&rt, alloc, draw_seed(&rt)?, disk) {
+        Ok(total) => println!(rt; "total {total} on the disk")?,
+        Err(refusal) => bail!("the disk isn't opened: {refusal}"),
+    }
+    Ok(())
+}
+
+fn tell(rt: &impl Print, told: &Told) -> io::Result<()> {
     println!(rt; "{} transfers", told.transfers)?;
     println!(rt; "total {}", told.total)?;
     println!(rt;
@@ -35,6 +46,7 @@ fn main(rt: HostRuntime) -> Result<(), anyhow::Error> {
             "not all that is over is let go"
         }
     )?;
+    println!(rt; "{} receipts", told.receipts)?;
     Ok(())
 }
 

@@ -25,7 +25,8 @@ use Rattle.mvo_tale.specs.Records.{fits}
 use Rattle.mvo_tale.specs.Timeline.{ArePlacesOf}
 use Rattle.mvo_tale.proofs.KeptPlaces.{places_parted, places_joined}
 use Rattle.mvo_tale.proofs.NextGroups.{ends_of_places, open_ends_above, settled_to_places, places_opened}
-use Rattle.mvo_core.specs.Trimming.{stored_above, committed}
+use Rattle.mvo_core.specs.Receipts.{Receipt, receipt, receipt_of, receipts_of, stored_commits}
+use Rattle.mvo_core.specs.Trimming.{stored_above}
 use Rattle.mvo_core.proofs.TaleMoves.{IsCommitOf, below_apart, filter_kept, places_settled, places_emptied, places_closed, places_flagged, places_checked}
 
 -- ---- those that are past
@@ -92,27 +93,27 @@ none_above start (Settled c ∷ front) back [] h k = absurd h
 none_above start (Settled c ∷ front) back (x ∷ xs) h k =
     let u = k.0.until in
     let is = h.0.end' in
-    ap (λ (b : Bool). cond b (c ∷ stored_above start (front ++ back)) (stored_above start (front ++ back))) (le-ltb start c.end (omega (arith, u, is)))
+    ap (λ (b : Bool). cond b (receipt c.id c.end c.history ∷ stored_above start (front ++ back)) (stored_above start (front ++ back))) (le-ltb start c.end (omega (arith, u, is)))
     ∙ none_above start front back xs h.1 k.1
 none_above start (Empty ∷ front) back [] h k = none_above start front back [] h k
 none_above start (Empty ∷ front) back (x ∷ xs) h k = none_above start front back (x ∷ xs) h k
 
-all_above : (start : ℕ) (slots : List Slot) (xs : List StampedTx) → ArePlacesOf slots xs → AllByRecursion (λ x. start < x.end) xs → stored_above start slots ≡ committed xs
+all_above : (start : ℕ) (slots : List Slot) (xs : List StampedTx) → ArePlacesOf slots xs → AllByRecursion (λ x. start < x.end) xs → stored_above start slots ≡ receipts_of xs
 all_above start [] [] h k = refl
 all_above start [] (x ∷ xs) h k = absurd h
 all_above start (Open e ∷ slots) [] h k = absurd h
 all_above start (Open e ∷ slots) (x ∷ xs) h k =
     all_above start slots xs h.1 k.1
-    ∙ sym (ap (λ (b : Bool). cond b (record { id = x.id; end = x.end; history = x.history } ∷ committed xs) (committed xs)) h.0.0)
+    ∙ sym (ap (λ (b : Bool). cond b (receipt_of x ∷ receipts_of xs) (receipts_of xs)) h.0.0)
 all_above start (Settled c ∷ slots) [] h k = absurd h
 all_above start (Settled c ∷ slots) (x ∷ xs) h k =
     let lt = k.0 in
     let is = h.0.end' in
-    let one : ◌≡◌ {A = StoredCommit} c (record { id = x.id; end = x.end; history = x.history }) = λ i. record { id = sym h.0.id i; end = sym h.0.end' i; history = sym h.0.history i } in
-    ap (λ (b : Bool). cond b (c ∷ stored_above start slots) (stored_above start slots)) (lt-ltb start c.end (omega (arith, lt, is)))
-    ∙ ap (λ (cs : List StoredCommit). c ∷ cs) (all_above start slots xs h.1 k.1)
-    ∙ ap (λ (d : StoredCommit). d ∷ committed xs) one
-    ∙ sym (ap (λ (b : Bool). cond b (record { id = x.id; end = x.end; history = x.history } ∷ committed xs) (committed xs)) h.0.settled)
+    let one : receipt c.id c.end c.history ≡ receipt_of x = λ i. receipt (sym h.0.id i) (sym h.0.end' i) (sym h.0.history i) in
+    ap (λ (b : Bool). cond b (receipt c.id c.end c.history ∷ stored_above start slots) (stored_above start slots)) (lt-ltb start c.end (omega (arith, lt, is)))
+    ∙ ap (λ (rs : List Receipt). receipt c.id c.end c.history ∷ rs) (all_above start slots xs h.1 k.1)
+    ∙ ap (λ (r : Receipt). r ∷ receipts_of xs) one
+    ∙ sym (ap (λ (b : Bool). cond b (receipt_of x ∷ receipts_of xs) (receipts_of xs)) h.0.settled)
 all_above start (Empty ∷ slots) [] h k = all_above start slots [] h k
 all_above start (Empty ∷ slots) (x ∷ xs) h k = all_above start slots (x ∷ xs) h k
 
@@ -214,7 +215,7 @@ module _ (s : State) (slots : List Slot) (st : IsStarted s) (rising : IsRising s
   }
 
   -- the places have just the commits above the start
-  pub stored_is : stored_above s.start slots ≡ committed s.stamped
+  pub stored_is : stored_above s.start slots ≡ stored_commits s
   stored_is =
       let parts = places_parted slots h.kept s.stamped h.places in
       ap (stored_above s.start) parts.are

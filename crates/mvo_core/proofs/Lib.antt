@@ -36,6 +36,7 @@ pub mod Updating
 pub mod GivenUp
 pub mod Inserted
 pub mod Inserting
+pub mod NoneLeft
 pub mod Opening
 pub mod Committing
 pub mod Validating
@@ -52,3 +53,4 @@ pub mod ScanAnswered
 pub mod Awaiting
 pub mod Waits
 pub mod WaitsOn
+pub mod ToldJust

@@ -22,3 +22,5 @@ pub mod Checking
 pub mod Collecting
 pub mod Scanning
 pub mod Spare
+pub mod Holding
+pub mod Receipts

@@ -2,7 +2,7 @@
 use Rattle.std.specs.Prelude.{ℕ, suc, ◌≡◌, nat_lt, nat_le, min, Bool, ◌&&◌, if◌then◌else◌, List, [], ◌∷◌}
 use Rattle.std.specs.FinMap as fin
 use Rattle.mvo_types.specs.declared.row.RowKey.{RowKey}
-use Rattle.mvo_theory.specs.State.{State, StampedTx}
+use Rattle.mvo_theory.specs.State.{State}
 use Rattle.mvo_theory.specs.Sound.{IsLegal}
 use Rattle.mvo_chain.specs.Slots.{Slots}
 use Rattle.mvo_visible.specs.Words.{States}
@@ -14,30 +14,23 @@ use Rattle.mvo_tale.specs.declared.slot.Slot.TheVariants.{Open, Settled, Empty}
 use Rattle.mvo_tale.specs.Stored.{StoredCommit}
 use Rattle.mvo_tale.specs.Forgetting.{forgotten}
 use Rattle.mvo_core.specs.Data.{CoreData}
+use Rattle.mvo_core.specs.Receipts.{Receipt, receipt, stored_commits}
 
 -- ---- the stored commits
-abbrev pub and_above : ℕ → StoredCommit → List StoredCommit → List StoredCommit
-and_above start c cs = if nat_lt start c.end then c ∷ cs else cs
+abbrev pub and_above : ℕ → StoredCommit → List Receipt → List Receipt
+and_above start c rs = if nat_lt start c.end then receipt c.id c.end c.history ∷ rs else rs
 
 -- those at the places that end above the start
-abbrev pub stored_above : ℕ → List Slot → List StoredCommit
+abbrev pub stored_above : ℕ → List Slot → List Receipt
 stored_above start [] = []
 stored_above start (Open e ∷ slots) = stored_above start slots
 stored_above start (Settled c ∷ slots) = and_above start c (stored_above start slots)
 stored_above start (Empty ∷ slots) = stored_above start slots
 
--- the settled ones, with their ends and histories
-abbrev pub committed : List StampedTx → List StoredCommit
-committed [] = []
-committed (x ∷ xs) =
-    if x.settled
-    then record { id = x.id; end = x.end; history = x.history } ∷ committed xs
-    else committed xs
-
 -- The places have just the commits above the start, by end timestamp. They are legal from the rows
 -- at the start, which the versions show to a begin just above it.
 pub record IsTaleOf (s : State) (states : States) (slots : Slots) (tale : List Slot) : Type 0 where
-  pub stored : stored_above s.start tale ≡ committed s.stamped
+  pub stored : stored_above s.start tale ≡ stored_commits s
   pub legal : IsLegal s.base s.stamped
   pub shown : (k : RowKey)
       → row_in (change_below (ends_of (phases_of states)) (suc s.start) k (all_versions slots))

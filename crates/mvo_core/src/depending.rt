@@ -16,6 +16,7 @@ use mvo_work::WordPlace;
 use std::alloc::AllocError;
 
 /// Room for one more operation of the transaction, and for the words that it may put.
+#[inline(always)]
 pub fn make_room(table: &mut Table, tx: TxId) -> Result<(), AllocError>
     requires { IsSome (own_of table.old tx.0) }
     ensures ok { OnOk result (IsWritten table.old table.new tx.0 HasMadeRoom) }
@@ -28,6 +29,7 @@ pub fn make_room(table: &mut Table, tx: TxId) -> Result<(), AllocError>
 }
 
 /// Lets the transaction depend on the other, if there is one.
+#[inline(always)]
 pub fn depend(table: &mut Table, tx: TxId, on: Option<TxId>) -> Result<(), AllocError>
     requires { IsUnfinished table.old tx }
     ensures ok { OnOk result (table.new ≡ after_register_all table.old tx (option_to_list on)) }
@@ -40,6 +42,7 @@ pub fn depend(table: &mut Table, tx: TxId, on: Option<TxId>) -> Result<(), Alloc
 }
 
 /// Tells the transaction the answer to its operation.
+#[inline(always)]
 pub fn tell(table: &mut Table, tx: TxId, op: Op, answer: Answer)
     requires there { IsSome (own_of table.old tx.0) }
     requires room { IfSome (own_of table.old tx.0) (λ own. 0 < own.work.room) }
@@ -67,6 +70,7 @@ pub fn note_word(table: &mut Table, tx: TxId, word: WordPlace)
 
 /// Tells the transaction an answer, and lets it depend on the other, if there is one; or does
 /// neither.
+#[inline(always)]
 pub fn record_answer(
     table: &mut Table,
     tx: TxId,

@@ -23,7 +23,7 @@ ghost use Rattle.mvo_core.specs.Fronts.{passes, comes_at_draw, IsInFrontIf, AreI
 use crate::answers::{Settlement, Validation};
 use crate::collecting::await_ends;
 use crate::event_core::Core;
-use crate::refusing::{is_failure, not_active, not_preparing, not_undone};
+use crate::refusing::{active, is_failure, not_undone, preparing};
 use crate::transaction::{Table, Transaction};
 use mvo_chain::VersionNo;
 use mvo_deps::{report_abort, report_commit, waiting_for};
@@ -50,7 +50,8 @@ impl Core {
         ensures step { IsStep self.old (Precommit tx.0) result self.new }
         ensures end { IfOk result (λ e. e.0 ≡ self.old.table.clock + 1) }
     {
-        if let Some(refusal) = not_active(&self.table, tx) {
+        let (refusal, count) = active(&self.table, tx);
+        if let Some(refusal) = refusal {
             return Err(self.give_up(tx, refusal));
         }
         let clock = self.table.clock().0;
@@ -58,7 +59,6 @@ impl Core {
             return Err(Refusal::ClockSpent);
         }
         let end = Stamp(clock + 1);
-        let count = word_count(&self.table, tx);
         self.waiting.make_room_for_ended(count)?;
         let place = self.tale.open(end)?;
         bring_forward(&mut self.versions, &self.table, tx, count);
@@ -74,10 +74,11 @@ impl Core {
         ensures step { IsStep self.old (Validate tx.0) result self.new }
         ensures answer { IfOk result (IsValidation self.old tx.0) }
     {
-        if let Some(refusal) = not_preparing(&self.table, tx) {
+        let (refusal, valid) = preparing(&self.table, tx);
+        if let Some(refusal) = refusal {
             return Err(self.give_up(tx, refusal));
         }
-        if is_valid(&self.table, tx) {
+        if valid {
             return Ok(Validation::Valid);
         }
         if let Some(stamp) = next_change(&self.versions, &self.table, tx) {
@@ -92,10 +93,11 @@ impl Core {
         ensures step { IsStep self.old (Settle tx.0) result self.new }
         ensures answer { IfOk result (IsSettlement self.old tx.0) }
     {
-        if let Some(refusal) = not_preparing(&self.table, tx) {
+        let (refusal, valid) = preparing(&self.table, tx);
+        if let Some(refusal) = refusal {
             return Err(self.give_up(tx, refusal));
         }
-        if !is_valid(&self.table, tx) {
+        if !valid {
             return Err(Refusal::NotValidated);
         }
         if let Some(other) = waiting_for(&self.table, tx) {
@@ -162,16 +164,6 @@ fn leave_tale(tale: &mut Tale, table: &Table, tx: TxId)
     if let Some(TxState::Preparing(_)) = table.state(tx) {
         let place = place_of(table, tx);
         tale.leave(place);
-    }
-}
-
-/// Whether the transaction is found valid.
-fn is_valid(table: &Table, tx: TxId) -> bool
-    ensures { result ≡ is_own_valid (own_of table.now tx.0) }
-{
-    match table.get(tx) {
-        Some(seat) => seat.kept.own.valid,
-        None => false,
     }
 }
 

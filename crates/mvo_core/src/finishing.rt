@@ -1,5 +1,5 @@
 //! How a transaction's words are replaced, one after another.
-ghost use Rattle.std.specs.Prelude.{◌≡◌, IsSome, IfOk, IfErr, Some, slice_get};
+ghost use Rattle.std.specs.Prelude.{◌≡◌, [], IsSome, IfOk, IfErr, None, Some, slice_get};
 ghost use Rattle.mvo_chain.specs.Slots.{version_at};
 ghost use Rattle.mvo_txn.specs.Txns.{state_of};
 ghost use Rattle.mvo_representation.specs.WordLists.{number_at, names_at, with_word};
@@ -37,7 +37,7 @@ impl Core {
         let word = final_word(&self.table, tx)?;
         let replaced = replace_next(&mut self.versions, &mut self.table, tx, word);
         count_off(&mut self.waiting, &self.versions, replaced);
-        if next_own(&self.versions, &mut self.table, tx).is_some() {
+        if next_left(&self.versions, &mut self.table, tx, replaced).is_some() {
             return Ok(Finishing::More);
         }
         let node = self.table.terminate(tx);
@@ -87,6 +87,7 @@ fn replace_next(
 
 /// The first word of the transaction's list that still names it. Those before it, which others took
 /// over, are taken off.
+#[inline(always)]
 fn next_own(versions: &Versions, table: &mut Table, tx: TxId) -> Option<WordPlace>
     requires { IsSome (own_of table.old tx.0) }
     ensures passed { IsWritten table.old table.new tx.0 (HasPassed versions.now.slots tx.0) }
@@ -95,6 +96,24 @@ fn next_own(versions: &Versions, table: &mut Table, tx: TxId) -> Option<WordPlac
     match table.get_mut(tx) {
         Some(node) => pass_others(versions, &mut node.own.work, tx),
         None => unreachable!(),
+    }
+}
+
+/// The same behind a word that was replaced. Where none was, none is left.
+fn next_left(
+    versions: &Versions,
+    table: &mut Table,
+    tx: TxId,
+    replaced: Option<WordPlace>,
+) -> Option<WordPlace>
+    requires there { IsSome (own_of table.old tx.0) }
+    requires none { replaced ≡ None → words_in table.old tx.0 ≡ [] }
+    ensures passed { IsWritten table.old table.new tx.0 (HasPassed versions.now.slots tx.0) }
+    ensures first { result ≡ slice_get (words_in table.new tx.0) 0 }
+{
+    match replaced {
+        Some(_) => next_own(versions, table, tx),
+        None => None,
     }
 }
 

@@ -1,10 +1,13 @@
 //! Why a call is refused: the first of its refusals whose cause stands.
-ghost use Rattle.std.specs.Prelude.{◌≡◌, Some};
+ghost use Rattle.std.specs.Prelude.{◌≡◌, Some, length};
 ghost use Rattle.mvo_theory.specs.Causes.{is_failure};
 ghost use Rattle.mvo_core.specs.Causes.{why_not_active, why_not_preparing, why_not_look};
 ghost use Rattle.mvo_core.specs.Causes.{why_not_put, why_not_remove, why_not_undo};
 ghost use Rattle.mvo_core.specs.Causes.{flag_refusal, is_entry_over, is_write_over};
-ghost use Rattle.mvo_core.specs.Causes.{unless_active_as};
+ghost use Rattle.mvo_core.specs.Causes.{unless_active_as, unless_preparing_as};
+ghost use Rattle.mvo_core.specs.Data.{own_of};
+ghost use Rattle.mvo_core.specs.Own.{is_own_valid};
+ghost use Rattle.mvo_core.specs.Standing.{words_in};
 ghost use Rattle.mvo_txn.specs.Txns.{state_of};
 
 use crate::transaction::{Table, Transaction};
@@ -45,13 +48,33 @@ fn not_active_in(seat: &Seat<Node<Transaction>>) -> Option<Refusal>
     }
 }
 
-/// Why the transaction may not be called as a Preparing one.
-pub fn not_preparing(table: &Table, tx: TxId) -> Option<Refusal>
-    ensures { result ≡ why_not_preparing table.now tx.0 }
+/// Why the transaction may not be called as an Active one, and how many words its list has.
+pub fn active(table: &Table, tx: TxId) -> (Option<Refusal>, usize)
+    ensures refusal { result.0 ≡ why_not_active table.now tx.0 }
+    ensures words { result.1 ≡ length (words_in table.now tx.0) }
 {
-    let Some(seat) = table.get(tx) else {
-        return Some(Refusal::NoSuchTransaction);
-    };
+    match table.get(tx) {
+        Some(seat) => (not_active_in(seat), seat.kept.own.work.word_count()),
+        None => (Some(Refusal::NoSuchTransaction), 0),
+    }
+}
+
+/// Why the transaction may not be called as a Preparing one, and whether it is found valid.
+pub fn preparing(table: &Table, tx: TxId) -> (Option<Refusal>, bool)
+    ensures refusal { result.0 ≡ why_not_preparing table.now tx.0 }
+    ensures valid { result.1 ≡ is_own_valid (own_of table.now tx.0) }
+{
+    match table.get(tx) {
+        Some(seat) => (not_preparing_in(seat), seat.kept.own.valid),
+        None => (Some(Refusal::NoSuchTransaction), false),
+    }
+}
+
+/// Why one that is unfinished may not be called as a Preparing one.
+fn not_preparing_in(seat: &Seat<Node<Transaction>>) -> Option<Refusal>
+    ensures { result ≡
+        unless_preparing_as (Some seat.now.state) seat.now.kept.dependencies.aborted }
+{
     match seat.state {
         TxState::Active => Some(Refusal::NotPreparing),
         TxState::Preparing(_) => flagged(&seat.kept.dependencies),
@@ -94,6 +117,7 @@ fn is_write_too_many(table: &Table, tx: TxId, key: RowKey) -> bool
 }
 
 /// Why the transaction may not look at the entry, which is of this table.
+#[inline(always)]
 pub fn not_looked(table: &Table, tx: TxId, of: u8, entry: Entry) -> Option<Refusal>
     ensures { result ≡ why_not_look table.now tx.0 of entry }
 {

@@ -26,6 +26,8 @@ mod same;
 #[cfg(test)]
 mod session;
 #[cfg(test)]
+mod told;
+#[cfg(test)]
 mod transcripts;
 #[cfg(test)]
 mod twin_runs;

@@ -29,6 +29,7 @@ pub fn report_abort<P>(table: &mut TxnTable<Node<P>>, on: TxId)
     report(table, on, Outcome::Aborted(on));
 }
 
+#[inline(always)]
 fn report<P>(table: &mut TxnTable<Node<P>>, on: TxId, outcome: Outcome)
     ensures { IsReported (noted outcome) table.old table.new on }
 {

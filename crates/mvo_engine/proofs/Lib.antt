@@ -3,3 +3,9 @@ pub mod CoreSound
 pub mod Collected
 pub mod StoreSound
 pub mod Begun
+pub mod Added
+pub mod Counted
+pub mod Starts
+pub mod Booked
+pub mod SentRows
+pub mod Flushed

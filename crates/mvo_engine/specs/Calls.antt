@@ -1,17 +1,26 @@
 -- What the calls under the locks come to, and those of a session.
-use Rattle.std.specs.Prelude.{◌≡◌, ◌<◌, ◌≤◌, ◌+◌, ℕ, Bool, false, List, [], ◌∷◌, ◌++◌, Option, None, Some, Result, Ok, Err, if◌then◌else◌, max}
+use Rattle.std.specs.Prelude.{◌≡◌, ◌⊎◌, ◌<◌, ◌≤◌, ◌+◌, ℕ, Bool, true, false, List, [], ◌∷◌, ◌++◌, Option, None, Some, Result, Ok, Err, if◌then◌else◌, max, IfSome}
 use Rattle.mvo_types.specs.declared.refusal.Refusal.{Refusal}
-use Rattle.mvo_types.specs.declared.refusal.Refusal.TheVariants.{NoSuchTransaction, Busy, NothingToDo}
+use Rattle.mvo_types.specs.declared.refusal.Refusal.TheVariants.{NoSuchTransaction, Busy, NothingToDo, OutOfMemory}
 use Rattle.mvo_types.specs.declared.ids.TxId.{TxId}
+use Rattle.mvo_types.specs.declared.ids.Stamp.{Stamp}
+use Rattle.mvo_types.specs.declared.op.Op.{Op}
+use Rattle.mvo_types.specs.declared.answer.Answer.{Answer}
+use Rattle.mvo_types.specs.AnswerData.{answer_data}
 use Rattle.mvo_types.specs.Keys.{Map}
+use Rattle.mvo_model.specs.History.{History}
 use Rattle.mvo_model.specs.Trace.{Step}
 use Rattle.mvo_disk.specs.declared.disk.Disk.{Ghosts}
 use Rattle.mvo_group.specs.Data.{GroupData}
 use Rattle.mvo_theory.specs.State.{State}
 use Rattle.mvo_theory.specs.Calls.{Call}
+use Rattle.mvo_theory.specs.Calls.Call.{Begin, Settle}
 use Rattle.mvo_theory.specs.Causes.{is_failure, why_not_close}
 use Rattle.mvo_core.specs.declared.answers.Closed.{Closed}
+use Rattle.mvo_core.specs.declared.answers.Settlement.{Settlement}
+use Rattle.mvo_core.specs.Holding.{HoldsJust}
 use Rattle.mvo_core.specs.Data.{CoreData}
+use Rattle.mvo_core.specs.Seen.{clock_of}
 use Rattle.mvo_core.specs.Standing.{StandsFor}
 use Rattle.mvo_core.specs.Steps.{IsStep}
 use Rattle.mvo_core.specs.Closing.{IsClosedNow, IsNotClosed}
@@ -19,8 +28,9 @@ use Rattle.mvo_store.specs.Seen.{mark_of}
 use Rattle.mvo_store.specs.Causes.{why_not_take}
 use Rattle.mvo_store.specs.Calls.{StoreCall, IsStoreStep}
 use Rattle.mvo_store.specs.Calls.StoreCall.{Take, AppendOpen}
-use Rattle.mvo_engine.specs.declared.run.TheConstants.{MAX_SESSIONS}
-use Rattle.mvo_engine.specs.States.{CoreState, SendsState, StoreState}
+use Rattle.mvo_run.specs.declared.run.TheConstants.{MAX_SESSIONS}
+use Rattle.mvo_core.specs.Receipts.{Receipt, receipt}
+use Rattle.mvo_engine.specs.States.{CoreState, SendsState, StoreState, SessionState}
 
 -- a step of the core that closes no group
 pub record IsCoreStep {A : Type 0} (old : CoreState) (call : Call) (result : Result A Refusal)
@@ -29,20 +39,34 @@ pub record IsCoreStep {A : Type 0} (old : CoreState) (call : Call) (result : Res
   pub sends : new.sends ≡ old.sends
   pub made : new.made ≡ old.made
 
+-- The core begins a transaction; or it is refused with Busy, since the clock is below the stamp.
+abbrev pub IsBeginning : {A : Type 0} → CoreState → ℕ → Result A Refusal → CoreState → Type 0
+IsBeginning old last result new =
+    ((last ≤ clock_of old.core) × IsCoreStep old Begin result new)
+    ⊎ ((clock_of old.core < last) × (result ≡ Err Busy) × (new ≡ old))
+
+-- The core settles the transaction, which was told just this; or it is refused with Busy, since the
+-- transaction was told something else.
+abbrev pub IsSettling : CoreState → ℕ → History → Result Settlement Refusal → CoreState → Type 0
+IsSettling old t told result new =
+    (HoldsJust old.core t told true × IsCoreStep old (Settle t) result new)
+    ⊎ (HoldsJust old.core t told false × (result ≡ Err Busy) × (new ≡ old))
+
 -- one session more was made; or none, as many were made as may be
 abbrev pub IsAnother : {A : Type 0} → CoreState → Option A → CoreState → Type 0
 IsAnother old (Some seat) new =
     (old.made < MAX_SESSIONS) × (new ≡ record old { made = old.made + 1 })
 IsAnother old None new = (MAX_SESSIONS ≤ old.made) × (new ≡ old)
 
--- The next group is sent, and the closed mark raised to its mark; or none, by the first cause that
--- stands, and else for want of memory. Whether the ring is full is what the closing saw of it.
+-- The next group is sent, and the closed mark raised to its mark and no further; or none, by the
+-- first cause that stands, and else for want of memory. Whether the ring is full is what the
+-- closing saw of it.
 abbrev pub HasSent : Map → List Step → State → SendsState → Result Closed Refusal → CoreData
     → SendsState → Type 0
 HasSent rows steps s old (Ok c) core new =
     (why_not_close s false ≡ None)
     × ((g : GroupData) × (new.sent ≡ old.sent ++ g ∷ []) × IsClosedNow rows steps s c core g)
-    × (c.mark.0 ≤ new.raised)
+    × (new.raised ≡ max old.raised c.mark.0)
 HasSent rows steps s old (Err r) core new =
     (new.sent ≡ old.sent) × ((full : Bool) × IsNotClosed rows steps s full r core)
     × (new.raised ≡ old.raised)
@@ -110,17 +134,46 @@ abbrev pub IsNoTx : {A : Type 0} → Option ℕ → Result A Refusal → Type 0
 IsNoTx None result = result ≡ Err NoSuchTransaction
 IsNoTx (Some t) result = Unit {0}
 
--- a refusal that is a failure ends the transaction
-abbrev pub tx_after : {A : Type 0} → Option ℕ → Result A Refusal → Option ℕ
-tx_after tx (Ok a) = tx
-tx_after tx (Err r) = if is_failure r then None else tx
+-- what a refusal leaves: a failure ends the transaction
+abbrev pub session_after : Refusal → SessionState → SessionState
+session_after r s = record s { tx = if is_failure r then None else s.tx }
 
--- so does a commit or a rollback
-abbrev pub tx_ended : {A : Type 0} → Option ℕ → Result A Refusal → Option ℕ
-tx_ended tx (Ok a) = None
-tx_ended tx (Err r) = if is_failure r then None else tx
+-- What an operation was answered is one more of what it was told. Where memory is refused, it may
+-- have been rolled back: then the core had answered, and the copy was refused.
+abbrev pub HasAsked : SessionState → Op → Result Answer Refusal → SessionState → Type 0
+HasAsked old op (Ok a) new = new ≡ record old { told = old.told ++ (op, answer_data a) ∷ [] }
+HasAsked old op (Err r) new =
+    (new ≡ session_after r old) ⊎ ((r ≡ OutOfMemory) × (new ≡ record old { tx = None }))
 
--- Refused with Busy where it has a transaction, which stays; and else it has none, whatever came
-abbrev pub IsTransacted : {A : Type 0} → Option ℕ → Result A Refusal → Option ℕ → Type 0
-IsTransacted (Some t) result after = (result ≡ Err Busy) × (after ≡ Some t)
-IsTransacted None result after = after ≡ None
+-- A commit ends the transaction, and adds its receipt: what its calls were answered.
+abbrev pub HasCommitted : SessionState → Result Stamp Refusal → SessionState → Type 0
+HasCommitted old (Ok e) new = IfSome old.tx (λ t. new ≡ record old {
+  tx = None;
+  told = [];
+  receipts = old.receipts ++ receipt t e.0 old.told ∷ [];
+})
+HasCommitted old (Err r) new = new ≡ session_after r old
+
+-- so does a rollback, without one
+abbrev pub HasLeft : {A : Type 0} → SessionState → Result A Refusal → SessionState → Type 0
+HasLeft old (Ok a) new = new ≡ record old { tx = None }
+HasLeft old (Err r) new = new ≡ session_after r old
+
+-- the last receipt is of a transaction that ended there
+pub record EndsWith (e : ℕ) (receipts : List Receipt) : Type 0 where
+  pub before : List Receipt
+  pub last : Receipt
+  pub list : receipts ≡ before ++ last ∷ []
+  pub end : last.end ≡ e
+
+-- committed with this end, of which there is a receipt
+abbrev pub IsCommittedAt : {A : Type 0} → Result (A × Stamp) Refusal → List Receipt → Type 0
+IsCommittedAt (Ok told) receipts = EndsWith told.1.0 receipts
+IsCommittedAt (Err r) receipts = Unit {0}
+
+-- Refused with Busy where it has a transaction, which stays. Else it has none, whatever came, and
+-- what was accepted is committed.
+abbrev pub IsTransacted : {A : Type 0} → Option ℕ → SessionState → Result (A × Stamp) Refusal
+    → SessionState → Type 0
+IsTransacted (Some t) old result new = (result ≡ Err Busy) × (new ≡ old)
+IsTransacted None old result new = (new.tx ≡ None) × IsCommittedAt result new.receipts

@@ -1,8 +1,13 @@
-pub mod Rings
+pub use Rattle.mvo_run.specs.Watching
 pub mod Sound
 pub mod Opened
 pub mod States
 pub mod Calls
 pub mod Legal
 pub mod Logging
+pub mod Flushing
 pub mod Collecting
+pub mod Booked
+pub mod Settling
+pub mod Audited
+pub mod Gathering

@@ -15,7 +15,7 @@ use Rattle.mvo_store.specs.StoreData.{StoreData}
 use Rattle.mvo_store.specs.Standing.{Gives, HasSlots, KeepsRows}
 use Rattle.mvo_marks.specs.Marks.{SeatData}
 use Rattle.mvo_world.specs.WorldData.{WorldData}
-use Rattle.mvo_engine.specs.Rings.{RingName, ring_of, ring_from}
+use Rattle.mvo_run.specs.Rings.{RingName, ring_of, ring_from}
 
 -- core and store of a world as its opening gave it
 pub record HasOpened {D : Type 0} (d : Ghosts D) (image : Image) (c : CoreData)
@@ -53,6 +53,8 @@ pub record FreshData (D : Type 0) : Type 0 where
   pub store : StoreData D
   pub marks : TableId
   pub ring : RingName
+  pub ledger : ℕ  -- the name of the ledger
+  pub parts : ℕ  -- into how many parts it is cut
 
 -- what its disk holds
 abbrev pub image_of : {D : Type 0} → Ghosts D → FreshData D → Image
@@ -60,7 +62,9 @@ image_of d f = d.content (disk_of f.store)
 
 -- what names the run is fixed by its parts
 pub record IsNamedBy {D : Type 0} (d : Ghosts D) (image : Image) (marks : TableId)
-    (ring : RingName) (f : FreshData D) : Type 0 where
+    (ring : RingName) (ledger parts : ℕ) (f : FreshData D) : Type 0 where
   pub image_is : image_of d f ≡ image
   pub marks_are : f.marks ≡ marks
   pub ring_is : f.ring ≡ ring
+  pub ledger_is : f.ledger ≡ ledger
+  pub parts_are : f.parts ≡ parts

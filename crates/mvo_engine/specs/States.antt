@@ -1,10 +1,12 @@
 -- What contracts see of the values under the locks, and of a session.
 use Rattle.std.specs.Prelude.{ℕ, List, Option}
 use Rattle.mvo_group.specs.Data.{GroupData}
+use Rattle.mvo_model.specs.History.{History}
 use Rattle.mvo_core.specs.Data.{CoreData}
+use Rattle.mvo_core.specs.Receipts.{Receipt}
 use Rattle.mvo_store.specs.StoreData.{StoreData}
 
--- the groups that were sent so far, and up to where the closed mark was seen to be raised
+-- the groups that were sent so far, and up to where the closed mark was raised for them
 pub record SendsState : Type 0 where
   pub sent : List GroupData
   pub raised : ℕ
@@ -21,7 +23,10 @@ pub record StoreState (D : Type 0) : Type 0 where
   pub received : List GroupData
   pub published : ℕ
 
--- the transaction that it has begun and not ended, and how far it has seen commits to be durable
+-- the transaction that it has begun and not ended with what its calls were answered, its receipts,
+-- and how far it has seen commits to be durable
 pub record SessionState : Type 0 where
   pub tx : Option ℕ
+  pub told : History
+  pub receipts : List Receipt
   pub durable : ℕ

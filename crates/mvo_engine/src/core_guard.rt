@@ -1,6 +1,6 @@
 use crate::locked_core::LockedCore;
-use crate::run::Run;
 use mvo_core::{Collection, Tale};
+use mvo_run::Run;
 use mvo_types::{Refusal, Stamp};
 use std::marker::Model;
 use std::sync::MutexGuard;
@@ -9,7 +9,7 @@ use std::sync::MutexGuard;
 /// can ask for any more: each step of a transaction is a session's.
 #[derive(Drop)]
 pub struct CoreGuard<'e, L: Run> {
-    held: MutexGuard<'e, LockedCore<L>>,
+    pub(crate) held: MutexGuard<'e, LockedCore<L>>,
 }
 
 impl<'e, L: Run> Model for CoreGuard<'e, L> {
@@ -60,6 +60,13 @@ impl<'e, L: Run> CoreGuard<'e, L> {
         ensures { result.0 ≡ self.now.core.start }
     {
         self.held.tale_start()
+    }
+
+    /// How many sessions were made.
+    pub fn made(&self) -> u32
+        ensures { result ≡ self.now.made }
+    {
+        self.held.made()
     }
 
     /// Makes the stamp the start of the tale, and forgets the commits that are trimmed and in a

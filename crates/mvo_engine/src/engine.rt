@@ -1,3 +1,5 @@
+mod jobs;
+
 ghost use Rattle.std.specs.Prelude.{◌≡◌};
 
 use crate::core_guard::CoreGuard;
@@ -6,13 +8,12 @@ use crate::gate::Gate;
 use crate::locked_core::LockedCore;
 use crate::locked_store::LockedStore;
 use crate::place::Place;
-use crate::run::Run;
 use crate::sends::Sends;
 use crate::session::Session;
 use crate::store_guard::StoreGuard;
 use mvo_disk::Disk;
 use mvo_marks::Marks;
-use mvo_store::turn;
+use mvo_run::Run;
 use mvo_types::{Refusal, Stamp};
 use std::sync::{Mutex, MutexGuard, Wait};
 use std::thread;
@@ -49,17 +50,20 @@ impl<L: Run, D: Disk + Drop, G: Gate + Drop> Drop for Engine<L, D, G> {
 }
 
 impl<L: Run, D: Disk, G: Gate + Drop> Engine<L, D, G> {
-    ghost use Rattle.std.specs.Prelude.{◌≡◌, None, IfOk, IfErr};
+    ghost use Rattle.std.specs.Prelude.{◌≡◌, [], None, IfOk, IfErr};
     ghost use Rattle.mvo_types.specs.declared.refusal.Refusal.{Refusal};
+    ghost use Rattle.mvo_disk.specs.Disk.{Image, AllOf};
     ghost use Rattle.mvo_store.specs.Standing.{HasSlots};
+    ghost use Rattle.mvo_engine.specs.Audited.{IsAudited};
     ghost use Rattle.mvo_engine.specs.Opened.{IsNamedBy};
     ghost use Rattle.mvo_engine.specs.Sound.{GivesSome};
 
     /// An engine of these parts, which name its run.
     pub fn new(fresh: Fresh<D>, gate: G) -> Engine<L, D, G>
-        requires { IsNamedBy D.Disk L.image L.marks L.ring fresh }
+        requires { IsNamedBy D.Disk L.image L.marks L.ring L.name L.parts fresh }
     {
         let Fresh {
+            alloc,
             core,
             store,
             producer,
@@ -67,24 +71,28 @@ impl<L: Run, D: Disk, G: Gate + Drop> Engine<L, D, G> {
             marks,
             publisher,
             seat,
+            blank,
         } = fresh;
+        let sends = Sends::new(producer, seat);
+        let ledger = blank.open::<L>();
         Engine {
             gate,
             marks,
-            core: Mutex::new(LockedCore::new(core, Sends::new(producer, seat))),
+            core: Mutex::new(LockedCore::new(alloc, core, sends, ledger)),
             store: Mutex::new(LockedStore::new(store, consumer, publisher)),
         }
     }
 
-    /// A session, which has begun no transaction. Refused with TableFull where as many were made as
-    /// may be (`MAX_SESSIONS`).
+    /// A session, which has begun no transaction and has no receipts. Refused with TableFull where
+    /// as many were made as may be (`MAX_SESSIONS`).
     pub fn session<R: Wait>(&self, rt: &R) -> Result<Session<'_, L, D, G>, Refusal>
         ensures ok { IfOk result (λ session. session.tx ≡ None) }
+        ensures receipts { IfOk result (λ session. session.receipts ≡ []) }
         ensures err { IfErr result (λ r. r ≡ Refusal.TableFull) }
     {
         let mut core = self.enter_core(rt);
         match core.another(&self.marks) {
-            Some(seat) => Ok(Session::new(self, seat)),
+            Some((seat, receipts)) => Ok(Session::new(self, seat, receipts)),
             None => Err(Refusal::TableFull),
         }
     }
@@ -94,13 +102,16 @@ impl<L: Run, D: Disk, G: Gate + Drop> Engine<L, D, G> {
     /// mark, which any session polls with yes from then on. Other threads may begin, read, write
     /// and commit meanwhile.
     ///
+    /// The lock of the store is taken anew for each group (`StoreGuard::flush_one`).
+    ///
     /// Refused, what was made durable stays so: OutOfMemory, Down, DiskFault, and where the log has
-    /// to be rotated ClockSpent and SegmentsFull.
+    /// to be rotated ClockSpent, SegmentsFull, and Busy beside a job: a job that a refusal stopped
+    /// is brought on by its own steps alone, under the guard of the store.
     pub fn flush<R: Wait>(&self, rt: &R) -> Result<Stamp, Refusal> {
         self.close_group(rt)?;
         for _ in rt.forever() {
             let mut store = self.lock_store(rt);
-            if !turn(&mut store)? {
+            if !store.flush_one()? {
                 return Ok(store.mark());
             }
         }
@@ -143,10 +154,23 @@ impl<L: Run, D: Disk, G: Gate + Drop> Engine<L, D, G> {
         StoreGuard::new(self.enter_store(rt), &self.marks)
     }
 
+    /// What is known with both locks: the groups that were received are a beginning of those that
+    /// were sent, which agree with the history, and so does each image that a stop now may leave.
+    /// It changes nothing, takes no memory and waits for nobody.
+    pub fn audit(&self, core: &mut CoreGuard<'_, L>, store: &mut StoreGuard<'_, L, D>)
+        ensures audited { IsAudited D.Disk L.image core.old store.old }
+        ensures core { core.new ≡ core.old }
+        ensures store { store.new ≡ store.old }
+    {
+        core.held.audit(&mut *store.held);
+    }
+
     /// The disk, as it stands. Where it was formatted, it gives the opening rows followed by groups
-    /// that were received.
+    /// that were received, and so does each image that a stop may leave of it from now on.
     pub fn into_disk(self) -> D
-        ensures { HasSlots L.image → GivesSome L.image (D.content result) }
+        ensures gives { HasSlots L.image → GivesSome L.image (D.content result) }
+        ensures images { HasSlots L.image → (image : Image) →
+            AllOf (D.may_leave result) image → GivesSome L.image image }
     {
         let Engine {
             gate: _,

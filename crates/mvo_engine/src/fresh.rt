@@ -4,17 +4,21 @@ use mvo_core::Core;
 use mvo_disk::Disk;
 use mvo_group::Group;
 use mvo_marks::{Marks, Publisher, Seat};
+use mvo_run::MAX_SESSIONS;
 use mvo_store::Store;
 use mvo_types::Refusal;
 use mvo_world::World;
 use rtrb::{Consumer, Producer};
 use std::alloc::Global;
 use std::marker::Model;
+use std::sync::ledger::Blank;
 use std::thread::Threads;
 
-/// The parts of a run before it has a name: the core and the store of a world, a ring and marks.
+/// The parts of a run before it has a name: the core and the store of a world, a ring, marks and a
+/// ledger.
 #[derive(Drop)]
 pub struct Fresh<D: Disk> {
+    pub(crate) alloc: Global,
     pub(crate) core: Core,
     pub(crate) store: Store<D>,
     pub(crate) producer: Producer<Group, Global, Chain>,
@@ -22,6 +26,7 @@ pub struct Fresh<D: Disk> {
     pub(crate) marks: Marks,
     pub(crate) publisher: Publisher,
     pub(crate) seat: Seat,
+    pub(crate) blank: Blank,
 }
 
 impl<D: Disk> Model for Fresh<D> {
@@ -30,7 +35,8 @@ impl<D: Disk> Model for Fresh<D> {
     ghost use Rattle.mvo_core.specs.contracts.event_core.Core.{the_row as core_row};
     ghost use Rattle.mvo_store.specs.Places.{coded_places};
     ghost use Rattle.mvo_store.specs.Seen.{disk_of, mark_of};
-    ghost use Rattle.mvo_engine.specs.Rings.{ring_of, ring_from};
+    ghost use Rattle.mvo_run.specs.Rings.{ring_of, ring_from};
+    ghost use Rattle.mvo_run.specs.declared.run.TheConstants.{MAX_SESSIONS};
     ghost use Rattle.mvo_engine.specs.Opened.{FreshData, HasOpened, AreFreshSeats, IsFreshRing};
 
     ghost Value = { FreshData D };
@@ -42,11 +48,13 @@ impl<D: Disk> Model for Fresh<D> {
       store = f.store;
       marks = f.marks;
       ring = ring_of f.producer;
+      ledger = f.blank.name;
+      parts = f.blank.parts;
     } };
 
     ghost invariant = { λ f. HasOpened D.Disk (D.content (disk_of f.store)) f.core f.store ×
         AreFreshSeats f.marks (mark_of f.store) f.publisher f.seat ×
-        IsFreshRing (mark_of f.store) f.producer f.consumer };
+        IsFreshRing (mark_of f.store) f.producer f.consumer × (f.blank.parts ≡ MAX_SESSIONS) };
 }
 
 impl<D: Disk> Fresh<D> {
@@ -70,6 +78,8 @@ impl<D: Disk> Fresh<D> {
         ensures content { IfOk result (λ fresh. KeepsContent D.Disk disk (disk_of fresh.store)) }
         ensures any_moment { IfOk result (λ fresh.
             LeavesAsBefore D.Disk disk (disk_of fresh.store)) }
+        ensures count { IfOk result (λ fresh.
+            D.fault_count (disk_of fresh.store) ≡ D.fault_count disk) }
         ensures refused { IfErr result (λ e. IsNotOpened D.Disk disk e.0 e.1) }
         ensures well_formed { IfErr result (λ e. (rows : Map) (mark : ℕ) →
             Gives rows mark (D.content disk) → IsNotOfFiles e.0) }
@@ -104,6 +114,7 @@ impl<D: Disk> Fresh<D> {
         let Ends { producer, consumer } = ends;
         let (core, _, store) = world.into_parts();
         Ok(Fresh {
+            alloc,
             core,
             store,
             producer,
@@ -111,6 +122,7 @@ impl<D: Disk> Fresh<D> {
             marks,
             publisher,
             seat,
+            blank: Blank::new(MAX_SESSIONS as u64),
         })
     }
 }

@@ -1,17 +1,27 @@
-use crate::run::{MAX_SESSIONS, Run};
+use crate::locked_store::LockedStore;
 use crate::sends::Sends;
 use mvo_core::{Closed, Collection, Core, Finishing, Settlement, Tale, Validation};
+use mvo_disk::Disk;
 use mvo_marks::{Marks, Seat};
+use mvo_run::{MAX_SESSIONS, Receipt, Receipts, Run, Told};
 use mvo_types::{Answer, Refusal, Row, RowKey, Stamp, TxId};
+use std::alloc::Global;
 use std::marker::Model;
+use std::sync::ledger::{Book, Share};
 
-/// What lies under the lock of the core: the core, and where it closes its groups.
+/// What lies under the lock of the core: the core, where it closes its groups, and the book of the
+/// ledger with the parts that no session has.
 ///
 /// The core stands for a state of the theory over the rows that the run opened with, and the groups
-/// that were sent hold its commits up to the mark of the last one (`IsSoundCore`).
+/// that were sent hold its commits up to the mark of the last one (`IsSoundCore`). Where the tale
+/// starts below the end of the watched receipt, the book says how often that is among the stored
+/// commits (`IsBooked`).
 pub struct LockedCore<L: Run> {
+    alloc: Global,
     core: Core,
     sends: Sends<L>,
+    book: Book<L>,
+    spare: Share<L>,
     /// How many sessions were made.
     made: u32,
 }
@@ -19,8 +29,11 @@ pub struct LockedCore<L: Run> {
 impl<L: Run> Drop for LockedCore<L> {
     fn drop(self) {
         let LockedCore {
+            alloc: _,
             core: _,
             sends: _,
+            book: _,
+            spare: _,
             made: _,
         } = self;
     }
@@ -29,6 +42,7 @@ impl<L: Run> Drop for LockedCore<L> {
 impl<L: Run> Model for LockedCore<L> {
     ghost use Rattle.std.specs.Coded.{codes};
     ghost use Rattle.mvo_core.specs.contracts.event_core.Core.{the_row as core_row};
+    ghost use Rattle.mvo_engine.specs.Booked.{IsBooked, HasSpareParts};
     ghost use Rattle.mvo_engine.specs.Sound.{IsSoundCore};
     ghost use Rattle.mvo_engine.specs.States.{CoreState};
 
@@ -38,32 +52,50 @@ impl<L: Run> Model for LockedCore<L> {
 
     ghost view = { λ s. record { core = s.core; sends = s.sends; made = s.made } };
 
-    ghost invariant = { λ s. IsSoundCore L.image s.core s.sends.sent };
+    ghost invariant = { λ s. IsSoundCore L.image s.core s.sends.sent
+        × IsBooked L.watched s.core s.book.total
+        × HasSpareParts L.parts s.made s.spare.parts s.spare.amount };
 }
 
 impl<L: Run> LockedCore<L> {
-    ghost use Rattle.std.specs.Prelude.{◌≡◌, ◌≤◌, ◌+◌, IfOk, IfErr, IfSome};
+    ghost use Rattle.std.specs.Prelude.{◌≡◌, ◌≤◌, ◌+◌, ◌<◌, [], true, IfOk, IfErr, IfSome};
     ghost use Rattle.mvo_types.specs.declared.op.Op.TheVariants as Op;
     ghost use Rattle.mvo_types.specs.declared.refusal.Refusal.{Refusal};
-    ghost use Rattle.mvo_theory.specs.Calls.Call.{Begin, Do, Precommit, Validate, Settle};
+    ghost use Rattle.mvo_theory.specs.Calls.Call.{Do, Precommit, Validate};
     ghost use Rattle.mvo_theory.specs.Calls.Call.{Rollback, Finish, Trim};
     ghost use Rattle.mvo_core.specs.Steps.{IsAnswered, IsValidation, IsSettlement, IsFinishing};
     ghost use Rattle.mvo_core.specs.Trimming.{HasForgotten};
+    ghost use Rattle.mvo_engine.specs.Audited.{IsAudited};
+    ghost use Rattle.mvo_engine.specs.Booked.{IsBooked, HasSpareParts};
+    ghost use Rattle.mvo_run.specs.Receiving.{AreBelow};
+    ghost use Rattle.mvo_engine.specs.Settling.{HasSettled};
     ghost use Rattle.mvo_engine.specs.Sound.{IsSoundCore};
     ghost use Rattle.mvo_engine.specs.Legal.{IsLegalCore};
-    ghost use Rattle.mvo_engine.specs.Calls.{IsCoreStep, IsCoreSending, IsAnother};
+    ghost use Rattle.mvo_engine.specs.Calls.{IsCoreStep, IsBeginning, IsSettling};
+    ghost use Rattle.mvo_engine.specs.Calls.{IsCoreSending, IsAnother};
     ghost use Rattle.mvo_engine.specs.Collecting.{IsCoreCollection, HasCollectedUpTo};
 
-    /// A core with where it closes its groups, of which no session was made.
-    pub fn new(core: Core, sends: Sends<L>) -> LockedCore<L>
-        requires { IsSoundCore L.image core sends.sent }
+    /// A core with where it closes its groups, and the ledger, of which no session was made.
+    pub fn new(
+        alloc: Global,
+        core: Core,
+        sends: Sends<L>,
+        ledger: (Book<L>, Share<L>),
+    ) -> LockedCore<L>
+        requires sound { IsSoundCore L.image core sends.sent }
+        requires booked { IsBooked L.watched core ledger.0.total }
+        requires parts { HasSpareParts L.parts 0 ledger.1.parts ledger.1.amount }
         ensures core { result.core ≡ core }
         ensures sends { result.sends ≡ sends }
         ensures made { result.made ≡ 0 }
     {
+        let (book, spare) = ledger;
         LockedCore {
+            alloc,
             core,
             sends,
+            book,
+            spare,
             made: 0,
         }
     }
@@ -121,18 +153,60 @@ impl<L: Run> LockedCore<L> {
         most
     }
 
-    /// A seat for another session, which is counted; none exactly where as many were made as may
-    /// be.
-    pub fn another(&mut self, marks: &Marks) -> Option<Seat>
+    /// A seat and a part of the ledger for another session, which is counted; none exactly where as
+    /// many were made as may be.
+    pub fn another(&mut self, marks: &Marks) -> Option<(Seat, Receipts<L>)>
         requires { marks.now ≡ L.marks }
-        ensures seat { IfSome result (λ seat. seat.marks ≡ L.marks) }
+        ensures seat { IfSome result (λ given. given.0.marks ≡ L.marks) }
+        ensures receipts { IfSome result (λ given. given.1.list ≡ []) }
         ensures made { IsAnother self.old result self.new }
     {
         if self.made >= MAX_SESSIONS {
             return None;
         }
         self.made += 1;
-        Some(self.sends.split(marks))
+        let share = self.spare.split_off(1, 0);
+        Some((self.sends.split(marks), Receipts::new(self.alloc, share)))
+    }
+
+    /// How many sessions were made.
+    pub fn made(&self) -> u32
+        ensures { result ≡ self.now.made }
+    {
+        self.made
+    }
+
+    /// No part of the ledger.
+    pub fn no_part(&mut self) -> Share<L>
+        ensures nothing { (result.parts ≡ 0) × (result.amount ≡ 0) }
+        ensures same { self.new ≡ self.old }
+    {
+        self.spare.empty()
+    }
+
+    /// With the parts of all sessions: what they count is what the stored commits count, where the
+    /// tale starts below the end that is watched. It changes nothing.
+    pub fn tally(&mut self, whole: Share<L>)
+        requires { self.old.made ≤ whole.parts }
+        ensures all { IsBooked L.watched self.old.core whole.amount }
+        ensures same { self.new ≡ self.old }
+    {
+        let mut whole = whole;
+        // No part, no amount.
+        self.book.audit(&mut whole);
+        let parts = MAX_SESSIONS - self.made;
+        self.spare.give(&mut whole, parts as u64, 0);
+        self.book.audit(&mut whole);
+        whole.give(&mut self.spare, parts as u64, 0);
+    }
+
+    /// What is known with both locks. It changes nothing.
+    pub fn audit<D: Disk>(&mut self, store: &mut LockedStore<L, D>)
+        ensures audited { IsAudited D.Disk L.image self.old store.old }
+        ensures core { self.new ≡ self.old }
+        ensures store { store.new ≡ store.old }
+    {
+        self.sends.audit(store);
     }
 
     /// Closes the next group into the ring, as `Core::close_group` does, and raises the closed mark
@@ -144,10 +218,15 @@ impl<L: Run> LockedCore<L> {
         self.sends.close_group(&mut self.core, marks)
     }
 
-    /// As `Core::begin_tx`.
-    pub fn begin_tx(&mut self) -> Result<TxId, Refusal>
-        ensures step { IsCoreStep self.old Begin result self.new }
+    /// As `Core::begin_tx`, for a session whose commits end at most there; refused with Busy where
+    /// the clock is below that, which no run meets.
+    pub fn begin_tx(&mut self, last: Stamp) -> Result<TxId, Refusal>
+        ensures step { IsBeginning self.old last.0 result self.new }
+        ensures above { IfOk result (λ t. last.0 < t.0) }
     {
+        if self.core.clock() < last {
+            return Err(Refusal::Busy);
+        }
         self.core.begin_tx()
     }
 
@@ -206,12 +285,32 @@ impl<L: Run> LockedCore<L> {
         self.core.validate_one(tx)
     }
 
-    /// As `Core::settle`.
-    pub fn settle(&mut self, tx: TxId) -> Result<Settlement, Refusal>
-        ensures step { IsCoreStep self.old (Settle tx.0) result self.new }
+    /// As `Core::settle`, where the transaction was told just this, and else refused with Busy,
+    /// which no run meets. Committed, its receipt is one more of the session's and counts in the
+    /// book. It takes no memory.
+    pub fn settle(
+        &mut self,
+        mine: &mut Receipts<L>,
+        tx: TxId,
+        told: &mut Told,
+    ) -> Result<Settlement, Refusal>
+        requires room { mine.old.room ≡ true }
+        requires above { AreBelow tx.0 mine.old.list }
+        ensures step { IsSettling self.old tx.0 told.old result self.new }
         ensures answer { IfOk result (IsSettlement self.old.core tx.0) }
+        ensures settled { HasSettled tx.0 told.old mine.old result mine.new told.new }
     {
-        self.core.settle(tx)
+        if !self.core.holds(tx, told.operations()) {
+            return Err(Refusal::Busy);
+        }
+        match self.core.settle(tx) {
+            Ok(Settlement::Committed(end)) => {
+                mine.add(&mut self.book, Receipt::new(tx, end, told.take()));
+                Ok(Settlement::Committed(end))
+            }
+            Ok(Settlement::Waiting(other)) => Ok(Settlement::Waiting(other)),
+            Err(refusal) => Err(refusal),
+        }
     }
 
     /// As `Core::rollback_tx`.

@@ -1,11 +1,11 @@
 use crate::chain::Chain;
-use crate::run::Run;
 use mvo_disk::Disk;
 use mvo_group::Group;
 use mvo_marks::{Marks, Publisher, Seat};
-use mvo_store::{Durable, Generation, Manifest, Store};
+use mvo_run::Run;
+use mvo_store::{Durable, Generation, Manifest, Progress, Reclaimed, Store};
 use mvo_types::{Refusal, Stamp};
-use rtrb::Consumer;
+use rtrb::{Consumer, Producer};
 use std::alloc::Global;
 use std::marker::{Model, PhantomData};
 
@@ -38,7 +38,7 @@ impl<L: Run, D: Disk> Model for LockedStore<L, D> {
     ghost use Rattle.mvo_store.specs.Places.{coded_places};
     ghost use Rattle.rtrb.specs.Ring.{received};
     ghost use Rattle.mvo_store.specs.Seen.{mark_of};
-    ghost use Rattle.mvo_engine.specs.Rings.{ring_from};
+    ghost use Rattle.mvo_run.specs.Rings.{ring_from};
     ghost use Rattle.mvo_engine.specs.Sound.{IsSoundStore};
     ghost use Rattle.mvo_engine.specs.States.{StoreState};
 
@@ -58,16 +58,22 @@ impl<L: Run, D: Disk> Model for LockedStore<L, D> {
 }
 
 impl<L: Run, D: Disk> LockedStore<L, D> {
-    ghost use Rattle.std.specs.Prelude.{◌≡◌, ◌≤◌, Some};
+    ghost use Rattle.std.specs.Prelude.{◌≡◌, ◌≤◌, ◌++◌, List, Some};
     ghost use Rattle.std.specs.Prelude.{OnOk, IfOk, IfErr};
-    ghost use Rattle.rtrb.specs.Ring.{received};
+    ghost use Rattle.rtrb.specs.Ring.{sent, received};
+    ghost use Rattle.mvo_group.specs.Data.{GroupData};
     ghost use Rattle.mvo_store.specs.Standing.{HasSlots};
     ghost use Rattle.mvo_store.specs.Seen.{disk_of, mark_of, installed_manifest};
     ghost use Rattle.mvo_store.specs.Causes.{why_not_take};
     ghost use Rattle.mvo_store.specs.Calls.StoreCall.{AppendBody, RotateWrite};
+    ghost use Rattle.mvo_store.specs.Calls.StoreCall.{CheckpointRead, CheckpointData};
+    ghost use Rattle.mvo_store.specs.Calls.StoreCall.{CheckpointDelta};
+    ghost use Rattle.mvo_store.specs.Calls.StoreCall.{MergeRead, MergeData, MergeDelta};
     ghost use Rattle.mvo_store.specs.Calls.StoreCall.{InstallClose, InstallBody, InstallOpen};
-    ghost use Rattle.mvo_store.specs.Calls.{AnswersMark, AnswersGeneration};
-    ghost use Rattle.mvo_engine.specs.Rings.{ring_from};
+    ghost use Rattle.mvo_store.specs.Calls.StoreCall.{Reclaim};
+    ghost use Rattle.mvo_store.specs.Calls.{AnswersMark, AnswersGeneration, AnswersProgress};
+    ghost use Rattle.mvo_store.specs.Reclaiming.{HasReclaimed};
+    ghost use Rattle.mvo_run.specs.Rings.{ring_of, ring_from};
     ghost use Rattle.mvo_engine.specs.Sound.{IsSoundStore, GivesReceived, LeavesReceived};
     ghost use Rattle.mvo_engine.specs.Calls.{IsQuietStep, IsAppendStep, HasTaken, IsNotTaken};
 
@@ -95,6 +101,7 @@ impl<L: Run, D: Disk> LockedStore<L, D> {
     /// The disk, as it stands.
     pub fn into_disk(self) -> D
         ensures disk { result ≡ disk_of self.store }
+        ensures images { LeavesReceived D.Disk L.image self.received self.store }
         ensures gives { HasSlots L.image →
             GivesReceived L.image self.received (mark_of self.store) (D.content result) }
     {
@@ -115,6 +122,19 @@ impl<L: Run, D: Disk> LockedStore<L, D> {
         ensures images { LeavesReceived D.Disk L.image self.now.received self.now.store }
     {
         self.store.mark()
+    }
+
+    /// With both ends of the ring in one thread: what was received begins what was sent. It changes
+    /// nothing.
+    pub fn audit(&mut self, producer: &mut Producer<Group, Global, Chain>)
+        requires { ring_of producer.old ≡ L.ring }
+        ensures begins { (rest : List GroupData) × (self.old.received ++ rest ≡ sent producer.old) }
+        ensures images { LeavesReceived D.Disk L.image self.old.received self.old.store }
+        ensures sent { sent producer.new ≡ sent producer.old }
+        ensures ring { ring_of producer.new ≡ ring_of producer.old }
+        ensures same { self.new ≡ self.old }
+    {
+        self.ring.slots_beside(producer);
     }
 
     /// The installed manifest.
@@ -191,6 +211,49 @@ impl<L: Run, D: Disk> LockedStore<L, D> {
         self.store.rotate_write()
     }
 
+    /// As `Store::checkpoint_read`.
+    pub fn checkpoint_read(&mut self) -> Result<(), Refusal>
+        ensures { IsQuietStep D.Disk self.old CheckpointRead result self.new }
+    {
+        self.store.checkpoint_read()
+    }
+
+    /// As `Store::checkpoint_data`.
+    pub fn checkpoint_data(&mut self) -> Result<(), Refusal>
+        ensures { IsQuietStep D.Disk self.old CheckpointData result self.new }
+    {
+        self.store.checkpoint_data()
+    }
+
+    /// As `Store::checkpoint_delta`.
+    pub fn checkpoint_delta(&mut self) -> Result<Progress, Refusal>
+        ensures step { IsQuietStep D.Disk self.old CheckpointDelta result self.new }
+        ensures progress { IfOk result (AnswersProgress self.old.store) }
+    {
+        self.store.checkpoint_delta()
+    }
+
+    /// As `Store::merge_read`.
+    pub fn merge_read(&mut self, place: usize) -> Result<(), Refusal>
+        ensures { IsQuietStep D.Disk self.old (MergeRead place) result self.new }
+    {
+        self.store.merge_read(place)
+    }
+
+    /// As `Store::merge_data`.
+    pub fn merge_data(&mut self) -> Result<(), Refusal>
+        ensures { IsQuietStep D.Disk self.old MergeData result self.new }
+    {
+        self.store.merge_data()
+    }
+
+    /// As `Store::merge_delta`.
+    pub fn merge_delta(&mut self) -> Result<(), Refusal>
+        ensures { IsQuietStep D.Disk self.old MergeDelta result self.new }
+    {
+        self.store.merge_delta()
+    }
+
     /// As `Store::install_close`.
     pub fn install_close(&mut self) -> Result<(), Refusal>
         ensures { IsQuietStep D.Disk self.old InstallClose result self.new }
@@ -211,5 +274,14 @@ impl<L: Run, D: Disk> LockedStore<L, D> {
         ensures generation { IfOk result (λ g. AnswersGeneration self.new.store g.0) }
     {
         self.store.install_open()
+    }
+
+    /// As `Store::reclaim`.
+    pub fn reclaim(&mut self) -> Result<Reclaimed, Refusal>
+        ensures step { IsQuietStep D.Disk self.old Reclaim result self.new }
+        ensures reclaimed { IfOk result (λ answer.
+            HasReclaimed D.Disk self.old.store answer self.new.store) }
+    {
+        self.store.reclaim()
     }
 }

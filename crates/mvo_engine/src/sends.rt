@@ -1,8 +1,10 @@
 use crate::chain::Chain;
-use crate::run::Run;
+use crate::locked_store::LockedStore;
 use mvo_core::{Closed, Core};
+use mvo_disk::Disk;
 use mvo_group::Group;
 use mvo_marks::{Marks, Seat};
+use mvo_run::Run;
 use mvo_types::Refusal;
 use rtrb::Producer;
 use std::alloc::Global;
@@ -29,22 +31,23 @@ impl<L: Run> Drop for Sends<L> {
 impl<L: Run> Model for Sends<L> {
     ghost use Rattle.std.specs.Prelude.{◌≡◌};
     ghost use Rattle.rtrb.specs.Ring.{sent};
-    ghost use Rattle.mvo_engine.specs.Rings.{ring_of};
+    ghost use Rattle.mvo_run.specs.Rings.{ring_of};
     ghost use Rattle.mvo_engine.specs.States.{SendsState};
 
     ghost Value = { SendsState };
 
-    ghost view = { λ s. record { sent = sent s.ring; raised = s.seat.known.closed } };
+    ghost view = { λ s. record { sent = sent s.ring; raised = s.seat.known.raised } };
 
     ghost invariant = { λ s. (s.seat.marks ≡ L.marks) × (ring_of s.ring ≡ L.ring) };
 }
 
 impl<L: Run> Sends<L> {
-    ghost use Rattle.std.specs.Prelude.{◌≡◌};
+    ghost use Rattle.std.specs.Prelude.{◌≡◌, ◌++◌, List};
     ghost use Rattle.rtrb.specs.Ring.{sent};
+    ghost use Rattle.mvo_group.specs.Data.{GroupData};
     ghost use Rattle.mvo_core.specs.Seen.{closed_mark_of};
-    ghost use Rattle.mvo_engine.specs.Rings.{ring_of};
-    ghost use Rattle.mvo_engine.specs.Sound.{last_mark};
+    ghost use Rattle.mvo_run.specs.Rings.{ring_of};
+    ghost use Rattle.mvo_engine.specs.Sound.{last_mark, LeavesReceived};
     ghost use Rattle.mvo_engine.specs.Calls.{IsSending};
 
     /// An end of the ring, with a seat.
@@ -52,13 +55,24 @@ impl<L: Run> Sends<L> {
         requires seat { seat.marks ≡ L.marks }
         requires ring { ring_of ring ≡ L.ring }
         ensures sent { result.sent ≡ sent ring }
-        ensures raised { result.raised ≡ seat.known.closed }
+        ensures raised { result.raised ≡ seat.known.raised }
     {
         Sends {
             ring,
             seat,
             run: PhantomData,
         }
+    }
+
+    /// With both ends of the ring in one thread: what was received begins what was sent. It changes
+    /// nothing.
+    pub fn audit<D: Disk>(&mut self, store: &mut LockedStore<L, D>)
+        ensures begins { (rest : List GroupData) × (store.old.received ++ rest ≡ self.old.sent) }
+        ensures images { LeavesReceived D.Disk L.image store.old.received store.old.store }
+        ensures same { self.new ≡ self.old }
+        ensures store { store.new ≡ store.old }
+    {
+        store.audit(&mut self.ring);
     }
 
     /// A seat for another session.
@@ -71,7 +85,7 @@ impl<L: Run> Sends<L> {
     }
 
     /// Closes the core's next group into the ring, as `Core::close_group` does, and raises the
-    /// closed mark to that of the group.
+    /// closed mark to that of the group and no further.
     pub fn close_group(&mut self, core: &mut Core, marks: &Marks) -> Result<Closed, Refusal>
         requires marks { marks.now ≡ L.marks }
         requires last { last_mark self.old.sent ≡ closed_mark_of core.old }

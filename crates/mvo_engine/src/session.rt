@@ -6,52 +6,90 @@ use crate::engine::Engine;
 use crate::gate::Gate;
 use crate::locked_core::LockedCore;
 use crate::locked_store::LockedStore;
-use crate::run::Run;
 use mvo_disk::Disk;
 use mvo_marks::Seat;
+use mvo_run::{Receipt, Receipts, Run, Told};
 use mvo_types::{Refusal, Stamp, TxId};
 use std::marker::Model;
 use std::sync::{MutexGuard, Wait};
 use std::thread;
 
-/// One caller of an engine, in one thread at a time. It has one transaction at a time. A session
-/// that is dropped inside a transaction leaves it unfinished.
+/// One caller of an engine, in one thread at a time. It has one transaction at a time, and keeps a
+/// receipt of each that it committed. A session that is dropped inside a transaction leaves it
+/// unfinished.
 #[derive(Drop)]
 pub struct Session<'e, L: Run, D: Disk, G: Gate + Drop> {
     engine: &'e Engine<L, D, G>,
     seat: Seat,
     tx: Option<TxId>,
+    /// What the calls of its transaction were answered.
+    told: Told,
+    receipts: Receipts<L>,
 }
 
 impl<'e, L: Run, D: Disk, G: Gate + Drop> Model for Session<'e, L, D, G> {
     ghost use Rattle.std.specs.Prelude.{◌≡◌};
     ghost use Rattle.std.specs.Option.{option_map};
+    ghost use Rattle.mvo_engine.specs.Settling.{BeginsAbove};
     ghost use Rattle.mvo_engine.specs.States.{SessionState};
 
     ghost Value = { SessionState };
 
     ghost view = { λ s. record {
       tx = option_map (λ t. t.0) s.tx;
+      told = s.told;
+      receipts = s.receipts.list;
       durable = s.seat.known.durable;
     } };
 
-    ghost invariant = { λ s. s.seat.marks ≡ L.marks };
+    ghost invariant = { λ s. (s.seat.marks ≡ L.marks)
+        × BeginsAbove (option_map (λ t. t.0) s.tx) s.receipts.list };
 }
 
 impl<'e, L: Run, D: Disk, G: Gate + Drop> Session<'e, L, D, G> {
     ghost use Rattle.std.specs.Prelude.{◌≡◌, ◌≤◌, None, IsTrue, OnOk, IfErr};
     ghost use Rattle.mvo_types.specs.declared.refusal.Refusal.{Refusal};
     ghost use Rattle.mvo_store.specs.Seen.{mark_of};
+    ghost use Rattle.mvo_run.specs.Receiving.{Rises};
 
-    pub(crate) fn new(engine: &'e Engine<L, D, G>, seat: Seat) -> Session<'e, L, D, G>
+    pub(crate) fn new(
+        engine: &'e Engine<L, D, G>,
+        seat: Seat,
+        receipts: Receipts<L>,
+    ) -> Session<'e, L, D, G>
         requires { seat.marks ≡ L.marks }
-        ensures { result.tx ≡ None }
+        ensures tx { result.tx ≡ None }
+        ensures receipts { result.receipts ≡ receipts.list }
     {
         Session {
             engine,
             seat,
             tx: None,
+            told: Told::new(receipts.allocator()),
+            receipts,
         }
+    }
+
+    // Apart: the receipts.
+    pub(crate) fn into_receipts(self) -> Receipts<L>
+        ensures { result.list ≡ self.entry.receipts }
+    {
+        let Session {
+            engine: _,
+            seat: _,
+            tx: _,
+            told: _,
+            receipts,
+        } = self;
+        receipts
+    }
+
+    /// Its receipts, one for each of its commits, by end.
+    pub fn receipts(&self) -> &[Receipt]
+        ensures value { result.now ≡ self.now.receipts }
+        ensures rising { Rises self.now.receipts }
+    {
+        self.receipts.list()
     }
 
     /// Whether all commits that end up to the stamp are on the disk, as the session sees it now. It
@@ -60,7 +98,7 @@ impl<'e, L: Run, D: Disk, G: Gate + Drop> Session<'e, L, D, G> {
         ensures yes { IsTrue result → stamp.0 ≤ self.new.durable }
         ensures no { stamp.0 ≤ self.new.durable → IsTrue result }
         ensures seen { self.old.durable ≤ self.new.durable }
-        ensures tx { self.new.tx ≡ self.old.tx }
+        ensures rest { self.new ≡ record self.old { durable = self.new.durable } }
     {
         self.engine.marks().poll_durable(&mut self.seat, stamp)
     }
@@ -70,7 +108,7 @@ impl<'e, L: Run, D: Disk, G: Gate + Drop> Session<'e, L, D, G> {
     pub fn wait_durable<R: Wait>(&mut self, rt: &R, stamp: Stamp) -> Result<(), Refusal>
         ensures ok { OnOk result (stamp.0 ≤ self.new.durable) }
         ensures err { IfErr result (λ r. r ≡ Refusal.Down) }
-        ensures tx { self.new.tx ≡ self.old.tx }
+        ensures rest { self.new ≡ record self.old { durable = self.new.durable } }
     {
         for _ in rt.forever() {
             if self.poll_durable(stamp) {

@@ -2,19 +2,20 @@ ghost use Rattle.std.specs.Prelude.{◌≡◌};
 
 use crate::gate::Gate;
 use crate::locked_store::LockedStore;
-use crate::run::Run;
 use crate::session::Session;
 use mvo_disk::Disk;
 use mvo_marks::Marks;
-use mvo_store::{Durable, Generation, Log, LogStep, Manifest};
+use mvo_run::Run;
+use mvo_store::{Durable, Generation, Log, LogStep, Manifest, Progress, Reclaimed, turn};
 use mvo_types::{Refusal, Stamp};
 use std::marker::Model;
 use std::sync::MutexGuard;
 
-/// The lock of the store, taken. It lends the steps of the log.
+/// The lock of the store, taken. It lends the steps of the store: those of the log, of each job,
+/// and the reclaiming of files.
 #[derive(Drop)]
 pub struct StoreGuard<'e, L: Run, D: Disk> {
-    held: MutexGuard<'e, LockedStore<L, D>>,
+    pub(crate) held: MutexGuard<'e, LockedStore<L, D>>,
     marks: &'e Marks,
     ghost named: { marks.now ≡ L.marks },
 }
@@ -37,10 +38,18 @@ impl<'e, L: Run, D: Disk> StoreGuard<'e, L, D> {
     ghost use Rattle.mvo_store.specs.Seen.{mark_of, installed_manifest};
     ghost use Rattle.mvo_store.specs.Causes.{why_not_take};
     ghost use Rattle.mvo_store.specs.Calls.StoreCall.{AppendBody, RotateWrite};
+    ghost use Rattle.mvo_store.specs.Calls.StoreCall.{CheckpointRead, CheckpointData};
+    ghost use Rattle.mvo_store.specs.Calls.StoreCall.{CheckpointDelta};
+    ghost use Rattle.mvo_store.specs.Calls.StoreCall.{MergeRead, MergeData, MergeDelta};
     ghost use Rattle.mvo_store.specs.Calls.StoreCall.{InstallClose, InstallBody, InstallOpen};
-    ghost use Rattle.mvo_store.specs.Calls.{AnswersMark, AnswersGeneration};
+    ghost use Rattle.mvo_store.specs.Calls.StoreCall.{Reclaim};
+    ghost use Rattle.mvo_store.specs.Calls.{AnswersMark, AnswersGeneration, AnswersProgress};
+    ghost use Rattle.mvo_store.specs.Flushing.{IsTurn};
+    ghost use Rattle.mvo_store.specs.Reclaiming.{HasReclaimed};
     ghost use Rattle.mvo_engine.specs.Sound.{LeavesReceived};
     ghost use Rattle.mvo_engine.specs.Calls.{IsQuietStep, IsAppendStep, HasTaken, IsNotTaken};
+    ghost use Rattle.mvo_engine.specs.Flushing.{IsFlushOfOne};
+    ghost use Rattle.mvo_engine.specs.Logging.{IsGuardStep};
 
     pub(crate) fn new(
         held: MutexGuard<'e, LockedStore<L, D>>,
@@ -93,6 +102,21 @@ impl<'e, L: Run, D: Disk> StoreGuard<'e, L, D> {
         self.held.take()
     }
 
+    /// One step of a flush: makes the group durable that is being appended, or else the next one
+    /// that is seen in the ring, and publishes its mark; false where there is none. Where the
+    /// segment is full for it, the log is rotated first.
+    ///
+    /// Refused as the first of its steps that stops it: Down, ClockSpent, SegmentsFull,
+    /// OutOfMemory, DiskFault, and Busy where the segment is full beside a job, since a job is
+    /// brought on by its own steps alone. Nothing more is durable then, and what its earlier steps
+    /// did stays done.
+    pub fn flush_one(&mut self) -> Result<bool, Refusal>
+        ensures steps { IsTurn (IsGuardStep D.Disk) self.old result self.new }
+        ensures flushed { IsFlushOfOne self.old result self.new }
+    {
+        turn(self)
+    }
+
     /// As `Store::append_body`.
     pub fn append_body(&mut self) -> Result<(), Refusal>
         ensures { IsQuietStep D.Disk self.old AppendBody result self.new }
@@ -115,6 +139,49 @@ impl<'e, L: Run, D: Disk> StoreGuard<'e, L, D> {
         self.held.rotate_write()
     }
 
+    /// As `Store::checkpoint_read`.
+    pub fn checkpoint_read(&mut self) -> Result<(), Refusal>
+        ensures { IsQuietStep D.Disk self.old CheckpointRead result self.new }
+    {
+        self.held.checkpoint_read()
+    }
+
+    /// As `Store::checkpoint_data`.
+    pub fn checkpoint_data(&mut self) -> Result<(), Refusal>
+        ensures { IsQuietStep D.Disk self.old CheckpointData result self.new }
+    {
+        self.held.checkpoint_data()
+    }
+
+    /// As `Store::checkpoint_delta`.
+    pub fn checkpoint_delta(&mut self) -> Result<Progress, Refusal>
+        ensures step { IsQuietStep D.Disk self.old CheckpointDelta result self.new }
+        ensures progress { IfOk result (AnswersProgress self.old.store) }
+    {
+        self.held.checkpoint_delta()
+    }
+
+    /// As `Store::merge_read`.
+    pub fn merge_read(&mut self, place: usize) -> Result<(), Refusal>
+        ensures { IsQuietStep D.Disk self.old (MergeRead place) result self.new }
+    {
+        self.held.merge_read(place)
+    }
+
+    /// As `Store::merge_data`.
+    pub fn merge_data(&mut self) -> Result<(), Refusal>
+        ensures { IsQuietStep D.Disk self.old MergeData result self.new }
+    {
+        self.held.merge_data()
+    }
+
+    /// As `Store::merge_delta`.
+    pub fn merge_delta(&mut self) -> Result<(), Refusal>
+        ensures { IsQuietStep D.Disk self.old MergeDelta result self.new }
+    {
+        self.held.merge_delta()
+    }
+
     /// As `Store::install_close`.
     pub fn install_close(&mut self) -> Result<(), Refusal>
         ensures { IsQuietStep D.Disk self.old InstallClose result self.new }
@@ -135,6 +202,15 @@ impl<'e, L: Run, D: Disk> StoreGuard<'e, L, D> {
         ensures generation { IfOk result (λ g. AnswersGeneration self.new.store g.0) }
     {
         self.held.install_open()
+    }
+
+    /// As `Store::reclaim`.
+    pub fn reclaim(&mut self) -> Result<Reclaimed, Refusal>
+        ensures step { IsQuietStep D.Disk self.old Reclaim result self.new }
+        ensures reclaimed { IfOk result (λ answer.
+            HasReclaimed D.Disk self.old.store answer self.new.store) }
+    {
+        self.held.reclaim()
     }
 }
 

@@ -1,11 +1,18 @@
+mod counting;
+mod depending;
+mod down;
+mod gathering;
 mod held_disk;
+mod jobs;
 mod meeting;
 mod reads_free;
 mod rows;
 mod sessions;
 mod through;
 mod transacting;
+mod trial;
 mod upkeep;
+mod waiting;
 
 use mvo_disk::MemDisk;
 use mvo_store::format;

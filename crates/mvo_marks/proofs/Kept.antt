@@ -8,7 +8,7 @@ use lib.ListN.{get_elem?}
 use Rattle.atomic_table.specs.Table.{State, Me, Step, keeps, opening, Allows, Splits, Joins}
 use Rattle.atomic_table.proofs.Lists.{at_set, at_snoc, at_longer, set_again, set_here, set_else}
 use Rattle.mvo_marks.specs.declared.rule.Known.{Known}
-use Rattle.mvo_marks.specs.Marks.{first, onlooker, with_closed, with_durable, with_published, Fits, Standing, IsKept, noted, nobody}
+use Rattle.mvo_marks.specs.Marks.{first, onlooker, with_closed, with_raised, with_durable, with_published, Fits, Standing, IsKept, noted, nobody}
 use Rattle.mvo_marks.specs.Telling.{HasSeenDurable, HasSeenClosed, HasRaised, HasPublished, HasConfirmed}
 
 in_range : {A : Type 0} (l : List A) (i : ℕ) (a : A) → get_elem? l i ≡ some a → i < length l
@@ -113,9 +113,9 @@ raises slots id me st s kept count at small =
     let more : c ≤ c' = omega (arith, found) in
     let mine = k.each id me.0 at in
     let words = ap (λ l. set l 0 c') k.words_are in
-    let fits : Fits c' d seat id (with_closed me.0 c') = record { closed_seen = omega arith; durable_seen = mine.durable_seen; one = mine.one; published = mine.published } in
+    let fits : Fits c' d seat id (with_raised me.0 c' st.first) = record { closed_seen = omega arith; durable_seen = mine.durable_seen; one = mine.one; published = mine.published } in
     let le = k.ordered in (
-      with_closed me.0 c',
+      with_raised me.0 c' st.first,
       keeps,
       tt,
       (

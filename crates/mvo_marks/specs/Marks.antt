@@ -19,7 +19,7 @@ pub record HasSeen (closed durable : ℕ) (s : SeatData) : Type 0 where
   pub closed_is : s.known.closed ≡ closed
   pub durable_is : s.known.durable ≡ durable
 
--- it has seen the closed mark at least as far as before, and nothing else has changed
+-- it has seen the closed mark at least as far as before, and the durable one as far
 pub record HasMoreClosed (old new : SeatData) : Type 0 where
   pub marks : new.marks ≡ old.marks
   pub more : old.known.closed ≤ new.known.closed
@@ -27,14 +27,27 @@ pub record HasMoreClosed (old new : SeatData) : Type 0 where
 
 -- the publishing seat at the start
 abbrev pub first : ℕ → Known
-first start = record { closed = start; durable = start; publishes = true; published = start }
+first start = record {
+  closed = start;
+  durable = start;
+  publishes = true;
+  published = start;
+  raised = start;
+}
 
--- a seat that has seen as much, and publishes nothing
+-- a seat that knows nothing
+abbrev pub nobody : Known
+nobody = record { closed = 0; durable = 0; publishes = false; published = 0; raised = 0 }
+
+-- a seat that has seen as much, and has published and raised nothing
 abbrev pub onlooker : Known → Known
-onlooker v = record { closed = v.closed; durable = v.durable; publishes = false; published = 0 }
+onlooker v = record nobody { closed = v.closed; durable = v.durable }
 
 abbrev pub with_closed : Known → ℕ → Known
 with_closed v n = record v { closed = n }
+
+abbrev pub with_raised : Known → ℕ → ℕ → Known
+with_raised v n stamp = record v { closed = n; raised = max v.raised stamp }
 
 abbrev pub with_durable : Known → ℕ → Known
 with_durable v n = record v { durable = n }
@@ -60,10 +73,6 @@ pub record Standing (closed durable seat : ℕ) (words : List ℕ) (views : List
 -- the rule
 abbrev pub IsKept : State ℕ Known → Type 0
 IsKept s = (closed : ℕ) × (durable : ℕ) × (seat : ℕ) × Standing closed durable seat s.words s.views
-
--- a seat that knows nothing
-abbrev pub nobody : Known
-nobody = record { closed = 0; durable = 0; publishes = false; published = 0 }
 
 -- a seat that has seen what the other has seen
 abbrev pub noted : Known → Known → Known

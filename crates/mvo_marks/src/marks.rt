@@ -61,10 +61,11 @@ impl Marks {
         }
     }
 
-    /// Raises the closed mark to at least the stamp.
+    /// Raises the closed mark to at least the stamp: to the stamp, where it is below.
     pub fn raise_closed(&self, seat: &mut Seat, stamp: Stamp)
         requires { seat.old.marks ≡ self.now }
         ensures raised { stamp.0 ≤ seat.new.known.closed }
+        ensures no_further { seat.new.known.raised ≡ max seat.old.known.raised stamp.0 }
         ensures closed { HasMoreClosed seat.old seat.new }
     {
         self.table
@@ -79,6 +80,8 @@ impl Marks {
         ensures published { publisher.new.known.published ≡
             max publisher.old.known.published durable.now }
         ensures closed { durable.now ≤ publisher.new.known.closed }
+        ensures no_further { publisher.new.known.raised ≡
+            max publisher.old.known.raised durable.now }
     {
         let mark = durable.mark().0;
         self.table
@@ -98,6 +101,7 @@ impl Marks {
         ensures seen { seat.old.known.durable ≤ seat.new.known.durable }
         ensures same { seat.new.marks ≡ seat.old.marks }
         ensures closed { seat.new.known.closed ≡ seat.old.known.closed }
+        ensures raised { seat.new.known.raised ≡ seat.old.known.raised }
     {
         let durable = self
             .table
@@ -111,6 +115,7 @@ impl Marks {
         requires { seat.old.marks ≡ self.now }
         ensures is { result.0 ≡ seat.new.known.closed }
         ensures closed { HasMoreClosed seat.old seat.new }
+        ensures raised { seat.new.known.raised ≡ seat.old.known.raised }
     {
         Stamp(self.table.shared.load::<SeesClosed>(&mut seat.seat, CLOSED))
     }

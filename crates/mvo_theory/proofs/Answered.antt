@@ -1,21 +1,19 @@
 -- What an accepted call is answered, by the trace.
-use Rattle.std.proofs.Common.{◌≡◌, ℕ, ◌+◌, Bool, true, false, ◌||◌, List, Option, None, Some, length, refl, sym, ap, ◌∙◌, arith}
+use Rattle.std.proofs.Common.{◌≡◌, ℕ, ◌+◌, Bool, true, false, ◌||◌, List, None, length, refl, sym, ap, ◌∙◌, arith}
 use Rattle.std.specs.Prelude.{nat_lt, nat_le, ◌&&◌}
 use Rattle.std.proofs.lemmas.Bool.{and_parts, leb-true, le-leb}
 use Rattle.mvo_types.specs.Keys.{Map}
 use Rattle.mvo_model.specs.Trace.{Step, history_of, phase_of}
 use Rattle.mvo_model.specs.Trace.Phase.{Preparing}
 use Rattle.mvo_theory.specs.Entries.{entries}
-use Rattle.mvo_theory.specs.State.{State, StampedTx, preparing_of}
-use Rattle.mvo_theory.specs.Causes.{why_not_validate, why_not_settle, awaited_by, awaited, end_at, end_of}
+use Rattle.mvo_theory.specs.State.{State, StampedTx}
+use Rattle.mvo_theory.specs.Causes.{why_not_validate, why_not_settle, end_at, end_of}
 use Rattle.mvo_theory.specs.Steps.{is_last_check, is_valid_at, is_valid_now}
 use Rattle.mvo_theory.specs.Calls.{IsKept}
 use Rattle.mvo_theory.proofs.Commits.{split_at}
 use Rattle.mvo_theory.proofs.LastWriter.{found_in, preparing_phase}
-use Rattle.mvo_theory.proofs.Named.{waits_for}
 use Rattle.mvo_theory.proofs.Who.{preparing_after_check, preparing_settled}
 use Rattle.mvo_theory.specs.Counts.{draws, checks_in}
-use Rattle.mvo_theory.specs.Rests.{WaitsFor}
 use Rattle.mvo_theory.specs.Counted.{HasChecks, HasCounts}
 
 -- ---- the next timestamp
@@ -51,13 +49,3 @@ settles_so opening steps s t w k =
     let x = found.0 in
     let m = found_in t s.stamped x found.1 in
     ap (λ (u : ℕ). phase_of u steps) (sym m.1) ∙ k.after_trace.phases x.id ∙ preparing_phase s x m.0 (split_at t s.stamped x found.1).4 k.single ∙ ap Preparing (sym (ap end_at found.1))
-
-pub waits_so : (opening : Map) (steps : List Step) (s : State) (t : ℕ) (y : StampedTx) → awaited s t ≡ Some y → IsKept opening steps s → WaitsFor opening steps t y.id
-waits_so opening steps s t y w k = go (preparing_of t s.stamped) refl w
-  where
-    no_stamped : ◌≡◌ {A = Option StampedTx} None (Some y) → ⊥
-    no_stamped e = cc
-
-    go : (v : Option StampedTx) → preparing_of t s.stamped ≡ v → awaited_by s.stamped v ≡ Some y → WaitsFor opening steps t y.id
-    go None f e = absurd (no_stamped e)
-    go (Some x) f e = let a = waits_for opening steps s t x y f e k in record { end' = y.end; depends = a.depends; preparing = a.preparing }

@@ -1,18 +1,17 @@
 -- Finishing is Done by the call for the last word.
-use Rattle.std.proofs.Common.{◌≡◌, ℕ, ◌<◌, ◌≤◌, ◌+◌, Bool, true, false, cond, max, List, [], ◌∷◌, ◌++◌, Option, None, Some, length, map, refl, sym, ap, ◌∙◌, subst, arith, append_assoc, append-nil}
+use Rattle.std.proofs.Common.{◌≡◌, ℕ, ◌<◌, ◌≤◌, ◌+◌, Bool, true, false, cond, max, List, [], ◌∷◌, ◌++◌, Option, None, Some, length, map, refl, sym, ap, ◌∙◌, subst, arith, append_assoc}
 use Rattle.std.specs.Prelude.{◌==◌, drop}
 use Rattle.std.specs.List.{AllByRecursion}
-use Rattle.std.proofs.lemmas.Bool.{leb-false, eqb-true, eq-eqb}
+use Rattle.std.proofs.lemmas.Bool.{leb-false, eqb-true}
 use Rattle.mvo_types.specs.declared.refusal.Refusal.{Refusal}
 use Rattle.mvo_types.specs.Keys.{Map}
 use Rattle.mvo_model.specs.Trace.{Step, history_of}
-use Rattle.mvo_theory.specs.Entries.{entries}
-use Rattle.mvo_theory.specs.State.{State, ActiveTx, StampedTx, EndedTx, Claim, Word, opened, active_of, preparing_of, ended_of}
+use Rattle.mvo_theory.specs.State.{State, StampedTx, EndedTx, Claim, Word, opened, active_of, preparing_of, ended_of}
 use Rattle.mvo_theory.specs.Claims.{new_claim}
 use Rattle.mvo_theory.specs.Words.{word_count, words_without, is_last_word, is_done, words_left, words_now, HasWords}
 use Rattle.mvo_theory.specs.Changes.{after_operation, with_words, taken_over, without_ended, after_termination, after_finish, committed_tx, aborted_tx}
 use Rattle.mvo_theory.specs.Causes.{awaited, is_failure, why_not_finish}
-use Rattle.mvo_theory.specs.Steps.{after_precommit_of, after_precommit, after_validate, after_commit_of, after_settle_unless, after_settle, after_abort_of, after_abort, after_refusal}
+use Rattle.mvo_theory.specs.Steps.{after_precommit, after_validate, after_commit_of, after_settle_unless, after_abort_of, after_abort}
 use Rattle.mvo_theory.specs.Calls.{Call, Result, Run, MayCome, answer_in, after_accepted, after_refused, after_call, steps_of, MayRun, trace_of, IsKept}
 use Rattle.mvo_theory.specs.Calls.Call.{Begin, Do, Precommit, Validate, Settle, Rollback, Finish, Trim, Close}
 use Rattle.mvo_theory.specs.Calls.Result.{Accepted, Refused}

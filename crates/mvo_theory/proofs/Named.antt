@@ -7,22 +7,19 @@ use Rattle.mvo_types.specs.declared.cause.Cause.{Cause}
 use Rattle.mvo_types.specs.declared.cause.Cause.TheVariants.{Active, Stamped}
 use Rattle.mvo_types.specs.declared.row.RowKey.{RowKey}
 use Rattle.mvo_types.specs.Keys.{Map}
-use Rattle.mvo_model.specs.Trace.{Step, phase_of}
-use Rattle.mvo_model.specs.Trace.Phase.{Preparing}
+use Rattle.mvo_model.specs.Trace.{Step}
 use Rattle.mvo_theory.specs.State.{State, StampedTx, ActiveTx, active_of, preparing_of}
 use Rattle.mvo_theory.specs.Dependencies.{has_end}
 use Rattle.mvo_theory.specs.Claims.{has_claim, origin}
 use Rattle.mvo_theory.specs.Causes.{active_claim, stamped_claim, or_cause, claimed_by, waiting_for}
 use Rattle.mvo_theory.specs.Sound.{how_many, AreExclusive}
-use Rattle.mvo_theory.specs.Traced.{DependsOn, IsDependency, HasAbortedDependency, IsTraced}
+use Rattle.mvo_theory.specs.Traced.{HasAbortedDependency, IsTraced}
 use Rattle.mvo_theory.specs.Calls.{IsKept}
 use Rattle.mvo_theory.proofs.Each.{each_weaker}
 use Rattle.mvo_theory.proofs.Apart.{IsIn}
-use Rattle.mvo_theory.proofs.Causes.{waiting_is}
 use Rattle.mvo_theory.proofs.Commits.{split_at}
-use Rattle.mvo_theory.proofs.LastWriter.{found_in, preparing_phase, counted}
+use Rattle.mvo_theory.proofs.LastWriter.{found_in, counted}
 use Rattle.mvo_theory.proofs.Claims.{claims_it, claimed_it}
-use Rattle.mvo_theory.proofs.Traced.{has_it}
 use Rattle.mvo_theory.proofs.Who.{active_holds}
 
 no_stamped : (z : StampedTx) → ◌≡◌ {A = Option StampedTx} None (Some z) → ⊥
@@ -39,24 +36,6 @@ waiting_in ds (x ∷ xs) y e = go (not x.settled && has_end ds x.end) e (λ g. w
     go : (b : Bool) → cond b (Some x) (waiting_for ds xs) ≡ Some y → (waiting_for ds xs ≡ Some y → IsIn y xs) → IsIn y (x ∷ xs)
     go true g r = λ P h. subst P (same_stamped x y g) h.0
     go false g r = λ P h. r g P h.1
-
-pub record IsAwaited (opening : Map) (steps : List Step) (t x e : ℕ) : Type 0 where
-  pub depends : DependsOn opening steps t x e
-  pub preparing : phase_of x steps ≡ Preparing e
-
-pub waits_for : (opening : Map) (steps : List Step) (s : State) (t : ℕ) (x y : StampedTx) → preparing_of t s.stamped ≡ Some x → waiting_for x.depends_on s.stamped ≡ Some y → IsKept opening steps s → IsAwaited opening steps t y.id y.end
-waits_for opening steps s t x y f w h =
-    let mine = found_in t s.stamped x f in
-    let open' = (waiting_is x.depends_on s.stamped y w).0 in
-    let among = (waiting_is x.depends_on s.stamped y w).1 in
-    let m = waiting_in x.depends_on s.stamped y w in
-    let unsettled = (split_at t s.stamped x f).4 in
-    let traced = mine.0 (λ z. z.settled ≡ false → IsTraced opening steps s.stamped z.id z.depends_on z.aborted_dependency) h.traced.preparing unsettled in
-    let d = has_it (IsDependency opening steps s.stamped x.id) x.depends_on y.end traced.depends among in
-    record {
-      depends = subst (λ (i : ℕ). DependsOn opening steps i y.id y.end) mine.1 (subst (λ (z : ℕ). DependsOn opening steps x.id z y.end) (sym (m (λ v. v.end ≡ y.end → v.id ≡ d.id) d.one refl)) d.depends);
-      preparing = h.after_trace.phases y.id ∙ preparing_phase s y m open' h.single;
-    }
 
 -- ---- DependencyAborted names one that it depended on and that was aborted
 pub flagged_active : (opening : Map) (steps : List Step) (s : State) (t u : ℕ) (r : ActiveTx) → active_of t s.active ≡ Some r → r.aborted_dependency ≡ Some u → IsKept opening steps s → HasAbortedDependency opening steps t u

@@ -25,7 +25,6 @@ pub mod Counts
 pub mod Ends
 pub mod Conflicts
 pub mod Differences
-pub mod Rests
 pub mod Justified
 pub mod Counted
 pub mod CauseLaws

@@ -18,7 +18,7 @@ has_place (Some chair) place = chair.id % PLACES == place
 
 -- the number that stands at the id's place
 abbrev pub hinted : Directory → ℕ → ℕ
-hinted d id = slice_index d.hints.items (id % PLACES)
+hinted d id = slice_index d.hints.value (id % PLACES)
 
 -- the number under which the id is listed
 abbrev pub displaced : Directory → ℕ → Option ℕ

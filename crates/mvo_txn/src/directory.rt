@@ -16,7 +16,7 @@ const PLACES: u64 = 4_096;
 #[derive(Drop)]
 pub(crate) struct Directory {
     // By place, the seat of the last id there that found the place free.
-    hints: Vec<u16>,
+    hints: Box<[u16; PLACES as usize]>,
     // The seats of the other ids.
     displaced: HashMap<u64, usize>,
 }
@@ -25,7 +25,7 @@ impl Directory {
     /// It knows nobody.
     pub(crate) fn new(alloc: Global) -> Result<Directory, AllocError> {
         Ok(Directory {
-            hints: vec![in alloc; 0u16; PLACES as usize]?,
+            hints: Box::new(alloc, [0u16; PLACES as usize])?,
             displaced: HashMap::new(alloc),
         })
     }
@@ -90,10 +90,7 @@ impl Directory {
     pub(crate) fn hinted(&self, id: u64) -> usize
         ensures { result ≡ hinted self.now id }
     {
-        match self.hints.get((id % PLACES) as usize) {
-            Some(hint) => *hint as usize,
-            None => 0,
-        }
+        self.hints[(id % PLACES) as usize] as usize
     }
 
     // Puts the number at the id's place, if it is one to put there.
@@ -101,11 +98,10 @@ impl Directory {
         ensures yes { OnTrue result (Hints self.old self.new id number) }
         ensures no { OnFalse result (self.new ≡ self.old) }
     {
-        let place = (id % PLACES) as usize;
-        if place >= self.hints.len() || number >= u16::MAX as usize {
+        if number >= u16::MAX as usize {
             return false;
         }
-        self.hints[place] = number as u16;
+        self.hints[(id % PLACES) as usize] = number as u16;
         true
     }
 }

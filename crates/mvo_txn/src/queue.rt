@@ -41,6 +41,7 @@ impl Queue {
 
     /// Makes room for one more: where room is short it drops those that no longer count. It takes
     /// no memory.
+    #[inline(always)]
     pub(crate) fn make_room<P>(&mut self, seats: &Seats<P>)
         ensures form { KeepsForm self.old self.new }
         ensures kept { KeepsQueue seats.now self.old self.new }
@@ -62,6 +63,7 @@ impl Queue {
     }
 
     /// Drops from the front those that no longer count, as `gone` doesn't.
+    #[inline(always)]
     pub(crate) fn trim<P>(&mut self, seats: &Seats<P>, gone: u64)
         requires { stamp_in self.old.kind seats.now gone ≡ None }
         ensures form { KeepsForm self.old self.new }

@@ -85,6 +85,7 @@ impl<P> TxnTable<P> {
     }
 
     /// How the transaction stands, if it is unfinished.
+    #[inline(always)]
     pub fn state(&self, id: TxId) -> Option<TxState>
         ensures { result ≡ state_of self.now id.0 }
     {
@@ -95,6 +96,7 @@ impl<P> TxnTable<P> {
     }
 
     /// How the transaction stands, with what is kept of it.
+    #[inline(always)]
     pub fn get(&self, id: TxId) -> Option<&Seat<P>>
         ensures { option_copied result ≡ map.get self.now.seats id.0 }
     {
@@ -102,6 +104,7 @@ impl<P> TxnTable<P> {
     }
 
     /// What is kept of the transaction, for writing.
+    #[inline(always)]
     pub fn get_mut(&mut self, id: TxId) -> Option<&mut P>
         ensures* writes_back { sem 𝓛 (LendsKept P.row self.entry id.0 result) }
         ensures value { option_copied_mut result ≡ kept_of self.old id.0 }

@@ -1,6 +1,6 @@
 -- Stamps between a begin and an end, over more versions, and where none is left.
-use Rattle.std.proofs.Common.{◌≡◌, ℕ, ◌≤◌, Bool, true, false, cond, ltb, List, [], ◌∷◌, ◌++◌, Option, None, Some, refl, sym, ap, ◌∙◌, append-nil, filter, arith}
-use Rattle.std.proofs.lemmas.Bool.{cond-false, le-ltb, leb-true}
+use Rattle.std.proofs.Common.{◌≡◌, ℕ, ◌+◌, ◌≤◌, Bool, true, false, cond, ltb, List, [], ◌∷◌, ◌++◌, Option, None, Some, refl, sym, ap, ◌∙◌, append-nil, filter, arith}
+use Rattle.std.proofs.lemmas.Bool.{cond-false, le-ltb, leb-true, ltb-true}
 use Rattle.std.proofs.lemmas.List.Elements.{filter-append}
 use Rattle.std.specs.List.{AllByRecursion}
 use Rattle.mvo_types.specs.declared.ids.Stamp.{Stamp}
@@ -9,7 +9,7 @@ use Rattle.mvo_visible.specs.declared.seen.Seen.{Seen}
 use Rattle.mvo_visible.specs.declared.seen.Seen.TheVariants.{Nothing, Settled, Speculative}
 use Rattle.mvo_visible.specs.Words.{States, seen_of}
 use Rattle.mvo_visible.specs.Versions.{Numbered}
-use Rattle.mvo_visible.specs.Changes.{changes_by, changes_of, greatest, greatest_below}
+use Rattle.mvo_visible.specs.Changes.{changes_by, changes_of, greater, greatest, greatest_below}
 use Rattle.mvo_visible.proofs.Decides.{greatest_below-append}
 use Rattle.mvo_visible.proofs.Walks.{changes_one, changes-append, IsFallingAt}
 use Rattle.mvo_validate.specs.Between.{is_above, stamp_between, is_before}
@@ -91,3 +91,15 @@ no_more states b e p xs v rest h falling =
     ∙ seen_between-append states b e (filter p (xs ++ v ∷ [])) (filter p rest)
     ∙ ap (greatest (seen_between states b e (filter p (xs ++ v ∷ [])))) (none_behind states b e p v rest h falling)
     ∙ greatest-none (seen_between states b e (filter p (xs ++ v ∷ []))))
+
+-- no stamp is above a begin and below the next
+none_nearer : (b e : ℕ) (c : Change) (rest : List Change) → e ≤ b + 1 → greatest_below e rest ≡ None → (t : Bool) → ltb b c.stamp.0 ≡ t → greatest_below e (cond t (c ∷ rest) rest) ≡ None
+none_nearer b e c rest h none true is =
+    let above = ltb-true b c.stamp.0 is in
+    cond-false (ltb c.stamp.0 e) (Some (greater c.stamp.0 (greatest_below e rest))) (greatest_below e rest) (le-ltb c.stamp.0 e (omega (arith, above, h)))
+    ∙ none
+none_nearer b e c rest h none false is = none
+
+pub none_next : (b e : ℕ) (cs : List Change) → e ≤ b + 1 → stamp_between b e cs ≡ None
+none_next b e [] h = refl
+none_next b e (c ∷ cs) h = none_nearer b e c (filter (is_above b) cs) h (none_next b e cs h) (ltb b c.stamp.0) refl

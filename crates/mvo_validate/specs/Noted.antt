@@ -1,8 +1,18 @@
 -- Entries in the order of their first use.
-use Rattle.std.specs.Prelude.{ℕ, List}
+use Rattle.std.specs.Prelude.{◌≡◌, ◌-◌, ◌<◌, ◌≤◌, ℕ, List, [], length, min, cond, nat_lt}
 use Rattle.mvo_types.specs.declared.entry.Entry.{Entry}
+use Rattle.mvo_validate.specs.declared.entries.TheConstants.{FEW}
 
--- entries, and how many more can be noted without memory
+-- entries, and how many more at least can be noted without memory
 pub record EntriesData : Type 0 where
   pub noted : List Entry
   pub room : ℕ
+
+-- the first few lie in a list, and those behind them in a set, which has none before
+pub record FewComeFirst (few behind : List Entry) : Type 0 where
+  pub most : length few ≤ FEW
+  pub order : length few < FEW → behind ≡ []
+
+-- room for one where so many and no more lie in a list with this capacity, or else that of the set
+abbrev pub entry_room : (few capacity spare : ℕ) → ℕ
+entry_room few capacity spare = cond (nat_lt few FEW) (min 1 (capacity - few)) spare

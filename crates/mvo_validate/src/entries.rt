@@ -1,4 +1,5 @@
 ghost use Rattle.std.specs.Prelude.{◌≡◌, ◌<◌, ◌≤◌, ◌+◌, [], not, OnOk, OnErr, length, slice_get};
+ghost use Rattle.indexmap.specs.IndexSet.{spare};
 ghost use Rattle.mvo_types.specs.Entries.{has_entry, with_entry};
 
 use indexmap::IndexSet;
@@ -6,23 +7,35 @@ use mvo_types::Entry;
 use std::alloc::{AllocError, Global};
 use std::marker::Model;
 
+// So many are sought one after another, which takes less than a set does.
+const FEW: usize = 16;
+
 // The memory of more entries than this isn't kept for another transaction.
-const FEW: usize = 64;
+const KEPT: usize = 64;
 
 /// The entries of a transaction, in the order in which they were first noted, without repeats.
-/// Contracts see that list, and the room: how many more can be noted without memory.
+/// Contracts see that list, and the room: at least so many more can be noted without memory.
 #[derive(Drop)]
 pub struct Entries {
+    // The first ones.
+    few: Vec<Entry>,
+    // Those behind them.
     set: IndexSet<Entry>,
 }
 
 impl Model for Entries {
+    ghost use Rattle.std.specs.Prelude.{◌++◌, vec_len, vec_capacity};
     ghost use Rattle.indexmap.specs.IndexSet.{spare};
-    ghost use Rattle.mvo_validate.specs.Noted.{EntriesData};
+    ghost use Rattle.mvo_validate.specs.Noted.{EntriesData, FewComeFirst, entry_room};
 
     ghost Value = { EntriesData };
 
-    ghost view = { λ e. record { noted = e.set.keys; room = spare e.set } };
+    ghost view = { λ e. record {
+      noted = e.few.items ++ e.set.keys;
+      room = entry_room (vec_len e.few) (vec_capacity e.few) (spare e.set);
+    } };
+
+    ghost invariant = { λ e. FewComeFirst e.few.items e.set.keys };
 }
 
 impl Entries {
@@ -31,6 +44,7 @@ impl Entries {
         ensures { result.noted ≡ [] }
     {
         Entries {
+            few: Vec::new(alloc),
             set: IndexSet::new(alloc),
         }
     }
@@ -39,45 +53,58 @@ impl Entries {
     pub fn len(&self) -> usize
         ensures { result ≡ length self.now.noted }
     {
-        self.set.len()
+        self.few.len() + self.set.len()
     }
 
     /// Whether the entry is among them.
     pub fn contains(&self, entry: Entry) -> bool
         ensures { result ≡ has_entry self.now.noted entry }
     {
-        self.set.contains(&entry)
+        is_among(&self.few, entry) || self.set.contains(&entry)
     }
 
     /// Sees to it that one more can be noted. It takes memory where there is no room, and alone
     /// does.
+    #[inline(always)]
     pub fn make_room(&mut self) -> Result<(), AllocError>
         ensures same { self.new.noted ≡ self.old.noted }
         ensures ok { OnOk result (0 < self.new.room) }
         ensures err { OnErr result (self.old.room ≡ 0) }
         ensures more { self.old.room ≤ self.new.room }
     {
+        if self.few.len() < FEW {
+            return self.few.reserve(1);
+        }
         self.set.reserve(1)
     }
 
     /// Notes an entry, and answers whether it is a new one. One that is there isn't added again.
+    #[inline(always)]
     pub fn note(&mut self, entry: Entry) -> bool
         requires { 0 < self.old.room }
         ensures noted { self.new.noted ≡ with_entry self.old.noted entry }
         ensures fresh { result ≡ not (has_entry self.old.noted entry) }
         ensures room { self.old.room ≤ self.new.room + 1 }
     {
-        self.set.insert(entry).unwrap()
+        if is_among(&self.few, entry) {
+            return false;
+        }
+        if self.few.len() < FEW {
+            self.few.push(entry).unwrap();
+            return true;
+        }
+        note_in(&mut self.set, entry)
     }
 
     /// Forgets all entries. The memory of few is kept for those of another transaction.
+    #[inline(always)]
     pub fn clear(&mut self)
         ensures { self.new.noted ≡ [] }
     {
-        let alloc = *self.set.allocator();
-        if self.set.len() > FEW {
-            self.set = IndexSet::new(alloc);
-        } else {
+        self.few.clear();
+        if self.set.len() > KEPT {
+            self.set = IndexSet::new(*self.set.allocator());
+        } else if !self.set.is_empty() {
             self.set.clear();
         }
     }
@@ -86,6 +113,27 @@ impl Entries {
     pub fn at(&self, place: usize) -> Option<Entry>
         ensures { result ≡ slice_get self.now.noted place }
     {
-        self.set.get_index(place).copied()
+        match self.few.get(place) {
+            Some(entry) => Some(*entry),
+            None => self.set.get_index(place.saturating_sub(FEW)).copied(),
+        }
     }
+}
+
+/// Whether the entry is among these.
+#[inline(always)]
+fn is_among(few: &[Entry], entry: Entry) -> bool
+    ensures { result ≡ has_entry few.now entry }
+{
+    few.contains(&entry)
+}
+
+/// Notes an entry in a set that has room, and answers whether it is a new one.
+fn note_in(set: &mut IndexSet<Entry>, entry: Entry) -> bool
+    requires { 0 < spare set.old }
+    ensures noted { set.new.keys ≡ with_entry set.old.keys entry }
+    ensures fresh { result ≡ not (has_entry set.old.keys entry) }
+    ensures room { spare set.old ≤ spare set.new + 1 }
+{
+    set.insert(entry).unwrap()
 }

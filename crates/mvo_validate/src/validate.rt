@@ -1,4 +1,4 @@
-ghost use Rattle.std.specs.Prelude.{◌≡◌};
+ghost use Rattle.std.specs.Prelude.{◌≡◌, ◌≤◌, ◌+◌, IsTrue};
 ghost use Rattle.mvo_txn.specs.Txns.{state_of};
 ghost use Rattle.mvo_visible.specs.Changes.{changes_of};
 ghost use Rattle.mvo_visible.specs.Shown.{AllHaveFallingStamps};
@@ -15,7 +15,8 @@ use mvo_types::{Entry, Stamp};
 
 /// Whether others have changed what an entry looks at with a stamp above the begin and below the
 /// end, also those that are only Preparing: a key by any change of it, a range by any change on a
-/// version whose sort lies in it.
+/// version whose sort lies in it. Where the end is the next one behind the begin there is none, and
+/// it looks at no version.
 pub fn check_entry<P>(
     chains: &Chains,
     index: &HashIndex,
@@ -31,6 +32,9 @@ pub fn check_entry<P>(
         result ≡ checked_by (stamp_between begin.0 end.0
         (changes_of states (versions_in chains.now lists ranges.now entry))) }
 {
+    if is_next(begin, end) {
+        return Check::Same;
+    }
     let last = match entry {
         Entry::Key(key) => last_between(chains, index, table, begin, end, key, None),
         Entry::Range(of, lo, hi) => {
@@ -41,6 +45,13 @@ pub fn check_entry<P>(
         Some(stamp) => Check::Differs(Stamp(stamp)),
         None => Check::Same,
     }
+}
+
+/// Whether no stamp is above the begin and below the end.
+fn is_next(begin: Stamp, end: Stamp) -> bool
+    ensures { IsTrue result → end.0 ≤ begin.0 + 1 }
+{
+    end.0.saturating_sub(begin.0) <= 1
 }
 
 /// The greatest stamp above the begin and below the end of a change by others on versions whose

@@ -39,6 +39,7 @@ pub fn is_among(keys: &[RowKey], key: RowKey) -> bool
 
 /// Adds the key of a write, where there is room. No key is sought where the write's is known to be
 /// a new one.
+#[inline(always)]
 pub fn note_write(keys: &mut Vec<RowKey>, write: Option<RowKey>, is_new: bool)
     requires room { vec_len keys.old < vec_capacity keys.old }
     requires fresh { IsTrue is_new → (k : RowKey) → write ≡ Some k →
@@ -53,6 +54,7 @@ pub fn note_write(keys: &mut Vec<RowKey>, write: Option<RowKey>, is_new: bool)
 }
 
 /// Adds an item where there is room.
+#[inline(always)]
 pub fn push_reserved<T: Drop>(items: &mut Vec<T>, item: T)
     requires { vec_len items.old < vec_capacity items.old }
     ensures { items.new.items ≡ items.old.items ++ item ∷ [] }

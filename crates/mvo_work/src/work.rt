@@ -62,6 +62,7 @@ impl Work {
     }
 
     /// Whether it keeps as many entries as it may, and this isn't one of them.
+    #[inline(always)]
     pub fn is_entry_too_many(&self, entry: Entry) -> bool
         ensures { result ≡ is_entry_too_many self.now.history entry }
     {
@@ -74,6 +75,13 @@ impl Work {
         ensures { result ≡ is_write_too_many self.now.history key }
     {
         self.lists.written.len() >= MAX_WRITES && !is_among(&self.lists.written, key)
+    }
+
+    /// Its operations with their answers, in order.
+    pub fn operations(&self) -> &[(Op, Answer)]
+        ensures { history_told result.now ≡ self.now.history }
+    {
+        self.lists.operations.as_slice()
     }
 
     /// Whether it has written the key.
@@ -106,6 +114,7 @@ impl Work {
 
     /// Sees to it that there is room for an operation and two words more. Refused, it has changed
     /// nothing but the room.
+    #[inline(always)]
     pub fn make_room(&mut self) -> Result<(), AllocError>
         ensures same { self.new ≡
             record self.old { room = self.new.room; word_room = self.new.word_room } }
@@ -119,6 +128,7 @@ impl Work {
     }
 
     /// Adds an operation with its answer.
+    #[inline(always)]
     pub fn tell(&mut self, op: Op, answer: Answer)
         requires room { 0 < self.old.room }
         requires limits { MayFollow self.old.history op (answer_data answer) }

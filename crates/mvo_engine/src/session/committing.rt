@@ -1,10 +1,11 @@
 //! How a session's transaction ends.
 
 use super::Session;
+use crate::engine::Engine;
 use crate::gate::Gate;
-use crate::run::Run;
 use mvo_core::{Finishing, Settlement, Validation};
 use mvo_disk::Disk;
+use mvo_run::{Receipts, Run, Told};
 use mvo_types::{Refusal, Stamp, TxId};
 use std::sync::Wait;
 use std::thread;
@@ -21,33 +22,38 @@ pub(super) fn is_failure(refusal: Refusal) -> bool
     }
 }
 
-ghost use Rattle.std.specs.Prelude.{◌≡◌};
+ghost use Rattle.std.specs.Prelude.{◌≡◌, true};
 ghost use Rattle.mvo_theory.specs.Causes.{is_failure};
+ghost use Rattle.mvo_run.specs.Receiving.{AreBelow};
+ghost use Rattle.mvo_engine.specs.Settling.{HasEnded};
 
 impl<'e, L: Run, D: Disk, G: Gate + Drop> Session<'e, L, D, G> {
-    ghost use Rattle.std.specs.Prelude.{◌≡◌, None, if◌then◌else◌};
-    ghost use Rattle.mvo_theory.specs.Causes.{is_failure};
-    ghost use Rattle.mvo_engine.specs.Calls.{tx_ended, IsNoTx};
+    ghost use Rattle.std.specs.Prelude.{◌≡◌, None};
+    ghost use Rattle.mvo_engine.specs.Calls.{HasCommitted, HasLeft, IsNoTx, session_after};
 
-    /// Commits the transaction, and answers its end timestamp: draws the end, checks what was read
-    /// and scanned, waits until each transaction that it depends on is settled, becomes Committed
-    /// and is finished. Each step takes the lock anew, so that others go on meanwhile. The commit
-    /// is durable once a flush has answered a mark that isn't below its end.
+    /// Commits the transaction, and answers its end timestamp: makes room for its receipt, draws
+    /// the end, checks what was read and scanned, waits until each transaction that it depends on
+    /// is settled, becomes Committed and is finished. Each step takes the lock anew, so that others
+    /// go on meanwhile. The receipt is one more of the session's: what its calls were answered,
+    /// which is compared with what the core holds. The commit is durable once a flush has answered
+    /// a mark that isn't below its end.
     ///
     /// Refused: NoSuchTransaction without a transaction, DependencyAborted, ClockSpent,
-    /// OutOfMemory, ValidationFailed. After ClockSpent and OutOfMemory the transaction is still
-    /// there, and the call may be repeated.
+    /// OutOfMemory, ValidationFailed, and with Busy where the core holds other answers, which no
+    /// run meets. After ClockSpent and OutOfMemory the transaction is still there, and the call may
+    /// be repeated.
     pub fn commit_tx<R: Wait>(&mut self, rt: &R) -> Result<Stamp, Refusal>
         ensures none { IsNoTx self.old.tx result }
-        ensures tx { self.new.tx ≡ tx_ended self.old.tx result }
-        ensures durable { self.new.durable ≡ self.old.durable }
+        ensures committed { HasCommitted self.old result self.new }
     {
         let Some(tx) = self.tx else {
             return Err(Refusal::NoSuchTransaction);
         };
-        match self.settled(rt, tx) {
+        self.receipts.reserve()?;
+        match settled(rt, self.engine, tx, &mut self.receipts, &mut self.told) {
             Ok(end) => {
-                self.finish(rt, tx);
+                let _ = self.tx.take();
+                self.replace_words(rt, tx);
                 Ok(end)
             }
             Err(refusal) => {
@@ -61,8 +67,7 @@ impl<'e, L: Run, D: Disk, G: Gate + Drop> Session<'e, L, D, G> {
     /// transaction.
     pub fn rollback_tx<R: Wait>(&mut self, rt: &R) -> Result<(), Refusal>
         ensures none { IsNoTx self.old.tx result }
-        ensures tx { self.new.tx ≡ tx_ended self.old.tx result }
-        ensures durable { self.new.durable ≡ self.old.durable }
+        ensures left { HasLeft self.old result self.new }
     {
         let Some(tx) = self.tx else {
             return Err(Refusal::NoSuchTransaction);
@@ -81,18 +86,26 @@ impl<'e, L: Run, D: Disk, G: Gate + Drop> Session<'e, L, D, G> {
 
     // Ends the transaction by a refusal that is a failure.
     pub(super) fn end_by<R: Wait>(&mut self, rt: &R, tx: TxId, refusal: Refusal)
-        ensures tx { self.new.tx ≡ (if is_failure refusal then None else self.old.tx) }
-        ensures durable { self.new.durable ≡ self.old.durable }
+        ensures { self.new ≡ session_after refusal self.old }
     {
         if is_failure(refusal) {
             self.finish(rt, tx);
         }
     }
 
+    // Rolls back the transaction, if there is one.
+    pub(super) fn leave<R: Wait>(&mut self, rt: &R)
+        ensures { self.new ≡ record self.old { tx = None } }
+    {
+        if let Some(tx) = self.tx {
+            let _ = self.rolled_back(rt, tx);
+            self.finish(rt, tx);
+        }
+    }
+
     // Finishes the transaction, which is Committed or Aborted.
-    pub(super) fn finish<R: Wait>(&mut self, rt: &R, tx: TxId)
-        ensures tx { self.new.tx ≡ None }
-        ensures durable { self.new.durable ≡ self.old.durable }
+    fn finish<R: Wait>(&mut self, rt: &R, tx: TxId)
+        ensures { self.new ≡ record self.old { tx = None } }
     {
         self.replace_words(rt, tx);
         self.tx = None;
@@ -108,41 +121,73 @@ impl<'e, L: Run, D: Disk, G: Gate + Drop> Session<'e, L, D, G> {
         }
     }
 
-    pub(super) fn rolled_back<R: Wait>(&self, rt: &R, tx: TxId) -> Result<(), Refusal> {
+    fn rolled_back<R: Wait>(&self, rt: &R, tx: TxId) -> Result<(), Refusal> {
         self.enter(rt).rollback_tx(tx)
     }
+}
 
-    // The steps of a commit up to Committed.
-    fn settled<R: Wait>(&self, rt: &R, tx: TxId) -> Result<Stamp, Refusal> {
-        self.prepare(rt, tx)?;
-        self.validate(rt, tx)?;
-        self.settle(rt, tx)
+/// The steps of a commit up to Committed.
+fn settled<L: Run, D: Disk, G: Gate + Drop, R: Wait>(
+    rt: &R,
+    engine: &Engine<L, D, G>,
+    tx: TxId,
+    mine: &mut Receipts<L>,
+    told: &mut Told,
+) -> Result<Stamp, Refusal>
+    requires room { mine.old.room ≡ true }
+    requires above { AreBelow tx.0 mine.old.list }
+    ensures { HasEnded tx.0 told.old mine.old result mine.new told.new }
+{
+    if let Err(refusal) = prepare(rt, engine, tx) {
+        return Err(refusal);
     }
-
-    fn prepare<R: Wait>(&self, rt: &R, tx: TxId) -> Result<Stamp, Refusal> {
-        self.enter(rt).precommit(tx)
+    if let Err(refusal) = validate(rt, engine, tx) {
+        return Err(refusal);
     }
+    settle(rt, engine, tx, mine, told)
+}
 
-    fn validate<R: Wait>(&self, rt: &R, tx: TxId) -> Result<(), Refusal> {
-        for _ in rt.forever() {
-            match self.enter(rt).validate_one(tx) {
-                Ok(Validation::More) => {}
-                Ok(Validation::Valid) => return Ok(()),
-                Err(refusal) => return Err(refusal),
-            }
+fn prepare<L: Run, D: Disk, G: Gate + Drop, R: Wait>(
+    rt: &R,
+    engine: &Engine<L, D, G>,
+    tx: TxId,
+) -> Result<Stamp, Refusal> {
+    engine.enter_core(rt).precommit(tx)
+}
+
+fn validate<L: Run, D: Disk, G: Gate + Drop, R: Wait>(
+    rt: &R,
+    engine: &Engine<L, D, G>,
+    tx: TxId,
+) -> Result<(), Refusal> {
+    for _ in rt.forever() {
+        match engine.enter_core(rt).validate_one(tx) {
+            Ok(Validation::More) => {}
+            Ok(Validation::Valid) => return Ok(()),
+            Err(refusal) => return Err(refusal),
         }
-        unreachable!()
     }
+    unreachable!()
+}
 
-    fn settle<R: Wait>(&self, rt: &R, tx: TxId) -> Result<Stamp, Refusal> {
-        for _ in rt.forever() {
-            match self.enter(rt).settle(tx) {
-                Ok(Settlement::Committed(end)) => return Ok(end),
-                Ok(Settlement::Waiting(_)) => {}
-                Err(refusal) => return Err(refusal),
-            }
-            thread::yield_now();
+fn settle<L: Run, D: Disk, G: Gate + Drop, R: Wait>(
+    rt: &R,
+    engine: &Engine<L, D, G>,
+    tx: TxId,
+    mine: &mut Receipts<L>,
+    told: &mut Told,
+) -> Result<Stamp, Refusal>
+    requires room { mine.old.room ≡ true }
+    requires above { AreBelow tx.0 mine.old.list }
+    ensures { HasEnded tx.0 told.old mine.old result mine.new told.new }
+{
+    for _ in rt.forever() {
+        match engine.enter_core(rt).settle(mine, tx, told) {
+            Ok(Settlement::Committed(end)) => return Ok(end),
+            Ok(Settlement::Waiting(_)) => {}
+            Err(refusal) => return Err(refusal),
         }
-        unreachable!()
+        thread::yield_now();
     }
+    unreachable!()
 }

@@ -2,27 +2,32 @@
 
 use super::Session;
 use crate::gate::Gate;
-use crate::run::Run;
 use mvo_disk::Disk;
-use mvo_types::{Answer, Refusal, Row, RowKey, TxId};
+use mvo_run::Run;
+use mvo_types::{Answer, Op, Refusal, Row, RowKey, TxId};
 use std::sync::Wait;
 
 impl<'e, L: Run, D: Disk, G: Gate + Drop> Session<'e, L, D, G> {
-    ghost use Rattle.std.specs.Prelude.{◌≡◌, None, Some, Err, IsSome, IfOk, OnErr};
-    ghost use Rattle.mvo_types.specs.declared.refusal.Refusal.{Refusal};
-    ghost use Rattle.mvo_engine.specs.Calls.{tx_after, IsBegun, IsNoTx};
+    ghost use Rattle.std.specs.Prelude.{◌≡◌, [], IfOk};
+    ghost use Rattle.mvo_types.specs.declared.op.Op.TheVariants as Op;
+    ghost use Rattle.mvo_engine.specs.Calls.{HasAsked, IsBegun, IsNoTx};
+    ghost use Rattle.mvo_run.specs.Receiving.{AreBelow};
 
-    /// Begins a transaction. Its id is its begin timestamp. Refused: Busy where the session has
-    /// one, TableFull, ClockSpent, OutOfMemory.
+    /// Begins a transaction, above the ends of all receipts. Its id is its begin timestamp.
+    /// Refused: Busy where the session has one, TableFull, ClockSpent, OutOfMemory.
     pub fn begin_tx<R: Wait>(&mut self, rt: &R) -> Result<TxId, Refusal>
         ensures begun { IsBegun self.old.tx result self.new.tx }
-        ensures durable { self.new.durable ≡ self.old.durable }
+        ensures told { IfOk result (λ _. self.new.told ≡ []) }
+        ensures above { IfOk result (λ t. AreBelow t.0 self.new.receipts) }
+        ensures rest { self.new ≡
+            record self.old { tx = self.new.tx; told = self.new.told } }
     {
         if self.tx.is_some() {
             return Err(Refusal::Busy);
         }
-        match self.enter(rt).begin_tx() {
+        match self.enter(rt).begin_tx(self.receipts.last_end()) {
             Ok(tx) => {
+                self.told.clear();
                 self.tx = Some(tx);
                 Ok(tx)
             }
@@ -34,14 +39,14 @@ impl<'e, L: Run, D: Disk, G: Gate + Drop> Session<'e, L, D, G> {
     /// DependencyAborted, BadTable, TooManyReads, OutOfMemory.
     pub fn read<R: Wait>(&mut self, rt: &R, key: RowKey) -> Result<Answer, Refusal>
         ensures none { IsNoTx self.old.tx result }
-        ensures tx { self.new.tx ≡ tx_after self.old.tx result }
-        ensures durable { self.new.durable ≡ self.old.durable }
+        ensures asked { HasAsked self.old (Op.Read key) result self.new }
     {
         let Some(tx) = self.tx else {
             return Err(Refusal::NoSuchTransaction);
         };
+        self.told.reserve()?;
         let result = self.enter(rt).read(tx, key);
-        self.told(rt, tx, result)
+        self.keep(rt, tx, Op::Read(key), result)
     }
 
     /// Puts a row where none is shown. Refused: NoSuchTransaction without a transaction,
@@ -49,41 +54,43 @@ impl<'e, L: Run, D: Disk, G: Gate + Drop> Session<'e, L, D, G> {
     /// OutOfMemory.
     pub fn insert<R: Wait>(&mut self, rt: &R, row: Row) -> Result<Answer, Refusal>
         ensures none { IsNoTx self.old.tx result }
-        ensures tx { self.new.tx ≡ tx_after self.old.tx result }
-        ensures durable { self.new.durable ≡ self.old.durable }
+        ensures asked { HasAsked self.old (Op.Insert row) result self.new }
     {
         let Some(tx) = self.tx else {
             return Err(Refusal::NoSuchTransaction);
         };
+        let copy = row.copy()?;
+        self.told.reserve()?;
         let result = self.enter(rt).insert(tx, row);
-        self.told(rt, tx, result)
+        self.keep(rt, tx, Op::Insert(copy), result)
     }
 
     /// Replaces the row that is shown at a key. Refused as `insert`.
     pub fn update<R: Wait>(&mut self, rt: &R, row: Row) -> Result<Answer, Refusal>
         ensures none { IsNoTx self.old.tx result }
-        ensures tx { self.new.tx ≡ tx_after self.old.tx result }
-        ensures durable { self.new.durable ≡ self.old.durable }
+        ensures asked { HasAsked self.old (Op.Update row) result self.new }
     {
         let Some(tx) = self.tx else {
             return Err(Refusal::NoSuchTransaction);
         };
+        let copy = row.copy()?;
+        self.told.reserve()?;
         let result = self.enter(rt).update(tx, row);
-        self.told(rt, tx, result)
+        self.keep(rt, tx, Op::Update(copy), result)
     }
 
     /// Deletes the row that is shown at a key. Refused: NoSuchTransaction without a transaction,
     /// DependencyAborted, BadTable, TooManyReads, TooManyWrites, WriteConflict, OutOfMemory.
     pub fn delete<R: Wait>(&mut self, rt: &R, key: RowKey) -> Result<Answer, Refusal>
         ensures none { IsNoTx self.old.tx result }
-        ensures tx { self.new.tx ≡ tx_after self.old.tx result }
-        ensures durable { self.new.durable ≡ self.old.durable }
+        ensures asked { HasAsked self.old (Op.Delete key) result self.new }
     {
         let Some(tx) = self.tx else {
             return Err(Refusal::NoSuchTransaction);
         };
+        self.told.reserve()?;
         let result = self.enter(rt).delete(tx, key);
-        self.told(rt, tx, result)
+        self.keep(rt, tx, Op::Delete(key), result)
     }
 
     /// Reads the rows of a table with `lo <= sort <= hi`, by sort and then by key. Refused:
@@ -91,31 +98,43 @@ impl<'e, L: Run, D: Disk, G: Gate + Drop> Session<'e, L, D, G> {
     /// OutOfMemory.
     pub fn scan<R: Wait>(&mut self, rt: &R, table: u8, lo: u64, hi: u64) -> Result<Answer, Refusal>
         ensures none { IsNoTx self.old.tx result }
-        ensures tx { self.new.tx ≡ tx_after self.old.tx result }
-        ensures durable { self.new.durable ≡ self.old.durable }
+        ensures asked { HasAsked self.old (Op.Scan table lo hi) result self.new }
     {
         let Some(tx) = self.tx else {
             return Err(Refusal::NoSuchTransaction);
         };
+        self.told.reserve()?;
         let result = self.enter(rt).scan(tx, table, lo, hi);
-        self.told(rt, tx, result)
+        self.keep(rt, tx, Op::Scan(table, lo, hi), result)
     }
 
-    // Passes on what the transaction was told of an operation. A failure ends it, and it is
-    // finished.
-    fn told<R: Wait>(
+    // Passes on what the transaction was answered to an operation, and keeps a copy. A failure ends
+    // the transaction; where memory is refused for the copy, it is rolled back.
+    fn keep<R: Wait>(
         &mut self,
         rt: &R,
         tx: TxId,
+        op: Op,
         answer: Result<Answer, Refusal>,
     ) -> Result<Answer, Refusal>
-        ensures same { result ≡ answer }
-        ensures tx { self.new.tx ≡ tx_after self.old.tx result }
-        ensures durable { self.new.durable ≡ self.old.durable }
+        ensures asked { HasAsked self.old op result self.new }
     {
-        if let Err(refusal) = &answer {
-            self.end_by(rt, tx, *refusal);
+        match answer {
+            Ok(answer) => self.keep_answer(rt, op, answer),
+            Err(refusal) => {
+                self.end_by(rt, tx, refusal);
+                Err(refusal)
+            }
         }
-        answer
+    }
+
+    fn keep_answer<R: Wait>(&mut self, rt: &R, op: Op, answer: Answer) -> Result<Answer, Refusal>
+        ensures asked { HasAsked self.old op result self.new }
+    {
+        if self.told.keep(op, &answer).is_err() {
+            self.leave(rt);
+            return Err(Refusal::OutOfMemory);
+        }
+        Ok(answer)
     }
 }

@@ -7,7 +7,7 @@ use super::{SEED, formatted};
 use crate::equal::same;
 use mvo_disk::Disk;
 use mvo_engine::{Engine, Fresh, Gate, OpenGate, Run, Session};
-use mvo_types::Refusal;
+use mvo_types::{Refusal, Stamp};
 use std::alloc::Global;
 use std::marker::Brand;
 use std::sync::Wait;
@@ -20,13 +20,14 @@ const TURNS: u32 = 10_000;
 
 const YIELDS: u32 = 100;
 
-/// One thread flushes, and its sync is held until another's read is answered.
+/// One thread flushes, and its sync is held until another's read is answered. Answers the mark of
+/// the flush, and the byte that was found.
 fn flush_and_read<L: Run + Send + Sync, D: Disk + Send, R: Threads + Wait + Sync>(
     rt: &R,
     alloc: Global,
     engine: &Engine<L, D, OpenGate>,
     hold: &Hold,
-) -> Result<Option<u8>, Refusal> {
+) -> Result<(Stamp, Option<u8>), Refusal> {
     let mut session = engine.session(rt)?;
     put(rt, alloc, &mut session, 0x61)?;
     hold.armed.store(1, Ordering::SeqCst);
@@ -38,14 +39,13 @@ fn read_beside<L: Run + Send + Sync, D: Disk + Send, R: Threads + Wait + Sync>(
     engine: &Engine<L, D, OpenGate>,
     session: &mut Session<'_, L, D, OpenGate>,
     hold: &Hold,
-) -> Result<Option<u8>, Refusal> {
+) -> Result<(Stamp, Option<u8>), Refusal> {
     let (mark, byte) = join(
         rt,
         || engine.flush(rt),
         || read_while_held(rt, session, hold),
     );
-    mark?;
-    byte
+    Ok((mark?, byte?))
 }
 
 /// An engine over what is on the disk.
@@ -54,7 +54,7 @@ fn freeing<D: Disk + Drop + Send, R: Threads + Wait + Sync>(
     alloc: Global,
     disk: D,
     hold: &Hold,
-) -> Result<(Option<u8>, D), Refusal> {
+) -> Result<((Stamp, Option<u8>), D), Refusal> {
     match Fresh::open(rt, alloc, SEED, disk) {
         Ok(fresh) => run_freeing::<Brand, D, R>(rt, alloc, fresh, hold),
         Err((refusal, _)) => Err(refusal),
@@ -66,8 +66,8 @@ fn run_freeing<L: Run + Send + Sync, D: Disk + Drop + Send, R: Threads + Wait + 
     alloc: Global,
     fresh: Fresh<D>,
     hold: &Hold,
-) -> Result<(Option<u8>, D), Refusal>
-    requires { IsNamedBy D.Disk L.image L.marks L.ring fresh }
+) -> Result<((Stamp, Option<u8>), D), Refusal>
+    requires { IsNamedBy D.Disk L.image L.marks L.ring L.name L.parts fresh }
 {
     let engine = Engine::<L, D, OpenGate>::new(fresh, OpenGate);
     let told = flush_and_read(rt, alloc, &engine, hold)?;
@@ -101,7 +101,9 @@ fn disk_wait_leaves_reads_free(rt: HostRuntime) -> Result<(), Fail> {
         disk: formatted(alloc)?,
         hold: &hold,
     };
-    let (byte, _) = freeing(&rt, alloc, disk, &hold)?;
+    let ((mark, byte), _) = freeing(&rt, alloc, disk, &hold)?;
+    // The clock is at 4 by then, since the read's transaction has drawn two timestamps more.
+    same(&rt, &mark, &Stamp(2));
     same(&rt, &byte, &Some(0x61));
     same(&rt, &hold.held.load(Ordering::SeqCst), &1);
     same(&rt, &hold.late.load(Ordering::SeqCst), &0);

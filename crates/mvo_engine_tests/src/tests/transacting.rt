@@ -13,7 +13,8 @@ use std::sync::Wait;
 use std::test::*;
 use std::thread::Threads;
 
-/// Puts the byte at the key in place of what is there.
+/// Puts the byte at the key in place of what is there. It looks at another key too, so that its
+/// commit has more than one entry to check.
 #[derive(Drop)]
 struct Replace {
     alloc: Global,
@@ -27,6 +28,7 @@ impl<L: Run, D: Disk, G: Gate + Drop> Transaction<Option<u8>, L, D, G> for Repla
         session: &mut Session<'_, L, D, G>,
     ) -> Result<Option<u8>, Refusal> {
         let before = byte_in(&session.read(rt, KEY)?);
+        session.read(rt, RowKey { table: 0, key: 6 })?;
         session.insert(rt, row(self.alloc, self.byte)?)?;
         session.update(rt, row(self.alloc, self.byte)?)?;
         Ok(before)
@@ -65,7 +67,7 @@ fn run_transacting<L: Run + Send + Sync, D: Disk + Drop + Send, R: Threads + Wai
     alloc: Global,
     fresh: Fresh<D>,
 ) -> Result<Vec<bool>, Refusal>
-    requires { IsNamedBy D.Disk L.image L.marks L.ring fresh }
+    requires { IsNamedBy D.Disk L.image L.marks L.ring L.name L.parts fresh }
 {
     let engine = Engine::<L, D, OpenGate>::new(fresh, OpenGate);
     go(rt, alloc, &engine)

@@ -1,9 +1,14 @@
 use Rattle.mvo_engine.specs.Opened.{image_of}
+use Rattle.mvo_engine.specs.Watching.{nothing_watched}
 use Rattle.bench_core.proofs.threads.on_disk.Given as goal
 
-abbrev pub ghosts-with_engine : goal.ghosts-with_engine
-ghosts-with_engine g a = record {
+abbrev pub ghosts-with_engine-L-Ledger : goal.ghosts-with_engine-L-Ledger
+ghosts-with_engine-L-Ledger g a = record { name = a.fresh.ledger; parts = a.fresh.parts }
+
+abbrev pub ghosts-with_engine-L-Run : goal.ghosts-with_engine-L-Run
+ghosts-with_engine-L-Run g a = record {
   image = image_of g.D.Disk a.fresh;
   marks = a.fresh.marks;
   ring = a.fresh.ring;
+  watched = nothing_watched;
 }

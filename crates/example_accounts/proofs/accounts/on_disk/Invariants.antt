@@ -1,9 +1,14 @@
 use Rattle.mvo_engine.specs.Opened.{image_of}
+use Rattle.mvo_engine.specs.Watching.{nothing_watched}
 use Rattle.example_accounts.proofs.accounts.on_disk.Given as goal
 
-abbrev pub ghosts-run : goal.ghosts-run
-ghosts-run g a = record {
+abbrev pub ghosts-run-L-Ledger : goal.ghosts-run-L-Ledger
+ghosts-run-L-Ledger g a = record { name = a.fresh.ledger; parts = a.fresh.parts }
+
+abbrev pub ghosts-run-L-Run : goal.ghosts-run-L-Run
+ghosts-run-L-Run g a = record {
   image = image_of g.D.Disk a.fresh;
   marks = a.fresh.marks;
   ring = a.fresh.ring;
+  watched = nothing_watched;
 }

@@ -23,7 +23,7 @@ pub returns-in-Some-clause-step : goal.returns-in-Some-clause-step
 returns-in-Some-clause-step c = λ opening steps s h.
     let f = c.self.inside in
     let old : CoreData = core_data f in
-    let why : why_not_active old.table c.args.tx.0 ≡ Some c.in-Some.refusal = sym c.not_active.ensures ∙ c.in-Some.is in
+    let why : why_not_active old.table c.args.tx.0 ≡ Some c.in-Some.refusal = sym c.active-refusal.ensures.refusal ∙ c.in-Some.is in
     subst (λ r. LeadsOn opening steps s (Precommit c.args.tx.0) (Refused r) c.give_up.new.self) (sym c.give_up.ensures.same)
     (precommit_refused opening steps s c.args.self.now h c.args.tx.0 c.in-Some.refusal c.give_up.new.self
     (ap (λ (v : CoreData). why_not_active v.table c.args.tx.0) (sym c.self.view_is) ∙ why) c.give_up.ensures.left)
@@ -34,7 +34,7 @@ returns-then-clock-ge-MAX_STAMP-clause-step c = λ opening steps s h.
     let old : CoreData = core_data f in
     let g : StandsFor opening steps s old = subst (StandsFor opening steps s) (sym c.self.view_is) h in
     subst (LeadsOn opening steps s (Precommit c.args.tx.0) (Refused ClockSpent)) c.self.view_is
-    (clock_spent_leads opening steps s old g c.args.tx (sym c.not_active.ensures ∙ c.in_default.is) (subst (λ n. MAX_STAMP ≤ n) c.clock-clock.ensures.value c.if-clock-ge-MAX_STAMP.true))
+    (clock_spent_leads opening steps s old g c.args.tx (sym c.active-refusal.ensures.refusal ∙ c.in_default.is) (subst (λ n. MAX_STAMP ≤ n) c.clock-clock.ensures.value c.if-clock-ge-MAX_STAMP.true))
 
 pub open-requires : goal.open-requires
 open-requires c =
@@ -50,7 +50,7 @@ returns-in_err-place-clause-step c = λ opening steps s h.
     let g : StandsFor opening steps s old = subst (StandsFor opening steps s) (sym c.self.view_is) h in
     subst (λ r. LeadsOn opening steps s (Precommit c.args.tx.0) r (record old { tale = c.open.new.self })) (came_spent c.from_residual-in_err-place.result c.from_residual-in_err-place.ensures.1)
     (subst (λ slots. LeadsOn opening steps s (Precommit c.args.tx.0) (Refused OutOfMemory) (record old { tale = slots })) (sym c.in_err-place.ensures.err)
-    (memory_spent_leads opening steps s old g c.args.tx (sym c.not_active.ensures ∙ c.in_default.is) (subst (λ n. n < MAX_STAMP) c.clock-clock.ensures.value c.if-clock-ge-MAX_STAMP.false)))
+    (memory_spent_leads opening steps s old g c.args.tx (sym c.active-refusal.ensures.refusal ∙ c.in_default.is) (subst (λ n. n < MAX_STAMP) c.clock-clock.ensures.value c.if-clock-ge-MAX_STAMP.false)))
 
 pub prepare-requires : goal.prepare-requires
 prepare-requires c =
@@ -58,7 +58,7 @@ prepare-requires c =
     let i = c.self.invariant.stands in
     let old : CoreData = core_data f in
     let drawn : Stamp = record { 0 = c.clock-clock.result.0 + 1 } in
-    active_there i.opening i.steps i.state old i.stands c.args.tx (sym c.not_active.ensures ∙ c.in_default.is) c.in_ok-place.place c.in_ok-place.ensures.place c.keep_place.new.table c.keep_place.ensures
+    active_there i.opening i.steps i.state old i.stands c.args.tx (sym c.active-refusal.ensures.refusal ∙ c.in_default.is) c.in_ok-place.place c.in_ok-place.ensures.place c.keep_place.new.table c.keep_place.ensures
     drawn (ap (λ n. n + 1) c.clock-clock.ensures.value) c.open.new.self c.in_ok-place.ensures.ok c.bring_forward.new.versions c.bring_forward.ensures
     (subst (λ n. n < MAX_STAMP) c.clock-clock.ensures.value c.if-clock-ge-MAX_STAMP.false)
 
@@ -71,10 +71,10 @@ invariant_of-self-2 c =
     record {
       stands =
           stands_on i (Precommit c.args.tx.0) (came c.prepare.result) (record old { versions = c.bring_forward.new.versions; table = c.prepare.new.self; tale = c.open.new.self })
-          (draw_leads i.opening i.steps i.state old i.stands c.args.tx (sym c.not_active.ensures ∙ c.in_default.is) c.in_ok-place.place c.in_ok-place.ensures.place c.keep_place.new.table c.keep_place.ensures
+          (draw_leads i.opening i.steps i.state old i.stands c.args.tx (sym c.active-refusal.ensures.refusal ∙ c.in_default.is) c.in_ok-place.place c.in_ok-place.ensures.place c.keep_place.new.table c.keep_place.ensures
           drawn (ap (λ n. n + 1) c.clock-clock.ensures.value) c.open.new.self c.in_ok-place.ensures.ok c.bring_forward.new.versions c.bring_forward.ensures
           (subst (λ n. n < MAX_STAMP) c.clock-clock.ensures.value c.if-clock-ge-MAX_STAMP.false) c.prepare.result c.prepare.new.self c.prepare.ensures.ok c.prepare.ensures.refused);
-      waiting = drawn_waits i.opening i.steps i.state old i.stands c.args.tx (sym c.not_active.ensures ∙ c.in_default.is) c.in_ok-place.place c.in_ok-place.ensures.place c.keep_place.new.table c.keep_place.ensures drawn (ap (λ n. n + 1) c.clock-clock.ensures.value) c.bring_forward.new.versions c.bring_forward.ensures (subst (λ n. n < MAX_STAMP) c.clock-clock.ensures.value c.if-clock-ge-MAX_STAMP.false) f.waiting c.make_room_for_ended.new.self c.await_ends.new.waiting c.make_room_for_ended.ensures.same c.await_ends.ensures c.self.invariant.waiting c.prepare.result c.prepare.new.self c.prepare.ensures.ok c.prepare.ensures.refused;
+      waiting = drawn_waits i.opening i.steps i.state old i.stands c.args.tx (sym c.active-refusal.ensures.refusal ∙ c.in_default.is) c.in_ok-place.place c.in_ok-place.ensures.place c.keep_place.new.table c.keep_place.ensures drawn (ap (λ n. n + 1) c.clock-clock.ensures.value) c.bring_forward.new.versions c.bring_forward.ensures (subst (λ n. n < MAX_STAMP) c.clock-clock.ensures.value c.if-clock-ge-MAX_STAMP.false) f.waiting c.make_room_for_ended.new.self c.await_ends.new.waiting c.make_room_for_ended.ensures.same c.await_ends.ensures c.self.invariant.waiting c.prepare.result c.prepare.new.self c.prepare.ensures.ok c.prepare.ensures.refused;
     }
 
 pub returns-clause-step : goal.returns-clause-step
@@ -83,7 +83,7 @@ returns-clause-step c = λ opening steps s h.
     let old : CoreData = core_data f in
     let g : StandsFor opening steps s old = subst (StandsFor opening steps s) (sym c.self.view_is) h in
     let drawn : Stamp = record { 0 = c.clock-clock.result.0 + 1 } in
-    draw_leads opening steps s old g c.args.tx (sym c.not_active.ensures ∙ c.in_default.is) c.in_ok-place.place c.in_ok-place.ensures.place c.keep_place.new.table c.keep_place.ensures
+    draw_leads opening steps s old g c.args.tx (sym c.active-refusal.ensures.refusal ∙ c.in_default.is) c.in_ok-place.place c.in_ok-place.ensures.place c.keep_place.new.table c.keep_place.ensures
     drawn (ap (λ n. n + 1) c.clock-clock.ensures.value) c.open.new.self c.in_ok-place.ensures.ok c.bring_forward.new.versions c.bring_forward.ensures
     (subst (λ n. n < MAX_STAMP) c.clock-clock.ensures.value c.if-clock-ge-MAX_STAMP.false) c.prepare.result c.prepare.new.self c.prepare.ensures.ok c.prepare.ensures.refused
 
@@ -93,7 +93,7 @@ returns-in_err-make_room_for_ended-clause-step c = λ opening steps s h.
     let old : CoreData = core_data f in
     let g : StandsFor opening steps s old = subst (StandsFor opening steps s) (sym c.self.view_is) h in
     subst (λ r. LeadsOn opening steps s (Precommit c.args.tx.0) r old) (came_spent c.from_residual.result c.from_residual.ensures.1)
-    (memory_spent_leads opening steps s old g c.args.tx (sym c.not_active.ensures ∙ c.in_default.is) (subst (λ n. n < MAX_STAMP) c.clock-clock.ensures.value c.if-clock-ge-MAX_STAMP.false))
+    (memory_spent_leads opening steps s old g c.args.tx (sym c.active-refusal.ensures.refusal ∙ c.in_default.is) (subst (λ n. n < MAX_STAMP) c.clock-clock.ensures.value c.if-clock-ge-MAX_STAMP.false))
 
 -- ---- room for what it has ended
 pub invariant_of-self : goal.invariant_of-self
@@ -117,13 +117,13 @@ pub await_ends-requires-clause-counted : goal.await_ends-requires-clause-counted
 await_ends-requires-clause-counted c =
     let f = c.self.inside in
     let same = ap (λ (ws : ℕ → List WordPlace). length (ws c.args.tx.0)) (words_placed f.table c.keep_place.new.table c.args.tx.0 c.in_ok-place.place c.keep_place.ensures) in
-    let count = c.word_count-count.ensures in
+    let count = c.active-refusal.ensures.words in
     omega (arith, same, count)
 
 pub await_ends-requires-clause-room : goal.await_ends-requires-clause-room
 await_ends-requires-clause-room c =
     let f = c.self.inside in
     let same = ap (λ (ws : ℕ → List WordPlace). length (ws c.args.tx.0)) (words_placed f.table c.keep_place.new.table c.args.tx.0 c.in_ok-place.place c.keep_place.ensures) in
-    let count = c.word_count-count.ensures in
+    let count = c.active-refusal.ensures.words in
     let room = c.in_ok-make_room_for_ended.ensures.ok in
     omega (arith, same, count, room)

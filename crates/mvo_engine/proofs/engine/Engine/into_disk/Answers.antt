@@ -1,9 +1,18 @@
+use Rattle.std.proofs.Common.{subst}
+use Rattle.mvo_disk.specs.Disk.{AllOf}
 use Rattle.mvo_store.specs.Seen.{mark_of}
 use Rattle.mvo_engine.proofs.engine.Engine.into_disk.Goals as goal
 
-pub returns : goal.returns
-returns g c = λ slots. record {
+pub returns-clause-gives : goal.returns-clause-gives
+returns-clause-gives g c = λ slots. record {
   received = c.into_inner.result.received;
   least = mark_of c.into_inner.result.store;
   gives = c.into_disk.ensures.gives slots;
+}
+
+pub returns-clause-images : goal.returns-clause-images
+returns-clause-images g c = λ slots image of. record {
+  received = c.into_inner.result.received;
+  least = mark_of c.into_inner.result.store;
+  gives = c.into_disk.ensures.images.images slots image (subst (λ x. AllOf (g.D.Disk.may_leave x) image) c.into_disk.ensures.disk of);
 }

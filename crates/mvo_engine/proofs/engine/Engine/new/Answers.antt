@@ -3,12 +3,12 @@ use Rattle.mvo_engine.specs.Opened.{FreshData, image_of}
 use Rattle.mvo_engine.proofs.Begun.{renamed, sound_core, sound_store}
 use Rattle.mvo_engine.proofs.engine.Engine.new.Goals as goal
 
-pub new-requires-2 : goal.new-requires-2
-new-requires-2 g c =
+pub new-requires-clause-sound : goal.new-requires-clause-sound
+new-requires-clause-sound g c =
     let same = ap (λ (x : FreshData _). image_of g.D.Disk x) c.fresh.view_is ∙ c.requires.image_is in
-    sound_core g.D.Disk (renamed g.D.Disk c.fresh.invariant.0 same) _ (c.new.ensures.sent ∙ c.fresh.invariant.2.sent_is)
+    sound_core g.D.Disk (renamed g.D.Disk c.fresh.invariant.0 same) _ (c.new-sends.ensures.sent ∙ c.fresh.invariant.2.sent_is)
 
-pub new-requires-4-clause-sound : goal.new-requires-4-clause-sound
-new-requires-4-clause-sound g c =
+pub new-requires-3-clause-sound : goal.new-requires-3-clause-sound
+new-requires-3-clause-sound g c =
     let same = ap (λ (x : FreshData _). image_of g.D.Disk x) c.fresh.view_is ∙ c.requires.image_is in
     sound_store g.D.Disk (renamed g.D.Disk c.fresh.invariant.0 same) _ c.fresh.invariant.2.received_is

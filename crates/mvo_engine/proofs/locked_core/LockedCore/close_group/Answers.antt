@@ -1,11 +1,19 @@
 use Rattle.std.proofs.Common.{refl}
 use Rattle.mvo_engine.proofs.CoreSound.{after_closing}
+use Rattle.mvo_engine.proofs.Booked.{closed}
 use Rattle.mvo_engine.proofs.locked_core.LockedCore.close_group.Goals as goal
 
 pub invariant_of-self : goal.invariant_of-self
 invariant_of-self g c =
     let i = c.self.invariant in
-    after_closing i c.self.inside.sends c.close_group.new.self refl c.close_group.result c.close_group.new.core (c.close_group.ensures i.rows i.steps i.state i.stands)
+    let s = i.0 in
+    let b = i.1 in
+    let old = c.self.inside.sends in
+    let new = c.close_group.new.self in
+    let core = c.close_group.new.core in
+    let result = c.close_group.result in
+    let e = c.close_group.ensures in
+    (after_closing s old new refl result core (e s.rows s.steps s.state s.stands), closed g.L.Run.watched b old new result core (e b.rows b.steps b.state b.stands), i.2)
 
 pub returns : goal.returns
 returns g c = rw (← c.self.view_is) (record { sending = c.close_group.ensures; made = refl })

@@ -1,11 +1,14 @@
 use Rattle.std.proofs.Common.{refl}
 use Rattle.mvo_engine.proofs.CoreSound.{collected}
+use Rattle.mvo_engine.proofs.Booked.{collected as booked_collected}
 use Rattle.mvo_engine.proofs.locked_core.LockedCore.collect_one.Goals as goal
 
 pub invariant_of-self : goal.invariant_of-self
 invariant_of-self g c =
     let e = c.collect_one.ensures in
-    collected c.self.invariant c.collect_one.new.self e.stands e.rest
+    let i = c.self.invariant in
+    let new = c.collect_one.new.self in
+    (collected i.0 new e.stands e.rest, booked_collected g.L.Run.watched i.1 new e.stands, i.2)
 
 pub returns : goal.returns
 returns g c =

@@ -1,5 +1,5 @@
 use Rattle.std.proofs.Common.{refl}
-use Rattle.mvo_engine.proofs.CoreSound.{stays_sound}
+use Rattle.mvo_engine.proofs.Booked.{stays_sound}
 use Rattle.mvo_engine.proofs.locked_core.LockedCore.scan.Goals as goal
 
 pub invariant_of-self : goal.invariant_of-self

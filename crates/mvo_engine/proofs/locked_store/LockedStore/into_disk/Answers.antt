@@ -6,3 +6,6 @@ pub returns-clause-gives : goal.returns-clause-gives
 returns-clause-gives g c = λ slots.
     let disk = disk_of c.self.inside.store in
     rw (← c.self.view_is, c.into_disk.ensures) (received_image g.D.Disk c.self.invariant.0 slots (g.D.Disk.content disk) (λ n. g.met.D.Disk.content_may_stay disk n))
+
+pub returns-clause-images : goal.returns-clause-images
+returns-clause-images g c = rw (← c.self.view_is) (record { images = received_image g.D.Disk c.self.invariant.0 })

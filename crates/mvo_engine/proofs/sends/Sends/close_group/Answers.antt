@@ -15,7 +15,7 @@ invariant_of-self-in-Err g c =
 pub returns-in-Ok : goal.returns-in-Ok
 returns-in-Ok g c = rw (← c.self.view_is) (λ rows steps s h.
     let told = c.in-Ok.ensures.step rows steps s h in
-    (told.0, told.1, c.raise_closed.ensures.raised))
+    (told.0, told.1, c.raise_closed.ensures.no_further))
 
 pub returns-in-Err : goal.returns-in-Err
 returns-in-Err g c = rw (← c.self.view_is) (λ rows steps s h.

@@ -3,4 +3,4 @@ use Rattle.mvo_engine.proofs.session.Session.wait_durable.Given as goal
 
 abbrev pub invariant-loop : goal.invariant-loop
 invariant-loop g l =
-    (goal.iterator-loop g).can_next l.iterator' × (goal.iterator-loop g).is_finite l.iterator' × (l.self.tx ≡ l.fn.self.tx)
+    (goal.iterator-loop g).can_next l.iterator' × (goal.iterator-loop g).is_finite l.iterator' × (l.self ≡ record l.fn.self { durable = l.self.durable })

@@ -5,7 +5,7 @@ use Rattle.mvo_marks.proofs.Kept.{begins, splits, sees_durable, sees_closed, rai
 use Rattle.mvo_marks.proofs.marks.Marks.publish.Goals as goal
 
 pub fetch_max-requires : goal.fetch_max-requires
-fetch_max-requires c = (ap (λ p. p.marks) c.publisher.view_is ∙ (c.requires ∙ sym c.self.view_is), omega (arith, c.self.invariant), raises _ _ _ (step 0 0 c.mark-mark.result.0 0 none))
+fetch_max-requires c = (ap (λ p. p.marks) c.publisher.view_is ∙ (c.requires ∙ sym c.self.view_is), omega (arith, c.self.invariant), raises _ _ _ (step 0 0 _ 0 none))
 
 pub fetch_max-requires-2 : goal.fetch_max-requires-2
 fetch_max-requires-2 c =

@@ -1,0 +1,75 @@
+-- Where no word was replaced none is left, and then nothing is passed over.
+use Rattle.std.proofs.Common.{◌≡◌, ℕ, Bool, true, false, List, [], Option, None, Some, refl, sym, ap, ◌∙◌, subst, ⊎_elim}
+use Rattle.std.specs.Prelude.{IsSome, slice_get}
+use Rattle.std.specs.Option.{option_map}
+use Rattle.std.proofs.lemmas.Cmp.{nat_cmp_total}
+use Rattle.std.specs.Ordering.{nat_cmp}
+use Rattle.std.specs.FinMap.{FinMap, get, insert, same_map, nat_cmp-IsAntisymmetric}
+use Rattle.std.proofs.lemmas.Bool.{cases_eq}
+use Rattle.mvo_chain.specs.Slots.{Slots}
+use Rattle.mvo_txn.specs.declared.seat.Seat.{Seat}
+use Rattle.mvo_txn.specs.Seats.{with_kept_at}
+use Rattle.mvo_txn.specs.Txns.{Txns, kept_of, after_write}
+use Rattle.mvo_txn.proofs.Stamps.{get_inserted, get_beside}
+use Rattle.mvo_deps.specs.declared.node.Node.{Node}
+use Rattle.mvo_word.specs.declared.held.Held.{Held}
+use Rattle.mvo_versions.specs.Data.{VersionsData}
+use Rattle.mvo_core.specs.declared.transaction.Transaction.{Transaction}
+use Rattle.mvo_core.specs.Data.{own_of}
+use Rattle.mvo_core.specs.Standing.{words_by, words_in}
+use Rattle.mvo_core.specs.Keeping.{IsWritten, with_own_at}
+use Rattle.mvo_core.specs.Finishing.{from_own, HasPassed, IsNextReplaced, IsFirstReplaced}
+use Rattle.mvo_core.proofs.FirstWord.{first_of, first_passed}
+
+pub none_left : (old new : VersionsData) (table after : Txns (Node Transaction)) (t : ℕ) (w : Held) → IsNextReplaced old new table after t w → slice_get (from_own old.slots t (words_in table t)) 0 ≡ None → words_in after t ≡ []
+none_left old new table after t w r none =
+    let empty : slice_get (words_in r.between t) 0 ≡ None = first_passed old.slots table r.between t r.passed ∙ none in
+    let first : IsFirstReplaced old new r.between after t w None = subst (IsFirstReplaced old new r.between after t w) empty r.first in
+    ap (λ x. words_in x t) first.1 ∙ first_of (words_in r.between t) empty
+
+-- ---- to write what is kept changes nothing
+none_node : (n : Node Transaction) → ◌≡◌ {A = Option (Node Transaction)} None (Some n) → ⊥
+none_node n e = cc
+
+some_node : (n m : Node Transaction) → ◌≡◌ {A = Option (Node Transaction)} (Some n) (Some m) → n ≡ m
+some_node n m e = cc
+
+not_there : ◌≡◌ {A = Bool} false true → ⊥
+not_there e = cc
+
+kept_map : {X : Type 0} (m : FinMap nat_cmp X) (k : ℕ) (x : X) → get m k ≡ Some x → insert m k x ≡ m
+kept_map m k x h = same_map nat_cmp_total nat_cmp-IsAntisymmetric (insert m k x) m (λ q.
+    ⊎_elim
+    (λ e. subst (λ n. get (insert m k x) n ≡ get m n) (sym e) (get_inserted m k x ∙ sym h))
+    (λ ne. get_beside m k x q ne)
+    (cases_eq q k))
+
+module _ (table : Txns (Node Transaction)) (t : ℕ) where
+  kept_seats : (node : Node Transaction) (o : Option (Seat (Node Transaction))) → get table.seats t ≡ o → option_map (λ s. s.kept) o ≡ Some node → with_kept_at o table.seats t node ≡ table.seats
+  kept_seats node None is w = absurd (none_node node w)
+  kept_seats node (Some s) is w = ap (λ n. insert table.seats t (record s { kept = n })) (sym (some_node s.kept node w)) ∙ kept_map table.seats t s is
+
+  write_kept : (node : Node Transaction) → kept_of table t ≡ Some node → after_write table t node ≡ table
+  write_kept node k = ap (λ seats. record table { seats = seats }) (kept_seats node (get table.seats t) refl k)
+
+  pub passed_none : (slots : Slots) → IsSome (own_of table t) → words_in table t ≡ [] → IsWritten table table t (HasPassed slots t)
+  passed_none slots there none = go (kept_of table t) refl
+    where
+      go : (o : Option (Node Transaction)) → kept_of table t ≡ o → IsWritten table table t (HasPassed slots t)
+      go None k = absurd (not_there (subst IsSome (ap (option_map (λ n. n.own)) k) there))
+      go (Some node) k =
+          let was : own_of table t ≡ Some node.own = ap (option_map (λ n. n.own)) k in
+          let empty : node.own.work.words ≡ [] = sym (ap words_by was) ∙ none in
+          record {
+            before = node.own;
+            after = node.own;
+            was = was;
+            is = sym (ap (λ o. with_own_at o table t node.own) k ∙ write_kept node k);
+            changed = record {
+              history = refl;
+              words = empty ∙ sym (ap (from_own slots t) empty);
+              place = refl;
+              checked = refl;
+              valid = refl;
+            };
+          }

@@ -1,0 +1,49 @@
+-- What is known with both locks.
+use Rattle.std.specs.Prelude.{◌≡◌, ℕ, nat_lt, List, [], ◌∷◌, ◌++◌}
+use Rattle.std.specs.List.{filter}
+use Rattle.mvo_types.specs.Keys.{Map}
+use Rattle.mvo_model.specs.History.{after_history}
+use Rattle.mvo_model.specs.Trace.{Step}
+use Rattle.mvo_disk.specs.declared.disk.Disk.{Ghosts}
+use Rattle.mvo_disk.specs.Disk.{Image, AllOf}
+use Rattle.mvo_group.specs.Data.{GroupData}
+use Rattle.mvo_theory.specs.State.{State, timeline, after_settled}
+use Rattle.mvo_theory.specs.Marks.{Commit, settled_to}
+use Rattle.mvo_core.specs.Standing.{StandsFor}
+use Rattle.mvo_store.specs.Rows.{after_groups}
+use Rattle.mvo_store.specs.Seen.{disk_of, mark_of}
+use Rattle.mvo_store.specs.Standing.{Gives, HasSlots}
+use Rattle.mvo_engine.specs.Sound.{last_mark, GivesReceived}
+use Rattle.mvo_engine.specs.States.{CoreState, StoreState}
+
+-- the rows after what these commits wrote
+abbrev pub after_commits : List Commit → Map → Map
+after_commits [] m = m
+after_commits (c ∷ cs) m = after_commits cs (after_history c.1 m)
+
+-- the commits that are in no group yet
+abbrev pub not_sent : State → List GroupData → List Commit
+not_sent s sent = filter (λ c. nat_lt (last_mark sent) c.0) (settled_to s.clock (timeline s))
+
+-- The opening rows followed by the sent groups, and then by the commits that are in no group yet,
+-- are the rows after the whole history.
+abbrev pub AgreesWithHistory : Map → State → List GroupData → Type 0
+AgreesWithHistory opening s sent =
+    after_commits (not_sent s sent) (after_groups opening sent) ≡ after_settled s.stamped s.base
+
+-- The groups that were received are a beginning of those that were sent, which agree with the
+-- history. Each image that a stop now may leave gives the opening rows followed by a beginning of
+-- those that were sent, up to a mark at least the store's.
+pub record IsAudited {D : Type 0} (d : Ghosts D) (opening : Image) (c : CoreState)
+    (s : StoreState D) : Type 0 where
+  pub behind : List GroupData
+  pub begins : s.received ++ behind ≡ c.sends.sent
+  pub rows : Map
+  pub mark : ℕ
+  pub gives : Gives rows mark opening
+  pub steps : List Step
+  pub state : State
+  pub stands : StandsFor rows steps state c.core
+  pub agrees : AgreesWithHistory rows state c.sends.sent
+  pub images : HasSlots opening → (image : Image) → AllOf (d.may_leave (disk_of s.store)) image →
+      GivesReceived opening c.sends.sent (mark_of s.store) image

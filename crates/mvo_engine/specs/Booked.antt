@@ -1,0 +1,25 @@
+-- The book of the ledger beside the core, and the parts that no session has.
+use Rattle.std.specs.Prelude.{◌≡◌, ◌+◌, ◌<◌, ℕ, List}
+use Rattle.mvo_types.specs.Keys.{Map}
+use Rattle.mvo_model.specs.Trace.{Step}
+use Rattle.mvo_theory.specs.State.{State}
+use Rattle.mvo_core.specs.Data.{CoreData}
+use Rattle.mvo_core.specs.Standing.{StandsFor}
+use Rattle.mvo_core.specs.Receipts.{stored_commits}
+use Rattle.mvo_run.specs.declared.run.TheConstants.{MAX_SESSIONS}
+use Rattle.mvo_run.specs.Watching.{Watched, count_of}
+
+-- The core stands for a state. Where the tale starts below the end that is watched, the total is
+-- what the stored commits count.
+pub record IsBooked (w : Watched) (c : CoreData) (total : ℕ) : Type 0 where
+  pub rows : Map
+  pub steps : List Step
+  pub state : State
+  pub stands : StandsFor rows steps state c
+  pub counted : state.start < w.end → total ≡ count_of w (stored_commits state)
+
+-- the parts that no session has count nothing, and are what those made leave of all
+pub record HasSpareParts (parts made spare amount : ℕ) : Type 0 where
+  pub all : parts ≡ MAX_SESSIONS
+  pub spare_parts : spare + made ≡ parts
+  pub spare_amount : amount ≡ 0

@@ -1,0 +1,66 @@
+//! The jobs of the store, each from its first step to its installing.
+
+use super::Engine;
+use crate::gate::Gate;
+use crate::run::Run;
+use mvo_disk::Disk;
+use mvo_store::{Generation, Progress};
+use mvo_types::Refusal;
+use std::sync::Wait;
+
+impl<L: Run, D: Disk, G: Gate + Drop> Engine<L, D, G> {
+    /// All steps of a rotation of the log, from the fresh segment to its installing. The lock of
+    /// the store is taken anew for each step, so that others flush in between. Answers the
+    /// generation of the installed manifest.
+    ///
+    /// It stops at the first step that is refused, and what its earlier steps did stays done: the
+    /// steps that are left may be made under the guard of the store. Refused: Down, Busy where a
+    /// job runs, ClockSpent, NothingToDo where the last segment holds no group, SegmentsFull,
+    /// OutOfMemory, DiskFault.
+    pub fn rotate<R: Wait>(&self, rt: &R) -> Result<Generation, Refusal> {
+        self.lock_store(rt).rotate_write()?;
+        self.install(rt)
+    }
+
+    /// All steps of a checkpoint of the oldest sealed segment, up to its installing, as `rotate`
+    /// makes its own.
+    ///
+    /// Refused as `rotate` is, but with NothingToDo where no segment is sealed, and with PairsFull
+    /// in place of SegmentsFull.
+    pub fn checkpoint<R: Wait>(&self, rt: &R) -> Result<Generation, Refusal> {
+        self.lock_store(rt).checkpoint_read()?;
+        self.lock_store(rt).checkpoint_data()?;
+        self.write_deltas(rt)?;
+        self.install(rt)
+    }
+
+    /// All steps of a merge of the pair at a place, from 0 on, and the one behind it, up to its
+    /// installing, as `rotate` makes its own.
+    ///
+    /// Refused as `rotate` is, but with NothingToDo where the pair behind isn't there, and with
+    /// PairTooLarge in place of SegmentsFull.
+    pub fn merge<R: Wait>(&self, rt: &R, place: usize) -> Result<Generation, Refusal> {
+        self.lock_store(rt).merge_read(place)?;
+        self.lock_store(rt).merge_data()?;
+        self.lock_store(rt).merge_delta()?;
+        self.install(rt)
+    }
+
+    // Writes delta files while more are left.
+    fn write_deltas<R: Wait>(&self, rt: &R) -> Result<(), Refusal> {
+        for _ in rt.forever() {
+            match self.lock_store(rt).checkpoint_delta()? {
+                Progress::More => {}
+                Progress::Ready => return Ok(()),
+            }
+        }
+        unreachable!()
+    }
+
+    // All steps of an install.
+    fn install<R: Wait>(&self, rt: &R) -> Result<Generation, Refusal> {
+        self.lock_store(rt).install_close()?;
+        self.lock_store(rt).install_body()?;
+        self.lock_store(rt).install_open()
+    }
+}

@@ -1,0 +1,36 @@
+use std::marker::Brand;
+use std::sync::ledger::Ledger;
+
+/// So many sessions may be made of one engine: each has one part of the ledger.
+pub const MAX_SESSIONS: u32 = 1_048_576;
+
+/// Names one run of an engine: what its disk held when it was opened, its marks and its ring, a
+/// ledger of `MAX_SESSIONS` parts, and the receipt that the ledger counts, which may be any: no
+/// code knows which. The values under the locks and the sessions agree on it.
+pub trait Run: Ledger {
+    ghost use Rattle.mvo_disk.specs.Disk.{Image};
+    ghost use Rattle.atomic_table.specs.Seated.{TableId};
+    ghost use Rattle.mvo_run.specs.Rings.{RingName};
+    ghost use Rattle.mvo_run.specs.Watching.{Watched};
+
+    ghost image: { Image };
+
+    ghost marks: { TableId };
+
+    ghost ring: { RingName };
+
+    ghost watched: { Watched };
+}
+
+impl Run for Brand {
+    ghost use Rattle.mvo_run.specs.Rings.{no_image, no_marks, no_ring};
+    ghost use Rattle.mvo_run.specs.Watching.{nothing_watched};
+
+    ghost image = { no_image };
+
+    ghost marks = { no_marks };
+
+    ghost ring = { no_ring };
+
+    ghost watched = { nothing_watched };
+}
