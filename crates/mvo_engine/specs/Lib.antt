@@ -1,5 +1,6 @@
 pub mod Rings
 pub mod Sound
+pub mod Opening
 pub mod Opened
 pub mod States
 pub mod Calls

@@ -1,9 +1,9 @@
 -- Which ring it is, and names that stand for none.
-use Rattle.std.specs.Prelude.{ℕ, []}
+use Rattle.std.specs.Prelude.{ℕ, [], false}
 use Rattle.atomic_table.specs.Seated.{TableId}
 use Rattle.rtrb.specs.declared.producer.Producer.{Producer}
 use Rattle.rtrb.specs.declared.consumer.Consumer.{Consumer}
-use Rattle.mvo_disk.specs.Disk.{Image}
+use Rattle.mvo_engine.specs.Opening.{Opening}
 use denote.RawPtr.{Ptr, null_ptr}
 
 -- which ring it is
@@ -34,5 +34,5 @@ no_marks = record {
   slot_names = [];
 }
 
-abbrev pub no_image : Image
-no_image n = []
+abbrev pub no_opening : Opening
+no_opening = record { image = λ n. []; honest = false }

@@ -51,13 +51,14 @@ impl<L: Run, D: Disk + Drop, G: Gate + Drop> Drop for Engine<L, D, G> {
 impl<L: Run, D: Disk, G: Gate + Drop> Engine<L, D, G> {
     ghost use Rattle.std.specs.Prelude.{◌≡◌, None, IfOk, IfErr};
     ghost use Rattle.mvo_types.specs.declared.refusal.Refusal.{Refusal};
-    ghost use Rattle.mvo_store.specs.Standing.{HasSlots};
+    ghost use Rattle.mvo_disk.specs.Disk.{IsHonest};
+    ghost use Rattle.mvo_engine.specs.Opening.{WasFormatted};
     ghost use Rattle.mvo_engine.specs.Opened.{IsNamedBy};
     ghost use Rattle.mvo_engine.specs.Sound.{GivesSome};
 
     /// An engine of these parts, which name its run.
     pub fn new(fresh: Fresh<D>, gate: G) -> Engine<L, D, G>
-        requires { IsNamedBy D.Disk L.image L.marks L.ring fresh }
+        requires { IsNamedBy D.Disk L.opening L.marks L.ring fresh }
     {
         let Fresh {
             core,
@@ -143,10 +144,11 @@ impl<L: Run, D: Disk, G: Gate + Drop> Engine<L, D, G> {
         StoreGuard::new(self.enter_store(rt), &self.marks)
     }
 
-    /// The disk, as it stands. Where it was formatted, it gives the opening rows followed by groups
-    /// that were received.
+    /// The disk, as it stands. Where it was formatted and has answered as written, it gives the
+    /// opening rows followed by groups that were received.
     pub fn into_disk(self) -> D
-        ensures { HasSlots L.image → GivesSome L.image (D.content result) }
+        ensures { IsHonest (D.moment result) → WasFormatted L.opening →
+            GivesSome L.opening (D.content result) }
     {
         let Engine {
             gate: _,

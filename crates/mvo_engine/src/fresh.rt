@@ -31,6 +31,7 @@ impl<D: Disk> Model for Fresh<D> {
     ghost use Rattle.mvo_store.specs.Places.{coded_places};
     ghost use Rattle.mvo_store.specs.Seen.{disk_of, mark_of};
     ghost use Rattle.mvo_engine.specs.Rings.{ring_of, ring_from};
+    ghost use Rattle.mvo_engine.specs.Opening.{opening_of};
     ghost use Rattle.mvo_engine.specs.Opened.{FreshData, HasOpened, AreFreshSeats, IsFreshRing};
 
     ghost Value = { FreshData D };
@@ -44,7 +45,7 @@ impl<D: Disk> Model for Fresh<D> {
       ring = ring_of f.producer;
     } };
 
-    ghost invariant = { λ f. HasOpened D.Disk (D.content (disk_of f.store)) f.core f.store ×
+    ghost invariant = { λ f. HasOpened D.Disk (opening_of D.Disk (disk_of f.store)) f.core f.store ×
         AreFreshSeats f.marks (mark_of f.store) f.publisher f.seat ×
         IsFreshRing (mark_of f.store) f.producer f.consumer };
 }
@@ -53,6 +54,7 @@ impl<D: Disk> Fresh<D> {
     ghost use Rattle.std.specs.Prelude.{◌≡◌, ℕ, IfOk, IfErr};
     ghost use Rattle.mvo_types.specs.declared.refusal.Refusal.{Refusal};
     ghost use Rattle.mvo_types.specs.Keys.{Map};
+    ghost use Rattle.mvo_disk.specs.Disk.{IsHonest};
     ghost use Rattle.mvo_store.specs.Standing.{Gives};
     ghost use Rattle.mvo_store.specs.Opening.{KeepsContent, LeavesAsBefore};
     ghost use Rattle.mvo_store.specs.Opening.{IsNotOpened, IsNotOfFiles};
@@ -71,8 +73,8 @@ impl<D: Disk> Fresh<D> {
         ensures any_moment { IfOk result (λ fresh.
             LeavesAsBefore D.Disk disk (disk_of fresh.store)) }
         ensures refused { IfErr result (λ e. IsNotOpened D.Disk disk e.0 e.1) }
-        ensures well_formed { IfErr result (λ e. (rows : Map) (mark : ℕ) →
-            Gives rows mark (D.content disk) → IsNotOfFiles e.0) }
+        ensures well_formed { IfErr result (λ e. IsHonest (D.moment e.1) →
+            (rows : Map) (mark : ℕ) → Gives rows mark (D.content disk) → IsNotOfFiles e.0) }
         ensures content_err { IfErr result (λ e. KeepsContent D.Disk disk e.1) }
         ensures any_moment_err { IfErr result (λ e. LeavesAsBefore D.Disk disk e.1) }
     {

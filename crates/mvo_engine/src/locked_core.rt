@@ -38,7 +38,7 @@ impl<L: Run> Model for LockedCore<L> {
 
     ghost view = { λ s. record { core = s.core; sends = s.sends; made = s.made } };
 
-    ghost invariant = { λ s. IsSoundCore L.image s.core s.sends.sent };
+    ghost invariant = { λ s. IsSoundCore L.opening s.core s.sends.sent };
 }
 
 impl<L: Run> LockedCore<L> {
@@ -56,7 +56,7 @@ impl<L: Run> LockedCore<L> {
 
     /// A core with where it closes its groups, of which no session was made.
     pub fn new(core: Core, sends: Sends<L>) -> LockedCore<L>
-        requires { IsSoundCore L.image core sends.sent }
+        requires { IsSoundCore L.opening core sends.sent }
         ensures core { result.core ≡ core }
         ensures sends { result.sends ≡ sends }
         ensures made { result.made ≡ 0 }
@@ -71,7 +71,7 @@ impl<L: Run> LockedCore<L> {
     /// The timestamp that was drawn last, or the opening mark.
     pub fn clock(&self) -> Stamp
         ensures value { result.0 ≡ self.now.core.table.clock }
-        ensures legal { IsLegalCore L.image self.now.core self.now.sends.sent }
+        ensures legal { IsLegalCore L.opening self.now.core self.now.sends.sent }
     {
         self.core.clock()
     }
