@@ -171,7 +171,6 @@ impl Disk for MemDisk {
     ghost use Rattle.mvo_disk.specs.Disk.{Only, Holds, PartlyHolds, Torn, Cut, Follows, Reaches};
     ghost use Rattle.mvo_disk.specs.Disk.{Keeps, Counts};
     ghost use Rattle.mvo_disk.specs.Memory.{counts_now, only_now, counts_later};
-    ghost use Rattle.std.proofs.Common.{refl};
     ghost use Rattle.mvo_disk.specs.Record.{calls_of, content_of, images_of, moment_of, left_since};
     ghost use Rattle.mvo_disk.specs.Record.{Records};
     ghost use Rattle.mvo_disk.specs.Disk.{Answers};
@@ -198,8 +197,6 @@ impl Disk for MemDisk {
 
     ghost counts_later = { λ m t u image before. counts_later m.start.items (calls_of m) t.calls
         u.calls image before.calls };
-
-    ghost always_honest = { λ m. refl };
 
     // Each call is refused where it is the one that is to fail, and for want of memory. It is then
     // not recorded, and no file has changed.
