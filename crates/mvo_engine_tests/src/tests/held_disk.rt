@@ -75,8 +75,6 @@ impl<'h, D: Disk> Disk for HeldDisk<'h, D> {
 
     ghost counts_later = { λ d t u image le left. D.counts_later d.disk t u image le left };
 
-    ghost always_honest = { λ d. D.always_honest d.disk };
-
     fn len(&mut self, file: u16) -> Result<usize, DiskFault> {
         self.disk.len(file)
     }
