@@ -3,6 +3,7 @@ ghost use Rattle.std.specs.Prelude.{◌≡◌, [], ◌<◌, IfOk};
 ghost use Rattle.mvo_disk.specs.declared.limits.TheConstants.{FILE_COUNT};
 
 use crate::folder::{Folder, FolderRefusal};
+use crate::progress::Progress;
 use crate::record::Record;
 use crate::{Disk, DiskFault, FILE_COUNT, Start};
 use std::alloc::Global;
@@ -18,52 +19,71 @@ use std::marker::PhantomData;
 ///
 /// After a write, a cut or a sync that the system failed, each later call fails with no call of the
 /// system: the folder has to be opened again.
-pub struct DirDisk<R: Files<File = File> + Drop, S: Start> {
+///
+/// `P` is told of each read how many bytes were read so far, and how many the files held at first.
+pub struct DirDisk<R: Files<File = File> + Drop, S: Start, P: Progress + Drop> {
     folder: Folder<R>,
     history: Record,
     start: PhantomData<S>,
+    progress: P,
+    read: u64,
+    all: u64,
     // Whether the system failed a write, a cut or a sync.
     is_broken: bool,
     fault_count: u64,
 }
 
-impl<R: Files<File = File> + Drop, S: Start> Drop for DirDisk<R, S> {
+impl<R: Files<File = File> + Drop, S: Start, P: Progress + Drop> Drop for DirDisk<R, S, P> {
     fn drop(self) {
         let DirDisk {
             folder: _,
             history: _,
             start: _,
+            progress: _,
+            read: _,
+            all: _,
             is_broken: _,
             fault_count: _,
         } = self;
     }
 }
 
-// Looks for each file.
-fn find_all<R: Files<File = File> + Drop>(folder: &mut Folder<R>) -> Result<(), FolderRefusal> {
+// Looks for each file, and answers how many bytes they hold.
+fn find_all<R: Files<File = File> + Drop>(folder: &mut Folder<R>) -> Result<u64, FolderRefusal> {
+    let mut all = 0u64;
     for file in 0..FILE_COUNT {
-        folder.find(file)?;
+        let len = folder.find(file)?;
+        all = all.wrapping_add(len);
     }
     folder.sync_names()?;
-    Ok(())
+    Ok(all)
 }
 
-impl<R: Files<File = File> + Drop, S: Start> DirDisk<R, S> {
+impl<R: Files<File = File> + Drop, S: Start, P: Progress + Drop> DirDisk<R, S, P> {
     ghost use Rattle.std.specs.Prelude.{◌≡◌, ◌<◌, ◌+◌, ◌^◌, [], IfOk, IsErr};
 
     /// The disk in the folder at a path. All that its files hold is durable then. The folder is
     /// this process's until the disk is dropped. The start is used up, so that code over any `S`
     /// opens one folder for each.
-    pub fn open(rt: R, alloc: Global, path: &str, _start: S) -> Result<DirDisk<R, S>, FolderRefusal>
+    pub fn open(
+        rt: R,
+        alloc: Global,
+        path: &str,
+        _start: S,
+        progress: P,
+    ) -> Result<DirDisk<R, S, P>, FolderRefusal>
         ensures fresh { IfOk result (λ d. d.history.events ≡ []) }
         ensures count { IfOk result (λ d. d.fault_count ≡ 0) }
     {
         let mut folder = Folder::open(rt, alloc, path)?;
-        find_all(&mut folder)?;
+        let all = find_all(&mut folder)?;
         Ok(DirDisk {
             folder,
             history: Record::new(),
             start: PhantomData,
+            progress,
+            read: 0,
+            all,
             is_broken: false,
             fault_count: 0,
         })
@@ -92,7 +112,7 @@ impl<R: Files<File = File> + Drop, S: Start> DirDisk<R, S> {
     }
 }
 
-impl<R: Files<File = File> + Drop, S: Start> Disk for DirDisk<R, S> {
+impl<R: Files<File = File> + Drop, S: Start, P: Progress + Drop> Disk for DirDisk<R, S, P> {
     ghost use Rattle.std.specs.Prelude.{length};
     ghost use Rattle.mvo_disk.specs.History.{content_after, MayLeave, LeftSince, is_honest};
     ghost use Rattle.mvo_disk.specs.HistoryLaws.{sound, counts_now, only_now, counts_later};
@@ -142,6 +162,8 @@ impl<R: Files<File = File> + Drop, S: Start> Disk for DirDisk<R, S> {
             return self.fail();
         };
         self.history.gave(file, at, into);
+        self.read = self.read.wrapping_add(into.len() as u64);
+        self.progress.tell(self.read, self.all);
         Ok(())
     }
 

@@ -210,19 +210,20 @@ impl<R: Files<File = File> + Drop> Folder<R> {
         Ok(())
     }
 
-    /// Looks for a file, which is durable then.
-    pub fn find(&mut self, file: u16) -> io::Result<()>
+    /// Looks for a file, and answers its length once it is durable. A missing one has 0 bytes.
+    pub fn find(&mut self, file: u16) -> io::Result<u64>
         requires { file < FILE_COUNT }
     {
         self.locate(file)?;
         let found = match open_file(&self.rt, self.name.as_str()) {
             Ok(found) => found,
-            Err(error) if error.kind() == io::ErrorKind::NotFound => return Ok(()),
+            Err(error) if error.kind() == io::ErrorKind::NotFound => return Ok(0),
             Err(error) => return Err(error),
         };
+        let len = found.metadata()?.len();
         found.sync_data()?;
         self.is_there[file as usize] = true;
-        Ok(())
+        Ok(len)
     }
 
     /// Makes the names of the files durable.
