@@ -1,42 +1,100 @@
-//! A row is put, committed and made durable by one session, and read by another.
+//! Moves money between two accounts, durably.
 #![tactic(auto)]
 
-mod sessions;
+ghost use Rattle.mvo_engine.specs.Opened.{IsNamedBy};
 
 use anyhow::bail;
-use mvo_disk::MemDisk;
+use mvo_disk::{Disk, MemDisk};
+use mvo_engine::{Engine, Fresh, Gate, OpenGate, Run, Session, Transaction};
 use mvo_store::format;
-use mvo_types::Answer;
-use sessions::on_disk;
-use std::alloc::{AllocError, Global};
+use mvo_types::{Answer, Refusal, Row, RowKey};
+use std::alloc::Global;
+use std::marker::Brand;
 use std::random::RandomSource;
+use std::sync::Wait;
+use std::thread::Threads;
+
+/// The key of an account. The sort of its row is the money in it.
+const FROM: RowKey = RowKey { table: 0, key: 1 };
+
+/// The key of the other.
+const TO: RowKey = RowKey { table: 0, key: 2 };
+
+/// Moves so much, if it is there. Answers what the other account has then.
+#[derive(Drop)]
+struct Transfer {
+    alloc: Global,
+    amount: u64,
+}
+
+impl<L: Run, D: Disk, G: Gate + Drop> Transaction<u64, L, D, G> for Transfer {
+    fn run<R: Wait>(&self, rt: &R, session: &mut Session<'_, L, D, G>) -> Result<u64, Refusal> {
+        let from = money_in(&session.read(rt, FROM)?);
+        let to = money_in(&session.read(rt, TO)?);
+        if from < self.amount {
+            return Ok(to);
+        }
+        let from = from.saturating_sub(self.amount);
+        let to = to.saturating_add(self.amount);
+        session.update(rt, Row::from_slice(self.alloc, FROM, from, &[])?)?;
+        session.update(rt, Row::from_slice(self.alloc, TO, to, &[])?)?;
+        Ok(to)
+    }
+}
+
+fn money_in(found: &Answer) -> u64 {
+    match found {
+        Answer::Found(Some(row)) => row.sort,
+        _ => 0,
+    }
+}
+
+/// Makes the accounts, moves money, and waits until that is on the disk.
+fn run<L: Run, D: Disk + Drop, R: Wait>(
+    rt: &R,
+    alloc: Global,
+    fresh: Fresh<D>,
+) -> Result<u64, Refusal>
+    requires { IsNamedBy D.Disk L.opening L.marks L.ring L.name L.parts fresh }
+{
+    let engine = Engine::<L, D, OpenGate>::new(fresh, OpenGate);
+    let mut session = engine.session(rt)?;
+    session.begin_tx(rt)?;
+    session.insert(rt, Row::from_slice(alloc, FROM, 100, &[])?)?;
+    session.insert(rt, Row::from_slice(alloc, TO, 0, &[])?)?;
+    session.commit_tx(rt)?;
+
+    let transfer = Transfer { alloc, amount: 30 };
+    let (money, end) = session.transact(rt, 100, &transfer)?;
+    engine.flush(rt)?;
+    session.wait_durable(rt, end)?;
+    Ok(money)
+}
+
+/// Writes a store without rows to the disk, and opens it.
+fn on_disk<D: Disk + Drop, R: Threads + Wait + Sync>(
+    rt: &R,
+    alloc: Global,
+    seed: u64,
+    disk: D,
+) -> Result<u64, Refusal> {
+    let disk = match format(alloc, disk) {
+        Ok(disk) => disk,
+        Err((refusal, _)) => return Err(refusal),
+    };
+    match Fresh::open(rt, alloc, seed, disk) {
+        Ok(fresh) => run::<Brand, D, R>(rt, alloc, fresh),
+        Err((refusal, _)) => Err(refusal),
+    }
+}
 
 fn main(rt: HostRuntime) -> Result<(), anyhow::Error> {
-    let alloc = rt.alloc();
-    let disk = formatted(alloc)?;
-    match on_disk(&rt, alloc, draw_seed(&rt)?, disk) {
-        Ok(Answer::Found(Some(row))) => println!(rt; "row {} {:?}", row.sort, row.bytes())?,
-        Ok(answer) => bail!("the row isn't there: {answer:?}"),
+    let mut seed = [0; 8];
+    rt.fill_bytes(&mut seed)?;
+    let disk = MemDisk::new(rt.alloc())?;
+    match on_disk(&rt, rt.alloc(), u64::from_le_bytes(seed), disk) {
+        Ok(money) => println!(rt; "the other account has {money}")?,
         Err(refusal) => bail!("refused: {refusal}"),
     }
     Ok(())
-}
-
-/// A disk in memory with a store that has no rows.
-fn formatted(alloc: Global) -> Result<MemDisk, anyhow::Error> {
-    match format(alloc, new_disk(alloc)?) {
-        Ok(disk) => Ok(disk),
-        Err((refusal, _)) => bail!("no store is written: {refusal}"),
-    }
-}
-
-fn new_disk(alloc: Global) -> Result<MemDisk, AllocError> {
-    MemDisk::new(alloc)
-}
-
-/// Who chooses the keys of rows must not know the seed of the index.
-fn draw_seed(rt: &impl RandomSource) -> Result<u64, anyhow::Error> {
-    let mut bytes = [0; 8];
-    rt.fill_bytes(&mut bytes)?;
-    Ok(u64::from_le_bytes(bytes))
 }

@@ -17,7 +17,6 @@ use std::thread;
 /// One caller of an engine, in one thread at a time. It has one transaction at a time, and keeps a
 /// receipt of each that it committed. A session that is dropped inside a transaction leaves it
 /// unfinished.
-#[derive(Drop)]
 pub struct Session<'e, L: Run, D: Disk, G: Gate + Drop> {
     engine: &'e Engine<L, D, G>,
     seat: Seat,
@@ -25,6 +24,18 @@ pub struct Session<'e, L: Run, D: Disk, G: Gate + Drop> {
     /// What the calls of its transaction were answered.
     told: Told,
     receipts: Receipts<L>,
+}
+
+impl<'e, L: Run, D: Disk, G: Gate + Drop> Drop for Session<'e, L, D, G> {
+    fn drop(self) {
+        let Session {
+            engine: _,
+            seat: _,
+            tx: _,
+            told: _,
+            receipts: _,
+        } = self;
+    }
 }
 
 impl<'e, L: Run, D: Disk, G: Gate + Drop> Model for Session<'e, L, D, G> {

@@ -3,13 +3,23 @@ use mvo_types::{Answer, Op, Stamp, TxId};
 use std::marker::Model;
 
 /// What a session was told of a transaction that it committed.
-#[derive(Drop)]
 pub struct Receipt {
     pub id: TxId,
     pub begin: Stamp,
     pub end: Stamp,
     /// Its operations with their answers, in order.
     pub operations: Vec<(Op, Answer)>,
+}
+
+impl Drop for Receipt {
+    fn drop(self) {
+        let Receipt {
+            id: _,
+            begin: _,
+            end: _,
+            operations: _,
+        } = self;
+    }
 }
 
 impl Model for Receipt {
@@ -38,7 +48,7 @@ impl Receipt {
             id,
             begin: Stamp(id.0),
             end,
-            operations: told.operations,
+            operations: told.into_operations(),
         }
     }
 

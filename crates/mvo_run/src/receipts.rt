@@ -8,12 +8,21 @@ use std::sync::ledger::{Book, Share};
 
 /// The receipts of a session, with its part of the ledger, which counts what they count. Their ends
 /// rise.
-#[derive(Drop)]
 pub struct Receipts<L: Run> {
     list: Vec<Receipt>,
     share: Share<L>,
     /// The end of the last one, or 0.
     last: Stamp,
+}
+
+impl<L: Run> Drop for Receipts<L> {
+    fn drop(self) {
+        let Receipts {
+            list: _,
+            share: _,
+            last: _,
+        } = self;
+    }
 }
 
 impl<L: Run> Model for Receipts<L> {

@@ -5,9 +5,14 @@ use std::marker::Model;
 use std::mem;
 
 /// The operations of a transaction so far, with the answers that the calls gave, in order.
-#[derive(Drop)]
 pub struct Told {
     pub(crate) operations: Vec<(Op, Answer)>,
+}
+
+impl Drop for Told {
+    fn drop(self) {
+        let Told { operations: _ } = self;
+    }
 }
 
 impl Model for Told {
@@ -62,6 +67,14 @@ impl Told {
         ensures { history_told result.now ≡ self.now }
     {
         self.operations.as_slice()
+    }
+
+    // Apart: the operations.
+    pub(crate) fn into_operations(self) -> Vec<(Op, Answer)>
+        ensures { history_told result.items ≡ self }
+    {
+        let Told { operations } = self;
+        operations
     }
 
     /// All of it, which leaves none.

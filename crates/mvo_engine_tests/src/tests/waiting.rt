@@ -1,4 +1,4 @@
-//! Two flushes wait for the store at once.
+//! Two flushes wait for the store at once, and a session waits for the disk.
 
 use super::counting::CountingStore;
 use super::formatted;
@@ -85,7 +85,7 @@ fn put_and_flush<L: Run, D: Disk, G: Gate + Drop, R: Wait>(
     engine.flush(rt)
 }
 
-// Changes the row once the other's flush has come to the store, and flushes.
+// Changes the row once the other has come to the store, and flushes.
 fn change_and_flush<L: Run, D: Disk, G: Gate + Drop, R: Wait>(
     rt: &R,
     alloc: Global,
@@ -96,6 +96,34 @@ fn change_and_flush<L: Run, D: Disk, G: Gate + Drop, R: Wait>(
     has_come(passes, 2);
     change(rt, alloc, session, 2)?;
     engine.flush(rt)
+}
+
+/// One session waits until its commit is durable. Meanwhile the other commits, and flushes.
+#[derive(Drop)]
+struct Awaiting<'c> {
+    passes: &'c AtomicU64,
+}
+
+impl<'c> Trial<MemDisk, CountingStore<'c>> for Awaiting<'c> {
+    fn go<L: Run + Send + Sync, R: Threads + Wait + Sync>(
+        &self,
+        rt: &R,
+        alloc: Global,
+        engine: &Engine<L, MemDisk, CountingStore<'c>>,
+    ) -> Result<Vec<bool>, Refusal> {
+        let mut one = engine.session(rt)?;
+        let mut two = engine.session(rt)?;
+        let end = put(rt, alloc, &mut one, 1)?;
+        let (waited, flushed) = join(
+            rt,
+            || one.wait_durable(rt, end),
+            || change_and_flush(rt, alloc, engine, &mut two, self.passes),
+        );
+        let mut told = Vec::new(alloc);
+        told.push(waited.is_ok())?;
+        told.push(flushed? == Stamp(4))?;
+        Ok(told)
+    }
 }
 
 #[test]
@@ -110,5 +138,16 @@ fn each_flush_answers_for_all_groups(rt: HostRuntime) -> Result<(), Fail> {
     };
     let (told, _) = tried(&rt, alloc, formatted(alloc)?, gate, &trial)?;
     all_right(&rt, &told, 4);
+    Ok(())
+}
+
+#[test]
+fn who_waits_for_the_disk_holds_no_lock(rt: HostRuntime) -> Result<(), Fail> {
+    let alloc = rt.alloc();
+    let passes = AtomicU64::new(0);
+    let gate = CountingStore { passes: &passes };
+    let trial = Awaiting { passes: &passes };
+    let (told, _) = tried(&rt, alloc, formatted(alloc)?, gate, &trial)?;
+    all_right(&rt, &told, 2);
     Ok(())
 }
