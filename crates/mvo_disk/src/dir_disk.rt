@@ -167,8 +167,9 @@ impl<R: Files<File = File> + Drop, S: Start, P: Progress + Drop> Disk for DirDis
         Ok(())
     }
 
-    // A write that the system failed may have put any part of the bytes into the folder. It is noted
-    // as if all of them stood there: no call asks for them, and no sync succeeds from then on.
+    // A write that the system failed may have put any part of the bytes into the folder. It is
+    // noted as if all of them stood there: no call asks for them, and no sync succeeds from then
+    // on.
     fn write_at(&mut self, file: u16, at: usize, bytes: &[u8]) -> Result<(), DiskFault> {
         if self.is_broken {
             return self.fail();

@@ -75,7 +75,8 @@ pub struct Folder<R: Files<File = File> + Drop> {
     is_there: Vec<bool>,
     // The handle of each file that was written or cut since its last sync.
     handles: Vec<Option<File>>,
-    // The file that was read or synced last, if it hasn't been written or cut since, and its handle.
+    // The file that was read or synced last, if it hasn't been written or cut since, with its
+    // handle.
     used: Option<(u16, File)>,
     // Whether a stop may still take away a file that was made.
     has_new: bool,
