@@ -19,6 +19,10 @@ impl<D: Disk> World<D> {
     /// This is the promise of a formatted disk: the replies are serial, and whatever a stop leaves,
     /// before or within any event, recovers the rows after the transactions committed up to some
     /// timestamp, with every acknowledged one among them, as long as the disk answers as written.
+    ///
+    /// It answers as written: each length and each byte that it answered since it was opened was
+    /// what had been written there last, or, where nothing was written since, what its file held as
+    /// it was opened.
     pub fn run_over(
         rt: &(impl Threads + Sync),
         alloc: Global,
