@@ -120,7 +120,7 @@ fn with_engine<L: Run + Send + Sync, D: Disk + Drop + Send, R: Clock + Threads +
     fresh: Fresh<D>,
     task: Task<'_>,
 ) -> Result<Done, Stopped>
-    requires { IsNamedBy D.Disk L.image L.marks L.ring L.name L.parts fresh }
+    requires { IsNamedBy D.Disk L.opening L.marks L.ring L.name L.parts fresh }
 {
     let engine = Engine::<L, D, OpenGate>::new(fresh, OpenGate);
     on_engine(rt, alloc, &engine, task)

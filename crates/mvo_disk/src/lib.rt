@@ -10,10 +10,10 @@ mod folder;
 mod image;
 mod limits;
 mod memory;
-mod mirror;
 mod progress;
 mod read;
 mod record;
+mod start;
 mod steps;
 mod stop;
 
@@ -26,4 +26,5 @@ pub use limits::FILE_COUNT;
 pub use memory::MemDisk;
 pub use progress::{Progress, Silent};
 pub use read::{ReadFailure, read_whole};
+pub use start::{Start, Unknown};
 pub use steps::{rewrite_synced, write_synced};

@@ -32,7 +32,7 @@ use Rattle.mvo_types.proofs.Maps.{keys_total, exact_keys}
 use Rattle.mvo_load.specs.Leading.{Leads}
 use Rattle.mvo_load.specs.Parts.{HaveRows, HavePlaces}
 use Rattle.mvo_load.specs.Gathered.{AreGathered, AreMade, MayLie, with_places}
-use Rattle.mvo_load.specs.Files.{bytes_of, IsPart}
+use Rattle.mvo_load.specs.Files.{PairBytes, bytes_of, IsPart}
 use Rattle.mvo_load.specs.declared.part.Part.{Part}
 use Rattle.mvo_load.proofs.Ordered.{all_of, apart_each, rows_each, made_in_order}
 use Rattle.mvo_load.proofs.Pairing.{HasFiles, front_of, pair_files_fit, data_files_differ, live_push, none_alone, one_more_alone, Behind, Whole}
@@ -53,7 +53,7 @@ may_lie p (l ∷ live) fits few = ((omega (arith, fits.«data»), omega (arith, 
 abbrev pub AreFiles : Pair → Type 0
 AreFiles p = (p.data_file < 1024) × (p.delta_file < 1024)
 
-all_files : (ps : List Pair) → AllByRecursion HasFiles ps → AllByRecursion AreFiles ps
+pub all_files : (ps : List Pair) → AllByRecursion HasFiles ps → AllByRecursion AreFiles ps
 all_files [] fit = tt
 all_files (p ∷ ps) fit = ((fit.0.«data», fit.0.delta), all_files ps fit.1)
 
@@ -247,3 +247,20 @@ module _ (f : Format) (image : Image) (m : ManifestData) (live : List Numbered) 
 
   pub leads_made : Leads (Behind f image m rows) (Whole f image m)
   leads_made out only = all.leads apart out (subst (λ (r : Map). IsOnly (Behind f image m r) out) rows_are only)
+
+-- the places of parts that were found may lie in a table, whatever their bytes
+module _ (f : Format) where
+  abbrev lying : Part → Placed
+  lying part = part.placed.items
+
+  pub small_parts : (bs : List PairBytes) (parts : List Part) → AllByRecursion HasFiles (map (λ b. b.pair) bs) → AllZip (λ of part. IsPart f of part.live.items part.placed.items) bs parts
+      → All MayLie (flat_map lying parts)
+  small_parts [] [] fit are = All-from_recursion MayLie [] tt
+  small_parts [] (part ∷ parts) fit are = absurd are
+  small_parts (b ∷ bs) [] fit are = absurd are
+  small_parts (b ∷ bs) (part ∷ parts) fit are =
+      let p = b.pair in
+      let live = are.0.live in
+      let here = All-from_recursion MayLie (places_in p.data_file live) (may_lie p live fit.0 (recursion_from_All (λ l. l.0 < p.records) live (live_numbers_rise f p b.data_bytes b.delta_bytes live are.0.only.0).1)) in
+      let mine = subst (λ (es : Placed). All MayLie es) (sym are.0.each) here in
+      subst (λ (es : Placed). All MayLie es) (sym (flat_map-cons lying part parts)) (All-append MayLie (lying part) (flat_map lying parts) mine (small_parts bs parts fit.1 are.1))

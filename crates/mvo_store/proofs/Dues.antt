@@ -1,26 +1,27 @@
 -- A store whose job makes a step, or has opened the gate of its manifest; and one beside calls that look at the disk, or empty a file that is not used.
-use Rattle.std.proofs.Common.{rules, ◌≡◌, ◌≢◌, inl, inr, ℕ, ◌+◌, eqb, ◌&&◌, Bool, true, false, List, [], ◌∷◌, length, get_or, Option, Some, None, Ok, Err, refl, sym, ap, subst, ◌∙◌, arith, ◌<◌, ◌++◌, ◌⊎◌, ◌||◌, eq-eqb}
-use Rattle.std.specs.Prelude.{map, nat_eq, ⊤, MatchOption}
+use Rattle.std.proofs.Common.{rules, ◌≡◌, ◌≢◌, inl, inr, ℕ, ◌+◌, eqb, ◌&&◌, Bool, true, false, List, [], ◌∷◌, length, get_or, Option, Some, None, Ok, Err, refl, sym, ap, subst, ◌∙◌, arith, ◌<◌, ◌++◌, ◌⊎◌, ◌||◌, ◌^◌, cond, ltb, eq-eqb}
+use Rattle.std.specs.Prelude.{map, nat_eq, ⊤, IfSome, MatchOption}
 use Rattle.std.specs.Bool.{OnTrue, OnFalse}
 use Rattle.std.proofs.Math.Bool.{or-true}
-use Rattle.std.proofs.lemmas.Bool.{eqb-true}
+use Rattle.std.proofs.lemmas.Bool.{eqb-true, ltb-true}
 use Rattle.std.specs.List.{AllByRecursion, IsDistinct}
 use Rattle.mvo_types.specs.Keys.{Map}
 use Rattle.mvo_types.specs.declared.refusal.Refusal.{Refusal}
-use Rattle.mvo_types.specs.declared.refusal.Refusal.TheVariants.{DiskFault, OutOfMemory}
+use Rattle.mvo_types.specs.declared.refusal.Refusal.TheVariants.{DiskFault, OutOfMemory, Corrupt, BadVersion}
 use Rattle.mvo_types.specs.declared.row.RowKey.{RowKey}
 use Rattle.mvo_types.specs.declared.limits.TheConstants.{MAX_SEGMENT_LEN}
 use Rattle.mvo_disk.specs.declared.disk.Disk.{Ghosts}
-use Rattle.mvo_disk.specs.Disk.{OthersStay, AllOf, AllStay, Touched, LeavesOnly}
+use Rattle.mvo_disk.specs.Disk.{OthersStay, AllOf, AllStay, Touched, LeavesOnly, IsHonest}
 use Rattle.mvo_disk.specs.Moments.{weaker, runs_on}
 use Rattle.mvo_group.specs.Data.{GroupData}
 use Rattle.mvo_format.specs.declared.format.TheConstants.{FIRST_FORMAT}
 use Rattle.mvo_frame.specs.declared.segment.Segment.{Segment}
 use Rattle.mvo_frame.specs.Standing.{gate_of}
-use Rattle.mvo_pair.specs.Writing.{IsWriteRefusal, CountsFaults}
+use Rattle.mvo_pair.specs.Writing.{IsWriteRefusal, IsStop, CountsFaults}
 use Rattle.mvo_pair.specs.Data.{EntryData, Numbered, AreApart}
 use Rattle.mvo_pair.specs.declared.pair.Pair.{Pair}
 use Rattle.mvo_manifest.specs.Data.{ManifestData}
+use Rattle.mvo_manifest.specs.Rules.{IsFile}
 use Rattle.mvo_places.specs.Places.{PlaceTable, ArePlaces, Rise, file_of, taken_over}
 use Rattle.mvo_ckpt.specs.Writes.{records_of, gone_of}
 use Rattle.mvo_ckpt.proofs.Taking.{places_taken_over}
@@ -44,25 +45,31 @@ use Rattle.mvo_store.specs.declared.due.Due.TheVariants.{Data, Delta, MergeData,
 use Rattle.mvo_store.specs.declared.job.Job.{Job}
 use Rattle.mvo_store.specs.declared.job.Job.TheVariants.{Rotation, Checkpoint, Merge, MergeInstall}
 use Rattle.mvo_store.specs.StoreData.{StoreData, opening}
-use Rattle.mvo_store.specs.Causes.{why_not_due, why_not_install_open, is_rotation, has_rotation}
-use Rattle.mvo_store.specs.Jobs.{step_number, step_due, is_due, after_step, job_takes_file, takes_file}
-use Rattle.mvo_store.specs.Standing.{HasJob, HasRoom, JobHasRoom, IsUp, MayBeLeft, HasSlots, HasBody, HasWork, MayTakeOver}
-use Rattle.mvo_store.specs.Writing.{StandsWith, StillGives, WritesFor, HasMadeStep, TakesMemory, IsStepRefusal, IsOpened}
-use Rattle.mvo_store.specs.Calls.{call_of, why_not, MayMeet, Makes, HasStepped, IsFileOfJob, MayWrite, KeepsOthers, IsStoreStep, rows_after, StoreCall, HasNoFault, LeftByMemory}
+use Rattle.mvo_store.specs.Causes.{why_not_due, is_rotation, has_rotation}
+use Rattle.mvo_store.specs.Jobs.{step_number, step_due, is_due, stage_behind, with_merge, merge_made_by, made_by, after_step, job_takes_file, takes_file}
+use Rattle.mvo_store.specs.Standing.{HasJob, HasRoom, JobHasRoom, IsUp, MayBeLeft, HasSlots, HasBody, HasWork, MayTakeOver, HaveKeys}
+use Rattle.mvo_store.specs.Safe.{IsWithin, IsSafeMerge, IsSafeWork, IsSafeJob, HasNext, IsSafe, IsSound}
+use Rattle.mvo_store.specs.Writing.{StandsWith, StillGives, IsFileDue, WritesFile, WritesFor, HasMadeStep, MayMake, TakesMemory, IsStepRefusal, IsOpened}
+use Rattle.mvo_store.specs.Calls.{call_of, why_not, MayMeet, Makes, HasStepped, IsFileOfJob, MayTouch, KeepsOthers, IsStoreStep, rows_after, StoreCall, HasNoFault, LeftByMemory}
 use Rattle.mvo_store.specs.declared.install.Install.{Install as InstallData}
-use Rattle.mvo_store.specs.declared.checkpoint_stage.CheckpointStage.TheVariants.{Install as AtInstall}
+use Rattle.mvo_store.specs.declared.checkpoint_stage.CheckpointStage.TheVariants.{Data as AtData, Delta as AtDelta, Install as AtInstall}
+use Rattle.mvo_store.specs.declared.checkpoint_stage.CheckpointStage.{CheckpointStage}
+use Rattle.mvo_store.specs.declared.merge_stage.MergeStage.{MergeStage}
+use Rattle.mvo_store.specs.declared.merge_stage.MergeStage.TheVariants.{Data as MergeAtData, Delta as MergeAtDelta}
+use Rattle.mvo_store.specs.declared.merging.Merging.{Merging}
 use Rattle.mvo_store.specs.declared.checkpointing.Checkpointing.{Checkpointing}
 use Rattle.mvo_store.specs.declared.seen.Seen.{Seen}
 use Rattle.mvo_store.specs.Checkpoint.{gained, made_of, IsCheckpointInto}
 use Rattle.mvo_store.specs.Merging.{pairs_of, IsMerging, IsMergeReady}
 use Rattle.mvo_store.specs.Steps.{manifest_after, places_after, segment_after}
-use Rattle.mvo_store.proofs.Keeping.{give_or, stays_up, AllLeave, OnlyNow, CountsNow, slots_as, now_left, touched_left, may_step, Begins, begins, file_others, fault_step, other_step, err_is, all_others, done_step, looked_step}
+use Rattle.mvo_store.proofs.Keeping.{give_or, stays_up, AllLeave, OnlyNow, CountsNow, slots_as, now_left, touched_left, may_step, Begins, begins, file_others, fault_step, misread_step, other_step, err_is, all_others, done_step, looked_step, stays_safe, looked_safe}
+use Rattle.mvo_store.proofs.Checkpoints.{stop_or_misread}
 use Rattle.mvo_store.proofs.Neighbours.{rise_two, apart_two}
 use Rattle.mvo_store.proofs.Working.{Installing, Installs, installs, installing, due_installs, slot_of_install, IsOfPair, RestsOn, JobRestsOn, job_framed, written_of_pair, merged_of_pair}
 use Rattle.mvo_store.proofs.Working.Installing.{OfRotation, OfCheckpoint, OfMerge}
-use Rattle.mvo_load.specs.Read.{HasRead}
+use Rattle.mvo_load.specs.Read.{IsMisread}
 use Rattle.mvo_recovery.proofs.Framed.{files_stay_others, settled_all, settled_framed}
-use Rattle.mvo_store.specs.Reclaiming.{IsLeastDead, HasDead}
+use Rattle.mvo_store.specs.Reclaiming.{IsUnused, IsLeastDead}
 use Rattle.mvo_store.proofs.Logged.{unnamed_unused}
 
 -- ---- the steps by their numbers
@@ -82,13 +89,6 @@ same_due a b e = sym (numbered_back a) ∙ ap numbered (eqb-true (step_number a)
 -- the step that is due
 pub due_is : (step : Due) (o : Option Job) (j : Job) → o ≡ Some j → is_due step o ≡ true → step_due j ≡ step
 due_is step o j is due = same_due (step_due j) step (subst (λ (k : Option Job). is_due step k ≡ true) is due)
-
--- why it isn't made
-pub due_cause : {D : Type 0} (step : Due) (s : StoreData D) (e : Refusal) → why_not_due step s ≡ Some e → e ≢ DiskFault
-due_cause step s e is = grind arith
-
-pub open_cause : {D : Type 0} (s : StoreData D) (e : Refusal) → why_not_install_open s ≡ Some e → e ≢ DiskFault
-open_cause s e is = grind arith
 
 -- only a fault refuses the opening of a gate
 pub fault_only : {D : Type 0} (fault_count : D → ℕ) (due : Due) (old new : D) (e : Refusal) → due ≡ Install Open → IsStepRefusal fault_count due old new e → (e ≡ DiskFault) × (fault_count new ≡ fault_count old + 1)
@@ -117,7 +117,7 @@ module _ {D : Type 0} (d : Ghosts D) (old new : StoreData D) where
   makes_of (Install Open) other h = absurd (other refl)
   makes_of step other h = h
 
-  due_file : (step : Due) (n : ℕ) → IsFileOfJob old.manifest old.job n → MayWrite d old (call_of step) n
+  due_file : (step : Due) (n : ℕ) → IsFileOfJob old.manifest old.job n → MayTouch d (call_of step) old new n
   due_file (Install Close) n h = h
   due_file step n h = h
 
@@ -126,7 +126,7 @@ pub rows_of : {D A : Type 0} (s : StoreData D) (a : A) (step : Due) (rows : Map)
 rows_of s a (Install Close) rows = refl
 rows_of s a step rows = refl
 
-pub begins_due : {D : Type 0} (d : Ghosts D) (s t : StoreData D) (step : Due) → step ≢ Install Open → s ≡ t → why_not_due step t ≡ None → (s.down ≡ false → (rows : Map) × IsUp d s rows) → Begins d s (call_of step)
+pub begins_due : {D : Type 0} (d : Ghosts D) (s t : StoreData D) (step : Due) → step ≢ Install Open → s ≡ t → why_not_due step t ≡ None → (s.down ≡ false → IsSound d s) → Begins d s (call_of step)
 begins_due d s t step other same none = begins d s t (call_of step) same (why_of t step other ∙ none)
 
 pub due_in : {D : Type 0} (s : StoreData D) (step : Due) → step ≢ Install Open → why_not s (call_of step) ≡ None → is_due step s.job ≡ true
@@ -154,53 +154,118 @@ step_room places None (Merge g) room = tt
 step_room places (Some next) (Merge g) room = tt
 step_room places made (MergeInstall g i) room = tt
 
+-- ---- what safety needs of a job
+
+within_behind : (older : ℕ) (stage : CheckpointStage) → IsWithin older stage → IsWithin older (stage_behind older stage)
+within_behind older AtData within = omega arith
+within_behind older (AtDelta written) within = go (ltb written older) refl
+  where
+    go : (b : Bool) → ltb written older ≡ b → IsWithin older (cond b (AtDelta (written + 1)) (AtInstall Close))
+    go true is = omega (arith, ltb-true written older is)
+    go false is = tt
+within_behind older (AtInstall step) within = tt
+
+merge_safe : (m : ManifestData) (g : Merging) (stage : MergeStage) → IsSafeMerge m g → IsSafeWork m (with_merge (merge_made_by m g.seen stage) g)
+merge_safe m g MergeAtData safe = record { pair = safe.pair; may_make = safe.may_make }
+merge_safe m g MergeAtDelta safe = record { pair = safe.pair; next_is = refl }
+
+-- with one step behind it the job is safe
+pub step_safe : (m : ManifestData) (j : Job) → IsSafeWork m j → IsSafeWork m (after_step (made_by m j) j)
+step_safe m (Rotation fresh i) safe = record { file = safe.file; few = safe.few; next_is = safe.next_is }
+step_safe m (Checkpoint c) safe = record { pair = safe.pair; known = safe.known; within = within_behind (length c.made.deltas) c.stage safe.within; next_is = safe.next_is }
+step_safe m (Merge g) safe = merge_safe m g g.stage safe
+step_safe m (MergeInstall g i) safe = record { pair = safe.pair; next_is = safe.next_is }
+
+-- what it makes with its next step keeps the rules
+pub safe_make : (m : ManifestData) (j : Job) → IsSafeWork m j → MayMake m j
+safe_make m (Merge g) safe = safe.may_make
+safe_make m j safe = tt
+
+-- there is room for the places of what it installs
+pub safe_take_over : (m : ManifestData) (places : PlaceTable) (j : Job) → IsSafeWork m j → JobHasRoom places j → MayTakeOver places j
+safe_take_over m places (Rotation fresh i) safe room = tt
+safe_take_over m places (Checkpoint c) safe room = record { file = safe.pair.data_file.1; few = safe.pair.few; room = room }
+safe_take_over m places (Merge g) safe room = tt
+safe_take_over m places (MergeInstall g i) safe room = record { file = safe.pair.data_file.1; few = safe.pair.few }
+
+-- where its manifest is installed, the segment that takes frames is a file of the disk
+opened_file : (m : ManifestData) (j : Job) (segment : Segment) → IsSafeWork m j → IsFile segment.file → IsFile (segment_after j segment).file
+opened_file m (Rotation fresh i) segment safe file = safe.file
+opened_file m j segment safe file = file
+
+opened_few : (m : ManifestData) (j : Job) (segment : Segment) → IsSafeWork m j → segment.gate < MAX_SEGMENT_LEN → (segment_after j segment).gate < MAX_SEGMENT_LEN
+opened_few m (Rotation fresh i) segment safe few = safe.few
+opened_few m j segment safe few = few
+
+opened_next : (j : Job) (segment : Segment) (b : Bool) (o : Option GroupData) → (b && is_rotation j) ≡ false → (b ≡ true → HasNext o segment.next) → b ≡ true → HasNext o (segment_after j segment).next
+opened_next (Rotation fresh i) segment true o free has is = absurd (cc free)
+opened_next (Rotation fresh i) segment false o free has is = absurd (cc is)
+opened_next j segment b o free has is = has is
+
+module _ {D : Type 0} {d : Ghosts D} {s : StoreData D} (safe : IsSafe d s) (j : Job) (is : s.job ≡ Some j) where
+  pub safe_work : IsSafeWork s.manifest j
+  safe_work = subst (λ (o : Option Job). IsSafeJob s.manifest o) is safe.job
+
+  pub safe_room : JobHasRoom s.places j
+  safe_room = subst (λ (o : Option Job). HasRoom s.places o) is safe.room_for
+
+  pub stepped_safe : (new : D) → d.fault_count new ≡ d.fault_count s.disk → IsSafe d (record s { disk = new; job = Some (after_step (made_by s.manifest j) j) })
+  stepped_safe new count = stays_safe safe new s.places (Some (after_step (made_by s.manifest j) j)) (step_safe s.manifest j safe_work) (step_room s.places (made_by s.manifest j) j safe_room) count
+
+  pub opened_safe : (new : D) (places : PlaceTable) → (s.written && has_rotation s.job) ≡ false → d.fault_count new ≡ d.fault_count s.disk → IsSafe d (record s { disk = new; manifest = manifest_after j s.manifest; places = places; segment = segment_after j s.segment; job = None })
+  opened_safe new places free count = record {
+    file = opened_file s.manifest j s.segment safe_work safe.file;
+    few = opened_few s.manifest j s.segment safe_work safe.few;
+    written = opened_next j s.segment s.written s.pending (subst (λ (o : Option Job). (s.written && has_rotation o) ≡ false) is free) safe.written;
+    job = tt;
+    room_for = tt;
+    room = subst (λ n. n + 1 < 2 ^ 64) (sym count) safe.room;
+  }
+
 module _ {D : Type 0} (d : Ghosts D) (s : StoreData D) (j : Job) (is : s.job ≡ Some j) where
   pub stands_of : (rows : Map) (up : IsUp d s rows) → StandsWith d s.disk s.manifest up.parts j
   stands_of rows up = record { settled = up.settled; job = subst (λ (o : Option Job). HasJob (d.content s.disk) (d.may_leave s.disk) s.manifest up.parts o) is up.job }
 
-  module _ (new : D) (writes : WritesFor d s.disk new s.manifest j) where
+  -- the other files are as they were
+  pub step_others : (step : Due) (t : StoreData D) → WritesFile d s.disk t.disk (IsFileDue s.manifest j) → KeepsOthers d (call_of step) s t
+  step_others step t w = file_others d (call_of step) s t w.file (due_file d s t step w.file (subst (λ (o : Option Job). IsFileOfJob s.manifest o w.file) (sym is) w.is)) w.rest
+
+  module _ (new : D) (writes : IsHonest (d.moment new) → WritesFor d s.disk new s.manifest j) where
     as_it_was : new ≡ s.disk → s.down ≡ false → record s { disk = new; down = false } ≡ s
     as_it_was same up = ap (λ (k : D). record s { disk = k; down = false }) same ∙ ap (λ (b : Bool). record s { down = b }) (sym up)
 
     -- a stop within the step leaves the rows
-    pub step_leaves : AllLeave d s new
-    step_leaves rows up slots =
-        let w = writes up.parts (stands_of rows up) in
+    pub step_leaves : IsHonest (d.moment new) → AllLeave d s new
+    step_leaves honest rows up slots =
+        let w = writes honest up.parts (stands_of rows up) in
         weaker d.moment d.left_since s.disk new (StillGives up.parts) (MayBeLeft rows s.mark (opening s)) (λ image g. record { slots = g.slots; gives = give_or d s rows up image g.gives }) (w.leaves slots)
 
-    -- and the other files
-    pub step_others : (rows : Map) → IsUp d s rows → (step : Due) (t : StoreData D) → t.disk ≡ new → KeepsOthers d (call_of step) s t
-    step_others rows up step t at =
-        let w = writes up.parts (stands_of rows up) in
-        file_others d (call_of step) s t w.file (due_file d s t step w.file (subst (λ (o : Option Job). IsFileOfJob s.manifest o w.file) (sym is) w.is))
-        (subst (λ (disk : D). OthersStay w.file (d.content s.disk) (d.content disk) (d.may_leave s.disk) (d.may_leave disk)) (sym at) w.rest)
-
-    module _ (made : Option ManifestData) (makes : HasMadeStep d s.disk new s.manifest j made) where
-      pub step_slots : (rows : Map) → IsUp d s rows → HasSlots (d.content s.disk) → HasSlots (d.content new)
-      step_slots rows up = (makes up.parts (stands_of rows up)).slots
+    module _ (made : Option ManifestData) (makes : IsHonest (d.moment new) → HasMadeStep d s.disk new s.manifest j made) where
+      pub step_slots : IsHonest (d.moment new) → (rows : Map) → IsUp d s rows → HasSlots (d.content s.disk) → HasSlots (d.content new)
+      step_slots honest rows up = (makes honest up.parts (stands_of rows up)).slots
 
       -- THE STORE STANDS with the step behind the job.
-      pub step_up : step_due j ≢ Install Open → d.fault_count new ≡ d.fault_count s.disk → (rows : Map) → IsUp d s rows → IsUp d (record s { disk = new; job = Some (after_step made j) }) rows
-      step_up other count rows up =
-          let w = writes up.parts (stands_of rows up) in
-          let stands = (makes up.parts (stands_of rows up)).stands other in
+      pub step_up : step_due j ≢ Install Open → d.fault_count new ≡ d.fault_count s.disk → IsHonest (d.moment new) → (rows : Map) → IsUp d s rows → IsUp d (record s { disk = new; job = Some (after_step made j) }) rows
+      step_up other count honest rows up =
+          let w = writes honest up.parts (stands_of rows up) in
+          let stands = (makes honest up.parts (stands_of rows up)).stands other in
           stays_up d s rows up new s.places (Some (after_step made j)) stands.settled (w.rest.content s.segment.file (λ e. w.other (subst (IsLastFile s.manifest) e up.last))) stands.job refl
           (step_room s.places made j (subst (λ (o : Option Job). HasRoom s.places o) is up.room_for)) count
 
     -- memory or a fault refuses it
-    pub step_refused : {A : Type 0} → OnlyNow d → CountsNow d → (step : Due) → step ≢ Install Open → Begins d s (call_of step) → step_due j ≡ step → (e : Refusal) → IsStepRefusal d.fault_count (step_due j) s.disk new e
+    pub step_refused : {A : Type 0} → OnlyNow d → CountsNow d → (step : Due) → step ≢ Install Open → Begins d s (call_of step) → step_due j ≡ step → (IsHonest (d.moment new) → IsHonest (d.moment s.disk)) → WritesFile d s.disk new (IsFileDue s.manifest j) → (e : Refusal) → IsStepRefusal d.fault_count (step_due j) s.disk new e
         → (b : Bool) → OnTrue b (e ≡ DiskFault) → OnFalse b (e ≢ DiskFault) → IsStoreStep {A = A} d s (call_of step) (Err e) (record s { disk = new; down = b })
-    step_refused {A} only_now counts_now step apart b due e refused true fault other = fault_step b counts_now new e fault (fault_of step) (count_of d.fault_count s.disk new e fault refused.refusal) step_leaves
-        (step_others b.rows b.is_up step (record s { disk = new; down = true }) refl)
-    step_refused {A} only_now counts_now step apart b due e refused false fault other =
+    step_refused {A} only_now counts_now step apart b due was file e refused true fault other = fault_step b counts_now new e fault (fault_of step) (count_of d.fault_count s.disk new e fault refused.refusal) was step_leaves
+        (step_others step (record s { disk = new; down = true }) file)
+    step_refused {A} only_now counts_now step apart b due was file e refused false fault other =
         let left = memory_left d.fault_count s.disk new e other refused.refusal in
         let memory : MayMeet (call_of step) e = subst (MayMeet (call_of step)) (sym left.0) (memory_of step (subst TakesMemory due (refused.memory left.0))) in
-        other_step d only_now s (record s { disk = new; down = false }) (call_of step) e (as_it_was left.1 b.up) other (err_is d A (call_of step) (why_not s (call_of step)) e b.none memory)
+        other_step d only_now s (record s { disk = new; down = false }) (call_of step) e (as_it_was left.1 b.up) other (λ is. subst IsMisread left.0 is) (err_is d A (call_of step) (why_not s (call_of step)) e b.none memory)
 
     -- the store stays as it stood, unless the disk met a fault
-    pub refused_up : (rows : Map) → IsUp d s rows → (due : Due) (e : Refusal) → IsStepRefusal d.fault_count due s.disk new e → s.down ≡ false → (b : Bool) → OnFalse b (e ≢ DiskFault) → b ≡ false → IsUp d (record s { disk = new; down = b }) rows
-    refused_up rows is_up due e refused up true other is = absurd (cc is)
-    refused_up rows is_up due e refused up false other is = subst (λ (t : StoreData D). IsUp d t rows) (sym (as_it_was (memory_left d.fault_count s.disk new e other refused.refusal).1 up)) is_up
+    pub refused_sound : IsSound d s → (due : Due) (e : Refusal) → IsStepRefusal d.fault_count due s.disk new e → s.down ≡ false → (b : Bool) → OnFalse b (e ≢ DiskFault) → b ≡ false → IsSound d (record s { disk = new; down = b })
+    refused_sound sound due e refused up true other is = absurd (cc is)
+    refused_sound sound due e refused up false other is = subst (λ (t : StoreData D). IsSound d t) (sym (as_it_was (memory_left d.fault_count s.disk new e other refused.refusal).1 up)) sound
 
 -- raised counts leave the data files
 files_stay : (new : NewNumbers) (ps : List Pair) → map file_of (map (raise new) ps) ≡ map file_of ps
@@ -220,19 +285,13 @@ module _ {D : Type 0} (d : Ghosts D) (s : StoreData D) (rows : Map) (up : IsUp d
   lives_apart : (g : Seen) → (has : IsMerging m up.parts g) → AreApart (has.lives.left ∷ has.lives.right ∷ [])
   lives_apart g has = apart_two has.lives.before has.lives.left has.lives.right has.lives.behind (subst AreApart has.two.lives up.places.apart)
 
-  -- there is room for the places of what the job installs
-  pub may_take_over : (j : Job) → s.job ≡ Some j → MayTakeOver s.places j
-  may_take_over j is = go j (subst (λ (o : Option Job). HasJob (d.content s.disk) (d.may_leave s.disk) m up.parts o) is up.job).work (subst (λ (o : Option Job). HasRoom s.places o) is up.room_for)
+  -- the records of a merge have each a key of their own
+  pub have_keys : (j : Job) → s.job ≡ Some j → HaveKeys j
+  have_keys j is = go j (subst (λ (o : Option Job). HasJob (d.content s.disk) (d.may_leave s.disk) m up.parts o) is up.job).work
     where
-      go : (j : Job) → HasWork (d.content s.disk) (d.may_leave s.disk) m up.parts j → JobHasRoom s.places j → MayTakeOver s.places j
-      go (Rotation fresh i) has room = tt
-      go (Checkpoint c) has room = let may_be = has.into.may_checkpoint in record { file = may_be.data_file.1; few = omega (arith, may_be.counted, may_be.pair.records); room = room }
-      go (Merge g) has room = tt
-      go (MergeInstall g i) has room = let may_be = has.merge.may_merge in record {
-        file = may_be.data_file.1;
-        few = omega (arith, may_be.counted, may_be.few, ap (λ (es : List EntryData). length es) has.merge.records);
-        keys = subst HaveOwnKeys (sym has.merge.records) (own_keys has.merge.lives.left has.merge.lives.right (lives_apart g has.merge));
-      }
+      go : (j : Job) → HasWork (d.content s.disk) (d.may_leave s.disk) m up.parts j → HaveKeys j
+      go (MergeInstall g i) has = subst HaveOwnKeys (sym has.merge.records) (own_keys has.merge.lives.left has.merge.lives.right (lives_apart g has.merge))
+      go j has = tt
 
   module _ (new : D) (slot : ℕ) (at : slot ≡ other_slot m) (rest : OthersStay slot (d.content s.disk) (d.content new) (d.may_leave s.disk) (d.may_leave new)) (count : d.fault_count new ≡ d.fault_count s.disk) where
     last_apart : s.segment.file ≢ slot
@@ -327,6 +386,11 @@ module _ {D : Type 0} (d : Ghosts D) (s : StoreData D) (rows : Map) (up : IsUp d
 
 -- ---- looks at the disk
 
+misread_count : (before now : ℕ) (e : Refusal) → IsMisread e → CountsFaults {X = Unit {0}} before now (Err e) → now ≡ before
+misread_count before now (Corrupt file) is count = count
+misread_count before now BadVersion is count = count
+misread_count before now e is count = absurd is
+
 module _ {D : Type 0} {d : Ghosts D} {s : StoreData D} {call : StoreCall} (b : Begins d s call) (new : D) (rest : AllStay (d.content s.disk) (d.content new) (d.may_leave s.disk) (d.may_leave new)) where
   -- the store stays up, whatever job runs then
   pub looked_up : (rows : Map) (up : IsUp d s rows) (places : PlaceTable) (job : Option Job) → places.at ≡ s.places.at → HasRoom places job → HasJob (d.content s.disk) (d.may_leave s.disk) s.manifest up.parts job → d.fault_count new ≡ d.fault_count s.disk
@@ -339,10 +403,14 @@ module _ {D : Type 0} {d : Ghosts D} {s : StoreData D} {call : StoreCall} (b : B
   pub looked_same : d.fault_count new ≡ d.fault_count s.disk → (rows : Map) → IsUp d s rows → IsUp d (record s { disk = new }) rows
   looked_same count rows up = looked_up rows up s.places s.job refl up.room_for up.job count
 
-  pub still_up : d.fault_count new ≡ d.fault_count s.disk → (rows : Map) × IsUp d (record s { disk = new }) rows
-  still_up count = (b.rows, looked_same count b.rows b.is_up)
-
   module _ (any_moment : LeavesOnly d.moment d.left_since s.disk new (AllOf (d.may_leave s.disk))) where
+    -- it is sound still, with the job that runs
+    pub still_sound : d.fault_count new ≡ d.fault_count s.disk → IsSound d (record s { disk = new })
+    still_sound count = record {
+      safe = looked_safe b.sound.safe new count;
+      up = λ honest. let now = b.sound.up (any_moment.later.honest honest) in (now.0, looked_same count now.0 now.1);
+    }
+
     pub looks_leave : AllLeave d s new
     looks_leave rows up slots = weaker d.moment d.left_since s.disk new (AllOf (d.may_leave s.disk)) (MayBeLeft rows s.mark (opening s)) (now_left d s rows up slots) any_moment
 
@@ -351,19 +419,38 @@ module _ {D : Type 0} {d : Ghosts D} {s : StoreData D} {call : StoreCall} (b : B
 
     -- a call that has done no more
     pub looked_fault : {A : Type 0} → CountsNow d → (e : Refusal) → e ≡ DiskFault → MayMeet call DiskFault → d.fault_count new ≡ d.fault_count s.disk + 1 → IsStoreStep {A = A} d s call (Err e) (record s { disk = new; down = true })
-    looked_fault counts_now e at may count = fault_step b counts_now new e at may count looks_leave (all_others d call s (record s { disk = new; down = true }) rest)
+    looked_fault counts_now e at may count = fault_step b counts_now new e at may count any_moment.later.honest (λ _. looks_leave) (all_others d call s (record s { disk = new; down = true }) rest)
+
+    -- or has read what breaks a rule
+    pub looked_misread : {A : Type 0} (e : Refusal) → IsMisread e → MayMeet call e → d.fault_count new ≡ d.fault_count s.disk → (IsHonest (d.moment new) → ⊥) → IsStoreStep {A = A} d s call (Err e) (record s { disk = new; down = true })
+    looked_misread e is may count lied = misread_step b new e is may count lied (all_others d call s (record s { disk = new; down = true }) rest)
 
     pub looked_memory : {A : Type 0} → MayMeet call OutOfMemory → (HasNoFault d s (record s { disk = new }) → LeftByMemory d call s (record s { disk = new })) → d.fault_count new ≡ d.fault_count s.disk → IsStoreStep {A = A} d s call (Err OutOfMemory) (record s { disk = new })
-    looked_memory may left count = looked_step b (record s { disk = new }) looks_leave looks_slots (all_others d call s (record s { disk = new }) rest) may (left count) (looked_same count)
+    looked_memory may left count = looked_step b (record s { disk = new }) any_moment.later.honest (λ _. looks_leave) (λ _ rows up. looks_slots) (all_others d call s (record s { disk = new }) rest) may (left count) (λ _. looked_same count)
+
+    -- a read was refused: the store is down, unless it was for want of memory
+    pub looked_refused : {A : Type 0} → CountsNow d → (e : Refusal) → MayMeet call OutOfMemory → MayMeet call DiskFault → (IsMisread e → MayMeet call e) → (HasNoFault d s (record s { disk = new }) → LeftByMemory d call s (record s { disk = new }))
+        → CountsFaults {X = Unit {0}} (d.fault_count s.disk) (d.fault_count new) (Err e) → IsStop e ⊎ IsMisread e → (IsHonest (d.moment new) → (rows : Map) → IsUp d s rows → IsStop e)
+        → (down : Bool) → OnTrue down (e ≢ OutOfMemory) → OnFalse down (e ≡ OutOfMemory) → IsStoreStep {A = A} d s call (Err e) (record s { disk = new; down = down })
+    looked_refused {A} counts_now e memory fault misread left count why stop true ne is = go why
+      where
+        go : IsStop e ⊎ IsMisread e → IsStoreStep {A = A} d s call (Err e) (record s { disk = new; down = true })
+        go (inl (inl m)) = absurd (ne m)
+        go (inl (inr at)) = looked_fault counts_now e at fault (subst (λ (k : Refusal). CountsFaults {X = Unit {0}} (d.fault_count s.disk) (d.fault_count new) (Err k)) at count)
+        go (inr broken) = looked_misread e broken (misread broken) (misread_count (d.fault_count s.disk) (d.fault_count new) e broken count)
+            (λ honest. let now = b.sound.up (any_moment.later.honest honest) in stop_or_misread e (stop honest now.0 now.1) broken)
+    looked_refused {A} counts_now e memory fault misread left count why stop false ne is =
+        subst (λ (k : Refusal). IsStoreStep {A = A} d s call (Err k) (record s { disk = new; down = false })) (sym is)
+        (subst (λ (t : StoreData D). IsStoreStep {A = A} d s call (Err OutOfMemory) t) (ap (λ (b : Bool). record s { disk = new; down = b }) b.up) (looked_memory memory left (subst (λ (k : Refusal). CountsFaults {X = Unit {0}} (d.fault_count s.disk) (d.fault_count new) (Err k)) is count)))
+
+    pub refused_still : (e : Refusal) → CountsFaults {X = Unit {0}} (d.fault_count s.disk) (d.fault_count new) (Err e) → (down : Bool) → OnFalse down (e ≡ OutOfMemory) → down ≡ false → IsSound d (record s { disk = new; down = down })
+    refused_still e count true is up = absurd (cc up)
+    refused_still e count false is up = subst (λ (t : StoreData D). IsSound d t) (ap (λ (b : Bool). record s { disk = new; down = b }) b.up) (still_sound (subst (λ (k : Refusal). CountsFaults {X = Unit {0}} (d.fault_count s.disk) (d.fault_count new) (Err k)) is count))
 
     module _ (places : PlaceTable) (job : Option Job) where
-      pub looked_done : {A : Type 0} (a : A) → Makes d call s (record s { disk = new; places = places; job = job }) → d.fault_count new ≡ d.fault_count s.disk → ((rows : Map) → IsUp d s rows → IsUp d (record s { disk = new; places = places; job = job }) (rows_after {A = A} s call (Ok a) rows))
+      pub looked_done : {A : Type 0} (a : A) → Makes d call s (record s { disk = new; places = places; job = job }) → d.fault_count new ≡ d.fault_count s.disk → (IsHonest (d.moment new) → (rows : Map) → IsUp d s rows → IsUp d (record s { disk = new; places = places; job = job }) (rows_after {A = A} s call (Ok a) rows))
           → IsStoreStep d s call (Ok a) (record s { disk = new; places = places; job = job })
-      looked_done a = done_step b (record s { disk = new; places = places; job = job }) looks_leave looks_slots (all_others d call s (record s { disk = new; places = places; job = job }) rest) a
-
--- the counter where memory was refused behind a read
-pub read_count : {D X : Type 0} (d : Ghosts D) (old new : D) (e : Refusal) → HasRead {X = X} d old new (Err e) → e ≡ OutOfMemory → d.fault_count new ≡ d.fault_count old
-read_count {D} {X} d old new e read memory = subst (λ (k : Refusal). CountsFaults {X = X} (d.fault_count old) (d.fault_count new) (Err k)) memory read.count
+      looked_done a = done_step b (record s { disk = new; places = places; job = job }) any_moment.later.honest (λ _. looks_leave) (λ _ rows up. looks_slots) (all_others d call s (record s { disk = new; places = places; job = job }) rest) a
 
 -- ---- a file is emptied
 
@@ -371,9 +458,9 @@ read_count {D} {X} d old new e read memory = subst (λ (k : Refusal). CountsFaul
 abbrev IsKept : {D : Type 0} → StoreData D → ℕ → Type 0
 IsKept s n = IsUsed s.manifest n ⊎ (takes_file s.job n ≡ true)
 
-dead_not_kept : {D : Type 0} (d : Ghosts D) (s : StoreData D) (n : ℕ) → HasDead d s n → IsKept s n → ⊥
-dead_not_kept d s n dead (inl used) = unnamed_unused s.manifest n dead.first dead.unnamed used
-dead_not_kept d s n dead (inr is) = absurd (cc (is, dead.unused))
+unused_not_kept : {D : Type 0} (s : StoreData D) (n : ℕ) → IsUnused s.manifest s.job n → IsKept s n → ⊥
+unused_not_kept s n free (inl used) = unnamed_unused s.manifest n free.first free.unnamed used
+unused_not_kept s n free (inr is) = absurd (cc (is, free.untaken))
 
 of_pair : (p : Pair) (n : ℕ) → IsOfPair p n → (eqb p.data_file n || eqb p.delta_file n) ≡ true
 of_pair p n (inl here) = ap (λ t. t || eqb p.delta_file n) (eq-eqb p.data_file n (sym here))
@@ -391,7 +478,7 @@ job_rests_kept : (m : ManifestData) (o : Option Job) (n : ℕ) → JobRestsOn m 
 job_rests_kept m None n on = absurd on
 job_rests_kept m (Some j) n on = rests_kept m j n on
 
-module _ {D : Type 0} {d : Ghosts D} {s : StoreData D} {call : StoreCall} (b : Begins d s call) (mid new : D) (file : ℕ) (dead : HasDead d s file) (looks : AllStay (d.content s.disk) (d.content mid) (d.may_leave s.disk) (d.may_leave mid)) (rest : OthersStay file (d.content mid) (d.content new) (d.may_leave mid) (d.may_leave new)) where
+module _ {D : Type 0} {d : Ghosts D} {s : StoreData D} {call : StoreCall} (b : Begins d s call) (mid new : D) (file : ℕ) (free : IsUnused s.manifest s.job file) (looks : AllStay (d.content s.disk) (d.content mid) (d.may_leave s.disk) (d.may_leave mid)) (rest : OthersStay file (d.content mid) (d.content new) (d.may_leave mid) (d.may_leave new)) where
   -- the other files are as they were
   pub others_stay : OthersStay file (d.content s.disk) (d.content new) (d.may_leave s.disk) (d.may_leave new)
   others_stay = record {
@@ -401,12 +488,12 @@ module _ {D : Type 0} {d : Ghosts D} {s : StoreData D} {call : StoreCall} (b : B
   }
 
   kept_stay : FilesStay (IsKept s) (d.content s.disk) (d.content new) (d.may_leave s.disk) (d.may_leave new)
-  kept_stay = files_stay_others (d.content s.disk) (d.content new) (d.may_leave s.disk) (d.may_leave new) (IsKept s) file (dead_not_kept d s file dead) others_stay
+  kept_stay = files_stay_others (d.content s.disk) (d.content new) (d.may_leave s.disk) (d.may_leave new) (IsKept s) file (unused_not_kept s file free) others_stay
 
   pub emptied_slots : HasSlots (d.content s.disk) → HasSlots (d.content new)
   emptied_slots = slots_as (d.content s.disk) (d.content new) (kept_stay.content 0 (inl (inl (omega arith)))) (kept_stay.content 1 (inl (inl (omega arith))))
 
-  -- THE STORE STAYS UP where a dead file is emptied.
+  -- THE STORE STAYS UP where a file is emptied that is not used.
   pub emptied_up : d.fault_count new ≡ d.fault_count s.disk → (rows : Map) → IsUp d s rows → IsUp d (record s { disk = new }) rows
   emptied_up count rows up = stays_up d s rows up new s.places s.job
       (settled_framed (d.content s.disk) (d.content new) (d.may_leave s.disk) (d.may_leave new) FIRST_FORMAT s.manifest up.parts (record { content = λ n is. kept_stay.content n (inl is); images = λ n c is. kept_stay.images n c (inl is) }) up.settled)
@@ -417,8 +504,11 @@ module _ {D : Type 0} {d : Ghosts D} {s : StoreData D} {call : StoreCall} (b : B
 
   pub emptying_leaves : LeavesOnly d.moment d.left_since s.disk mid (AllOf (d.may_leave s.disk)) → LeavesOnly d.moment d.left_since mid new (Touched file (d.may_leave mid) (λ bytes. ⊤)) → AllLeave d s new
   emptying_leaves first second rows up slots = runs_on d.moment d.left_since s.disk mid new (MayBeLeft rows s.mark (opening s)) (Touched file (d.may_leave mid) (λ bytes. ⊤)) (looks_leave b mid looks first rows up slots) second
-      (λ image t. touched_left d s rows up slots file dead.first (unnamed_unused s.manifest file dead.first dead.unnamed) image (record { here = t.here; others = λ n ne. looks.images n (image n) (t.others n ne) }))
+      (λ image t. touched_left d s rows up slots file free.first (unnamed_unused s.manifest file free.first free.unnamed) image (record { here = t.here; others = λ n ne. looks.images n (image n) (t.others n ne) }))
 
 -- the file that a look found
+pub unused_found : {D : Type 0} (s : StoreData D) (found : Option ℕ) (file : ℕ) → found ≡ Some file → IfSome found (IsUnused s.manifest s.job) → IsUnused s.manifest s.job file
+unused_found s found file is free = subst (λ (o : Option ℕ). IfSome o (IsUnused s.manifest s.job)) is free
+
 pub least_found : {D : Type 0} (d : Ghosts D) (s : StoreData D) (found : Option ℕ) (file : ℕ) (P : Type 0) → found ≡ Some file → MatchOption found P (λ n. IsLeastDead (d.content s.disk) s.manifest s.job n) → IsLeastDead (d.content s.disk) s.manifest s.job file
 least_found d s found file P is least = subst (λ (o : Option ℕ). MatchOption o P (λ n. IsLeastDead (d.content s.disk) s.manifest s.job n)) is least

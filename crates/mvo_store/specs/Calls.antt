@@ -5,8 +5,10 @@ use Rattle.mvo_types.specs.declared.refusal.Refusal.{Refusal}
 use Rattle.mvo_types.specs.declared.refusal.Refusal.TheVariants.{DiskFault, OutOfMemory}
 use Rattle.mvo_types.specs.Keys.{Map}
 use Rattle.mvo_disk.specs.declared.disk.Disk.{Ghosts}
+use Rattle.mvo_disk.specs.Disk.{IsHonest}
 use Rattle.mvo_group.specs.Data.{GroupData}
 use Rattle.mvo_manifest.specs.Data.{ManifestData}
+use Rattle.mvo_load.specs.Read.{IsMisread}
 use Rattle.mvo_store.specs.declared.due.Due.{Due}
 use Rattle.mvo_store.specs.declared.due.Due.TheVariants.{Data, Delta, Install}
 use Rattle.mvo_store.specs.declared.due.Due.TheVariants.{MergeData as DataOfMerge}
@@ -23,7 +25,7 @@ use Rattle.mvo_store.specs.Jobs.{with_step, progress_of}
 use Rattle.mvo_store.specs.Steps.{IsRotationOf, IsCheckpointOf, IsMergeOf, IsInstalledBy}
 use Rattle.mvo_store.specs.Files.{IsLeastFree}
 use Rattle.mvo_store.specs.Writing.{IsFileDue}
-use Rattle.mvo_store.specs.Reclaiming.{IsLeastDead}
+use Rattle.mvo_store.specs.Reclaiming.{IsUnused, IsLeastDead}
 
 pub data StoreCall : Type 0 where
   Take : GroupData → StoreCall
@@ -71,13 +73,16 @@ why_not s InstallOpen = why_not_install_open s
 why_not s Reclaim = why_not_reclaim s
 
 -- What may refuse it where no cause stands: want of memory and a fault of the disk. Opening or
--- closing a gate and emptying a file take no memory, and taking a group asks for neither.
+-- closing a gate and emptying a file take no memory, and taking a group asks for neither. What is
+-- read may break a rule.
 abbrev pub MayMeet : StoreCall → Refusal → Type 0
 MayMeet (Take g) e = ⊥
 MayMeet AppendOpen e = e ≡ DiskFault
 MayMeet InstallClose e = e ≡ DiskFault
 MayMeet InstallOpen e = e ≡ DiskFault
 MayMeet Reclaim e = e ≡ DiskFault
+MayMeet CheckpointRead e = (e ≡ OutOfMemory) ⊎ ((e ≡ DiskFault) ⊎ IsMisread e)
+MayMeet (MergeRead place) e = (e ≡ OutOfMemory) ⊎ ((e ≡ DiskFault) ⊎ IsMisread e)
 MayMeet call e = (e ≡ OutOfMemory) ⊎ (e ≡ DiskFault)
 
 -- the first cause that stands is the refusal
@@ -128,7 +133,8 @@ pub record IsRotated {D : Type 0} (old new : StoreData D) : Type 0 where
 
 -- a checkpoint of the oldest sealed segment runs, and nothing of it is written yet
 pub record IsReadToCheckpoint {D : Type 0} (d : Ghosts D) (old new : StoreData D) : Type 0 where
-  pub checkpoint : IsCheckpointOf (d.content old.disk) old.manifest new.job
+  pub checkpoint : IsCheckpointOf (IsHonest (d.moment new.disk)) (d.content old.disk) old.manifest
+      new.job
   pub after : new ≡ record old {
     disk = new.disk;
     places = record old.places { room = new.places.room };
@@ -138,7 +144,8 @@ pub record IsReadToCheckpoint {D : Type 0} (d : Ghosts D) (old new : StoreData D
 -- a merge of the pair at a place and the one behind it runs, and nothing of it is written yet
 pub record IsReadToMerge {D : Type 0} (d : Ghosts D) (place : ℕ) (old new : StoreData D) : Type 0
   where
-    pub merge : IsMergeOf (d.content old.disk) old.manifest place new.job
+    pub merge : IsMergeOf (IsHonest (d.moment new.disk)) (d.content old.disk) old.manifest place
+        new.job
     pub after : HasNewJob old new
 
 -- the job that runs has one step behind it
@@ -160,7 +167,7 @@ Makes d MergeData old new = HasStepped old new
 Makes d MergeDelta old new = HasStepped old new
 Makes d InstallClose old new = HasStepped old new
 Makes d InstallBody old new = HasStepped old new
-Makes d InstallOpen old new = IsInstalledBy old.job old new
+Makes d InstallOpen old new = IsInstalledBy (IsHonest (d.moment new.disk)) old.job old new
 Makes d Reclaim old new = new ≡ record old { disk = new.disk }
 
 -- so it does, and no call of the device failed
@@ -201,12 +208,20 @@ LeftByMemory d CheckpointRead old new = HasLooked d old new
 LeftByMemory d (MergeRead place) old new = HasLooked d old new
 LeftByMemory d call old new = new ≡ old
 
--- nothing changes, but after a fault
+-- A file came back otherwise than it was written: the store is down, and nothing else of it has
+-- changed.
+pub record HasMisread {D : Type 0} (d : Ghosts D) (old new : StoreData D) : Type 0 where
+  pub after : new ≡ record old { disk = new.disk; down = true }
+  pub no_fault : HasNoFault d old new
+  pub lied : IsHonest (d.moment new.disk) → ⊥
+
+-- nothing changes, but after a fault and what was misread
 pub record LeftBy {D : Type 0} (d : Ghosts D) (call : StoreCall) (e : Refusal)
     (old new : StoreData D) : Type 0 where
   pub fault : e ≡ DiskFault → IsFault d old new
   pub memory : e ≡ OutOfMemory → LeftByMemory d call old new
-  pub other : e ≢ DiskFault → e ≢ OutOfMemory → new ≡ old
+  pub misread : IsMisread e → HasMisread d old new
+  pub other : e ≢ DiskFault → e ≢ OutOfMemory → (IsMisread e → ⊥) → new ≡ old
 
 -- ---- what it comes to
 
@@ -225,37 +240,49 @@ rows_after s call result rows = rows
 
 -- ---- the files
 
+-- a file that may be cut: the least dead one, where the disk has answered as written
+pub record IsReclaimable {D : Type 0} (d : Ghosts D) (honest : Type 0) (s : StoreData D) (n : ℕ)
+    : Type 0 where
+  pub unused : IsUnused s.manifest s.job n
+  pub least : honest → IsLeastDead (d.content s.disk) s.manifest s.job n
+
 -- the file of the next step of the job that runs
 abbrev pub IsFileOfJob : ManifestData → Option Job → ℕ → Type 0
 IsFileOfJob m None n = ⊥
 IsFileOfJob m (Some j) n = IsFileDue m j n
 
 -- The one file that a call may write, accepted or refused. None where it takes a group or reads.
-abbrev pub MayWrite : {D : Type 0} → Ghosts D → StoreData D → StoreCall → ℕ → Type 0
-MayWrite d s (Take g) n = ⊥
-MayWrite d s AppendBody n = n ≡ s.segment.file
-MayWrite d s AppendOpen n = n ≡ s.segment.file
-MayWrite d s RotateWrite n = IsLeastFree s.manifest [] n
-MayWrite d s CheckpointRead n = ⊥
-MayWrite d s (MergeRead place) n = ⊥
-MayWrite d s Reclaim n = IsLeastDead (d.content s.disk) s.manifest s.job n
-MayWrite d s call n = IsFileOfJob s.manifest s.job n
+abbrev pub MayWrite : {D : Type 0} → Ghosts D → Type 0 → StoreData D → StoreCall → ℕ → Type 0
+MayWrite d honest s (Take g) n = ⊥
+MayWrite d honest s AppendBody n = n ≡ s.segment.file
+MayWrite d honest s AppendOpen n = n ≡ s.segment.file
+MayWrite d honest s RotateWrite n = IsLeastFree s.manifest [] n
+MayWrite d honest s CheckpointRead n = ⊥
+MayWrite d honest s (MergeRead place) n = ⊥
+MayWrite d honest s Reclaim n = IsReclaimable d honest s n
+MayWrite d honest s call n = IsFileOfJob s.manifest s.job n
+
+-- so far as the disk has answered as written behind it
+abbrev pub MayTouch : {D : Type 0} → Ghosts D → StoreCall → StoreData D → StoreData D → ℕ → Type 0
+MayTouch d call old new n = MayWrite d (IsHonest (d.moment new.disk)) old call n
 
 -- All others keep their content and exactly their images.
 pub record KeepsOthers {D : Type 0} (d : Ghosts D) (call : StoreCall) (old new : StoreData D)
     : Type 0 where
-  pub content : (n : ℕ) → (MayWrite d old call n → ⊥) →
+  pub content : (n : ℕ) → (MayTouch d call old new n → ⊥) →
       d.content new.disk n ≡ d.content old.disk n
-  pub images : (n : ℕ) (c : List ℕ) → (MayWrite d old call n → ⊥) →
+  pub images : (n : ℕ) (c : List ℕ) → (MayTouch d call old new n → ⊥) →
       d.may_leave new.disk n c → d.may_leave old.disk n c
-  pub keeps : (n : ℕ) (c : List ℕ) → (MayWrite d old call n → ⊥) →
+  pub keeps : (n : ℕ) (c : List ℕ) → (MayTouch d call old new n → ⊥) →
       d.may_leave old.disk n c → d.may_leave new.disk n c
 
 -- ---- all of it
 
--- So it is; a stop at any moment leaves the rows; and the other files stay.
+-- So it is; a wrong answer of the disk isn't forgotten; where it has answered as written up to the
+-- end of the call, a stop at any moment leaves the rows; and the other files stay.
 pub record IsStoreStep {D A : Type 0} (d : Ghosts D) (old : StoreData D) (call : StoreCall)
     (result : Result A Refusal) (new : StoreData D) : Type 0 where
   pub comes : ComesTo d old call result new
-  pub keeps : IsKeeping d (rows_after old call result) old new
+  pub honest : IsHonest (d.moment new.disk) → IsHonest (d.moment old.disk)
+  pub keeps : IsHonest (d.moment new.disk) → IsKeeping d (rows_after old call result) old new
   pub others : KeepsOthers d call old new

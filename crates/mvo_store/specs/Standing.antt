@@ -110,7 +110,13 @@ pub record FitsRecords (places : PlaceTable) (c : Checkpointing) : Type 0 where
 pub record MovesRecords (g : Seen) : Type 0 where
   pub file : g.pair.data_file ≤ MAX_FILE
   pub few : length g.made.records ≤ MAX_PAIR_RECORDS
-  pub keys : HaveOwnKeys g.made.records
+
+-- the records of a merge have each a key of their own
+abbrev pub HaveKeys : Job → Type 0
+HaveKeys (Rotation fresh i) = Unit {0}
+HaveKeys (Checkpoint c) = Unit {0}
+HaveKeys (Merge g) = Unit {0}
+HaveKeys (MergeInstall g i) = HaveOwnKeys g.made.records
 
 abbrev pub MayTakeOver : PlaceTable → Job → Type 0
 MayTakeOver places (Rotation fresh i) = Unit {0}

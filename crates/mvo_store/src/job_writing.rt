@@ -1,5 +1,7 @@
 //! Writes the file of a job's next step.
 ghost use Rattle.std.specs.Prelude.{◌≡◌, ◌<◌, ◌+◌, ◌^◌, None, IfOk, OnErr};
+ghost use Rattle.mvo_disk.specs.Disk.{IsHonest};
+ghost use Rattle.mvo_store.specs.Safe.{IsSafeCheckpoint, IsSafeMerge, IsSafeWork};
 ghost use Rattle.mvo_store.specs.Jobs.{step_due, merge_made_by, made_by};
 ghost use Rattle.mvo_store.specs.Writing.{StandsFor, IsJobStep, InstallStands, IsInstallStep, MayMake};
 ghost use Rattle.mvo_store.specs.declared.job.Job.TheVariants.{Checkpoint, Merge};
@@ -23,8 +25,7 @@ use std::alloc::{AllocError, Global};
 
 /// Closes the gate of the slot that a manifest is to have, and syncs.
 fn close_other<D: Disk>(disk: &mut D, next: &Manifest) -> Result<(), Refusal>
-    requires room { D.fault_count disk.old + 1 < 2 ^ 64 }
-    requires stands { InstallStands D.Disk disk.old next.now Close }
+    requires { D.fault_count disk.old + 1 < 2 ^ 64 }
     ensures { IsInstallStep D.Disk disk.old disk.new next.now Close result }
 {
     match close_slot(disk, next.slot()) {
@@ -44,8 +45,7 @@ fn write_other<D: Disk>(alloc: Global, disk: &mut D, next: &Manifest) -> Result<
 
 /// Opens the gate, and syncs.
 fn open_other<D: Disk>(disk: &mut D, next: &Manifest) -> Result<(), Refusal>
-    requires room { D.fault_count disk.old + 1 < 2 ^ 64 }
-    requires stands { InstallStands D.Disk disk.old next.now Open }
+    requires { D.fault_count disk.old + 1 < 2 ^ 64 }
     ensures { IsInstallStep D.Disk disk.old disk.new next.now Open result }
 {
     match open_slot(disk, next.slot()) {
@@ -80,7 +80,9 @@ fn write_checkpoint<D: Disk>(
     checkpoint: &Checkpointing,
 ) -> Result<(), Refusal>
     requires room { D.fault_count disk.old + 1 < 2 ^ 64 }
-    requires stands { StandsFor D.Disk disk.old manifest.now (Checkpoint checkpoint.now) }
+    requires safe { IsSafeCheckpoint manifest.now checkpoint.now }
+    requires stands { IsHonest (D.moment disk.old) →
+        StandsFor D.Disk disk.old manifest.now (Checkpoint checkpoint.now) }
     ensures { IsJobStep D.Disk disk.old disk.new manifest.now (Checkpoint checkpoint.now) None
         result }
 {
@@ -104,7 +106,7 @@ fn write_merge<D: Disk>(
     merge: &Merging,
 ) -> Result<(), Refusal>
     requires room { D.fault_count disk.old + 1 < 2 ^ 64 }
-    requires stands { StandsFor D.Disk disk.old manifest.now (Merge merge.now) }
+    requires safe { IsSafeMerge manifest.now merge.now }
     ensures { IsJobStep D.Disk disk.old disk.new manifest.now (Merge merge.now)
         (merge_made_by manifest.now merge.now.seen merge.now.stage) result }
 {
@@ -126,7 +128,9 @@ pub fn write_step<D: Disk>(
     job: &Job,
 ) -> Result<(), Refusal>
     requires room { D.fault_count disk.old + 1 < 2 ^ 64 }
-    requires stands { StandsFor D.Disk disk.old manifest.now job.now }
+    requires safe { IsSafeWork manifest.now job.now }
+    requires stands { IsHonest (D.moment disk.old) →
+        StandsFor D.Disk disk.old manifest.now job.now }
     ensures { IsJobStep D.Disk disk.old disk.new manifest.now job.now (made_by manifest.now job.now)
         result }
 {

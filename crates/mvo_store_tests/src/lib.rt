@@ -12,6 +12,10 @@ mod faults;
 #[cfg(test)]
 mod images;
 #[cfg(test)]
+mod lies;
+#[cfg(test)]
+mod lying_disk;
+#[cfg(test)]
 mod marks;
 #[cfg(test)]
 mod merges;

@@ -16,7 +16,7 @@ write_install-requires-clause-stands g c =
     let v = c.args.checkpoint.now in
     let at : v.stage ≡ AtInstall c.in-Install.step = ap (λ (k : Checkpointing). k.stage) (sym c.checkpoint.view_is) ∙ c.in-Install.is in
     let e = ap (install_at v.next) at ∙ ap (λ (k : Checkpointing). install_at k.next (AtInstall c.in-Install.step)) (sym c.checkpoint.view_is) in
-    (c.args.manifest.now, Checkpoint v, e, c.requires.stands)
+    λ honest. (c.args.manifest.now, Checkpoint v, e, c.requires.stands honest)
 
 pub returns-in-Install : goal.returns-in-Install
 returns-in-Install g c =

@@ -3,10 +3,10 @@ use Rattle.mvo_store.specs.Jobs.{install_of, made_by}
 use Rattle.mvo_store.proofs.job_writing.write_step.Goals as goal
 
 pub write_install-requires-clause-stands : goal.write_install-requires-clause-stands
-write_install-requires-clause-stands g c = (c.args.manifest.now, c.args.job.now, ap install_of c.in-Rotation.is, c.requires.stands)
+write_install-requires-clause-stands g c = λ honest. (c.args.manifest.now, c.args.job.now, ap install_of c.in-Rotation.is, c.requires.stands honest)
 
 pub write_install-requires-in-MergeInstall-clause-stands : goal.write_install-requires-in-MergeInstall-clause-stands
-write_install-requires-in-MergeInstall-clause-stands g c = (c.args.manifest.now, c.args.job.now, ap install_of c.in-MergeInstall.is, c.requires.stands)
+write_install-requires-in-MergeInstall-clause-stands g c = λ honest. (c.args.manifest.now, c.args.job.now, ap install_of c.in-MergeInstall.is, c.requires.stands honest)
 
 pub returns-in-Rotation : goal.returns-in-Rotation
 returns-in-Rotation g c = c.write_install.ensures c.args.manifest.now c.args.job.now (made_by c.args.manifest.now c.args.job.now) (ap install_of c.in-Rotation.is)
