@@ -37,10 +37,10 @@ impl<'e, L: Run, D: Disk, G: Gate + Drop> Session<'e, L, D, G> {
 
     /// Commits the transaction, and answers its end timestamp: makes room for its receipt, draws
     /// the end, checks what was read and scanned, waits until each transaction that it depends on
-    /// is settled, becomes Committed and is finished. Each step takes the lock anew, checks and words
-    /// for up to 64, so that others go on meanwhile. The receipt is one more of the session's: what its calls were answered,
-    /// which is compared with what the core holds. The commit is durable once a flush has answered
-    /// a mark that isn't below its end.
+    /// is settled, becomes Committed and is finished. Each step takes the lock anew, checks and
+    /// words for up to 64, so that others go on meanwhile. The receipt is one more of the
+    /// session's: what its calls were answered, which is compared with what the core holds. The
+    /// commit is durable once a flush has answered a mark that isn't below its end.
     ///
     /// Refused: NoSuchTransaction without a transaction, DependencyAborted, ClockSpent,
     /// OutOfMemory, ValidationFailed, and with Busy where the core holds other answers, which no
