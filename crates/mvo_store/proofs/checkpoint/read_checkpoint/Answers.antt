@@ -31,16 +31,16 @@ returns-in-Ok-planned-clause-stands g c = λ honest x settled are.
     let may_plan = may g (goal.at.returns-in-Ok-planned-clause-stands g c).In-Ok in
     read_stands (g.D.Disk.content old) (g.D.Disk.may_leave old) c.args.manifest.now x settled c.requires.may.sealed c.in-Ok.contents.groups.items (c.in-Ok.ensures.says honest) c.args.places.now.at are c.in-Ok.contents.mark.0 c.in-Ok.ensures.place.mark may_plan c.in-Ok-planned.checkpoint c.in-Ok-planned.ensures.planned
 
-pub returns-clause-why : goal.returns-clause-why
-returns-clause-why g c = plan_why _ c.in-Err-planned.refusal c.in-Err-planned.ensures.refused
+pub returns-in-Err-planned-clause-why : goal.returns-in-Err-planned-clause-why
+returns-in-Err-planned-clause-why g c = plan_why _ c.in-Err-planned.refusal c.in-Err-planned.ensures.refused
 
-pub returns-clause-stop : goal.returns-clause-stop
-returns-clause-stop g c = λ honest x settled are.
+pub returns-in-Err-planned-clause-stop : goal.returns-in-Err-planned-clause-stop
+returns-in-Err-planned-clause-stop g c = λ honest x settled are.
     let old = c.args.disk.now in
     let fits : CountsFit c.args.manifest.now c.args.places.now.at c.in-Ok.contents.groups.items = counts_are (g.D.Disk.content old) (g.D.Disk.may_leave old) c.args.manifest.now x settled c.requires.may.sealed c.args.places.now.at are c.in-Ok.contents.groups.items in
     plan_stop _ c.in-Err-planned.refusal fits c.in-Err-planned.ensures.refused
 
-pub returns-clause-read : goal.returns-clause-read
-returns-clause-read g c =
+pub returns-in-Err-planned-clause-read : goal.returns-in-Err-planned-clause-read
+returns-in-Err-planned-clause-read g c =
     let e = c.in-Ok.ensures.read in
     record { rest = e.rest; any_moment = e.any_moment; count = plan_count _ (g.D.Disk.fault_count c.args.disk.now) (g.D.Disk.fault_count c.read_oldest.new.disk) c.in-Err-planned.refusal e.count c.in-Err-planned.ensures.refused }
