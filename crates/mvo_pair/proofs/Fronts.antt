@@ -1,5 +1,6 @@
 -- What the first bytes of a pair's files say is what the files say, as many as its counts reach.
 use Rattle.std.proofs.Common.{◌≡◌, ℕ, suc, ◌+◌, ◌-◌, ◌*◌, ◌≤◌, List, [], ◌∷◌, ◌++◌, length, take, drop, Result, Ok, Err, refl, sym, ap, subst, ◌∙◌, length-append, arith}
+use Rattle.std.proofs.Math.Nat.{suc-mul}
 use Rattle.std.specs.List.{flat_map, AllByRecursion}
 use Rattle.std.proofs.lemmas.List.Concat.{flat_map-cons}
 use Rattle.std.proofs.lemmas.List.Elements.{recursion_from_All}
@@ -58,7 +59,7 @@ length-entries f lo hi (e ∷ es) all =
     let more = length-entries f lo hi es all.1 in
     let size = all.0.size in
     let one : length (flat_map entry_bytes (e ∷ es)) ≡ length (entry_bytes e) + length (flat_map entry_bytes es) = ap (λ (l : List ℕ). length l) (flat_map-cons entry_bytes e es) ∙ length-append (entry_bytes e) (flat_map entry_bytes es) in
-    let next : suc (length es) * (27 + f.max_data_len) ≡ (27 + f.max_data_len) + length es * (27 + f.max_data_len) = arith in
+    let next : suc (length es) * (27 + f.max_data_len) ≡ length es * (27 + f.max_data_len) + (27 + f.max_data_len) = suc-mul (length es) (27 + f.max_data_len) in
     omega (arith, one, next, more, size, length-entry e)
 
 module _ (f : Format) (p : Pair) (bytes : List ℕ) where
@@ -94,29 +95,29 @@ module _ (f : Format) (p : Pair) (bytes : List ℕ) where
 -- ---- delta files
 
 module _ (f : Format) (p : Pair) (bytes : List ℕ) where
-  abbrev n : ℕ
-  n = delta_reach p
+  abbrev m : ℕ
+  m = delta_reach p
 
-  abbrev Holds : List ℕ → List ℕ → Type 0
-  Holds l ns = HasNumbers f.version p.records p.entries ns l
+  abbrev HoldsNumbers : List ℕ → List ℕ → Type 0
+  HoldsNumbers l ns = HasNumbers f.version p.records p.entries ns l
 
-  abbrev Other : List ℕ → Type 0
-  Other l = IsOtherVersion delta_magic f.version l
+  abbrev OtherDelta : List ℕ → Type 0
+  OtherDelta l = IsOtherVersion delta_magic f.version l
 
-  numbers_in_front : (ns : List ℕ) → Holds bytes ns → Holds (take n bytes) ns
+  numbers_in_front : (ns : List ℕ) → HoldsNumbers bytes ns → HoldsNumbers (take m bytes) ns
   numbers_in_front ns h =
       let front = delta_bytes f.version ns in
       let long = length-delta f.version ns p.entries h.counted in
-      record { rest = take (n - length front) h.rest; whole = front_taken n bytes front h.rest (omega (arith, long)) h.whole; counted = h.counted; are = h.are }
+      record { rest = take (m - length front) h.rest; whole = front_taken m bytes front h.rest (omega (arith, long)) h.whole; counted = h.counted; are = h.are }
 
-  numbers_of_front : (ns : List ℕ) → Holds (take n bytes) ns → Holds bytes ns
-  numbers_of_front ns h = record { rest = h.rest ++ drop n bytes; whole = front_back n bytes (delta_bytes f.version ns) h.rest h.whole; counted = h.counted; are = h.are }
+  numbers_of_front : (ns : List ℕ) → HoldsNumbers (take m bytes) ns → HoldsNumbers bytes ns
+  numbers_of_front ns h = record { rest = h.rest ++ drop m bytes; whole = front_back m bytes (delta_bytes f.version ns) h.rest h.whole; counted = h.counted; are = h.are }
 
-  delta_of_front : (found : Found (List ℕ)) → DeltaSays f p (take n bytes) found → DeltaSays f p bytes found
-  delta_of_front = found_alike (Other (take n bytes)) (Other bytes) (Holds (take n bytes)) (Holds bytes) (other_of_front n delta_magic f.version bytes) (other_in_front n delta_magic f.version bytes refl (omega arith)) numbers_of_front numbers_in_front
+  delta_of_front : (found : Found (List ℕ)) → DeltaSays f p (take m bytes) found → DeltaSays f p bytes found
+  delta_of_front = found_alike (OtherDelta (take m bytes)) (OtherDelta bytes) (HoldsNumbers (take m bytes)) (HoldsNumbers bytes) (other_of_front m delta_magic f.version bytes) (other_in_front m delta_magic f.version bytes refl (omega arith)) numbers_of_front numbers_in_front
 
-  delta_in_front : (found : Found (List ℕ)) → DeltaSays f p bytes found → DeltaSays f p (take n bytes) found
-  delta_in_front = found_alike (Other bytes) (Other (take n bytes)) (Holds bytes) (Holds (take n bytes)) (other_in_front n delta_magic f.version bytes refl (omega arith)) (other_of_front n delta_magic f.version bytes) numbers_in_front numbers_of_front
+  delta_in_front : (found : Found (List ℕ)) → DeltaSays f p bytes found → DeltaSays f p (take m bytes) found
+  delta_in_front = found_alike (OtherDelta bytes) (OtherDelta (take m bytes)) (HoldsNumbers bytes) (HoldsNumbers (take m bytes)) (other_in_front m delta_magic f.version bytes refl (omega arith)) (other_of_front m delta_magic f.version bytes) numbers_in_front numbers_of_front
 
 -- ---- the pair
 
