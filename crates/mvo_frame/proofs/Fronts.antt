@@ -13,8 +13,8 @@ use Rattle.mvo_frame.specs.declared.kind.Kind.{Kind}
 use Rattle.mvo_frame.specs.Frames.{sized, IsNextFrame, Frames, HasFrames, IsSegment}
 
 -- as many bytes as the longest segment has
-abbrev pub front_of : List ℕ → List ℕ
-front_of bytes = take MAX_SEGMENT_LEN bytes
+abbrev pub segment_front : List ℕ → List ℕ
+segment_front bytes = take MAX_SEGMENT_LEN bytes
 
 -- frames from a place on stand in front of the bytes that are left to the segment
 frames_in_front : (gs : List GroupData) (place mark n : ℕ) (bytes : List ℕ) → place + n ≡ MAX_SEGMENT_LEN → 1 ≤ n → Frames place mark gs bytes → Frames place mark gs (take n bytes)
@@ -50,7 +50,7 @@ frames_before (g ∷ gs) place mark bytes more frames =
     )
 
 module _ (f : Format) (mark : ℕ) (kind : Kind) (gs : List GroupData) (bytes : List ℕ) where
-  pub segment_in_front : IsSegment f mark kind gs bytes → IsSegment f mark kind gs (front_of bytes)
+  pub segment_in_front : IsSegment f mark kind gs bytes → IsSegment f mark kind gs (segment_front bytes)
   segment_in_front s =
       let head = header MAGIC f.version in
       let n = MAX_SEGMENT_LEN - length head in
@@ -65,7 +65,7 @@ module _ (f : Format) (mark : ℕ) (kind : Kind) (gs : List GroupData) (bytes : 
         some = s.some;
       }
 
-  pub segment_of_front : IsSegment f mark kind gs (front_of bytes) → IsSegment f mark kind gs bytes
+  pub segment_of_front : IsSegment f mark kind gs (segment_front bytes) → IsSegment f mark kind gs bytes
   segment_of_front s =
       let more = drop MAX_SEGMENT_LEN bytes in
       record {

@@ -12,7 +12,7 @@ use Rattle.mvo_manifest.specs.Body.{body_of, sized_body}
 use Rattle.mvo_manifest.specs.Slots.{IsShut, IsClosed, IsOpen, SlotHas, IsOtherSlot, SlotSays}
 use Rattle.mvo_manifest.proofs.Spelled.{length-body}
 
-length-sized_body : (version : ℕ) (m : ManifestData) → IsManifest m → 1 + length (sized_body version m) ≤ MAX_SLOT_LEN
+length-sized_body : (version : ℕ) (m : ManifestData) → IsManifest m → length (OPEN ∷ sized_body version m) ≤ MAX_SLOT_LEN
 unfolding sized_body
 length-sized_body version m is =
     let body = body_of version m in
@@ -21,11 +21,11 @@ length-sized_body version m is =
     omega (arith, length-append (field 4 (length body)) body, length-field 4 (length body), length-body version m, pairs, segments)
 
 -- as many bytes as the longest slot has
-abbrev pub front_of : List ℕ → List ℕ
-front_of bytes = take MAX_SLOT_LEN bytes
+abbrev pub slot_front : List ℕ → List ℕ
+slot_front bytes = take MAX_SLOT_LEN bytes
 
 module _ (bytes : List ℕ) where
-  shut_in_front : IsShut bytes → IsShut (front_of bytes)
+  shut_in_front : IsShut bytes → IsShut (slot_front bytes)
   shut_in_front s = record {
     gate = s.gate;
     rest = take (MAX_SLOT_LEN - 1) s.rest;
@@ -33,7 +33,7 @@ module _ (bytes : List ℕ) where
     closed = s.closed;
   }
 
-  shut_of_front : IsShut (front_of bytes) → IsShut bytes
+  shut_of_front : IsShut (slot_front bytes) → IsShut bytes
   shut_of_front s = record {
     gate = s.gate;
     rest = s.rest ++ drop MAX_SLOT_LEN bytes;
@@ -41,20 +41,20 @@ module _ (bytes : List ℕ) where
     closed = s.closed;
   }
 
-no_bytes : (bytes : List ℕ) → front_of bytes ≡ [] → bytes ≡ []
+no_bytes : (bytes : List ℕ) → slot_front bytes ≡ [] → bytes ≡ []
 no_bytes [] is = is
 no_bytes (b ∷ bytes) is = absurd (omega (arith, ap (λ (l : List ℕ). length l) is))
 
-closed_in_front : (bytes : List ℕ) → IsClosed bytes → IsClosed (front_of bytes)
-closed_in_front bytes (inl none) = inl (ap front_of none)
+closed_in_front : (bytes : List ℕ) → IsClosed bytes → IsClosed (slot_front bytes)
+closed_in_front bytes (inl none) = inl (ap slot_front none)
 closed_in_front bytes (inr shut) = inr (shut_in_front bytes shut)
 
-closed_of_front : (bytes : List ℕ) → IsClosed (front_of bytes) → IsClosed bytes
+closed_of_front : (bytes : List ℕ) → IsClosed (slot_front bytes) → IsClosed bytes
 closed_of_front bytes (inl none) = inl (no_bytes bytes none)
 closed_of_front bytes (inr shut) = inr (shut_of_front bytes shut)
 
 module _ (version slot : ℕ) (bytes : List ℕ) where
-  open_in_front : (m : ManifestData) → IsOpen version slot m bytes → IsOpen version slot m (front_of bytes)
+  open_in_front : (m : ManifestData) → IsOpen version slot m bytes → IsOpen version slot m (slot_front bytes)
   open_in_front m o =
       let front : List ℕ = OPEN ∷ sized_body version m in
       record {
@@ -64,7 +64,7 @@ module _ (version slot : ℕ) (bytes : List ℕ) where
         own = o.own;
       }
 
-  open_of_front : (m : ManifestData) → IsOpen version slot m (front_of bytes) → IsOpen version slot m bytes
+  open_of_front : (m : ManifestData) → IsOpen version slot m (slot_front bytes) → IsOpen version slot m bytes
   open_of_front m o = record {
     rest = o.rest ++ drop MAX_SLOT_LEN bytes;
     whole = front_back MAX_SLOT_LEN bytes (OPEN ∷ sized_body version m) o.rest o.whole;
@@ -72,15 +72,15 @@ module _ (version slot : ℕ) (bytes : List ℕ) where
     own = o.own;
   }
 
-  has_in_front : (found : Option ManifestData) → SlotHas version slot bytes found → SlotHas version slot (front_of bytes) found
+  has_in_front : (found : Option ManifestData) → SlotHas version slot bytes found → SlotHas version slot (slot_front bytes) found
   has_in_front None has = closed_in_front bytes has
   has_in_front (Some m) has = open_in_front m has
 
-  has_of_front : (found : Option ManifestData) → SlotHas version slot (front_of bytes) found → SlotHas version slot bytes found
+  has_of_front : (found : Option ManifestData) → SlotHas version slot (slot_front bytes) found → SlotHas version slot bytes found
   has_of_front None has = closed_of_front bytes has
   has_of_front (Some m) has = open_of_front m has
 
-  other_slot_in_front : IsOtherSlot version bytes → IsOtherSlot version (front_of bytes)
+  other_slot_in_front : IsOtherSlot version bytes → IsOtherSlot version (slot_front bytes)
   other_slot_in_front o =
       let front : List ℕ = OPEN ∷ o.len in
       let k = MAX_SLOT_LEN - length front in
@@ -93,7 +93,7 @@ module _ (version slot : ℕ) (bytes : List ℕ) where
         other = other_in_front k MAGIC version o.tail (omega (arith, four)) o.other;
       }
 
-  other_slot_of_front : IsOtherSlot version (front_of bytes) → IsOtherSlot version bytes
+  other_slot_of_front : IsOtherSlot version (slot_front bytes) → IsOtherSlot version bytes
   other_slot_of_front o = record {
     len = o.len;
     four = o.four;
@@ -111,8 +111,8 @@ module _ (version slot : ℕ) (bytes : List ℕ) where
         other = v.other;
       }
 
-  pub slot_of_front : (found : Found (Option ManifestData)) → SlotSays version slot (front_of bytes) found → SlotSays version slot bytes found
-  slot_of_front = says_alike slot (IsOtherSlot version (front_of bytes)) (IsOtherSlot version bytes) (SlotHas version slot (front_of bytes)) (SlotHas version slot bytes) other_slot_of_front other_slot_in_front has_of_front has_in_front
+  pub slot_of_front : (found : Found (Option ManifestData)) → SlotSays version slot (slot_front bytes) found → SlotSays version slot bytes found
+  slot_of_front = says_alike slot (IsOtherSlot version (slot_front bytes)) (IsOtherSlot version bytes) (SlotHas version slot (slot_front bytes)) (SlotHas version slot bytes) other_slot_of_front other_slot_in_front has_of_front has_in_front
 
-  pub slot_in_front : (found : Found (Option ManifestData)) → SlotSays version slot bytes found → SlotSays version slot (front_of bytes) found
-  slot_in_front = says_alike slot (IsOtherSlot version bytes) (IsOtherSlot version (front_of bytes)) (SlotHas version slot bytes) (SlotHas version slot (front_of bytes)) other_slot_in_front other_slot_of_front has_in_front has_of_front
+  pub slot_in_front : (found : Found (Option ManifestData)) → SlotSays version slot bytes found → SlotSays version slot (slot_front bytes) found
+  slot_in_front = says_alike slot (IsOtherSlot version bytes) (IsOtherSlot version (slot_front bytes)) (SlotHas version slot bytes) (SlotHas version slot (slot_front bytes)) other_slot_in_front other_slot_of_front has_in_front has_of_front
