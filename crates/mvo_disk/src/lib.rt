@@ -25,6 +25,6 @@ pub use image::{FileImage, StopRefusal};
 pub use limits::FILE_COUNT;
 pub use memory::MemDisk;
 pub use progress::{Progress, Silent};
-pub use read::{ReadFailure, read_whole};
+pub use read::{ReadFailure, read_up_to};
 pub use start::{Start, Unknown};
 pub use steps::{rewrite_synced, write_synced};

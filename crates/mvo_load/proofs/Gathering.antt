@@ -34,6 +34,7 @@ use Rattle.mvo_load.specs.Parts.{HaveRows, HavePlaces}
 use Rattle.mvo_load.specs.Gathered.{AreGathered, AreMade, MayLie, with_places}
 use Rattle.mvo_load.specs.Files.{PairBytes, bytes_of, IsPart}
 use Rattle.mvo_load.specs.declared.part.Part.{Part}
+use Rattle.mvo_load.proofs.Fronts.{pair_on_disk}
 use Rattle.mvo_load.proofs.Ordered.{all_of, apart_each, rows_each, made_in_order}
 use Rattle.mvo_load.proofs.Pairing.{HasFiles, front_of, pair_files_fit, data_files_differ, live_push, none_alone, one_more_alone, Behind, Whole}
 use Rattle.mvo_load.proofs.Steps.{pair_leads}
@@ -152,7 +153,7 @@ module _ (f : Format) (image : Image) (m : ManifestData) where
   placed_of part = part.placed.items
 
   abbrev pub ArePartsOf : List Pair → List Part → Type 0
-  ArePartsOf ps parts = AllZip (λ of part. IsPart f of part.live.items part.placed.items) (map (bytes_of image) ps) parts
+  ArePartsOf ps parts = AllZip (λ of part. IsPart f of part.live.items part.placed.items) (map (bytes_of f image) ps) parts
 
   -- the parts of some more pairs, one after another
   pub more_gathered : IsManifest m → (ps qs : List Pair) (parts : List Part) (before : List Numbered) (placed : Placed) → GatheredSoFar (ps ++ qs) before placed → ArePartsOf ps parts
@@ -162,7 +163,8 @@ module _ (f : Format) (image : Image) (m : ManifestData) where
   more_gathered good [] qs (part ∷ parts) before placed here are = absurd are
   more_gathered good (p ∷ ps) qs [] before placed here are = absurd are
   more_gathered good (p ∷ ps) qs (part ∷ parts) before placed here are =
-      let one = one_gathered p (ps ++ qs) before placed here are.0.live (live_of part) are.0.moved are.0.only good in
+      let only = pair_on_disk f p (image p.data_file) (image p.delta_file) (Ok are.0.live) are.0.only in
+      let one = one_gathered p (ps ++ qs) before placed here are.0.live (live_of part) are.0.moved only good in
       let next = subst (λ (es : Placed). GatheredSoFar (ps ++ qs) (before ++ live_of part) (placed ++ es)) (sym are.0.each) one in
       let all = more_gathered good ps qs parts (before ++ live_of part) (placed ++ placed_of part) next are.1 in
       let live_is : (before ++ live_of part) ++ flat_map live_of parts ≡ before ++ flat_map live_of (part ∷ parts) =

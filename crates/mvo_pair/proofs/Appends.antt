@@ -19,7 +19,7 @@ length-numbers (n ∷ ns) = ap (λ (l : List ℕ). length l) (flat_map-cons (fie
     four : length (field 4 n) ≡ 4 → length (flat_map (field 4) ns) ≡ 4 * length ns → length (field 4 n) + length (flat_map (field 4) ns) ≡ 4 * length (n ∷ ns)
     four a b = omega arith
 
-length-delta : (version : ℕ) (ns : List ℕ) (count : ℕ) → length ns ≡ count → length (delta_bytes version ns) ≡ place_behind count
+pub length-delta : (version : ℕ) (ns : List ℕ) (count : ℕ) → length ns ≡ count → length (delta_bytes version ns) ≡ place_behind count
 length-delta version ns count is =
     let whole : length (delta_bytes version ns) ≡ length (header delta_magic version) + length (flat_map (field 4) ns) = length-append (header delta_magic version) (flat_map (field 4) ns) in
     let front : length (header delta_magic version) ≡ 4 + length (field 4 version) = length-append delta_magic (field 4 version) in

@@ -2,7 +2,7 @@
 ghost use Rattle.std.specs.Prelude.{◌<◌};
 ghost use Rattle.mvo_disk.specs.declared.limits.TheConstants.{FILE_COUNT};
 
-use mvo_disk::{Disk, DiskFault, ReadFailure, read_whole};
+use mvo_disk::{Disk, DiskFault, ReadFailure, read_up_to};
 use std::alloc::Global;
 
 /// How many faults are a few.
