@@ -166,7 +166,7 @@ fn validate<L: Run, D: Disk, G: Gate + Drop, R: Wait>(
     tx: TxId,
 ) -> Result<(), Refusal> {
     for _ in rt.forever() {
-        match validate_some(&mut engine.enter_core(rt), tx) {
+        match check_some(&mut engine.enter_core(rt), tx) {
             Ok(Validation::More) => {}
             Ok(Validation::Valid) => return Ok(()),
             Err(refusal) => return Err(refusal),
@@ -176,7 +176,7 @@ fn validate<L: Run, D: Disk, G: Gate + Drop, R: Wait>(
 }
 
 /// Checks up to `AT_ONCE` entries of the transaction.
-fn validate_some<L: Run>(core: &mut LockedCore<L>, tx: TxId) -> Result<Validation, Refusal> {
+fn check_some<L: Run>(core: &mut LockedCore<L>, tx: TxId) -> Result<Validation, Refusal> {
     for _ in 1..AT_ONCE {
         match core.validate_one(tx) {
             Ok(Validation::More) => {}
