@@ -115,8 +115,7 @@ impl<'e, L: Run, D: Disk, G: Gate + Drop> Session<'e, L, D, G> {
         self.tx = None;
     }
 
-    // Replaces the words of the transaction, up to `AT_ONCE` under the lock, which is taken anew for
-    // the next ones.
+    // Replaces the words of the transaction, up to `AT_ONCE` while the lock is taken once.
     fn replace_words<R: Wait>(&self, rt: &R, tx: TxId) {
         for _ in rt.forever() {
             match finish_some(&mut self.enter(rt), tx) {
