@@ -1,5 +1,5 @@
 -- The numbers that came to a pair's delta since it was seen.
-use Rattle.std.proofs.Common.{◌≡◌, ℕ, ◌+◌, ◌<◌, ◌≤◌, ◌^◌, List, ◌++◌, length, drop, refl, sym, ap, subst, ◌∙◌, arith}
+use Rattle.std.proofs.Common.{◌≡◌, ℕ, ◌+◌, ◌<◌, ◌≤◌, ◌^◌, List, ◌++◌, length, drop, sym, ap, subst, ◌∙◌, arith}
 use Rattle.mvo_types.specs.declared.limits.TheConstants.{MAX_PAIR_RECORDS}
 use Rattle.mvo_format.specs.declared.format.Format.{Format}
 use Rattle.mvo_pair.specs.declared.pair.Pair.{Pair}

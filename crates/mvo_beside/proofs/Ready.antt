@@ -1,14 +1,13 @@
 -- One pair in the place of the two, with the numbers that came late: it may be installed.
-use Rattle.std.proofs.Common.{◌≡◌, ◌≢◌, inl, inr, ℕ, ◌+◌, ◌<◌, ◌≤◌, ◌^◌, List, [], ◌∷◌, ◌++◌, length, drop, Ok, refl, sym, ap, subst, ◌∙◌, arith, length-append}
+use Rattle.std.proofs.Common.{◌≡◌, ◌≢◌, inr, ℕ, ◌<◌, ◌^◌, List, ◌∷◌, ◌++◌, length, drop, refl, sym, ap, subst, ◌∙◌, arith, length-append}
 use Rattle.std.specs.Prelude.{map, All, AllPairs}
 use Rattle.std.specs.List.{Contains}
 use Rattle.std.proofs.lemmas.List.{length-map}
-use Rattle.mvo_types.specs.declared.limits.TheConstants.{MAX_PAIR_RECORDS, MAX_PAIRS}
 use Rattle.mvo_types.specs.Keys.{Map}
 use Rattle.mvo_disk.specs.Disk.{Only}
 use Rattle.mvo_format.specs.declared.format.Format.{Format}
 use Rattle.mvo_pair.specs.declared.pair.Pair.{Pair}
-use Rattle.mvo_pair.specs.Data.{EntryData, Numbered, AreApart}
+use Rattle.mvo_pair.specs.Data.{Numbered, AreApart}
 use Rattle.mvo_pair.specs.Files.{HasEntries}
 use Rattle.mvo_manifest.specs.Data.{ManifestData, named}
 use Rattle.mvo_manifest.specs.Rules.{IsManifest, IsFile, IsPair, PairsRise}
@@ -25,10 +24,10 @@ use Rattle.mvo_merge.proofs.Placed.{places_merged}
 use Rattle.mvo_recovery.specs.Parts.{Parts, MakeUpSame, HasParts}
 use Rattle.mvo_recovery.specs.Settled.{IsSettled}
 use Rattle.mvo_recovery.specs.Installing.{IsReady}
-use Rattle.mvo_recovery.specs.Merging.{MergeData, merged, MayMerge, HasRecords}
+use Rattle.mvo_recovery.specs.Merging.{MergeData, merged, HasRecords}
 use Rattle.mvo_recovery.proofs.Merged.{named_merged, named_cases, manifest_merged}
-use Rattle.mvo_beside.specs.Seen.{SeenData, grown, Loads, IsSeen, pairs_now, IsSmall, MayMergeNow, NumbersNow, HasLate, lives_now, parts_now}
-use Rattle.mvo_beside.specs.Laws.{FindsLate, MergeBesideIsReady, PlacesBeside}
+use Rattle.mvo_beside.specs.Seen.{SeenData, Loads, IsSeen, pairs_now, IsSmall, MayMergeNow, NumbersNow, HasLate, lives_now, parts_now}
+use Rattle.mvo_beside.specs.Laws.{FindsLate}
 use Rattle.mvo_beside.proofs.Late.{are_late, others_live, late_counted}
 use Rattle.mvo_beside.proofs.Two.{HaveTwo, have_one, lives_at, two_rules, rise_one, few_one}
 use Rattle.mvo_beside.proofs.Seen.{left_now, right_now, two_now}

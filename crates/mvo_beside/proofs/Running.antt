@@ -1,23 +1,23 @@
 -- Runs of steps beside a merge that writes its files.
-use Rattle.std.proofs.Common.{◌≡◌, ◌≢◌, inl, inr, ℕ, ◌+◌, ◌<◌, ◌≤◌, List, [], ◌∷◌, ◌++◌, refl, sym, ap, subst, ◌∙◌, arith}
+use Rattle.std.proofs.Common.{◌≡◌, ◌≢◌, inr, ℕ, ◌+◌, ◌<◌, List, refl, sym, subst, ◌∙◌}
 use Rattle.std.specs.Prelude.{⊤}
 use Rattle.std.specs.List.{Contains, flat_map}
 use Rattle.mvo_types.specs.Keys.{Map}
-use Rattle.mvo_disk.specs.Disk.{Image, AllOf, LeavesOnly, Moment}
+use Rattle.mvo_disk.specs.Disk.{Image, AllOf, Moment}
 use Rattle.mvo_disk.specs.Moments.{started, runs_on}
 use Rattle.mvo_format.specs.declared.format.Format.{Format}
 use Rattle.mvo_manifest.specs.Data.{ManifestData, named, pair_files}
 use Rattle.mvo_manifest.specs.Rules.{IsManifest}
 use Rattle.mvo_image.specs.Files.{GivesRows}
 use Rattle.mvo_recovery.specs.Parts.{Parts, rows_of_parts, mark_of_parts, MakeUpSame}
-use Rattle.mvo_recovery.specs.Settled.{other_slot, IsUsed, IsSettled, GivesParts}
+use Rattle.mvo_recovery.specs.Settled.{other_slot, IsSettled, GivesParts}
 use Rattle.mvo_recovery.proofs.Named.{pairs_named, named_is_no_slot, slot_below}
 use Rattle.mvo_recovery.proofs.Framed.{settled_gives, settled_others}
 use Rattle.mvo_recovery.proofs.Appended.{all_durable}
 use Rattle.mvo_recovery.proofs.Gained.{live_counted, installed_counted}
 use Rattle.mvo_recovery.proofs.Moments.{moments_unused, moments_numbers}
 use Rattle.mvo_beside.specs.Seen.{SeenData, IsSeen}
-use Rattle.mvo_beside.specs.Runs.{WritesUnused, WritesNumbers, WritesSlot, InstallsCheckpoint, IsMove, Unused, Numbers, Slot, Installs, AreMoves, Rests, Goes, KeepsAll, RunsKeepAll}
+use Rattle.mvo_beside.specs.Runs.{WritesUnused, WritesNumbers, WritesSlot, InstallsCheckpoint, IsMove, Unused, Numbers, Slot, Installs, Rests, Goes, KeepsAll, RunsKeepAll}
 use Rattle.mvo_beside.proofs.Numbers.{counted_stay}
 use Rattle.mvo_beside.proofs.Seen.{seen_stays, seen_beside_numbers, seen_beside_install}
 

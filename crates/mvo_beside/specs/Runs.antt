@@ -1,5 +1,5 @@
 -- Runs of steps beside a merge that writes its files: of checkpoints, of that merge, and of reclaims.
-use Rattle.std.specs.Prelude.{◌≡◌, ◌≢◌, ◌⊎◌, ⊤, ℕ, List, [], ◌∷◌, ◌++◌, map}
+use Rattle.std.specs.Prelude.{◌≡◌, ⊤, ℕ, List, [], ◌∷◌, ◌++◌, map}
 use Rattle.std.specs.List.{Contains}
 use Rattle.mvo_disk.specs.Disk.{Image, Only, OthersStay, Touched, LeavesOnly, Moment}
 use Rattle.mvo_format.specs.declared.format.Format.{Format}

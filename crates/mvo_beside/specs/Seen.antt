@@ -12,9 +12,8 @@ use Rattle.mvo_manifest.specs.Data.{ManifestData, named}
 use Rattle.mvo_manifest.specs.Rules.{IsFile}
 use Rattle.mvo_image.specs.Opens.{Image}
 use Rattle.mvo_pair.specs.Data.{AreApart}
-use Rattle.mvo_merge.specs.Merged.{merged, renumbering_of, renumbered}
 use Rattle.mvo_recovery.specs.Parts.{Parts}
-use Rattle.mvo_recovery.specs.Merging.{MergeData, HasRecords}
+use Rattle.mvo_recovery.specs.Merging.{MergeData}
 
 -- ---- what it saw
 

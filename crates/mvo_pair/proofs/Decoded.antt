@@ -32,6 +32,13 @@ number_there (n ∷ ns) (suc i) d small lt =
     ∙ ap (λ (l : List ℕ). drop (4 * i) l) (field_behind 4 n (flat_map (field 4) ns)) in
     ap (number 4) there ∙ number_there ns i d small.1 (omega (arith, lt))
 
+pub length-upto : (k : ℕ) (bytes : List ℕ) → length (numbers_upto k bytes) ≡ k
+length-upto zero bytes = refl
+length-upto (suc k) bytes = length-append (numbers_upto k bytes) (number 4 (drop (4 * k) bytes) ∷ []) ∙ one (length-upto k bytes)
+  where
+    one : length (numbers_upto k bytes) ≡ k → length (numbers_upto k bytes) + 1 ≡ suc k
+    one e = omega (arith, e)
+
 upto_are : (k : ℕ) (ns : List ℕ) → AllByRecursion (λ n. n < 256 ^ 4) ns → k ≤ length ns → numbers_upto k (flat_map (field 4) ns) ≡ take k ns
 upto_are zero ns small le = refl
 upto_are (suc k) ns small le =
