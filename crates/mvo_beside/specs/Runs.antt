@@ -1,4 +1,5 @@
--- Runs of steps beside a merge that writes its files: of checkpoints, of that merge, and of reclaims.
+-- Runs of steps beside a merge that writes its files: of checkpoints, of that merge, and of
+-- reclaims.
 use Rattle.std.specs.Prelude.{◌≡◌, ⊤, ℕ, List, [], ◌∷◌, ◌++◌, map}
 use Rattle.std.specs.List.{Contains}
 use Rattle.mvo_disk.specs.Disk.{Image, Only, OthersStay, Touched, LeavesOnly, Moment}
@@ -12,8 +13,8 @@ use Rattle.mvo_recovery.specs.Settled.{other_slot, IsUsed, IsSettled, GivesParts
 use Rattle.mvo_recovery.specs.Checkpoint.{NewNumbers, raise}
 use Rattle.mvo_beside.specs.Seen.{SeenData, IsSeen}
 
-module _ {D : Type 0} (moment : D → Moment) (left_since : D → Moment → Image → Type 0) (content : D → Image)
-    (may : D → ℕ → List ℕ → Type 0) (f : Format) where
+module _ {D : Type 0} (moment : D → Moment) (left_since : D → Moment → Image → Type 0)
+    (content : D → Image) (may : D → ℕ → List ℕ → Type 0) (f : Format) where
   -- a file that the manifest doesn't use is written or cut
   pub record WritesUnused (a : D) (m : ManifestData) (b : D) : Type 0 where
     pub file : ℕ

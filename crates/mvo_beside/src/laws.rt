@@ -1,14 +1,14 @@
-ghost use Rattle.mvo_beside.specs.Laws.{SeenAtRead, SeenStays, SeenBesideNumbers, SeenBesideInstall};
-ghost use Rattle.mvo_beside.specs.Laws.{FindsLate, MergeBesideIsReady, InstallBesideKeeps, StaysUnnamed};
 ghost use Rattle.mvo_format.specs.declared.format.Format.{Format};
-ghost use Rattle.mvo_beside.specs.Laws.{PlacesBeside};
+ghost use Rattle.mvo_beside.specs.Laws.{SeenAtRead, SeenStays, SeenBesideNumbers};
+ghost use Rattle.mvo_beside.specs.Laws.{SeenBesideInstall, StaysUnnamed, FindsLate};
+ghost use Rattle.mvo_beside.specs.Laws.{MergeBesideIsReady, InstallBesideKeeps, PlacesBeside};
 ghost use Rattle.mvo_beside.specs.Runs.{RunsKeepAll};
 
 use mvo_disk::Disk;
 
 /// The laws of a merge that runs beside checkpoints. What it saw of its two pairs stays: while other
-/// files are written, while numbers are written behind those of a delta file that count, and where a
-/// checkpoint is installed. The numbers that count beyond those that it saw are those of live
+/// files are written, while numbers are written behind those of a delta file that count, and where
+/// a checkpoint is installed. The numbers that count beyond those that it saw are those of live
 /// records that it took, and the pairs' other records are live. Where its files hold the records
 /// that it saw and these numbers, renumbered, one pair for the two may be installed, which changes
 /// neither rows nor mark, and moving the places brings them up to date. Over each run of such steps

@@ -1,5 +1,5 @@
 -- What is decoded of bytes that spell numbers.
-use Rattle.std.proofs.Common.{◌≡◌, ℕ, zero, suc, ◌+◌, ◌-◌, ◌*◌, ◌/◌, ◌<◌, ◌≤◌, ◌^◌, List, [], ◌∷◌, ◌++◌, length, take, drop, get_or, refl, sym, ap, subst, ◌∙◌, arith, append_assoc, length-append}
+use Rattle.std.proofs.Common.{◌≡◌, ℕ, zero, suc, ◌+◌, ◌-◌, ◌*◌, ◌/◌, ◌<◌, ◌≤◌, ◌^◌, List, [], ◌∷◌, ◌++◌, length, take, drop, get_or, refl, sym, ap, ◌∙◌, arith, append_assoc, length-append}
 use Rattle.std.specs.List.{flat_map, AllByRecursion}
 use Rattle.std.proofs.lemmas.List.{take_at, drop_at, take_all, take_more, take-append-drop, drop-drop, length-take-le, length-drop}
 use Rattle.std.proofs.lemmas.List.Concat.{flat_map-cons}
@@ -8,7 +8,7 @@ use Rattle.std.proofs.lemmas.Grind.{flat_map-append}
 use Rattle.mvo_bytes.specs.Fields.{field}
 use Rattle.mvo_bytes.proofs.Fields.{length-field}
 use Rattle.mvo_pair.specs.Reading.{number}
-use Rattle.mvo_pair.specs.Files.{AreNumbers, HasNumbers, header, delta_magic, delta_bytes}
+use Rattle.mvo_pair.specs.Files.{header, delta_magic}
 use Rattle.mvo_pair.proofs.Spelled.{number_back_is, field_behind}
 use Rattle.mvo_pair.specs.Late.{numbers_upto, AreThoseFrom}
 
