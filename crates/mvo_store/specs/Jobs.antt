@@ -2,6 +2,7 @@
 use Rattle.std.specs.Prelude.{ℕ, ◌+◌, ◌==◌, ◌||◌, nat_lt, Bool, true, false, List, [], ◌∷◌, ◌++◌, length, Option, Some, None, is_some, if◌then◌else◌}
 use Rattle.std.specs.List.{list_any}
 use Rattle.mvo_frame.specs.declared.segment.Segment.{Segment}
+use Rattle.mvo_pair.specs.declared.pair.Pair.{Pair}
 use Rattle.mvo_manifest.specs.Data.{ManifestData}
 use Rattle.mvo_store.specs.declared.step.Step.{Step}
 use Rattle.mvo_store.specs.declared.step.Step.TheVariants.{Close, Body, Open}
@@ -152,15 +153,27 @@ job_takes_file (MergeInstall g i) n = g.pair.data_file == n || g.pair.delta_file
 abbrev pub takes_file : Jobs → ℕ → Bool
 takes_file jobs n = list_any (λ j. job_takes_file j n) (jobs_of jobs)
 
--- the files that a checkpoint has taken
-abbrev pub checkpoint_files : Option Checkpointing → List ℕ
-checkpoint_files None = []
-checkpoint_files (Some c) = c.pair.data_file ∷ c.pair.delta_file ∷ []
+-- the pair of a checkpoint
+abbrev pub checkpoint_pair : Jobs → Option Pair
+checkpoint_pair (Beside (Some c) g) = Some c.pair
+checkpoint_pair jobs = None
 
--- those of a merge
-abbrev pub merge_files : Option Merging → List ℕ
-merge_files None = []
-merge_files (Some g) = g.seen.pair.data_file ∷ g.seen.pair.delta_file ∷ []
+-- that of a merge whose files aren't all written
+abbrev pub merge_pair : Jobs → Option Pair
+merge_pair (Beside c (Some g)) = Some g.seen.pair
+merge_pair jobs = None
+
+-- ---- those that begin
+
+-- a checkpoint, where none is kept out
+abbrev pub with_checkpoint : Checkpointing → Jobs → Jobs
+with_checkpoint c (Beside None g) = Beside (Some c) g
+with_checkpoint c jobs = jobs
+
+-- a merge, where none is kept out
+abbrev pub with_merge : Merging → Jobs → Jobs
+with_merge g (Beside c None) = Beside c (Some g)
+with_merge g jobs = jobs
 
 -- ---- what a step makes of them
 
