@@ -1,5 +1,6 @@
 //! What a step makes of the jobs that run.
-ghost use Rattle.std.specs.Prelude.{◌≡◌, length};
+ghost use Rattle.std.specs.Prelude.{◌≡◌, length, None};
+ghost use Rattle.mvo_store.specs.declared.jobs.Jobs.TheVariants.{Beside};
 ghost use Rattle.mvo_store.specs.Jobs.{next_step, stepped, stage_behind, checkpoint_behind};
 ghost use Rattle.mvo_store.specs.Jobs.{checkpoint_by, merge_by, is_of_merge, with_step};
 ghost use Rattle.mvo_store.specs.Jobs.{with_checkpoint, with_merge, with_manifest};
@@ -144,12 +145,12 @@ pub fn with_merge(merge: Merging, jobs: Jobs) -> Jobs
     }
 }
 
-/// A merge with its last file written, and with this manifest to be installed, runs alone.
-pub fn with_manifest(next: Manifest, jobs: Jobs) -> Jobs
-    ensures { result ≡ with_manifest next jobs }
+/// The merge, if one runs, installs this manifest.
+fn installing(next: Manifest, merge: Option<Merging>) -> Jobs
+    ensures { result ≡ with_manifest next (Beside None merge) }
 {
-    match jobs {
-        Jobs::Beside(None, Some(merge)) => {
+    match merge {
+        Some(merge) => {
             let Merging { seen, stage: _ } = merge;
             Jobs::Merge(
                 seen,
@@ -159,6 +160,16 @@ pub fn with_manifest(next: Manifest, jobs: Jobs) -> Jobs
                 },
             )
         }
+        None => Jobs::none(),
+    }
+}
+
+/// A merge with its last file written, and with this manifest to be installed, runs alone.
+pub fn with_manifest(next: Manifest, jobs: Jobs) -> Jobs
+    ensures { result ≡ with_manifest next jobs }
+{
+    match jobs {
+        Jobs::Beside(None, merge) => installing(next, merge),
         jobs => jobs,
     }
 }
