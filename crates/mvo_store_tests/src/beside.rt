@@ -99,9 +99,7 @@ const TWO_CHECKPOINTS: [(Step, Reply); 12] = [
 ];
 
 /// A delta file with the numbers 2 and 3.
-const TWO_ENDED: [u8; 16] = [
-    0x4d, 0x56, 0x4f, 0x45, 1, 0, 0, 0, 2, 0, 0, 0, 3, 0, 0, 0,
-];
+const TWO_ENDED: [u8; 16] = [0x4d, 0x56, 0x4f, 0x45, 1, 0, 0, 0, 2, 0, 0, 0, 3, 0, 0, 0];
 
 // Of both pairs numbers come late, each by a checkpoint of its own.
 #[test]
@@ -124,9 +122,7 @@ const AFTERWARDS: [(Step, Reply); 3] = [
 ];
 
 /// A delta file with the numbers 2 and 1.
-const NEXT_ENDED: [u8; 16] = [
-    0x4d, 0x56, 0x4f, 0x45, 1, 0, 0, 0, 2, 0, 0, 0, 1, 0, 0, 0,
-];
+const NEXT_ENDED: [u8; 16] = [0x4d, 0x56, 0x4f, 0x45, 1, 0, 0, 0, 2, 0, 0, 0, 1, 0, 0, 0];
 
 // The records of the merged pair have their places, whatever ended meanwhile.
 #[test]

@@ -33,7 +33,9 @@ enum Answer {
 }
 
 const A: Answer = Answer::Accepted;
+
 const B: Answer = Answer::Busy;
+
 const N: Answer = Answer::NothingToDo;
 
 const CALLS: [Step; 10] = [
