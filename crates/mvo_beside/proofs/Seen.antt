@@ -17,7 +17,7 @@ use Rattle.mvo_recovery.specs.Checkpoint.{NewNumbers, raise}
 use Rattle.mvo_recovery.proofs.Pairs.{pairs_apart, same_data, same_delta, data_no_delta, data_among, delta_among, delta_named, data_named, few_records}
 use Rattle.mvo_recovery.proofs.Checkpointed.{named_cases}
 use Rattle.mvo_beside.specs.Seen.{SeenData, grown, Loads, IsSeen}
-use Rattle.mvo_beside.specs.Laws.{SeenAtRead, SeenStays, SeenBesideNumbers, SeenBesideInstall, StaysUnnamed}
+use Rattle.mvo_beside.specs.Laws.{SeenAtRead, SeenStays, SeenBesideNumbers, SeenWhereCountsStay, SeenBesideInstall, StaysUnnamed}
 use Rattle.mvo_beside.proofs.Late.{seen_again}
 use Rattle.mvo_beside.proofs.Numbers.{counted_stay}
 use Rattle.mvo_beside.proofs.Two.{HaveTwo, have_two, has_first, has_second}
@@ -42,11 +42,11 @@ seen_at_read content f m before behind p q left right pairs loads_left loads_rig
 
 -- ---- other bytes
 
-loads_framed : (f : Format) (old new : Image) (p : Pair) (l : List Numbered) → new p.data_file ≡ old p.data_file → new p.delta_file ≡ old p.delta_file → Loads f old p l → Loads f new p l
+pub loads_framed : (f : Format) (old new : Image) (p : Pair) (l : List Numbered) → new p.data_file ≡ old p.data_file → new p.delta_file ≡ old p.delta_file → Loads f old p l → Loads f new p l
 loads_framed f old new p l first second has =
     subst (λ (b : List ℕ). LoadsAs f p (new p.data_file) b (Ok l)) (sym second) (subst (λ (b : List ℕ). LoadsAs f p b (old p.delta_file) (Ok l)) (sym first) has)
 
-with_loads : (f : Format) (old new : Image) (m : ManifestData) (s : SeenData) → IsSeen f old m s → Loads f new s.left s.live_left → Loads f new s.right s.live_right → IsSeen f new m s
+abbrev pub with_loads : (f : Format) (old new : Image) (m : ManifestData) (s : SeenData) → IsSeen f old m s → Loads f new s.left s.live_left → Loads f new s.right s.live_right → IsSeen f new m s
 with_loads f old new m s seen left right = record {
   before = seen.before;
   behind = seen.behind;
@@ -108,6 +108,16 @@ seen_beside_numbers old new f m s r more lives is have has others gains follow s
     with_loads f old new m s seen
     (one_stays f old new m is r has others stays s.left seen.more_left s.live_left two.left (in_left f old m s seen) seen.left two.left_has)
     (one_stays f old new m is r has others stays s.right seen.more_right s.live_right two.right (in_right f old m s seen) seen.right two.right_has)
+
+pub seen_where_counts_stay : (old new : Image) → SeenWhereCountsStay old new
+seen_where_counts_stay old new f m s lives is have stay seen =
+    let two = two_now f old m s seen lives have in
+    with_loads f old new m s seen
+    (again s.left seen.more_left s.live_left two.left (in_left f old m s seen) seen.left two.left_has)
+    (again s.right seen.more_right s.live_right two.right (in_right f old m s seen) seen.right two.right_has)
+  where
+    again : (p : Pair) (more : ℕ) (live now : List Numbered) → Contains m.pairs (grown more p) → Loads f old p live → Loads f old (grown more p) now → Loads f new p live
+    again p more live now c was load = let q = stay (grown more p) c in seen_again f old p more live now (few_records m is (grown more p) c) was load new q.0 q.1
 
 -- ---- a checkpoint that is installed
 

@@ -23,7 +23,7 @@ use Rattle.mvo_recovery.specs.Settled.{other_slot, IsSettled, GivesParts}
 use Rattle.mvo_recovery.specs.Installing.{IsNext, IsReady}
 use Rattle.mvo_recovery.specs.Checkpoint.{NewNumbers, raise, CheckpointData, checkpointed}
 use Rattle.mvo_recovery.specs.Merging.{MergeData, merged, HasRecords}
-use Rattle.mvo_beside.specs.Seen.{SeenData, grown, Loads, IsSeen, pairs_now, IsSmall, MayMergeNow, NumbersNow, HasLate, lives_now, parts_now}
+use Rattle.mvo_beside.specs.Seen.{SeenData, grown, Loads, IsSeen, CountsStay, pairs_now, IsSmall, MayMergeNow, NumbersNow, HasLate, lives_now, parts_now}
 
 -- ---- what it saw stays
 
@@ -56,6 +56,12 @@ SeenBesideNumbers old new = (f : Format) (m : ManifestData) (s : SeenData) (r : 
     ((ns : List ℕ) → HasNumbers f.version r.records r.entries ns (old r.delta_file) →
     AreNumbers r.records (ns ++ more)) →
     IsSeen f old m s → IsSeen f new m s
+
+-- It stays where the data files of the pairs stay, and the numbers that count in their delta files.
+abbrev pub SeenWhereCountsStay : Image → Image → Type 0
+SeenWhereCountsStay old new = (f : Format) (m : ManifestData) (s : SeenData)
+    (lives : List (List Numbered)) → IsManifest m → HaveLive f old m.pairs lives →
+    CountsStay f old new m.pairs → IsSeen f old m s → IsSeen f new m s
 
 -- It stays where a manifest is installed that raises the counts of pairs and has one pair more.
 abbrev pub SeenBesideInstall : Image → Type 0

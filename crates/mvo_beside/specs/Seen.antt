@@ -59,6 +59,13 @@ pairs_now {f} {content} {m} {s} seen pair = record {
   pair = pair;
 }
 
+-- the data files of these pairs stay, and the numbers that count in their delta files
+abbrev pub CountsStay : Format → Image → Image → List Pair → Type 0
+CountsStay f old new ps = (p : Pair) → Contains ps p →
+    (new p.data_file ≡ old p.data_file) × ((ns : List ℕ) →
+    HasNumbers f.version p.records p.entries ns (old p.delta_file) →
+    HasNumbers f.version p.records p.entries ns (new p.delta_file))
+
 -- ---- what is written
 
 -- what a version allows fits the fields of the files

@@ -1,5 +1,5 @@
 ghost use Rattle.mvo_format.specs.declared.format.Format.{Format};
-ghost use Rattle.mvo_beside.specs.Laws.{SeenAtRead, SeenStays, SeenBesideNumbers};
+ghost use Rattle.mvo_beside.specs.Laws.{SeenAtRead, SeenStays, SeenBesideNumbers, SeenWhereCountsStay};
 ghost use Rattle.mvo_beside.specs.Laws.{SeenBesideInstall, StaysUnnamed, FindsLate};
 ghost use Rattle.mvo_beside.specs.Laws.{MergeBesideIsReady, InstallBesideKeeps, PlacesBeside};
 ghost use Rattle.mvo_beside.specs.Runs.{RunsKeepAll};
@@ -17,6 +17,7 @@ pub fn laws_of_merge_beside<D: Disk>(old: &D, new: &D)
     ensures begins { SeenAtRead (D.content old.now) }
     ensures stays { SeenStays (D.content old.now) (D.content new.now) }
     ensures numbers { SeenBesideNumbers (D.content old.now) (D.content new.now) }
+    ensures counts { SeenWhereCountsStay (D.content old.now) (D.content new.now) }
     ensures install { SeenBesideInstall (D.content old.now) }
     ensures unnamed { StaysUnnamed }
     ensures late { FindsLate (D.content old.now) }

@@ -1,4 +1,4 @@
-use Rattle.mvo_beside.proofs.Seen.{seen_at_read, seen_stays, seen_beside_numbers, seen_beside_install, stays_unnamed}
+use Rattle.mvo_beside.proofs.Seen.{seen_at_read, seen_stays, seen_beside_numbers, seen_where_counts_stay, seen_beside_install, stays_unnamed}
 use Rattle.mvo_beside.proofs.Ready.{finds_late}
 use Rattle.mvo_beside.proofs.Proved.{merge_beside_ready, install_beside, places_beside}
 use Rattle.mvo_beside.proofs.Running.{runs_keep}
@@ -12,6 +12,9 @@ returns-clause-stays g c = seen_stays (g.D.Disk.content c.args.old.now) (g.D.Dis
 
 pub returns-clause-numbers : goal.returns-clause-numbers
 returns-clause-numbers g c = seen_beside_numbers (g.D.Disk.content c.args.old.now) (g.D.Disk.content c.args.new.now)
+
+pub returns-clause-counts : goal.returns-clause-counts
+returns-clause-counts g c = seen_where_counts_stay (g.D.Disk.content c.args.old.now) (g.D.Disk.content c.args.new.now)
 
 pub returns-clause-install : goal.returns-clause-install
 returns-clause-install g c = seen_beside_install (g.D.Disk.content c.args.old.now)
