@@ -1,6 +1,7 @@
 pub use Rattle.mvo_recovery.proofs.Grown
 pub mod Keeping
 pub mod Taken
+pub mod Counted
 pub mod Working
 pub mod Logged
 pub mod Checkpoints
