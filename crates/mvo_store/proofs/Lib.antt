@@ -7,5 +7,6 @@ pub mod Logged
 pub mod Checkpoints
 pub mod Written
 pub mod Neighbours
+pub mod Beside
 pub mod Dues
 pub mod Marked

@@ -23,6 +23,7 @@ use Rattle.mvo_store.specs.declared.jobs.Jobs.{Jobs}
 use Rattle.mvo_store.specs.declared.limits.TheConstants.{MAX_GENERATION}
 use Rattle.mvo_store.specs.Jobs.{Job, jobs_of}
 use Rattle.mvo_store.specs.Jobs.Job.{Rotation, Checkpoint, Merge, MergeInstall}
+use Rattle.mvo_store.specs.Checkpoint.{next_of}
 use Rattle.mvo_store.specs.Merging.{StandStill, MayBecome}
 use Rattle.mvo_store.specs.Standing.{IsUp, HasRoom, ShareNone}
 use Rattle.mvo_store.specs.StoreData.{StoreData}
@@ -55,7 +56,7 @@ pub record IsSafeCheckpoint (m : ManifestData) (c : Checkpointing) : Type 0 wher
   pub pair : IsSafePair c.pair c.made.records
   pub known : AreOfPairs m.pairs c.made.deltas
   pub within : IsWithin (length c.made.deltas) c.stage
-  pub next_is : IsNext m c.next
+  pub next_is : c.next ≡ next_of m c.pair c.made.deltas
 
 -- Of the two pairs the manifest may make the one, so that it keeps the rules.
 pub record IsSafeMerge (m : ManifestData) (g : Merging) : Type 0 where
