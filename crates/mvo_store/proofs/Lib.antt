@@ -8,5 +8,7 @@ pub mod Checkpoints
 pub mod Written
 pub mod Neighbours
 pub mod Beside
+pub mod Stepping
+pub mod Still
 pub mod Dues
 pub mod Marked

@@ -1,0 +1,71 @@
+-- What holds of each job that runs, where one of them makes a step.
+use Rattle.std.proofs.Common.{◌≡◌, ℕ, Bool, true, false, cond, List, [], ◌∷◌, Option, Some, None, refl, sym, ap, subst, ◌∙◌}
+use Rattle.std.specs.List.{AllByRecursion}
+use Rattle.mvo_store.specs.declared.due.Due.{Due}
+use Rattle.mvo_store.specs.declared.checkpointing.Checkpointing.{Checkpointing}
+use Rattle.mvo_store.specs.declared.merging.Merging.{Merging}
+use Rattle.mvo_store.specs.declared.jobs.Jobs.{Jobs}
+use Rattle.mvo_store.specs.declared.jobs.Jobs.TheVariants.{Rotation as RotationAlone, Merge as MergeAlone, Beside}
+use Rattle.mvo_store.specs.Jobs.{Job, jobs_of, step_due, job_due, is_due, is_of_merge, with_step, after_step, checkpoint_by, merge_by, checkpoint_behind, with_data, next_installed, after_install}
+use Rattle.mvo_store.specs.Jobs.Job.{Rotation, Checkpoint, Merge, MergeInstall}
+use Rattle.mvo_store.specs.Standing.{ShareNone}
+use Rattle.mvo_store.proofs.Beside.{IsDueIn, checkpoint_step, merge_step}
+use Rattle.mvo_store.proofs.Beside.IsDueIn.{TheRotation, TheMerge, TheCheckpoint, OfMerge}
+
+-- a job is there whose step is due
+pub some_due : (step : Due) (jobs : Jobs) → is_due step jobs ≡ true → (j : Job) × (job_due step jobs ≡ Some j)
+some_due step jobs is = go (job_due step jobs) refl is
+  where
+    go : (o : Option Job) → job_due step jobs ≡ o → Rattle.std.specs.Prelude.is_some o ≡ true → (j : Job) × (job_due step jobs ≡ Some j)
+    go None e t = absurd (cc t)
+    go (Some j) e t = (j, e)
+
+-- its step is that
+pub step_is : {step : Due} {jobs : Jobs} {j : Job} → IsDueIn step jobs j → step_due j ≡ step
+step_is (TheRotation fresh i at) = at
+step_is (TheMerge seen i at) = at
+step_is (TheCheckpoint c g at) = at
+step_is (OfMerge c g at) = at
+
+-- those that run then
+pub with_checkpoint_step : (step : Due) (c : Checkpointing) (g : Option Merging) → is_of_merge step ≡ false → with_step step (Beside (Some c) g) ≡ Beside (Some (checkpoint_behind c)) g
+with_checkpoint_step step c g is = ap (λ (b : Bool). cond b (Beside (Some c) (merge_by g)) (Beside (Some (checkpoint_behind c)) g)) is
+
+pub with_merge_step : (step : Due) (c : Option Checkpointing) (g : Merging) → is_of_merge step ≡ true → with_step step (Beside c (Some g)) ≡ Beside c (Some (with_data g))
+with_merge_step step c g is = ap (λ (b : Bool). cond b (Beside c (Some (with_data g))) (Beside (checkpoint_by c) (Some g))) is
+
+-- what holds of each holds of that one
+pub of_due : (P : Job → Type 0) {step : Due} {jobs : Jobs} {j : Job} → IsDueIn step jobs j → AllByRecursion P (jobs_of jobs) → P j
+of_due P (TheRotation fresh i at) all = all.0
+of_due P (TheMerge seen i at) all = all.0
+of_due P (TheCheckpoint c g at) all = all.0
+of_due P (OfMerge None g at) all = all.0
+of_due P (OfMerge (Some c) g at) all = all.1.0
+
+-- With that one a step on, and the other one as another fact says of it.
+pub all_stepped : (P Q : Job → Type 0) {step : Due} {jobs : Jobs} {j : Job} → IsDueIn step jobs j → AllByRecursion P (jobs_of jobs) → Q (after_step j)
+    → ((c : Checkpointing) (g : Merging) → jobs ≡ Beside (Some c) (Some g) → j ≡ Checkpoint c → P (Merge g) → Q (Merge g))
+    → ((c : Checkpointing) (g : Merging) → jobs ≡ Beside (Some c) (Some g) → j ≡ Merge g → P (Checkpoint c) → Q (Checkpoint c))
+    → AllByRecursion Q (jobs_of (with_step step jobs))
+all_stepped P Q (TheRotation fresh i at) all now of_merge of_checkpoint = (now, tt)
+all_stepped P Q (TheMerge seen i at) all now of_merge of_checkpoint = (now, tt)
+all_stepped P Q {step} (TheCheckpoint c None at) all now of_merge of_checkpoint = subst (λ (k : Jobs). AllByRecursion Q (jobs_of k)) (sym (with_checkpoint_step step c None (checkpoint_step c.stage step at))) (now, tt)
+all_stepped P Q {step} (TheCheckpoint c (Some g) at) all now of_merge of_checkpoint = subst (λ (k : Jobs). AllByRecursion Q (jobs_of k)) (sym (with_checkpoint_step step c (Some g) (checkpoint_step c.stage step at))) (now, (of_merge c g refl refl all.1.0, tt))
+all_stepped P Q {step} (OfMerge None g at) all now of_merge of_checkpoint = subst (λ (k : Jobs). AllByRecursion Q (jobs_of k)) (sym (with_merge_step step None g (merge_step g.stage step at))) (now, tt)
+all_stepped P Q {step} (OfMerge (Some c) g at) all now of_merge of_checkpoint = subst (λ (k : Jobs). AllByRecursion Q (jobs_of k)) (sym (with_merge_step step (Some c) g (merge_step g.stage step at))) (of_checkpoint c g refl refl all.0, (now, tt))
+
+-- no step takes a file
+pub share_stepped : {step : Due} {jobs : Jobs} {j : Job} → IsDueIn step jobs j → ShareNone jobs → ShareNone (with_step step jobs)
+share_stepped (TheRotation fresh i at) apart = tt
+share_stepped (TheMerge seen i at) apart = tt
+share_stepped {step} (TheCheckpoint c None at) apart = subst ShareNone (sym (with_checkpoint_step step c None (checkpoint_step c.stage step at))) tt
+share_stepped {step} (TheCheckpoint c (Some g) at) apart = subst ShareNone (sym (with_checkpoint_step step c (Some g) (checkpoint_step c.stage step at))) apart
+share_stepped {step} (OfMerge None g at) apart = subst ShareNone (sym (with_merge_step step None g (merge_step g.stage step at))) tt
+share_stepped {step} (OfMerge (Some c) g at) apart = subst ShareNone (sym (with_merge_step step (Some c) g (merge_step g.stage step at))) apart
+
+-- what is behind an install shares none
+pub share_installed : (jobs : Jobs) → ShareNone (after_install jobs)
+share_installed (RotationAlone fresh i) = tt
+share_installed (MergeAlone seen i) = tt
+share_installed (Beside c None) = tt
+share_installed (Beside c (Some g)) = tt
