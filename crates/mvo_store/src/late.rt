@@ -79,7 +79,8 @@ fn write_late<D: Disk>(
 }
 
 /// Writes the last file of a merge, its delta file, with what came late, and syncs it. Answers the
-/// manifest that names one pair in the place of the two. All memory is taken before the first write.
+/// manifest that names one pair in the place of the two. All memory is taken before the first
+/// write.
 pub fn end_merge<D: Disk>(
     alloc: Global,
     disk: &mut D,
