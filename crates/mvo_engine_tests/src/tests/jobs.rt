@@ -107,7 +107,7 @@ fn beside_a_job<L: Run, D: Disk, G: Gate + Drop, R: Wait>(
     engine.lock_store(rt).checkpoint_read()?;
     told.push(is_busy(engine.rotate(rt)))?;
     told.push(is_busy(engine.checkpoint(rt)))?;
-    told.push(is_busy(engine.merge(rt, 0)))?;
+    told.push(has_nothing(engine.merge(rt, 0)))?;
     told.push(has_nothing(engine.lock_store(rt).merge_data()))?;
     engine.lock_store(rt).checkpoint_data()?;
     told.push(engine.lock_store(rt).checkpoint_delta()? == Progress::More)?;
