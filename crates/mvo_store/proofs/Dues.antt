@@ -67,6 +67,7 @@ use Rattle.mvo_store.specs.Steps.{manifest_after, places_after, segment_after}
 use Rattle.mvo_store.proofs.Keeping.{give_or, stays_up, AllLeave, OnlyNow, CountsNow, slots_as, now_left, touched_left, may_step, Begins, begins, file_others, fault_step, misread_step, other_step, err_is, all_others, done_step, looked_step, stays_safe, looked_safe}
 use Rattle.mvo_store.proofs.Checkpoints.{stop_or_misread}
 use Rattle.mvo_store.proofs.Working.{Installing, Installs, installs, installing, due_installs, slot_of_install, IsOfPair, RestsOn, jobs_framed, each_job, each_follows, written_of_pair, merged_of_pair, small, merged_now, merged_parts_now}
+use Rattle.mvo_store.proofs.Numbered.{same_due}
 use Rattle.mvo_store.proofs.Beside.{IsDueIn, due_in_jobs, merge_stays, checkpoint_stays, merge_runs_on}
 use Rattle.mvo_store.proofs.Beside.IsDueIn.{TheRotation, TheMerge, TheCheckpoint, OfMerge}
 use Rattle.mvo_store.proofs.Stepping.{some_due, step_is, of_due, all_stepped, share_stepped, share_installed}
@@ -76,20 +77,6 @@ use Rattle.mvo_load.specs.Read.{IsMisread}
 use Rattle.mvo_recovery.proofs.Framed.{files_stay_others, settled_all, settled_framed}
 use Rattle.mvo_store.specs.Reclaiming.{IsUnused, IsLeastDead}
 use Rattle.mvo_store.proofs.Logged.{unnamed_unused}
-
--- ---- the steps by their numbers
-
-numbered : ℕ → Due
-numbered n = get_or (Data ∷ Delta ∷ MergeData ∷ MergeDelta ∷ Install Close ∷ Install Body ∷ []) n (Install Open)
-
-numbered_back : (a : Due) → numbered (step_number a) ≡ a
-unfolding numbered
-numbered_back (Install Close) = refl
-numbered_back step = refl
-
--- no two have one number
-pub same_due : (a b : Due) → eqb (step_number a) (step_number b) ≡ true → a ≡ b
-same_due a b e = sym (numbered_back a) ∙ ap numbered (eqb-true (step_number a) (step_number b) e) ∙ numbered_back b
 
 -- the job whose step is due stands among those that run
 pub due_is : (step : Due) (jobs : Jobs) (j : Job) → job_due step jobs ≡ Some j → IsDueIn step jobs j

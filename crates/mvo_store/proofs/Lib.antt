@@ -7,6 +7,7 @@ pub mod Logged
 pub mod Checkpoints
 pub mod Written
 pub mod Neighbours
+pub mod Numbered
 pub mod Beside
 pub mod Stepping
 pub mod Still

@@ -2,14 +2,18 @@
 use Rattle.std.proofs.Common.{◌≡◌, ℕ, Bool, true, false, cond, List, [], ◌∷◌, Option, Some, None, refl, sym, ap, subst, ◌∙◌}
 use Rattle.std.specs.List.{AllByRecursion}
 use Rattle.mvo_store.specs.declared.due.Due.{Due}
+use Rattle.mvo_store.specs.declared.due.Due.TheVariants.{MergeDelta, Install}
+use Rattle.mvo_store.specs.declared.checkpoint_stage.CheckpointStage.{CheckpointStage}
+use Rattle.mvo_store.specs.declared.checkpoint_stage.CheckpointStage.TheVariants.{Data as AtData, Delta as AtDelta, Install as AtInstall}
 use Rattle.mvo_store.specs.declared.checkpointing.Checkpointing.{Checkpointing}
 use Rattle.mvo_store.specs.declared.merging.Merging.{Merging}
 use Rattle.mvo_store.specs.declared.jobs.Jobs.{Jobs}
 use Rattle.mvo_store.specs.declared.jobs.Jobs.TheVariants.{Rotation as RotationAlone, Merge as MergeAlone, Beside}
-use Rattle.mvo_store.specs.Jobs.{Job, jobs_of, step_due, job_due, is_due, is_of_merge, with_step, after_step, checkpoint_by, merge_by, checkpoint_behind, with_data, next_installed, after_install}
+use Rattle.mvo_store.specs.Jobs.{Job, no_jobs, jobs_of, keeps_all_out, keeps_checkpoint_out, keeps_merge_out, has_checkpoint, due_of, merge_due_of, step_number, step_due, job_due, is_due, is_of_merge, with_step, after_step, checkpoint_by, merge_by, checkpoint_behind, with_data, next_installed, after_install}
 use Rattle.mvo_store.specs.Jobs.Job.{Rotation, Checkpoint, Merge, MergeInstall}
 use Rattle.mvo_store.specs.Standing.{ShareNone}
-use Rattle.mvo_store.proofs.Beside.{IsDueIn, checkpoint_step, merge_step}
+use Rattle.mvo_store.proofs.Beside.{IsDueIn, due_in_jobs, checkpoint_step, merge_step}
+use Rattle.mvo_store.proofs.Numbered.{same_due}
 use Rattle.mvo_store.proofs.Beside.IsDueIn.{TheRotation, TheMerge, TheCheckpoint, OfMerge}
 
 -- a job is there whose step is due
@@ -69,3 +73,43 @@ share_installed (RotationAlone fresh i) = tt
 share_installed (MergeAlone seen i) = tt
 share_installed (Beside c None) = tt
 share_installed (Beside c (Some g)) = tt
+
+-- ---- those beside which one begins
+
+-- a rotation
+pub begins_alone : (jobs : Jobs) → keeps_all_out jobs ≡ false → jobs ≡ no_jobs
+begins_alone (RotationAlone fresh i) e = absurd (cc e)
+begins_alone (MergeAlone seen i) e = absurd (cc e)
+begins_alone (Beside None None) e = refl
+begins_alone (Beside None (Some g)) e = absurd (cc e)
+begins_alone (Beside (Some c) g) e = absurd (cc e)
+
+-- a checkpoint
+pub begins_beside_merge : (jobs : Jobs) → keeps_checkpoint_out jobs ≡ false → (g : Option Merging) × (jobs ≡ Beside None g)
+begins_beside_merge (RotationAlone fresh i) e = absurd (cc e)
+begins_beside_merge (MergeAlone seen i) e = absurd (cc e)
+begins_beside_merge (Beside None g) e = (g, refl)
+begins_beside_merge (Beside (Some c) g) e = absurd (cc e)
+
+-- a merge
+pub begins_beside_checkpoint : (jobs : Jobs) → keeps_merge_out jobs ≡ false → (c : Option Checkpointing) × (jobs ≡ Beside c None)
+begins_beside_checkpoint (RotationAlone fresh i) e = absurd (cc e)
+begins_beside_checkpoint (MergeAlone seen i) e = absurd (cc e)
+begins_beside_checkpoint (Beside c None) e = (c, refl)
+begins_beside_checkpoint (Beside c (Some g)) e = absurd (cc e)
+
+-- the last file of a merge is written where no checkpoint runs
+pub ends_alone : (jobs : Jobs) → is_due MergeDelta jobs ≡ true → has_checkpoint jobs ≡ false → (g : Merging) × (jobs ≡ Beside None (Some g)) × (merge_due_of g.stage ≡ MergeDelta)
+ends_alone jobs due none = let j = some_due MergeDelta jobs due in go (due_in_jobs same_due MergeDelta jobs j.0 j.1) none
+  where
+    no_step : {A : Type 0} (stage : CheckpointStage) → due_of stage ≡ MergeDelta → A
+    no_step AtData e = absurd (cc e)
+    no_step (AtDelta written) e = absurd (cc e)
+    no_step (AtInstall step) e = absurd (cc e)
+
+    go : {jobs : Jobs} {j : Job} → IsDueIn MergeDelta jobs j → has_checkpoint jobs ≡ false → (g : Merging) × (jobs ≡ Beside None (Some g)) × (merge_due_of g.stage ≡ MergeDelta)
+    go (TheRotation fresh i at) e = absurd (cc at)
+    go (TheMerge seen i at) e = absurd (cc at)
+    go (TheCheckpoint c g at) e = no_step c.stage at
+    go (OfMerge None g at) e = (g, refl, at)
+    go (OfMerge (Some c) g at) e = absurd (cc e)
