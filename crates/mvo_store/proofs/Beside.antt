@@ -33,10 +33,11 @@ use Rattle.mvo_store.specs.declared.jobs.Jobs.{Jobs}
 use Rattle.mvo_store.specs.declared.jobs.Jobs.TheVariants.{Rotation as RotationAlone, Merge as MergeAlone, Beside}
 use Rattle.mvo_store.specs.Checkpoint.{gained, made_of, IsCheckpointInto}
 use Rattle.mvo_store.specs.Merging.{seen_of, IsMerging, IsMergeWritten}
-use Rattle.mvo_store.specs.Jobs.{Job, jobs_of, step_number, due_of, merge_due_of, step_due, is_step_of, first_due, job_due, is_of_merge, with_step, after_step, checkpoint_behind, with_data, job_takes_file}
+use Rattle.mvo_store.specs.Jobs.{Job, jobs_of, due_of, merge_due_of, step_due, is_step_of, first_due, job_due, is_of_merge, with_step, after_step, checkpoint_behind, with_data, job_takes_file}
 use Rattle.mvo_store.specs.Jobs.Job.{Rotation, Checkpoint, Merge, MergeInstall}
 use Rattle.mvo_store.specs.Standing.{IsRunning, IsMergingAt, HaveJobs, ShareNoFile, ShareNone}
 use Rattle.mvo_store.specs.Writing.{IsFileAt, IsGaining, IsMergeFileAt}
+use Rattle.mvo_store.proofs.Numbered.{same_due}
 use Rattle.mvo_store.proofs.Working.{IsOfPair, IsWrittenOf, IsNamedBefore, RestsOn, IsNew, written_of_pair, job_framed, records_framed, merge_new}
 
 -- ---- the job whose step is due
@@ -48,7 +49,7 @@ pub data IsDueIn (step : Due) : Jobs → Job → Type 0 where
   TheCheckpoint : (c : Checkpointing) (g : Option Merging) → due_of c.stage ≡ step → IsDueIn step (Beside (Some c) g) (Checkpoint c)
   OfMerge : (c : Option Checkpointing) (g : Merging) → merge_due_of g.stage ≡ step → IsDueIn step (Beside c (Some g)) (Merge g)
 
-module _ (same_due : (a b : Due) → eqb (step_number a) (step_number b) ≡ true → a ≡ b) (step : Due) where
+module _ (step : Due) where
   -- the one of a list
   one_due : (k j : Job) → first_due step (k ∷ []) ≡ Some j → (k ≡ j) × (step_due k ≡ step)
   one_due k j e = go (is_step_of step k) refl e

@@ -67,7 +67,6 @@ use Rattle.mvo_store.specs.Steps.{manifest_after, places_after, segment_after}
 use Rattle.mvo_store.proofs.Keeping.{give_or, stays_up, AllLeave, OnlyNow, CountsNow, slots_as, now_left, touched_left, may_step, Begins, begins, file_others, fault_step, misread_step, other_step, err_is, all_others, done_step, looked_step, stays_safe, looked_safe}
 use Rattle.mvo_store.proofs.Checkpoints.{stop_or_misread}
 use Rattle.mvo_store.proofs.Working.{Installing, Installs, installs, installing, due_installs, slot_of_install, IsOfPair, RestsOn, jobs_framed, each_job, each_follows, written_of_pair, merged_of_pair, small, merged_now, merged_parts_now}
-use Rattle.mvo_store.proofs.Numbered.{same_due}
 use Rattle.mvo_store.proofs.Beside.{IsDueIn, due_in_jobs, merge_stays, checkpoint_stays, merge_runs_on}
 use Rattle.mvo_store.proofs.Beside.IsDueIn.{TheRotation, TheMerge, TheCheckpoint, OfMerge}
 use Rattle.mvo_store.proofs.Stepping.{some_due, step_is, of_due, all_stepped, share_stepped, share_installed}
@@ -80,7 +79,7 @@ use Rattle.mvo_store.proofs.Logged.{unnamed_unused}
 
 -- the job whose step is due stands among those that run
 pub due_is : (step : Due) (jobs : Jobs) (j : Job) → job_due step jobs ≡ Some j → IsDueIn step jobs j
-due_is = due_in_jobs same_due
+due_is = due_in_jobs
 
 -- only a fault refuses the opening of a gate
 pub fault_only : {D : Type 0} (fault_count : D → ℕ) (due : Due) (old new : D) (e : Refusal) → due ≡ Install Open → IsStepRefusal fault_count due old new e → (e ≡ DiskFault) × (fault_count new ≡ fault_count old + 1)

@@ -17,4 +17,3 @@ numbered_back step = refl
 -- no two have one number
 pub same_due : (a b : Due) → eqb (step_number a) (step_number b) ≡ true → a ≡ b
 same_due a b e = sym (numbered_back a) ∙ ap numbered (eqb-true (step_number a) (step_number b) e) ∙ numbered_back b
-

@@ -13,7 +13,6 @@ use Rattle.mvo_store.specs.Jobs.{Job, no_jobs, jobs_of, keeps_all_out, keeps_che
 use Rattle.mvo_store.specs.Jobs.Job.{Rotation, Checkpoint, Merge, MergeInstall}
 use Rattle.mvo_store.specs.Standing.{ShareNone}
 use Rattle.mvo_store.proofs.Beside.{IsDueIn, due_in_jobs, checkpoint_step, merge_step}
-use Rattle.mvo_store.proofs.Numbered.{same_due}
 use Rattle.mvo_store.proofs.Beside.IsDueIn.{TheRotation, TheMerge, TheCheckpoint, OfMerge}
 
 -- a job is there whose step is due
@@ -100,7 +99,7 @@ begins_beside_checkpoint (Beside c (Some g)) e = absurd (cc e)
 
 -- the last file of a merge is written where no checkpoint runs
 pub ends_alone : (jobs : Jobs) → is_due MergeDelta jobs ≡ true → has_checkpoint jobs ≡ false → (g : Merging) × (jobs ≡ Beside None (Some g)) × (merge_due_of g.stage ≡ MergeDelta)
-ends_alone jobs due none = let j = some_due MergeDelta jobs due in go (due_in_jobs same_due MergeDelta jobs j.0 j.1) none
+ends_alone jobs due none = let j = some_due MergeDelta jobs due in go (due_in_jobs MergeDelta jobs j.0 j.1) none
   where
     no_step : {A : Type 0} (stage : CheckpointStage) → due_of stage ≡ MergeDelta → A
     no_step AtData e = absurd (cc e)
