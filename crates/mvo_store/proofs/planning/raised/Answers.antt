@@ -14,11 +14,10 @@ loop-pair-preserved c =
     let i = c.loop-pair.pair-index in
     let so_far = c.loop-pair.invariant in
     let is = c.in-Some.ensures in
-    let lt : i < length ps = c.loop-pair-test.true in
-    (
+    let lt : i < length ps = c.loop-pair-test.true in (
       c.in_ok-push.ensures.items
-      ∙ ap (λ (l : List Pair). l ++ c.in-Some.raised ∷ []) so_far.0
-      ∙ ap (λ (p : Pair). map (raise (gained ds)) (take i ps) ++ p ∷ []) is.1
-      ∙ sym (map_more (raise (gained ds)) ps i _ lt),
+          ∙ ap (λ (l : List Pair). l ++ c.in-Some.raised ∷ []) so_far.0
+          ∙ ap (λ (p : Pair). map (raise (gained ds)) (take i ps) ++ p ∷ []) is.1
+          ∙ sym (map_more (raise (gained ds)) ps i _ lt),
       All-more (λ (p : Pair). p.entries + length (gained ds p) < 2 ^ 32) ps i _ lt so_far.1 is.0,
     )
