@@ -29,10 +29,13 @@ pub fn open_disk<R: AllocGlobal + Eprint + Files<File = File> + Clone + Drop>(
     folder: &str,
     is_terminal: bool,
 ) -> Result<HostDisk<R>, Fault> {
-    let (Ok(own), Ok(shown)) = (rt.clone(), rt.clone()) else {
+    let Ok(own) = rt.clone() else {
         return Err(Fault::OutOfMemory);
     };
-    let shown = Shown::new(shown, is_terminal);
+    let Ok(errors) = rt.clone() else {
+        return Err(Fault::OutOfMemory);
+    };
+    let shown = Shown::new(errors, is_terminal);
     match DirDisk::open(own, rt.alloc(), folder, Unknown, shown) {
         Ok(disk) => Ok(disk),
         Err(refusal) => Err(fault_of(refusal)),

@@ -231,6 +231,10 @@ impl<D: Disk> World<D> {
     /// Runs the events, one after another, each as `step` does. It takes room for its replies
     /// first: refused with OutOfMemory, it has run nothing. An event whose copy is refused, which
     /// has a row, is answered OutOfMemory and does nothing.
+    ///
+    /// What `after` says of rows and images has one premise: each length and each byte that the
+    /// disk answered since it was opened was what had been written there last, or, where nothing
+    /// was written since, what its file held as it was opened. All else holds whatever it answers.
     pub fn run(&mut self, events: &[Event]) -> Result<Vec<Reply>, Refusal>
         ensures each { IfOk result (λ replies.
             AreSteps (IsRunStep D.Disk) self.old events.now replies.items self.new) }

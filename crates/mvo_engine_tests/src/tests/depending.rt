@@ -143,7 +143,7 @@ fn run_depending<
     G: Gate + Drop + Send + Sync,
     R: Threads + Wait + Sync,
 >(rt: &R, alloc: Global, fresh: Fresh<D>, gate: G, passes: &Passes) -> Result<Told, Refusal>
-    requires { IsNamedBy D.Disk L.image L.marks L.ring L.name L.parts fresh }
+    requires { IsNamedBy D.Disk L.opening L.marks L.ring L.name L.parts fresh }
 {
     let engine = Engine::<L, D, G>::new(fresh, gate);
     both(rt, alloc, &engine, passes)

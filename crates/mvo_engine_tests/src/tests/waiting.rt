@@ -182,7 +182,7 @@ fn run_waiting<
     words: &Words,
     trial: Trial,
 ) -> Result<Vec<bool>, Refusal>
-    requires { IsNamedBy D.Disk L.image L.marks L.ring L.name L.parts fresh }
+    requires { IsNamedBy D.Disk L.opening L.marks L.ring L.name L.parts fresh }
 {
     let engine = Engine::<L, D, G>::new(fresh, gate);
     go(rt, alloc, &engine, words, trial)
