@@ -23,4 +23,4 @@ module _ (R S P T : RattleType) (n : Read.Ghosts T.Denot) (is : IsSend R) (shown
   folder_send = let f = file_send in search (sendable, crosses) depth 40
 
   pub disk_send : IsSend (DirDisk.the_row R S P T n)
-  disk_send = let r = record_send in recorded_send _ _ _ (DirDisk.the_type R S P T n).to_one (struct_send (shape (DirDisk.the_type R S P T n)) (folder_send, (record_send, (search sendable, (shown, (search sendable, (search sendable, (search sendable, (search sendable, tt)))))))))
+  disk_send = recorded_send _ _ _ (DirDisk.the_type R S P T n).to_one (struct_send (shape (DirDisk.the_type R S P T n)) (folder_send, (record_send, (search (sendable, crosses) depth 40, (shown, (search sendable, (search sendable, (search sendable, (search sendable, tt)))))))))
