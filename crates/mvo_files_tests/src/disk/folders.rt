@@ -94,7 +94,11 @@ fn fills_its_files(
 }
 
 fn has_what_was_filled<D: Disk>(rt: &impl Abort, alloc: Global, disk: &mut D) -> Result<(), Fail> {
-    same(rt, &read(alloc, disk, 3, 9)?.as_slice(), &b"axydz".as_slice());
+    same(
+        rt,
+        &read(alloc, disk, 3, 9)?.as_slice(),
+        &b"axydz".as_slice(),
+    );
     same(rt, &read(alloc, disk, 3, 2)?.as_slice(), &b"ax".as_slice());
     same(rt, &read_two(disk, 3, 3)?, &(*b"dz"));
     same(rt, &disk.faults(), &0);
