@@ -1,5 +1,5 @@
 //! A disk that gives a wrong answer.
-ghost use Rattle.std.specs.Prelude.{◌≡◌, ◌<◌, ◌+◌, ◌^◌, ◌&&◌, length};
+ghost use Rattle.std.specs.Prelude.{◌≡◌, ◌<◌, ◌+◌, ◌^◌, ◌&&◌, length, IsErr};
 ghost use Rattle.mvo_disk.specs.declared.limits.TheConstants.{FILE_COUNT};
 ghost use Rattle.mvo_disk.specs.Record.{FilesStay, GoesOn};
 
@@ -92,17 +92,20 @@ impl LyingDisk {
     }
 
     // A call that fails and changes nothing.
-    fn fail(&mut self, file: u16) -> DiskFault
+    fn fail<T>(&mut self, file: u16) -> Result<T, DiskFault>
         requires file { file < FILE_COUNT }
         requires room { self.old.disk.fault_count + 1 < 2 ^ 64 }
+        ensures err { IsErr result }
         ensures count { self.new.disk.fault_count ≡ self.old.disk.fault_count + 1 }
         ensures honest { self.new.is_honest ≡ self.old.is_honest }
         ensures rest { FilesStay self.old.disk self.new.disk }
         ensures time { GoesOn self.old.disk self.new.disk }
     {
         self.disk.fail_at(0);
-        let _ = self.disk.len(file);
-        DiskFault
+        match self.disk.len(file) {
+            Ok(_) => unreachable!(),
+            Err(fault) => Err(fault),
+        }
     }
 }
 
@@ -161,14 +164,14 @@ impl Disk for LyingDisk {
 
     fn write_at(&mut self, file: u16, at: usize, bytes: &[u8]) -> Result<(), DiskFault> {
         if at > self.disk.bytes(file).len() {
-            return Err(self.fail(file));
+            return self.fail(file);
         }
         self.disk.write_at(file, at, bytes)
     }
 
     fn cut(&mut self, file: u16, len: usize) -> Result<(), DiskFault> {
         if len > self.disk.bytes(file).len() {
-            return Err(self.fail(file));
+            return self.fail(file);
         }
         self.disk.cut(file, len)
     }
