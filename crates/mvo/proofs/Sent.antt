@@ -9,7 +9,6 @@ use Rattle.std.specs.contracts.fs.FileRead.TheImpl as reads
 use Rattle.std.specs.contracts.fs.FileWrite.TheImpl as writes
 use Rattle.std.specs.contracts.fs.FileSeek.TheImpl as seeks
 use Rattle.mvo_disk.specs.contracts.record.Record as Record
-use Rattle.mvo_disk.specs.declared.start.Start as Start
 use Rattle.mvo_disk.specs.contracts.folder.Folder as Folder
 use Rattle.mvo_disk.specs.contracts.dir_disk.DirDisk as DirDisk
 
@@ -19,9 +18,9 @@ file_send = search (sendable, crosses) depth 40
 record_send : IsSend Record.the_row
 record_send = search (sendable, crosses) depth 40
 
-module _ (R S P T : RattleType) (n : Read.Ghosts T.Denot) (s : Start.Ghosts S.Denot) (is : IsSend R) (shown : IsSend P) where
+module _ (R S P T : RattleType) (n : Read.Ghosts T.Denot) (is : IsSend R) (shown : IsSend P) where
   folder_send : IsSend (Folder.the_field R T reads.ghosts writes.ghosts seeks.ghosts n).row
   folder_send = let f = file_send in search (sendable, crosses) depth 40
 
-  pub disk_send : IsSend (DirDisk.the_row R S P T n s)
-  disk_send = let r = record_send in recorded_send _ _ _ (DirDisk.the_type R S P T n s).to_one (struct_send (shape (DirDisk.the_type R S P T n s)) (folder_send, (record_send, (search sendable, (shown, (search sendable, (search sendable, (search sendable, (search sendable, tt)))))))))
+  pub disk_send : IsSend (DirDisk.the_row R S P T n)
+  disk_send = recorded_send _ _ _ (DirDisk.the_type R S P T n).to_one (struct_send (shape (DirDisk.the_type R S P T n)) (folder_send, (record_send, (search (sendable, crosses) depth 40, (shown, (search sendable, (search sendable, (search sendable, (search sendable, tt)))))))))

@@ -111,6 +111,7 @@ impl LyingDisk {
 
 impl Disk for LyingDisk {
     ghost use Rattle.std.specs.Prelude.{length};
+    ghost use Rattle.mvo_disk.specs.Memory.{counts_now, only_now, counts_later};
     ghost use Rattle.mvo_disk.specs.Record.{calls_of, content_of, images_of, left_since};
 
     ghost content = { λ d. content_of d.disk };
@@ -123,17 +124,15 @@ impl Disk for LyingDisk {
 
     ghost fault_count = { λ d. d.disk.fault_count };
 
-    ghost content_may_stay = { λ d n. ⟦<MemDisk as Disk>⟧.content_may_stay d.disk n };
+    ghost content_may_stay = { λ d n. d.disk.sound n };
 
-    ghost counts_now = { λ d t image before. ⟦<MemDisk as Disk>⟧.counts_now d.disk
-        (record { calls = t.calls; honest = true }) image
-        (record { calls = before.calls; honest = λ h. h }) };
+    ghost counts_now = { λ d t image before. counts_now d.disk.start.items (calls_of d.disk)
+        t.calls image before.calls };
 
-    ghost only_now = { λ d image left. ⟦<MemDisk as Disk>⟧.only_now d.disk image left };
+    ghost only_now = { λ d. only_now d.disk.start.items (calls_of d.disk) };
 
-    ghost counts_later = { λ d t u image before. ⟦<MemDisk as Disk>⟧.counts_later d.disk
-        (record { calls = t.calls; honest = true }) (record { calls = u.calls; honest = true })
-        image (record { calls = before.calls; honest = λ h. h }) };
+    ghost counts_later = { λ d t u image before. counts_later d.disk.start.items (calls_of d.disk)
+        t.calls u.calls image before.calls };
 
     fn len(&mut self, file: u16) -> Result<usize, DiskFault> {
         let len = self.disk.len(file)?;

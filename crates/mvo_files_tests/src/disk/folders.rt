@@ -94,7 +94,11 @@ fn fills_its_files(
 }
 
 fn has_what_was_filled<D: Disk>(rt: &impl Abort, alloc: Global, disk: &mut D) -> Result<(), Fail> {
-    same(rt, &read(alloc, disk, 3, 9)?.as_slice(), &b"axydz".as_slice());
+    same(
+        rt,
+        &read(alloc, disk, 3, 9)?.as_slice(),
+        &b"axydz".as_slice(),
+    );
     same(rt, &read(alloc, disk, 3, 2)?.as_slice(), &b"ax".as_slice());
     same(rt, &read_two(disk, 3, 3)?, &(*b"dz"));
     same(rt, &disk.faults(), &0);
@@ -114,7 +118,7 @@ fn is_filled(rt: &impl Abort, host: &HostRuntime, path: &str) -> Result<(), Fail
     };
     let mut disk = DirDisk::open(host.clone()?, host.alloc(), path, Unknown, told)?;
     has_what_was_filled(rt, host.alloc(), &mut disk)?;
-    same(rt, &read.load(Ordering::SeqCst), &7);
+    same(rt, &read.load(Ordering::SeqCst), &9);
     same(rt, &all.load(Ordering::SeqCst), &5);
     Ok(())
 }
@@ -190,7 +194,7 @@ fn refuses_what_is_no_folder(rt: HostRuntime) -> Result<(), Fail> {
     refuses(&rt, &rt, path.as_str(), inner.as_str())
 }
 
-/// A disk whose folder is removed takes nothing more, and still gives what it has.
+/// A disk whose folder is removed takes nothing more, and gives nothing.
 fn outlives_its_folder(
     rt: &(impl Abort + Alloc + Files),
     alloc: Global,
@@ -205,7 +209,8 @@ fn outlives_its_folder(
     same(rt, &cut(disk, 2, 0), &Err(DiskFault));
     same(rt, &sync(disk, 2), &Err(DiskFault));
     same(rt, &disk.faults(), &4);
-    same(rt, &read(alloc, disk, 2, 2)?.as_slice(), &b"ab".as_slice());
+    holds(rt, read(alloc, disk, 2, 2).is_err());
+    same(rt, &disk.faults(), &5);
     Ok(())
 }
 

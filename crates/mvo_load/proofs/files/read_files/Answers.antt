@@ -7,7 +7,7 @@ use Rattle.mvo_pair.specs.declared.pair.Pair.{Pair}
 use Rattle.mvo_image.specs.Opens.{Image}
 use Rattle.mvo_load.specs.Files.{PairBytes, bytes_of}
 use Rattle.mvo_load.proofs.Slices.{first_and_rest, no_more}
-use Rattle.mvo_load.proofs.Unchanged.{same_image, unchanged_yet, then_unchanged}
+use Rattle.mvo_load.proofs.Unchanged.{same_image, unchanged_yet, then_unchanged, was_read, then_spent}
 use Rattle.mvo_disk.specs.Disk.{IsHonest}
 use Rattle.mvo_load.proofs.Gathering.{AreFiles}
 use Rattle.mvo_load.proofs.files.read_files.Goals as goal
@@ -67,3 +67,8 @@ returns-clause-bytes g c = λ honest.
 pub returns-clause-pairs : goal.returns-clause-pairs
 returns-clause-pairs g c =
     sym (c.loop-rest.invariant.3 ∙ ap (λ (l : List Pair). map pair_in c.loop-rest.files.items ++ l) (no_more c.loop-rest.rest.now c.in_default.len_below) ∙ append-nil (map pair_in c.loop-rest.files.items))
+
+pub returns-in_err-push-clause-read : goal.returns-in_err-push-clause-read
+returns-in_err-push-clause-read g c =
+    let one = was_read g.D.Disk c.loop-rest.disk c.files_of.new.disk c.in-Ok.of_pair c.in-Ok.ensures.read in
+    then_spent g.D.Disk c.args.disk.now c.files_of.new.disk c.from_residual.result c.from_residual.ensures.1 (then_unchanged g.D.Disk c.args.disk.now c.loop-rest.disk c.files_of.new.disk c.loop-rest.invariant.2 one)
