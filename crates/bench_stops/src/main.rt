@@ -1,8 +1,8 @@
 //! What stops and faults leave of a script: whether it is what was promised, with how much was
 //! looked at. Counts go to standard output, times to standard error. Without an argument the script
 //! is one flush, and then it is printed what is found where the store forgets one of its syncs, or
-//! those of an opening, and of random lines with one merge beside checkpoints. With the argument all
-//! it is longer scripts; with a number it is so many random lines.
+//! those of an opening, and of random lines in which a merge runs beside checkpoints. With the
+//! argument all it is longer scripts; with a number it is so many random lines.
 #![tactic(auto)]
 
 mod forgotten;
