@@ -12,4 +12,5 @@ pub mod Beside
 pub mod Stepping
 pub mod Still
 pub mod Dues
+pub mod Looks
 pub mod Marked
