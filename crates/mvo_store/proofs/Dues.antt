@@ -24,7 +24,7 @@ use Rattle.mvo_manifest.specs.Rules.{IsFile}
 use Rattle.mvo_places.specs.Places.{PlaceTable, ArePlaces, file_of, taken_over}
 use Rattle.mvo_ckpt.specs.Writes.{records_of, gone_of}
 use Rattle.mvo_ckpt.proofs.Taking.{places_taken_over}
-use Rattle.mvo_merge.specs.Merged.{merged as records_of}
+use Rattle.mvo_merge.specs.Merged.{merged as records_merged}
 use Rattle.mvo_merge.specs.Moved.{HaveOwnKeys, moved}
 use Rattle.mvo_merge.proofs.Kept.{own_keys}
 use Rattle.mvo_load.proofs.Pairing.{data_files_differ}
@@ -36,7 +36,7 @@ use Rattle.mvo_beside.specs.Seen.{pairs_now}
 use Rattle.mvo_beside.proofs.Proved.{places_beside}
 use Rattle.mvo_recovery.proofs.Named.{slot_below, last_named, named_is_no_slot, last_once}
 use Rattle.mvo_recovery.proofs.Checkpointed.{last_stays, last_after}
-use Rattle.mvo_recovery.proofs.Installed.{after_install}
+use Rattle.mvo_recovery.proofs.Installed.{after_install as settled_after}
 use Rattle.mvo_recovery.proofs.Beside.{rotated_last}
 use Rattle.mvo_store.specs.declared.step.Step.TheVariants.{Close, Open}
 use Rattle.mvo_store.specs.declared.due.Due.{Due}
@@ -68,7 +68,7 @@ use Rattle.mvo_store.proofs.Beside.{IsDueIn, due_in_jobs, merge_stays, checkpoin
 use Rattle.mvo_store.proofs.Beside.IsDueIn.{TheRotation, TheMerge, TheCheckpoint, OfMerge}
 use Rattle.mvo_store.proofs.Stepping.{some_due, step_is, of_due, all_stepped, share_stepped, share_installed}
 use Rattle.mvo_store.proofs.Still.{merge_safe_after}
-use Rattle.mvo_store.proofs.Working.Installing.{OfRotation, OfCheckpoint, OfMerge}
+use Rattle.mvo_store.proofs.Working.Installing.{OfRotation, OfCheckpoint, OfMerge as OfMergeReady}
 use Rattle.mvo_load.specs.Read.{IsMisread}
 
 -- the job whose step is due stands among those that run
@@ -332,7 +332,7 @@ module _ {D : Type 0} (d : Ghosts D) (s : StoreData D) (rows : Map) (up : IsUp d
 
     -- THE NEXT MANIFEST IS INSTALLED.
     next_settled : (next : ManifestData) → next.generation ≡ m.generation + 1 → (i : Installs (d.content s.disk) (d.may_leave s.disk) up.parts next) → IsOpened d new m next → IsSettled FIRST_FORMAT (d.content new) (d.may_leave new) next i.parts
-    next_settled next one_more i is = after_install FIRST_FORMAT (d.content s.disk) (d.content new) (d.may_leave s.disk) (d.may_leave new) m up.parts up.settled (other_slot m) refl
+    next_settled next one_more i is = settled_after FIRST_FORMAT (d.content s.disk) (d.content new) (d.may_leave s.disk) (d.may_leave new) m up.parts up.settled (other_slot m) refl
         (subst (λ k. OthersStay k (d.content s.disk) (d.content new) (d.may_leave s.disk) (d.may_leave new)) at rest) is.durable next i.parts one_more i.ready is.has
 
     -- the store is up with it, with these places and this segment
@@ -374,7 +374,7 @@ module _ {D : Type 0} (d : Ghosts D) (s : StoreData D) (rows : Map) (up : IsUp d
         let saw = seen_of g merge.live_left merge.live_right in
         let differ : IsDistinct nat_eq (map file_of (merged m (pairs_now merge.seen (pair_with g is.late))).pairs) = subst (λ (n : ManifestData). IsDistinct nat_eq (map file_of n.pairs)) is.next_is (data_files_differ next settled.installed.own.is) in
         let now = places_beside FIRST_FORMAT (d.content s.disk) m up.parts saw (pair_with g is.late) merge.seen is.now s.places.at small up.settled.installed.own.is up.settled.installed.parts.live differ up.places in
-        let at_is : places.at ≡ moved g.left.data_file g.right.data_file g.pair.data_file (records_of merge.live_left merge.live_right) s.places.at = to ∙ ap (λ (es : List EntryData). moved g.left.data_file g.right.data_file g.pair.data_file es s.places.at) merge.records in
+        let at_is : places.at ≡ moved g.left.data_file g.right.data_file g.pair.data_file (records_merged merge.live_left merge.live_right) s.places.at = to ∙ ap (λ (es : List EntryData). moved g.left.data_file g.right.data_file g.pair.data_file es s.places.at) merge.records in
         rw (at_is, is.next_is) now
 
     -- THE STORE IS UP WITH IT, and with the jobs that run on.
@@ -395,8 +395,8 @@ module _ {D : Type 0} (d : Ghosts D) (s : StoreData D) (rows : Map) (up : IsUp d
         installed_up next i places jobs (runs i.parts) apart room settled refl refl
         (subst (λ (n : ManifestData). IsLastFile n s.segment.file) (sym has.into.next_is) (subst (IsLastFile (checkpointed m made)) (sym it) (last_after FIRST_FORMAT (d.content s.disk) (d.may_leave s.disk) m up.parts made log)))
         (checkpoint_places (record { pair = pair; made = c; next = next; stage = AtInstall step }) places has.into settled to)
-    open_up (OfMerge g k) has places opened to free jobs runs apart room =
-        let i = installs (d.content s.disk) (d.may_leave s.disk) m up.parts up.settled (OfMerge g k) has in
+    open_up (OfMergeReady g k) has places opened to free jobs runs apart room =
+        let i = installs (d.content s.disk) (d.may_leave s.disk) m up.parts up.settled (OfMergeReady g k) has in
         let settled = next_settled k.next (ap (λ (n : ManifestData). n.generation) has.next_is) i opened in
         installed_up k.next i places jobs (runs i.parts) apart room settled refl refl (subst (λ (n : ManifestData). IsLastFile n s.segment.file) (sym has.next_is) (up.last.0, up.last.1)) (merge_places g k.next places has settled to)
 

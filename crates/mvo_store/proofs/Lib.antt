@@ -10,6 +10,7 @@ pub mod Neighbours
 pub mod Numbered
 pub mod Beside
 pub mod Stepping
+pub mod Beginning
 pub mod Still
 pub mod Dues
 pub mod Looks

@@ -101,7 +101,7 @@ fn merge_by(merge: Option<Merging>) -> Option<Merging>
 }
 
 /// Whether the step is one of a merge whose files aren't all written.
-fn is_of_merge(step: Due) -> bool
+pub fn is_of_merge(step: Due) -> bool
     ensures { result ≡ is_of_merge step }
 {
     matches!(step, Due::MergeData | Due::MergeDelta)
