@@ -14,4 +14,5 @@ pub mod Beginning
 pub mod Still
 pub mod Dues
 pub mod Looks
+pub mod Made
 pub mod Marked
