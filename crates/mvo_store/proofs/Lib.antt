@@ -15,4 +15,6 @@ pub mod Still
 pub mod Dues
 pub mod Looks
 pub mod Made
+pub mod Late
+pub mod Ended
 pub mod Marked

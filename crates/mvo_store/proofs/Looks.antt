@@ -35,7 +35,7 @@ use Rattle.mvo_store.proofs.Logged.{unnamed_unused}
 
 -- ---- looks at the disk
 
-misread_count : (before now : ℕ) (e : Refusal) → IsMisread e → CountsFaults {X = Unit {0}} before now (Err e) → now ≡ before
+pub misread_count : (before now : ℕ) (e : Refusal) → IsMisread e → CountsFaults {X = Unit {0}} before now (Err e) → now ≡ before
 misread_count before now (Corrupt file) is count = count
 misread_count before now BadVersion is count = count
 misread_count before now e is count = absurd is
