@@ -8,6 +8,7 @@ pub mod Checkpoints
 pub mod Written
 pub mod Neighbours
 pub mod Numbered
+pub mod Asked
 pub mod Beside
 pub mod Stepping
 pub mod Beginning
