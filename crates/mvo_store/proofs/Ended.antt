@@ -44,12 +44,20 @@ pub record EndsAlone {D : Type 0} (d : Ghosts D) (s : StoreData D) : Type 0 wher
   pub is : s.jobs ≡ Beside None (Some merge)
   pub at : merge.stage ≡ MergeAtDelta
 
-pub ends_at : {D : Type 0} (d : Ghosts D) (s t : StoreData D) → s ≡ t → why_not_merge_delta t ≡ None → (s.down ≡ false → IsSound d s) → EndsAlone d s
-ends_at d s t same none invariant =
-    let b = begins d s t EndMerge same none invariant in
-    let may = may_end s b.none in
-    let alone = ends_alone s.jobs may.0 may.1 in
-    record { begins = b; merge = alone.0; is = alone.1; at = last_stage alone.0.stage alone.2 }
+module _ {D : Type 0} (d : Ghosts D) (s t : StoreData D) (same : s ≡ t) (none : why_not_merge_delta t ≡ None) (invariant : s.down ≡ false → IsSound d s) where
+  begun : Begins d s EndMerge
+  begun = begins d s t EndMerge same none invariant
+
+  -- one runs
+  pub runs_alone : (g : Merging) × (s.jobs ≡ Beside None (Some g)) × (merge_due_of g.stage ≡ MergeDelta)
+  runs_alone = let may = may_end s begun.none in ends_alone s.jobs may.0 may.1
+
+  -- it is this one
+  pub ends_at : (merge : Merging) → s.jobs ≡ Beside None (Some merge) → EndsAlone d s
+  ends_at merge is =
+      let e : Beside None (Some runs_alone.0) ≡ Beside None (Some merge) = sym runs_alone.1 ∙ is in
+      let it : runs_alone.0 ≡ merge = cc in
+      record { begins = begun; merge = merge; is = is; at = last_stage merge.stage (subst (λ (k : Merging). merge_due_of k.stage ≡ MergeDelta) it runs_alone.2) }
 
 module _ {D : Type 0} {d : Ghosts D} {s : StoreData D} (b : EndsAlone d s) where
   abbrev g : Merging

@@ -1,5 +1,5 @@
 -- The last file of a merge: the numbers that came late to its two pairs, and the manifest that has one pair in their place.
-use Rattle.std.proofs.Common.{◌≡◌, ◌≢◌, ◌⊎◌, inl, inr, ℕ, ◌+◌, ◌<◌, ◌≤◌, ◌^◌, List, [], ◌∷◌, ◌++◌, length, take, drop, Option, Some, Result, Ok, Err, refl, sym, ap, subst, ◌∙◌, arith, append_assoc, length-append}
+use Rattle.std.proofs.Common.{◌≡◌, ◌≢◌, ◌⊎◌, inl, inr, Bool, ℕ, ◌+◌, ◌<◌, ◌≤◌, ◌^◌, List, [], ◌∷◌, ◌++◌, length, take, drop, Option, Some, Result, Ok, Err, refl, sym, ap, subst, ◌∙◌, arith, append_assoc, length-append}
 use Rattle.std.specs.Prelude.{⊤, All, AllPairs}
 use Rattle.std.specs.List.{Contains}
 use Rattle.std.proofs.lemmas.List.{take_at, drop_at, append-nil, length-take, length-drop}
@@ -64,7 +64,7 @@ module _ (content : Image) (m : ManifestData) (saw : SeenData) (seen : IsSeen FI
   -- so does the one pair
   merged_there : (p : Pair) → merged_at m saw.place p ≡ merged m (pairs_now seen p)
   merged_there p =
-      let two = first_now ∷ second_now ∷ [] in
+      let two : List Pair = first_now ∷ second_now ∷ [] in
       let front : take saw.place m.pairs ≡ seen.before = ap (λ (ps : List Pair). take saw.place ps) seen.pairs ∙ take_at seen.before (two ++ seen.behind) saw.place seen.at in
       let whole : m.pairs ≡ (seen.before ++ two) ++ seen.behind = seen.pairs ∙ sym (append_assoc seen.before two seen.behind) in
       let long : length (seen.before ++ two) ≡ saw.place + 2 = omega (arith, seen.at, length-append seen.before two) in
@@ -75,7 +75,7 @@ module _ (content : Image) (m : ManifestData) (saw : SeenData) (seen : IsSeen FI
 -- the delta file of a pair has room for the numbers that count
 pub counted_start : (content : Image) (may : ℕ → List ℕ → Type 0) (m : ManifestData) (x : Parts) → IsSettled FIRST_FORMAT content may m x → (p : Pair) → Contains m.pairs p → place_behind p.entries ≤ length (content p.delta_file)
 counted_start content may m x settled p in_pairs =
-    let has = counted_of FIRST_FORMAT content may m x settled p in_pairs x.lives m.pairs settled.installed.parts.live in_pairs in
+    let has : (ns : List ℕ) × HasNumbers VERSION p.records p.entries ns (content p.delta_file) = counted_of FIRST_FORMAT content may m x settled p in_pairs x.lives m.pairs settled.installed.parts.live in_pairs in
     omega (arith, ap (λ (l : List ℕ). length l) has.1.whole, length-append (delta_bytes VERSION has.0) has.1.rest, length-delta VERSION has.0 p.entries has.1.counted)
 
 -- the neighbours at a place are among the pairs
@@ -375,7 +375,7 @@ module _ {D : Type 0} (d : Ghosts D) (m : ManifestData) (g : Merging) (late : Li
   }
 
   -- memory or a fault refuses it
-  pub write_refused : (old new : D) (e : Refusal) → IsWriteRefusal d.fault_count old new e → ◌≡◌ {A = Rattle.std.proofs.Common.Bool} (d.moment new).honest (d.moment old).honest
+  pub write_refused : (old new : D) (e : Refusal) → IsWriteRefusal d.fault_count old new e → ◌≡◌ {A = Bool} (d.moment new).honest (d.moment old).honest
       → OthersStay g.seen.pair.delta_file (d.content old) (d.content new) (d.may_leave old) (d.may_leave new) → LeavesOnly d.moment d.left_since old new (Touched g.seen.pair.delta_file (d.may_leave old) (λ _. ⊤)) → IsWrittenEnd d old new m g late (Err e)
   write_refused old new e refused honest rest any_moment = record {
     honest = honest;
