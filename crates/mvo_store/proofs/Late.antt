@@ -1,5 +1,5 @@
 -- The last file of a merge: the numbers that came late to its two pairs, and the manifest that has one pair in their place.
-use Rattle.std.proofs.Common.{◌≡◌, ◌≢◌, ◌⊎◌, inl, inr, Bool, ℕ, ◌+◌, ◌<◌, ◌≤◌, ◌^◌, List, [], ◌∷◌, ◌++◌, length, take, drop, Option, Some, Result, Ok, Err, refl, sym, ap, subst, ◌∙◌, arith, append_assoc, length-append}
+use Rattle.std.proofs.Common.{◌≡◌, ◌≢◌, ◌⊎◌, inl, inr, Bool, ℕ, ◌+◌, ◌<◌, ◌≤◌, ◌^◌, List, [], ◌∷◌, ◌++◌, length, take, drop, Option, Some, None, Result, Ok, Err, refl, sym, ap, subst, ◌∙◌, arith, append_assoc, length-append}
 use Rattle.std.specs.Prelude.{⊤, All, AllPairs}
 use Rattle.std.specs.List.{Contains}
 use Rattle.std.proofs.lemmas.List.{take_at, drop_at, append-nil, length-take, length-drop}
@@ -85,6 +85,21 @@ module _ (m : ManifestData) (place : ℕ) (p q : Pair) (two : neighbours_at plac
 
   pub second_there : Contains m.pairs q
   second_there = subst (λ (ps : List Pair). Contains ps q) (sym (two_stand m.pairs place p q two)) (has_second (take place m.pairs) (drop (place + 2) m.pairs) p q)
+
+-- they stand as they stood, and more of their numbers may count
+module _ (m : ManifestData) (s : Seen) (still : StandStill m s) (p q : Pair) (two : neighbours_at s.place m.pairs ≡ Some (p, q)) where
+  still_two : ◌≡◌ {A = Pair × Pair} (p, q) (grown still.more_left s.left, grown still.more_right s.right)
+  still_two = let e : ◌≡◌ {A = Option (Pair × Pair)} (Some (p, q)) (Some (grown still.more_left s.left, grown still.more_right s.right)) = sym two ∙ still.two in cc
+
+  pub left_counts : s.left.entries ≤ p.entries
+  left_counts = omega (arith, ap (λ (t : Pair × Pair). t.0.entries) still_two)
+
+  pub right_counts : s.right.entries ≤ q.entries
+  right_counts = omega (arith, ap (λ (t : Pair × Pair). t.1.entries) still_two)
+
+-- they are there
+pub some_there : (m : ManifestData) (s : Seen) → StandStill m s → neighbours_at s.place m.pairs ≢ None
+some_there m s still e = absurd (cc (sym still.two ∙ e))
 
 -- ---- the numbers that came late
 
