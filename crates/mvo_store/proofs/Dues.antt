@@ -66,7 +66,7 @@ use Rattle.mvo_store.proofs.Keeping.{give_or, stays_up, AllLeave, OnlyNow, Count
 use Rattle.mvo_store.proofs.Working.{Installing, Installs, installs, installing, due_installs, slot_of_install, small, merged_parts_now}
 use Rattle.mvo_store.proofs.Beside.{IsDueIn, due_in_jobs, merge_stays, checkpoint_stays, merge_runs_on}
 use Rattle.mvo_store.proofs.Beside.IsDueIn.{TheRotation, TheMerge, TheCheckpoint, OfMerge}
-use Rattle.mvo_store.proofs.Stepping.{some_due, step_is, of_due, all_stepped, share_stepped, share_installed}
+use Rattle.mvo_store.proofs.Turning.{some_due, step_is, of_due, all_stepped, share_stepped, share_installed}
 use Rattle.mvo_store.proofs.Still.{merge_safe_after}
 use Rattle.mvo_store.proofs.Working.Installing.{OfRotation, OfCheckpoint, OfMerge as OfMergeReady}
 use Rattle.mvo_load.specs.Read.{IsMisread}

@@ -28,7 +28,7 @@ use Rattle.mvo_store.specs.Writing.{IsFileDue, IsMergeFileAt, StandsFor, WritesF
 use Rattle.mvo_store.specs.Calls.{IsMergeEnded, IsStoreStep}
 use Rattle.mvo_store.specs.Calls.StoreCall.{MergeDelta as EndMerge}
 use Rattle.mvo_store.proofs.Keeping.{CountsNow, Begins, begins, may_end, slots_as, stays_up, stays_safe, looked_safe, fault_step, misread_step, looked_step, done_step}
-use Rattle.mvo_store.proofs.Stepping.{ends_alone}
+use Rattle.mvo_store.proofs.Turning.{ends_alone}
 use Rattle.mvo_store.proofs.Dues.{stands_of, step_others, step_leaves, step_slots}
 use Rattle.mvo_store.proofs.Looks.{looked_same, misread_count}
 

@@ -31,7 +31,7 @@ use Rattle.mvo_store.specs.Calls.{StoreCall, call_of, IsReadToCheckpoint, IsRead
 use Rattle.mvo_store.specs.Calls.StoreCall.{InstallOpen, CheckpointRead, MergeRead}
 use Rattle.mvo_store.proofs.Keeping.{OnlyNow, CountsNow, Begins, begins, may_open, none_keeps_checkpoint, none_keeps_merge, stays_safe, fault_step, done_step}
 use Rattle.mvo_store.proofs.Beside.{IsDueIn, due_in_jobs}
-use Rattle.mvo_store.proofs.Stepping.{some_due, step_is, begins_beside_merge, begins_beside_checkpoint}
+use Rattle.mvo_store.proofs.Turning.{some_due, step_is, begins_beside_merge, begins_beside_checkpoint}
 use Rattle.mvo_store.proofs.Beginning.{checkpoint_shares_none, merge_shares_none, with_checkpoint_all, with_merge_all, merge_room}
 use Rattle.mvo_store.proofs.Dues.{IsPlain, begins_due, due_job, makes_of, rows_of, fault_only, safe_work, safe_room, safe_take_over, installed_is, stepped_safe, opened_safe, stands_of, step_others, step_leaves, step_slots, step_up, step_refused, refused_sound, have_keys, opened_up}
 use Rattle.mvo_store.proofs.Looks.{looked_up, looked_done}
