@@ -66,10 +66,10 @@ module _ (f : Format) (content : Image) (m : ManifestData) (lives : List (List N
   abbrev late_right : List ℕ
   late_right = drop s.right.entries now.right
 
-  are_left : AreLate s.live_left late_left
+  pub are_left : AreLate s.live_left late_left
   are_left = are_late f content s.left seen.more_left s.live_left two.left rules.0.records seen.left two.left_has small left_top now.left now.left_has
 
-  are_right : AreLate s.live_right late_right
+  pub are_right : AreLate s.live_right late_right
   are_right = are_late f content s.right seen.more_right s.live_right two.right rules.1.records seen.right two.right_has small right_top now.right now.right_has
 
   abbrev live : List Numbered
@@ -94,7 +94,7 @@ module _ (f : Format) (content : Image) (m : ManifestData) (lives : List (List N
   apart_now apart = subst AreApart (sym new_lives) (stays_apart s.live_left s.live_right late_left late_right two.front two.back are_left are_right (subst AreApart lives_are apart))
 
   -- they are few
-  few_late : length (renumbered (renumbering_of s.live_left s.live_right) late_left late_right) < 2 ^ 32
+  pub few_late : length (renumbered (renumbering_of s.live_left s.live_right) late_left late_right) < 2 ^ 32
   few_late =
       let r = renumbering_of s.live_left s.live_right in
       let left_counts = counts_live f p (content p.data_file) (content p.delta_file) two.left two.left_has in

@@ -1,5 +1,5 @@
 -- The numbers that count in the delta files of a manifest's pairs stay.
-use Rattle.std.proofs.Common.{◌≡◌, ◌≢◌, inl, inr, ℕ, ◌+◌, List, ◌++◌, length, take, drop, refl, sym, ap, subst, ◌∙◌}
+use Rattle.std.proofs.Common.{◌≡◌, ◌≢◌, inl, inr, ℕ, ◌+◌, List, ◌++◌, length, take, drop, refl, sym, ap, subst, ◌∙◌, append_assoc}
 use Rattle.std.specs.List.{Contains, flat_map}
 use Rattle.std.proofs.lemmas.Bool.{cases_eq}
 use Rattle.std.proofs.lemmas.List.{take_at}
@@ -21,14 +21,14 @@ pub counted_before : (version below count : ℕ) (ns old new bytes : List ℕ) �
 counted_before version below count ns old new bytes holds has =
     let kept : take (place_behind count) old ≡ delta_bytes version ns = ap (λ (l : List ℕ). take (place_behind count) l) has.whole ∙ take_at (delta_bytes version ns) has.rest (place_behind count) (length-delta version ns count has.counted) in
     let later = bytes ++ drop (place_behind count + length bytes) old in
-    record { rest = later; whole = holds ∙ ap (λ (l : List ℕ). l ++ later) kept; counted = has.counted; are = has.are }
+    record { rest = later; whole = holds ∙ append_assoc (take (place_behind count) old) bytes (drop (place_behind count + length bytes) old) ∙ ap (λ (l : List ℕ). l ++ later) kept; counted = has.counted; are = has.are }
 
 module _ (old new : Image) (m : ManifestData) where
   -- where a file is written that no pair has
   pub counts_beside : (file : ℕ) → ((n : ℕ) → n ≢ file → new n ≡ old n) → (Contains (flat_map pair_files m.pairs) file → ⊥) → CountsStay FIRST_FORMAT old new m.pairs
-  counts_beside file others no p in_pairs =
-      let data_is : new p.data_file ≡ old p.data_file = others p.data_file (λ e. no (subst (Contains (flat_map pair_files m.pairs)) e (data_among m.pairs p in_pairs))) in
-      let delta_is : new p.delta_file ≡ old p.delta_file = others p.delta_file (λ e. no (subst (Contains (flat_map pair_files m.pairs)) e (delta_among m.pairs p in_pairs))) in
+  counts_beside file others never p in_pairs =
+      let data_is : new p.data_file ≡ old p.data_file = others p.data_file (λ e. never (subst (Contains (flat_map pair_files m.pairs)) e (data_among m.pairs p in_pairs))) in
+      let delta_is : new p.delta_file ≡ old p.delta_file = others p.delta_file (λ e. never (subst (Contains (flat_map pair_files m.pairs)) e (delta_among m.pairs p in_pairs))) in
       (data_is, λ ns has. subst (λ (l : List ℕ). HasNumbers VERSION p.records p.entries ns l) (sym delta_is) has)
 
   -- where the delta file of a pair is, behind those that count

@@ -8,8 +8,14 @@ pub mod Checkpoints
 pub mod Written
 pub mod Neighbours
 pub mod Numbered
+pub mod Asked
 pub mod Beside
-pub mod Stepping
+pub mod Turning
+pub mod Beginning
 pub mod Still
 pub mod Dues
+pub mod Looks
+pub mod Made
+pub mod CameLate
+pub mod Ended
 pub mod Marked

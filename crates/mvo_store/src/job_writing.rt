@@ -15,6 +15,7 @@ use crate::due::Due;
 use crate::jobs::Jobs;
 use crate::merging::Merging;
 use crate::step::Step;
+use crate::stepping::is_of_merge;
 use crate::writing::write_next_delta;
 use mvo_disk::Disk;
 use mvo_format::{FIRST_FORMAT, VERSION};
@@ -135,10 +136,18 @@ pub fn write_step<D: Disk>(
         Jobs::Rotation(_, install) | Jobs::Merge(_, install) => {
             write_install(alloc, disk, &install.next, install.step)
         }
-        Jobs::Beside(checkpoint, merge) => match (step, checkpoint, merge) {
-            (Due::MergeData, _, Some(merge)) => write_merge_data(alloc, disk, manifest, merge),
-            (_, Some(checkpoint), _) => write_checkpoint(alloc, disk, manifest, checkpoint),
-            _ => Err(Refusal::NothingToDo),
-        },
+        Jobs::Beside(checkpoint, merge) => {
+            if is_of_merge(step) {
+                match merge {
+                    Some(merge) => write_merge_data(alloc, disk, manifest, merge),
+                    None => Err(Refusal::NothingToDo),
+                }
+            } else {
+                match checkpoint {
+                    Some(checkpoint) => write_checkpoint(alloc, disk, manifest, checkpoint),
+                    None => Err(Refusal::NothingToDo),
+                }
+            }
+        }
     }
 }

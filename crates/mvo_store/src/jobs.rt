@@ -1,10 +1,11 @@
 //! The jobs that run, and what they keep out.
-ghost use Rattle.std.specs.Prelude.{◌≡◌, length};
+ghost use Rattle.std.specs.Prelude.{◌≡◌, length, is_some};
+ghost use Rattle.std.specs.List.{list_any};
 ghost use Rattle.mvo_store.specs.Jobs.{no_jobs, keeps_all_out, keeps_checkpoint_out};
 ghost use Rattle.mvo_store.specs.Jobs.{keeps_merge_out, has_checkpoint, has_rotation};
 ghost use Rattle.mvo_store.specs.Jobs.{due_of, merge_due_of, is_due, job_takes_file, takes_file};
 ghost use Rattle.mvo_store.specs.Jobs.{checkpoint_pair, merge_pair, progress_at, progress_of};
-ghost use Rattle.mvo_store.specs.Jobs.Job.{Checkpoint, Merge};
+ghost use Rattle.mvo_store.specs.Jobs.{checkpoint_alone, merge_alone, first_due};
 
 use crate::checkpoint_stage::CheckpointStage;
 use crate::checkpointing::Checkpointing;
@@ -52,18 +53,46 @@ fn merge_due_of(stage: MergeStage) -> Due
     }
 }
 
-/// Whether the checkpoint gives the file new content.
-fn checkpoint_takes(checkpoint: &Checkpointing, file: u16) -> bool
-    ensures { result ≡ job_takes_file (Checkpoint checkpoint.now) file }
+/// Whether this step is the next of the checkpoint, if one runs.
+fn checkpoint_is_due(step: Due, checkpoint: &Option<Checkpointing>) -> bool
+    ensures { result ≡ is_some (first_due step (checkpoint_alone checkpoint.now)) }
 {
-    checkpoint.pair.data_file == file || checkpoint.pair.delta_file == file
+    match checkpoint {
+        Some(checkpoint) => due_of(checkpoint.stage) == step,
+        None => false,
+    }
 }
 
-/// Whether the merge does.
-fn merge_takes(merge: &Merging, file: u16) -> bool
-    ensures { result ≡ job_takes_file (Merge merge.now) file }
+/// Whether it is that of the merge, if one runs.
+fn merge_is_due(step: Due, merge: &Option<Merging>) -> bool
+    ensures { result ≡ is_some (first_due step (merge_alone merge.now)) }
 {
-    merge.seen.pair.data_file == file || merge.seen.pair.delta_file == file
+    match merge {
+        Some(merge) => merge_due_of(merge.stage) == step,
+        None => false,
+    }
+}
+
+/// Whether the checkpoint, if one runs, gives the file new content.
+fn checkpoint_takes(checkpoint: &Option<Checkpointing>, file: u16) -> bool
+    ensures { result ≡ list_any (λ j. job_takes_file j file) (checkpoint_alone checkpoint.now) }
+{
+    match checkpoint {
+        Some(checkpoint) => {
+            checkpoint.pair.data_file == file || checkpoint.pair.delta_file == file
+        }
+        None => false,
+    }
+}
+
+/// Whether the merge, if one runs, does.
+fn merge_takes(merge: &Option<Merging>, file: u16) -> bool
+    ensures { result ≡ list_any (λ j. job_takes_file j file) (merge_alone merge.now) }
+{
+    match merge {
+        Some(merge) => merge.seen.pair.data_file == file || merge.seen.pair.delta_file == file,
+        None => false,
+    }
 }
 
 /// Whether the next delta file of a checkpoint is the last one.
@@ -130,19 +159,10 @@ impl Jobs {
         ensures { result ≡ is_due step self.now }
     {
         match self {
-            Jobs::Rotation(_, install) | Jobs::Merge(_, install) => {
-                step == Due::Install(install.step)
-            }
+            Jobs::Rotation(_, install) => Due::Install(install.step) == step,
+            Jobs::Merge(_, install) => Due::Install(install.step) == step,
             Jobs::Beside(checkpoint, merge) => {
-                let of_checkpoint = match checkpoint {
-                    Some(checkpoint) => step == due_of(checkpoint.stage),
-                    None => false,
-                };
-                let of_merge = match merge {
-                    Some(merge) => step == merge_due_of(merge.stage),
-                    None => false,
-                };
-                of_checkpoint || of_merge
+                checkpoint_is_due(step, checkpoint) || merge_is_due(step, merge)
             }
         }
     }
@@ -155,15 +175,7 @@ impl Jobs {
             Jobs::Rotation(fresh, _) => fresh.file == file,
             Jobs::Merge(seen, _) => seen.pair.data_file == file || seen.pair.delta_file == file,
             Jobs::Beside(checkpoint, merge) => {
-                let by_checkpoint = match checkpoint {
-                    Some(checkpoint) => checkpoint_takes(checkpoint, file),
-                    None => false,
-                };
-                let by_merge = match merge {
-                    Some(merge) => merge_takes(merge, file),
-                    None => false,
-                };
-                by_checkpoint || by_merge
+                checkpoint_takes(checkpoint, file) || merge_takes(merge, file)
             }
         }
     }

@@ -63,6 +63,8 @@ fn write_late<D: Disk>(
     requires safe { IsSafeMerge manifest.now merge.now }
     ensures { IsWrittenEnd D.Disk disk.old disk.new manifest.now merge.now late.now result }
 {
+    // A look: from then on the proof knows that the manifest keeps its rules.
+    let _generation = manifest.generation();
     let seen = &merge.seen;
     let Ok(entries) = u32::try_from(late.len()) else {
         return Err(Refusal::Corrupt(seen.left.delta_file));

@@ -101,7 +101,7 @@ fn merge_by(merge: Option<Merging>) -> Option<Merging>
 }
 
 /// Whether the step is one of a merge whose files aren't all written.
-fn is_of_merge(step: Due) -> bool
+pub fn is_of_merge(step: Due) -> bool
     ensures { result ≡ is_of_merge step }
 {
     matches!(step, Due::MergeData | Due::MergeDelta)
@@ -130,7 +130,7 @@ pub fn with_checkpoint(checkpoint: Checkpointing, jobs: Jobs) -> Jobs
     ensures { result ≡ with_checkpoint checkpoint jobs }
 {
     match jobs {
-        Jobs::Beside(None, merge) => Jobs::Beside(Some(checkpoint), merge),
+        Jobs::Beside(running, merge) => Jobs::Beside(running.or(Some(checkpoint)), merge),
         jobs => jobs,
     }
 }
@@ -140,7 +140,7 @@ pub fn with_merge(merge: Merging, jobs: Jobs) -> Jobs
     ensures { result ≡ with_merge merge jobs }
 {
     match jobs {
-        Jobs::Beside(checkpoint, None) => Jobs::Beside(checkpoint, Some(merge)),
+        Jobs::Beside(checkpoint, running) => Jobs::Beside(checkpoint, running.or(Some(merge))),
         jobs => jobs,
     }
 }

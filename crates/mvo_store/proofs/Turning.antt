@@ -1,15 +1,17 @@
 -- What holds of each job that runs, where one of them makes a step.
 use Rattle.std.proofs.Common.{◌≡◌, ℕ, Bool, true, false, cond, List, [], ◌∷◌, Option, Some, None, refl, sym, ap, subst, ◌∙◌}
+use Rattle.std.specs.Prelude.{is_some}
 use Rattle.std.specs.List.{AllByRecursion}
 use Rattle.mvo_store.specs.declared.due.Due.{Due}
 use Rattle.mvo_store.specs.declared.due.Due.TheVariants.{MergeDelta, Install}
+use Rattle.mvo_store.specs.declared.step.Step.{Step}
 use Rattle.mvo_store.specs.declared.checkpoint_stage.CheckpointStage.{CheckpointStage}
 use Rattle.mvo_store.specs.declared.checkpoint_stage.CheckpointStage.TheVariants.{Data as AtData, Delta as AtDelta, Install as AtInstall}
 use Rattle.mvo_store.specs.declared.checkpointing.Checkpointing.{Checkpointing}
 use Rattle.mvo_store.specs.declared.merging.Merging.{Merging}
 use Rattle.mvo_store.specs.declared.jobs.Jobs.{Jobs}
 use Rattle.mvo_store.specs.declared.jobs.Jobs.TheVariants.{Rotation as RotationAlone, Merge as MergeAlone, Beside}
-use Rattle.mvo_store.specs.Jobs.{Job, no_jobs, jobs_of, keeps_all_out, keeps_checkpoint_out, keeps_merge_out, has_checkpoint, due_of, merge_due_of, step_number, step_due, job_due, is_due, is_of_merge, with_step, after_step, checkpoint_by, merge_by, checkpoint_behind, with_data, next_installed, after_install}
+use Rattle.mvo_store.specs.Jobs.{is_step_of, first_due, Job, no_jobs, jobs_of, keeps_all_out, keeps_checkpoint_out, keeps_merge_out, has_checkpoint, due_of, merge_due_of, step_number, step_due, job_due, is_due, is_of_merge, with_step, after_step, checkpoint_by, merge_by, checkpoint_behind, with_data, next_installed, after_install}
 use Rattle.mvo_store.specs.Jobs.Job.{Rotation, Checkpoint, Merge, MergeInstall}
 use Rattle.mvo_store.specs.Standing.{ShareNone}
 use Rattle.mvo_store.proofs.Beside.{IsDueIn, due_in_jobs, checkpoint_step, merge_step}
@@ -19,7 +21,7 @@ use Rattle.mvo_store.proofs.Beside.IsDueIn.{TheRotation, TheMerge, TheCheckpoint
 pub some_due : (step : Due) (jobs : Jobs) → is_due step jobs ≡ true → (j : Job) × (job_due step jobs ≡ Some j)
 some_due step jobs is = go (job_due step jobs) refl is
   where
-    go : (o : Option Job) → job_due step jobs ≡ o → Rattle.std.specs.Prelude.is_some o ≡ true → (j : Job) × (job_due step jobs ≡ Some j)
+    go : (o : Option Job) → job_due step jobs ≡ o → is_some o ≡ true → (j : Job) × (job_due step jobs ≡ Some j)
     go None e t = absurd (cc t)
     go (Some j) e t = (j, e)
 
@@ -112,3 +114,40 @@ ends_alone jobs due none = let j = some_due MergeDelta jobs due in go (due_in_jo
     go (TheCheckpoint c g at) e = no_step c.stage at
     go (OfMerge None g at) e = (g, refl, at)
     go (OfMerge (Some c) g at) e = absurd (cc e)
+
+-- ---- whose file is written
+
+-- one alone is due where one is
+pub alone_due : (step : Due) (k : Job) → is_some (first_due step (k ∷ [])) ≡ true → first_due step (k ∷ []) ≡ Some k
+alone_due step k e = go (is_step_of step k) e
+  where
+    go : (b : Bool) → is_some (cond b (Some k) None) ≡ true → cond b (Some k) None ≡ Some k
+    go true f = refl
+    go false f = absurd (cc f)
+
+-- no step of a checkpoint is one of a merge
+not_of_merge : {A : Type 0} (stage : CheckpointStage) (step : Due) → is_of_merge step ≡ true → due_of stage ≡ step → A
+not_of_merge stage step is at = absurd (cc (sym is ∙ checkpoint_step stage step at))
+
+not_install : {A : Type 0} (k : Step) (step : Due) → is_of_merge step ≡ true → Install k ≡ step → A
+not_install k step is at = absurd (cc (sym is ∙ ap is_of_merge (sym at)))
+
+-- that of a merge, where its step is due
+pub merge_due : (step : Due) (c : Option Checkpointing) (g : Merging) → is_of_merge step ≡ true → is_due step (Beside c (Some g)) ≡ true → (job_due step (Beside c (Some g)) ≡ Some (Merge g)) × (merge_due_of g.stage ≡ step)
+merge_due step c g of_merge due = let j = some_due step (Beside c (Some g)) due in go (due_in_jobs step (Beside c (Some g)) j.0 j.1) j.1 refl
+  where
+    go : {jobs : Jobs} {j : Job} → IsDueIn step jobs j → job_due step (Beside c (Some g)) ≡ Some j → jobs ≡ Beside c (Some g) → (job_due step (Beside c (Some g)) ≡ Some (Merge g)) × (merge_due_of g.stage ≡ step)
+    go (TheRotation fresh i at) is e = not_install i.step step of_merge at
+    go (TheMerge seen i at) is e = not_install i.step step of_merge at
+    go (TheCheckpoint k h at) is e = not_of_merge k.stage step of_merge at
+    go (OfMerge k h at) is e = let same : h ≡ g = cc e in (is ∙ ap (λ (m : Merging). Some (Merge m)) same, ap (λ (m : Merging). merge_due_of m.stage) (sym same) ∙ at)
+
+-- that of a checkpoint, where the step isn't one of a merge
+pub checkpoint_due : (step : Due) (c : Option Checkpointing) (g : Option Merging) → is_of_merge step ≡ false → is_due step (Beside c g) ≡ true → (k : Checkpointing) × (c ≡ Some k) × (job_due step (Beside c g) ≡ Some (Checkpoint k))
+checkpoint_due step c g other due = let j = some_due step (Beside c g) due in go (due_in_jobs step (Beside c g) j.0 j.1) j.1 refl
+  where
+    go : {jobs : Jobs} {j : Job} → IsDueIn step jobs j → job_due step (Beside c g) ≡ Some j → jobs ≡ Beside c g → (k : Checkpointing) × (c ≡ Some k) × (job_due step (Beside c g) ≡ Some (Checkpoint k))
+    go (TheRotation fresh i at) is e = absurd (cc e)
+    go (TheMerge seen i at) is e = absurd (cc e)
+    go (TheCheckpoint k h at) is e = let same : c ≡ Some k = cc e in (k, same, is)
+    go (OfMerge k h at) is e = absurd (cc (sym other ∙ merge_step h.stage step at))
