@@ -27,8 +27,8 @@ use Rattle.mvo_store.specs.Safe.{IsSafeCheckpoint, IsSafeMerge, IsSafeWork, AreS
 use Rattle.mvo_store.specs.Standing.{IsRunning, HaveJobs, ShareNone, HasRoom, JobHasRoom, IsUp, MayTakeOverOf, HaveKeysOf}
 use Rattle.mvo_store.specs.Steps.{manifest_after, segment_after, places_after, manifest_by, segment_by, places_by, IsCheckpointOf, IsMergeOf}
 use Rattle.mvo_store.specs.Writing.{StandsFor, IsJobStep, IsDueStep}
-use Rattle.mvo_store.specs.Calls.{StoreCall, call_of, IsReadToCheckpoint, IsReadToMerge, IsStoreStep}
-use Rattle.mvo_store.specs.Calls.StoreCall.{InstallOpen, CheckpointRead, MergeRead}
+use Rattle.mvo_store.specs.Calls.{StoreCall, call_of, why_not, IsRefused, IsReadToCheckpoint, IsReadToMerge, IsStoreStep}
+use Rattle.mvo_store.specs.Calls.StoreCall.{InstallOpen, CheckpointRead, CheckpointDelta, MergeRead}
 use Rattle.mvo_store.proofs.Keeping.{OnlyNow, CountsNow, Begins, begins, may_open, none_keeps_checkpoint, none_keeps_merge, stays_safe, fault_step, done_step}
 use Rattle.mvo_store.proofs.Beside.{IsDueIn, due_in_jobs}
 use Rattle.mvo_store.proofs.Turning.{some_due, step_is, begins_beside_merge, begins_beside_checkpoint}
@@ -107,6 +107,19 @@ module _ {D : Type 0} {d : Ghosts D} {s : StoreData D} {step : Due} (plain : IsP
 
     pub due_refused_sound : down ≡ false → IsSound d (record s { disk = new; down = down })
     due_refused_sound is = refused_sound d s step b.job b.is new r.writes b.begins.sound (step_due b.job) refusal r.refused b.begins.up down other is
+
+-- a refusal, whatever the call would have answered
+refused_as : (A B : Type 0) (call : StoreCall) (o : Option Refusal) (e : Refusal) → IsRefused {A = A} call o (Err e) → IsRefused {A = B} call o (Err e)
+refused_as A B call None e h = h
+refused_as A B call (Some cause) e h = let same : cause ≡ e = cc h in subst (λ (r : Refusal). IsRefused {A = B} call (Some cause) (Err r)) same refl
+
+pub delta_refused : {D : Type 0} (A : Type 0) (d : Ghosts D) (old new : StoreData D) (e : Refusal) → IsStoreStep {A = Unit {0}} d old CheckpointDelta (Err e) new → IsStoreStep {A = A} d old CheckpointDelta (Err e) new
+delta_refused A d old new e h = record {
+  comes = record { refused = refused_as (Unit {0}) A CheckpointDelta (why_not old CheckpointDelta) e h.comes.refused; made = tt; left = h.comes.left };
+  honest = h.honest;
+  keeps = h.keeps;
+  others = h.others;
+}
 
 -- ---- the opening of a gate
 
