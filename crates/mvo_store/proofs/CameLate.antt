@@ -369,9 +369,9 @@ module _ (m : ManifestData) (is : IsManifest m) (s : Seen) (still : StandStill m
 
 -- ---- the write
 
-still_counts : {X : Type 0} (n : ℕ) (e : Refusal) → e ≢ DiskFault → CountsFaults {X = X} n n (Err e)
-still_counts n DiskFault ne = absurd (ne refl)
-still_counts n e ne = refl
+still_counts : (X : Type 0) (n : ℕ) (e : Refusal) → e ≢ DiskFault → CountsFaults {X = X} n n (Err e)
+still_counts X n DiskFault ne = absurd (ne refl)
+still_counts X n e ne = refl
 
 module _ {D : Type 0} (d : Ghosts D) (m : ManifestData) (g : Merging) (late : List ℕ) where
   -- nothing is written
@@ -383,7 +383,7 @@ module _ {D : Type 0} (d : Ghosts D) (m : ManifestData) (g : Merging) (late : Li
     durable = tt;
     rest = record { content = λ n _. refl; images = λ n c _ left. left; keeps = λ n c _ left. left };
     any_moment = started d.moment d.left_since disk (Touched g.seen.pair.delta_file (d.may_leave disk) (λ _. ⊤)) (λ image left. record { here = tt; others = λ n _. only_now disk image left n });
-    count = still_counts (d.fault_count disk) e ne;
+    count = still_counts ManifestData (d.fault_count disk) e ne;
     refused = why;
     many = many;
     unchanged = λ _. refl;
