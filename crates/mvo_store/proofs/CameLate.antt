@@ -62,7 +62,7 @@ module _ (content : Image) (m : ManifestData) (saw : SeenData) (seen : IsSeen FI
   seen_there = ap (neighbours_at saw.place) seen.pairs ∙ ap first_two (drop_at seen.before (first_now ∷ second_now ∷ seen.behind) saw.place seen.at)
 
   -- so does the one pair
-  merged_there : (p : Pair) → merged_at m saw.place p ≡ merged m (pairs_now seen p)
+  pub merged_there : (p : Pair) → merged_at m saw.place p ≡ merged m (pairs_now seen p)
   merged_there p =
       let two : List Pair = first_now ∷ second_now ∷ [] in
       let front : take saw.place m.pairs ≡ seen.before = ap (λ (ps : List Pair). take saw.place ps) seen.pairs ∙ take_at seen.before (two ++ seen.behind) saw.place seen.at in

@@ -189,7 +189,7 @@ is_rotation (Rotation fresh i) = true
 is_rotation j = false
 
 -- no step of a merge whose files aren't all written opens a gate
-never_opens : {A : Type 0} (stage : MergeStage) → merge_due_of stage ≡ Install Open → A
+pub never_opens : {A : Type 0} (stage : MergeStage) → merge_due_of stage ≡ Install Open → A
 never_opens MergeAtData e = absurd (cc e)
 never_opens MergeAtDelta e = absurd (cc e)
 
