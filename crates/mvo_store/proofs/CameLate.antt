@@ -253,6 +253,19 @@ module _ {D : Type 0} (d : Ghosts D) (old mid new : D) (file : ℕ) where
     touches_behind first second = runs_on d.moment d.left_since old mid new (Touched file (d.may_leave old) (λ _. ⊤)) (Touched file (d.may_leave mid) (λ _. ⊤)) (touches_none first) second
         (λ image t. record { here = tt; others = λ n ne. looks.images n (image n) (t.others n ne) })
 
+-- one look after another
+pub looks_twice : {D X : Type 0} (d : Ghosts D) (old mid new : D) → AllStay (d.content old) (d.content mid) (d.may_leave old) (d.may_leave mid) → LeavesOnly d.moment d.left_since old mid (AllOf (d.may_leave old)) → d.fault_count mid ≡ d.fault_count old
+    → AllStay (d.content mid) (d.content new) (d.may_leave mid) (d.may_leave new) → LeavesOnly d.moment d.left_since mid new (AllOf (d.may_leave mid)) → (result : Result X Refusal) → CountsFaults (d.fault_count mid) (d.fault_count new) result → HasRead d old new result
+looks_twice {X = X} d old mid new looks first same more second result count = record {
+  rest = record {
+    content = λ n. more.content n ∙ looks.content n;
+    images = λ n c left. looks.images n c (more.images n c left);
+    keeps = λ n c left. more.keeps n c (looks.keeps n c left);
+  };
+  any_moment = runs_on d.moment d.left_since old mid new (AllOf (d.may_leave old)) (AllOf (d.may_leave mid)) first second (λ image all n. looks.images n (image n) (all n));
+  count = subst (λ n. CountsFaults {X = X} n (d.fault_count new) result) same count;
+}
+
 -- ---- what it comes to
 
 -- the numbers weren't read

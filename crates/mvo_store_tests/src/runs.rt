@@ -2,8 +2,10 @@
 use crate::bodies::Body::Write;
 use crate::disks::{new_disk, stopped, stops_halfway};
 use crate::numbers::Numbers;
-use crate::reply::Reply::{Installed, Marked, Refused};
-use crate::step::Step::{self, Append, Checkpoint, Merge, Reclaim, Rotate};
+use crate::reply::Reply::{self, Done, Installed, Marked, Refused};
+use crate::step::Step::{
+    self, Append, Checkpoint, CheckpointRead, Due, Merge, MergeRead, Reclaim, Rotate,
+};
 use crate::stores::{opened, store_on};
 use mvo_disk::MemDisk;
 use mvo_store::Store;
@@ -15,7 +17,7 @@ use std::thread::Threads;
 
 const KEYS: u64 = 4;
 
-const STEPS: u8 = 24;
+const STEPS: u8 = 32;
 
 // How many rounds were made durable, and the data that they left at each key.
 #[derive(Clone, Copy)]
@@ -80,10 +82,14 @@ fn some_write(numbers: &mut Numbers, rounds: u8) -> Step {
 }
 
 fn some_step(numbers: &mut Numbers, rounds: u8) -> Step {
-    match numbers.below(8) {
+    match numbers.below(14) {
         0 | 1 => Rotate,
         2 | 3 => Checkpoint,
         4 => Merge(numbers.below(2) as usize),
+        5 => MergeRead(numbers.below(2) as usize),
+        6 => CheckpointRead,
+        7 | 8 => Due,
+        9 => Reclaim,
         _ => some_write(numbers, rounds),
     }
 }
@@ -92,21 +98,21 @@ fn some_step(numbers: &mut Numbers, rounds: u8) -> Step {
 #[derive(Clone, Copy)]
 struct Met {
     merges: u32,
+    // Checkpoints that were installed beside a merge.
+    beside: u32,
     faults: u32,
+    // Of a merge whose steps were made at once, and of one whose steps others came between.
     merge_faults: u32,
+    due_faults: u32,
 }
 
 impl Met {
-    fn installed(&mut self, step: Step) {
-        if let Merge(_) = step {
-            self.merges = self.merges.saturating_add(1);
-        }
-    }
-
     fn failed(&mut self, step: Step) {
         self.faults = self.faults.saturating_add(1);
-        if let Merge(_) = step {
-            self.merge_faults = self.merge_faults.saturating_add(1);
+        match step {
+            Merge(_) => self.merge_faults = self.merge_faults.saturating_add(1),
+            Due => self.due_faults = self.due_faults.saturating_add(1),
+            _ => {}
         }
     }
 }
@@ -118,6 +124,9 @@ struct Run {
     plain: Plain,
     // The same, or what stands where the step at which the run ended counts.
     after: Plain,
+    // Which jobs run whose steps others come between.
+    checkpoint: bool,
+    merge: bool,
 }
 
 impl Run {
@@ -127,6 +136,8 @@ impl Run {
             met,
             plain: NOTHING,
             after: NOTHING,
+            checkpoint: false,
+            merge: false,
         }
     }
 
@@ -134,17 +145,42 @@ impl Run {
     fn step(&mut self, alloc: Global, store: &mut Store<MemDisk>) -> Result<bool, Fail> {
         let step = some_step(&mut self.numbers, self.plain.rounds);
         self.after = self.plain.after(step);
-        match step.of(store, alloc)? {
-            Refused(Refusal::DiskFault) => {
-                self.met.failed(step);
-                return Ok(true);
-            }
-            Marked(_) => self.plain = self.after,
-            Installed(_) => self.met.installed(step),
-            _ => {}
+        let reply = step.of(store, alloc)?;
+        if let Refused(Refusal::DiskFault) = reply {
+            self.met.failed(step);
+            self.checkpoint = false;
+            self.merge = false;
+            return Ok(true);
         }
+        self.note(step, reply);
         self.after = self.plain;
         Ok(false)
+    }
+
+    // Notes what was answered to a step, other than a fault. A merge that is busy at its last file
+    // runs on.
+    fn note(&mut self, step: Step, reply: Reply) {
+        match (step, reply) {
+            (_, Marked(_)) => self.plain = self.after,
+            (CheckpointRead, Done) => self.checkpoint = true,
+            (MergeRead(_), Done) | (Merge(_), Refused(Refusal::Busy)) => self.merge = true,
+            (Checkpoint, Installed(_)) => self.note_checkpoint(),
+            (Due, Installed(_)) if self.checkpoint => self.note_checkpoint(),
+            (Due | Merge(_), Installed(_)) => self.note_merge(),
+            _ => {}
+        }
+    }
+
+    fn note_checkpoint(&mut self) {
+        self.checkpoint = false;
+        if self.merge {
+            self.met.beside = self.met.beside.saturating_add(1);
+        }
+    }
+
+    fn note_merge(&mut self) {
+        self.merge = false;
+        self.met.merges = self.met.merges.saturating_add(1);
     }
 
     // Makes some steps, and says whether the disk has met a fault, at which it ends.
@@ -265,12 +301,15 @@ fn each_call_fails(
 fn each_call_of_a_run_may_fail(rt: HostRuntime) -> Result<(), Fail> {
     let mut met = Met {
         merges: 0,
+        beside: 0,
         faults: 0,
         merge_faults: 0,
+        due_faults: 0,
     };
     for seed in 0..2u64 {
         met = each_call_fails(&rt, rt.alloc(), seed, met)?;
     }
-    assert!(rt; met.merges > 300 && met.faults > 200 && met.merge_faults > 20);
+    assert!(rt; met.merges > 300 && met.beside > 100);
+    assert!(rt; met.faults > 200 && met.merge_faults > 20 && met.due_faults > 20);
     Ok(())
 }
