@@ -27,7 +27,7 @@ use Rattle.mvo_recovery.specs.Merging.{MergeData, merged}
 use Rattle.mvo_recovery.proofs.Merged.{named_merged, manifest_merged}
 use Rattle.mvo_recovery.proofs.Pairs.{few_records, delta_named}
 use Rattle.mvo_recovery.proofs.Gained.{counted_of}
-use Rattle.mvo_beside.specs.Seen.{SeenData, grown, IsSeen, pairs_now, NumbersNow}
+use Rattle.mvo_beside.specs.Seen.{SeenData, grown, WasSeen, pairs_now, NumbersNow}
 use Rattle.mvo_beside.proofs.Seen.{left_now, right_now, in_left, in_right}
 use Rattle.mvo_beside.proofs.Two.{rise_one, few_one, has_first, has_second}
 use Rattle.mvo_beside.proofs.Ready.{are_left, are_right, few_late}
@@ -36,11 +36,11 @@ use Rattle.mvo_store.specs.declared.merge_stage.MergeStage.{MergeStage}
 use Rattle.mvo_store.specs.declared.merge_stage.MergeStage.TheVariants.{Delta as MergeAtDelta}
 use Rattle.mvo_store.specs.declared.merging.Merging.{Merging}
 use Rattle.mvo_store.specs.declared.seen.Seen.{Seen}
-use Rattle.mvo_store.specs.Merging.{first_two, neighbours_at, merged_at, with_late, pair_with, late_of, StandStill, MayBecome, seen_of, IsMerging, IsMergeWritten, AreLateNow, IsMergeReady}
+use Rattle.mvo_store.specs.Merging.{first_two, neighbours_at, merged_at, with_late, pair_with, late_of, StandStill, MayBecome, seen_with, IsMerging, IsMergeWritten, AreLateNow, IsMergeReady}
 use Rattle.mvo_store.specs.Jobs.{merge_due_of, step_due}
 use Rattle.mvo_store.specs.Jobs.Job.{Merge, MergeInstall}
 use Rattle.mvo_store.specs.Standing.{HasWork}
-use Rattle.mvo_store.specs.Writing.{IsFileDue, IsMergeFileAt, WritesFor, HasMadeStep, TakesMemory, AreLateEntries, HasEnded, IsWrittenEnd, IsEndOf, StandsWith}
+use Rattle.mvo_store.specs.Writing.{IsFileDue, IsMergeFileAt, WritesFor, HasMadeStep, TakesMemory, AreLateEntries, EndsMerge, IsWrittenEnd, IsEndOf, StandsWith}
 use Rattle.mvo_store.proofs.Keeping.{OnlyNow}
 use Rattle.mvo_store.proofs.Checkpoints.{stop_or_misread}
 use Rattle.mvo_store.proofs.Logged.{unnamed}
@@ -50,7 +50,7 @@ use Rattle.mvo_store.proofs.Neighbours.{two_stand}
 
 -- ---- the two among the pairs
 
-module _ (content : Image) (m : ManifestData) (saw : SeenData) (seen : IsSeen FIRST_FORMAT content m saw) where
+module _ (content : Image) (m : ManifestData) (saw : SeenData) (seen : WasSeen FIRST_FORMAT content m saw) where
   abbrev first_now : Pair
   first_now = left_now FIRST_FORMAT content m saw seen
 
@@ -105,7 +105,7 @@ some_there m s still e = absurd (cc (sym still.two ∙ e))
 
 module _ (content : Image) (may : ℕ → List ℕ → Type 0) (m : ManifestData) (x : Parts) (settled : IsSettled FIRST_FORMAT content may m x) (s : Seen) (has : IsMerging content m s) where
   abbrev saw : SeenData
-  saw = seen_of s has.live_left has.live_right
+  saw = seen_with s has.live_left has.live_right
 
   is_manifest : IsManifest m
   is_manifest = settled.installed.own.is
@@ -214,7 +214,7 @@ module _ {D : Type 0} (d : Ghosts D) (old new : D) (m : ManifestData) (g : Mergi
             now = numbers_now (d.content new) (d.may_leave new) m x settled g.seen merge;
             late = late;
             late_is = late_now (d.content new) (d.may_leave new) m x settled g.seen merge left right are_here;
-            next_is = next_is ∙ merged_there (d.content new) m (seen_of g.seen merge.live_left merge.live_right) merge.seen (pair_with g.seen late);
+            next_is = next_is ∙ merged_there (d.content new) m (seen_with g.seen merge.live_left merge.live_right) merge.seen (pair_with g.seen late);
             entries = subst (λ (k : MergeStage). IsMergeWritten (d.content new) (d.may_leave new) g.seen k) at w.written;
             has = record {
               has = record {

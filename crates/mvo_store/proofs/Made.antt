@@ -21,7 +21,7 @@ use Rattle.mvo_store.specs.declared.merging.Merging.{Merging}
 use Rattle.mvo_store.specs.StoreData.{StoreData}
 use Rattle.mvo_store.specs.Causes.{why_not_due, why_not_install_open}
 use Rattle.mvo_store.specs.Files.{files_taken}
-use Rattle.mvo_store.specs.Merging.{seen_of, pair_with}
+use Rattle.mvo_store.specs.Merging.{seen_with, pair_with}
 use Rattle.mvo_store.specs.Jobs.{Job, job_due, is_due, step_due, after_step, with_step, with_checkpoint, with_merge, next_installed, after_install, has_rotation, merge_pair, checkpoint_pair}
 use Rattle.mvo_store.specs.Planning.{IsNewCheckpoint, IsReadCheckpoint}
 use Rattle.mvo_store.specs.MergePlanning.{IsNewMerge}
@@ -133,7 +133,7 @@ next_by : (content : Image) (may : ℕ → List ℕ → Type 0) (m : ManifestDat
 next_by content may m x (TheRotation fresh i at) safe has = has.next_is
 next_by content may m x (TheMerge seen i at) safe has =
     let merge = has.merge in
-    (length has.late, has.next_is ∙ sym (merged_there content m (seen_of seen merge.live_left merge.live_right) merge.seen (pair_with seen has.late)))
+    (length has.late, has.next_is ∙ sym (merged_there content m (seen_with seen merge.live_left merge.live_right) merge.seen (pair_with seen has.late)))
 next_by content may m x (TheCheckpoint c g at) safe has = safe.next_is
 next_by content may m x (OfMerge c g at) safe has = never_opens g.stage at
 
