@@ -26,7 +26,7 @@ use Rattle.mvo_recovery.specs.Settled.{IsSettled}
 use Rattle.mvo_recovery.specs.Installing.{IsReady}
 use Rattle.mvo_recovery.specs.Merging.{MergeData, merged, HasRecords}
 use Rattle.mvo_recovery.proofs.Merged.{named_merged, named_cases, manifest_merged}
-use Rattle.mvo_beside.specs.Seen.{SeenData, Loads, IsSeen, pairs_now, IsSmall, MayMergeNow, NumbersNow, HasLate, lives_now, parts_now}
+use Rattle.mvo_beside.specs.Seen.{SeenData, Loads, WasSeen, pairs_now, IsSmall, MayMergeNow, NumbersNow, HasLate, lives_now, parts_now}
 use Rattle.mvo_beside.specs.Laws.{FindsLate}
 use Rattle.mvo_beside.proofs.Late.{are_late, others_live, late_counted}
 use Rattle.mvo_beside.proofs.Two.{HaveTwo, have_one, lives_at, two_rules, rise_one, few_one}
@@ -41,7 +41,7 @@ finds_late content f p more seen now ns small top few was is has = (
 
 -- ---- what came late
 
-module _ (f : Format) (content : Image) (m : ManifestData) (lives : List (List Numbered)) (s : SeenData) (small : IsSmall f) (is : IsManifest m) (have : HaveLive f content m.pairs lives) (seen : IsSeen f content m s) (now : NumbersNow f content m s seen) where
+module _ (f : Format) (content : Image) (m : ManifestData) (lives : List (List Numbered)) (s : SeenData) (small : IsSmall f) (is : IsManifest m) (have : HaveLive f content m.pairs lives) (seen : WasSeen f content m s) (now : NumbersNow f content m s seen) where
   abbrev p : Pair
   p = left_now f content m s seen
 
@@ -157,7 +157,7 @@ module _ (f : Format) (content : Image) (m : ManifestData) (lives : List (List N
 
 -- ---- one pair for the two
 
-module _ (f : Format) (content : Image) (may : ℕ → List ℕ → Type 0) (m : ManifestData) (x : Parts) (s : SeenData) (pair : Pair) (small : IsSmall f) (settled : IsSettled f content may m x) (seen : IsSeen f content m s) (now : NumbersNow f content m s seen) where
+module _ (f : Format) (content : Image) (may : ℕ → List ℕ → Type 0) (m : ManifestData) (x : Parts) (s : SeenData) (pair : Pair) (small : IsSmall f) (settled : IsSettled f content may m x) (seen : WasSeen f content m s) (now : NumbersNow f content m s seen) where
   abbrev parts : HasParts f content m x
   parts = settled.installed.parts
 

@@ -16,7 +16,7 @@ use Rattle.mvo_recovery.proofs.Framed.{settled_gives, settled_others}
 use Rattle.mvo_recovery.proofs.Appended.{all_durable}
 use Rattle.mvo_recovery.proofs.Gained.{live_counted, installed_counted}
 use Rattle.mvo_recovery.proofs.Moments.{moments_unused, moments_numbers}
-use Rattle.mvo_beside.specs.Seen.{SeenData, IsSeen}
+use Rattle.mvo_beside.specs.Seen.{SeenData, WasSeen}
 use Rattle.mvo_beside.specs.Runs.{WritesUnused, WritesNumbers, WritesSlot, InstallsCheckpoint, IsMove, Unused, Numbers, Slot, Installs, Rests, Goes, KeepsAll, RunsKeepAll}
 use Rattle.mvo_beside.proofs.Numbers.{counted_stay}
 use Rattle.mvo_beside.proofs.Seen.{seen_stays, seen_beside_numbers, seen_beside_install}
@@ -35,7 +35,7 @@ module _ {D : Type 0} (moment : D → Moment) (left_since : D → Moment → Ima
   abbrev Keeps : SeenData → D → Parts → D → ManifestData → Parts → Type 0
   Keeps s a x b n y = KeepsAll moment left_since content may f s a x b n y
 
-  module _ (s : SeenData) (a : D) (m : ManifestData) (x : Parts) (settled : IsSettled f (content a) (may a) m x) (seen : IsSeen f (content a) m s) where
+  module _ (s : SeenData) (a : D) (m : ManifestData) (x : Parts) (settled : IsSettled f (content a) (may a) m x) (seen : WasSeen f (content a) m s) where
     is : IsManifest m
     is = settled.installed.own.is
 

@@ -16,7 +16,7 @@ use Rattle.mvo_image.specs.Gives.{HaveLive}
 use Rattle.mvo_recovery.specs.Checkpoint.{NewNumbers, raise}
 use Rattle.mvo_recovery.proofs.Pairs.{pairs_apart, same_data, same_delta, data_no_delta, data_among, delta_among, delta_named, data_named, few_records}
 use Rattle.mvo_recovery.proofs.Checkpointed.{named_cases}
-use Rattle.mvo_beside.specs.Seen.{SeenData, grown, Loads, IsSeen}
+use Rattle.mvo_beside.specs.Seen.{SeenData, grown, Loads, WasSeen}
 use Rattle.mvo_beside.specs.Laws.{SeenAtRead, SeenStays, SeenBesideNumbers, SeenWhereCountsStay, SeenBesideInstall, StaysUnnamed}
 use Rattle.mvo_beside.proofs.Late.{seen_again}
 use Rattle.mvo_beside.proofs.Numbers.{counted_stay}
@@ -46,7 +46,7 @@ pub loads_framed : (f : Format) (old new : Image) (p : Pair) (l : List Numbered)
 loads_framed f old new p l first second has =
     subst (λ (b : List ℕ). LoadsAs f p (new p.data_file) b (Ok l)) (sym second) (subst (λ (b : List ℕ). LoadsAs f p b (old p.delta_file) (Ok l)) (sym first) has)
 
-abbrev pub with_loads : (f : Format) (old new : Image) (m : ManifestData) (s : SeenData) → IsSeen f old m s → Loads f new s.left s.live_left → Loads f new s.right s.live_right → IsSeen f new m s
+abbrev pub with_loads : (f : Format) (old new : Image) (m : ManifestData) (s : SeenData) → WasSeen f old m s → Loads f new s.left s.live_left → Loads f new s.right s.live_right → WasSeen f new m s
 with_loads f old new m s seen left right = record {
   before = seen.before;
   behind = seen.behind;
@@ -59,7 +59,7 @@ with_loads f old new m s seen left right = record {
   apart = seen.apart;
 }
 
-module _ (f : Format) (content : Image) (m : ManifestData) (s : SeenData) (seen : IsSeen f content m s) where
+module _ (f : Format) (content : Image) (m : ManifestData) (s : SeenData) (seen : WasSeen f content m s) where
   abbrev pub left_now : Pair
   left_now = grown seen.more_left s.left
 

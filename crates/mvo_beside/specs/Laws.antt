@@ -23,7 +23,7 @@ use Rattle.mvo_recovery.specs.Settled.{other_slot, IsSettled, GivesParts}
 use Rattle.mvo_recovery.specs.Installing.{IsNext, IsReady}
 use Rattle.mvo_recovery.specs.Checkpoint.{NewNumbers, raise, CheckpointData, checkpointed}
 use Rattle.mvo_recovery.specs.Merging.{MergeData, merged, HasRecords}
-use Rattle.mvo_beside.specs.Seen.{SeenData, grown, Loads, IsSeen, CountsStay, pairs_now, IsSmall, MayMergeNow, NumbersNow, HasLate, lives_now, parts_now}
+use Rattle.mvo_beside.specs.Seen.{SeenData, grown, Loads, WasSeen, CountsStay, pairs_now, IsSmall, MayMergeNow, NumbersNow, HasLate, lives_now, parts_now}
 
 -- ---- what it saw stays
 
@@ -32,7 +32,7 @@ abbrev pub SeenAtRead : Image → Type 0
 SeenAtRead content = (f : Format) (m : ManifestData) (before behind : List Pair) (p q : Pair)
     (left right : List Numbered) → m.pairs ≡ before ++ p ∷ q ∷ behind → Loads f content p left →
     Loads f content q right → AreApart (left ∷ right ∷ []) →
-    IsSeen f content m (record {
+    WasSeen f content m (record {
       place = length before;
       left = p;
       right = q;
@@ -44,7 +44,7 @@ SeenAtRead content = (f : Format) (m : ManifestData) (before behind : List Pair)
 abbrev pub SeenStays : Image → Image → Type 0
 SeenStays old new = (f : Format) (m : ManifestData) (s : SeenData) →
     ((n : ℕ) → Contains (flat_map pair_files m.pairs) n → new n ≡ old n) →
-    IsSeen f old m s → IsSeen f new m s
+    WasSeen f old m s → WasSeen f new m s
 
 -- It stays where numbers are written behind those that count in the delta file of some pair.
 abbrev pub SeenBesideNumbers : Image → Image → Type 0
@@ -55,19 +55,19 @@ SeenBesideNumbers old new = (f : Format) (m : ManifestData) (s : SeenData) (r : 
     GainsNumbers (old r.delta_file) (new r.delta_file) r.entries more →
     ((ns : List ℕ) → HasNumbers f.version r.records r.entries ns (old r.delta_file) →
     AreNumbers r.records (ns ++ more)) →
-    IsSeen f old m s → IsSeen f new m s
+    WasSeen f old m s → WasSeen f new m s
 
 -- It stays where the data files of the pairs stay, and the numbers that count in their delta files.
 abbrev pub SeenWhereCountsStay : Image → Image → Type 0
 SeenWhereCountsStay old new = (f : Format) (m : ManifestData) (s : SeenData)
     (lives : List (List Numbered)) → IsManifest m → HaveLive f old m.pairs lives →
-    CountsStay f old new m.pairs → IsSeen f old m s → IsSeen f new m s
+    CountsStay f old new m.pairs → WasSeen f old m s → WasSeen f new m s
 
 -- It stays where a manifest is installed that raises the counts of pairs and has one pair more.
 abbrev pub SeenBesideInstall : Image → Type 0
 SeenBesideInstall content = (f : Format) (m next : ManifestData) (s : SeenData)
     (numbers : NewNumbers) (p : Pair) → next.pairs ≡ map (raise numbers) m.pairs ++ p ∷ [] →
-    IsSeen f content m s → IsSeen f content next s
+    WasSeen f content m s → WasSeen f content next s
 
 -- A file that neither the manifest nor a checkpoint names isn't named once that is installed.
 abbrev pub StaysUnnamed : Type 0
@@ -101,7 +101,7 @@ pub record IsMergedNow (f : Format) (content : Image) (may : ℕ → List ℕ �
 -- renumbered, it may be installed in the place of the two.
 abbrev pub MergeBesideIsReady : Image → (ℕ → List ℕ → Type 0) → Type 0
 MergeBesideIsReady content may = (f : Format) (m : ManifestData) (x : Parts) (s : SeenData)
-    (pair : Pair) → IsSmall f → IsSettled f content may m x → (seen : IsSeen f content m s) →
+    (pair : Pair) → IsSmall f → IsSettled f content may m x → (seen : WasSeen f content m s) →
     (now : NumbersNow f content m s seen) →
     let late_left = drop s.left.entries now.left in
     let late_right = drop s.right.entries now.right in
@@ -126,7 +126,7 @@ InstallBesideKeeps content may = (f : Format) (m : ManifestData) (x y : Parts) (
 -- makes them those of the live records then.
 abbrev pub PlacesBeside : Type 0
 PlacesBeside = (f : Format) (content : Image) (m : ManifestData) (x : Parts) (s : SeenData)
-    (pair : Pair) (seen : IsSeen f content m s) (now : NumbersNow f content m s seen)
+    (pair : Pair) (seen : WasSeen f content m s) (now : NumbersNow f content m s seen)
     (at : PlaceMap) → IsSmall f → IsManifest m → HaveLive f content m.pairs x.lives →
     IsDistinct nat_eq (map file_of (merged m (pairs_now seen pair)).pairs) →
     ArePlaces m.pairs x.lives at →

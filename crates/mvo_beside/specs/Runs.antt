@@ -11,7 +11,7 @@ use Rattle.mvo_manifest.specs.Data.{ManifestData}
 use Rattle.mvo_recovery.specs.Parts.{Parts, MakeUpSame}
 use Rattle.mvo_recovery.specs.Settled.{other_slot, IsUsed, IsSettled, GivesParts}
 use Rattle.mvo_recovery.specs.Checkpoint.{NewNumbers, raise}
-use Rattle.mvo_beside.specs.Seen.{SeenData, IsSeen}
+use Rattle.mvo_beside.specs.Seen.{SeenData, WasSeen}
 
 module _ {D : Type 0} (moment : D → Moment) (left_since : D → Moment → Image → Type 0)
     (content : D → Image) (may : D → ℕ → List ℕ → Type 0) (f : Format) where
@@ -73,12 +73,12 @@ module _ {D : Type 0} (moment : D → Moment) (left_since : D → Moment → Ima
   pub record KeepsAll (s : SeenData) (a : D) (x : Parts) (b : D) (n : ManifestData) (y : Parts)
       : Type 0 where
     pub settled : IsSettled f (content b) (may b) n y
-    pub seen : IsSeen f (content b) n s
+    pub seen : WasSeen f (content b) n s
     pub same : MakeUpSame x y
     pub gives : LeavesOnly moment left_since a b (GivesParts f x)
 
   -- So it is over each run of such steps.
   abbrev pub RunsKeepAll : Type 0
   RunsKeepAll = (s : SeenData) (a : D) (m : ManifestData) (x : Parts) →
-      IsSettled f (content a) (may a) m x → IsSeen f (content a) m s →
+      IsSettled f (content a) (may a) m x → WasSeen f (content a) m s →
       (b : D) (n : ManifestData) (y : Parts) → AreMoves a m x b n y → KeepsAll s a x b n y

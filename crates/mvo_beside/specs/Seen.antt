@@ -37,7 +37,7 @@ Loads f content p live = LoadsAs f p (content p.data_file) (content p.delta_file
 
 -- The two stand in their places, and more of their deltas' numbers may count. With the counts of
 -- then their files hold the live records of then.
-pub record IsSeen (f : Format) (content : Image) (m : ManifestData) (s : SeenData) : Type 0 where
+pub record WasSeen (f : Format) (content : Image) (m : ManifestData) (s : SeenData) : Type 0 where
   pub before : List Pair
   pub behind : List Pair
   pub more_left : ℕ
@@ -50,7 +50,7 @@ pub record IsSeen (f : Format) (content : Image) (m : ManifestData) (s : SeenDat
 
 -- the two as they are now, those before and behind them, and the pair that they become
 abbrev pub pairs_now : {f : Format} {content : Image} {m : ManifestData} {s : SeenData} →
-    IsSeen f content m s → Pair → MergeData
+    WasSeen f content m s → Pair → MergeData
 pairs_now {f} {content} {m} {s} seen pair = record {
   before = seen.before;
   left = grown seen.more_left s.left;
@@ -91,7 +91,7 @@ pub record MayMergeNow (m : ManifestData) (s : SeenData) (pair : Pair) (es : Lis
 
 -- the numbers that count now in the deltas of the two, and those of them that came late
 pub record NumbersNow (f : Format) (content : Image) (m : ManifestData) (s : SeenData)
-    (seen : IsSeen f content m s) : Type 0 where
+    (seen : WasSeen f content m s) : Type 0 where
   pub left : List ℕ
   pub right : List ℕ
   pub left_has : HasNumbers f.version s.left.records (s.left.entries + seen.more_left) left

@@ -15,7 +15,7 @@ use Rattle.mvo_recovery.specs.Checkpoint.{raise}
 use Rattle.mvo_recovery.proofs.Named.{named_is_no_slot, pairs_named, slot_below}
 use Rattle.mvo_recovery.proofs.Pairs.{delta_among}
 use Rattle.mvo_recovery.proofs.Framed.{files_stay_others}
-use Rattle.mvo_beside.specs.Seen.{IsSeen, MayMergeNow, CountsStay, grown}
+use Rattle.mvo_beside.specs.Seen.{WasSeen, MayMergeNow, CountsStay, grown}
 use Rattle.mvo_beside.proofs.Seen.{seen_stays, seen_where_counts_stay, seen_beside_install, stays_unnamed}
 use Rattle.mvo_store.specs.declared.install.Install.{Install as InstallData}
 use Rattle.mvo_store.specs.declared.limits.TheConstants.{MAX_GENERATION}
@@ -32,8 +32,8 @@ use Rattle.mvo_store.specs.declared.seen.Seen.{Seen}
 use Rattle.mvo_store.specs.declared.jobs.Jobs.{Jobs}
 use Rattle.mvo_store.specs.declared.jobs.Jobs.TheVariants.{Rotation as RotationAlone, Merge as MergeAlone, Beside}
 use Rattle.mvo_store.specs.Checkpoint.{gained, made_of, IsCheckpointInto}
-use Rattle.mvo_store.specs.Merging.{seen_of, IsMerging, IsMergeWritten}
-use Rattle.mvo_store.specs.Jobs.{Job, jobs_of, due_of, merge_due_of, step_due, is_step_of, first_due, job_due, is_of_merge, with_step, after_step, checkpoint_behind, with_data, job_takes_file}
+use Rattle.mvo_store.specs.Merging.{seen_with, IsMerging, IsMergeWritten}
+use Rattle.mvo_store.specs.Jobs.{Job, jobs_of, due_of, merge_due_of, step_due, is_step_of, first_due, job_due, is_of_merge, with_step, after_step, checkpoint_behind, with_data_file, job_takes_file}
 use Rattle.mvo_store.specs.Jobs.Job.{Rotation, Checkpoint, Merge, MergeInstall}
 use Rattle.mvo_store.specs.Standing.{IsRunning, IsMergingAt, HaveJobs, ShareNoFile, ShareNone}
 use Rattle.mvo_store.specs.Writing.{IsFileAt, IsGaining, IsMergeFileAt}
@@ -137,7 +137,7 @@ module _ (old new : Image) (may_old may_new : ℕ → List ℕ → Type 0) (m : 
           merge = record {
             live_left = has.merge.live_left;
             live_right = has.merge.live_right;
-            seen = seen_where_counts_stay old new FIRST_FORMAT m (seen_of g.seen has.merge.live_left has.merge.live_right) x.lives is settled.installed.parts.live counts has.merge.seen;
+            seen = seen_where_counts_stay old new FIRST_FORMAT m (seen_with g.seen has.merge.live_left has.merge.live_right) x.lives is settled.installed.parts.live counts has.merge.seen;
             may_merge = has.merge.may_merge;
             records = has.merge.records;
             renumbering = has.merge.renumbering;
@@ -197,7 +197,7 @@ module _ (old new : Image) (may_old may_new : ℕ → List ℕ → Type 0) (m : 
   -- THE MERGE RUNS ON.
   pub merge_runs_on : (y : Parts) → IsRunning new may_new c.next y (Merge g)
   merge_runs_on y =
-      let saw = seen_of g.seen has.merge.live_left has.merge.live_right in
+      let saw = seen_with g.seen has.merge.live_left has.merge.live_right in
       let may = has.merge.may_merge in
       record {
         work = record {

@@ -27,7 +27,7 @@ use Rattle.mvo_recovery.specs.Merging.{MergeData, merged}
 use Rattle.mvo_recovery.proofs.Merged.{named_merged, manifest_merged}
 use Rattle.mvo_recovery.proofs.Pairs.{few_records, delta_named}
 use Rattle.mvo_recovery.proofs.Gained.{counted_of}
-use Rattle.mvo_beside.specs.Seen.{SeenData, grown, IsSeen, pairs_now, NumbersNow}
+use Rattle.mvo_beside.specs.Seen.{SeenData, grown, WasSeen, pairs_now, NumbersNow}
 use Rattle.mvo_beside.proofs.Seen.{left_now, right_now, in_left, in_right}
 use Rattle.mvo_beside.proofs.Two.{rise_one, few_one, has_first, has_second}
 use Rattle.mvo_beside.proofs.Ready.{are_left, are_right, few_late}
@@ -36,11 +36,11 @@ use Rattle.mvo_store.specs.declared.merge_stage.MergeStage.{MergeStage}
 use Rattle.mvo_store.specs.declared.merge_stage.MergeStage.TheVariants.{Delta as MergeAtDelta}
 use Rattle.mvo_store.specs.declared.merging.Merging.{Merging}
 use Rattle.mvo_store.specs.declared.seen.Seen.{Seen}
-use Rattle.mvo_store.specs.Merging.{first_two, neighbours_at, merged_at, with_late, pair_with, late_of, StandStill, MayBecome, seen_of, IsMerging, IsMergeWritten, AreLateNow, IsMergeReady}
+use Rattle.mvo_store.specs.Merging.{first_two, neighbours_at, merged_at, with_late, pair_with, late_of, StandStill, MayBecome, seen_with, IsMerging, IsMergeWritten, AreLateNow, IsMergeReady}
 use Rattle.mvo_store.specs.Jobs.{merge_due_of, step_due}
 use Rattle.mvo_store.specs.Jobs.Job.{Merge, MergeInstall}
 use Rattle.mvo_store.specs.Standing.{HasWork}
-use Rattle.mvo_store.specs.Writing.{IsFileDue, IsMergeFileAt, WritesFor, HasMadeStep, TakesMemory, AreLateEntries, HasEnded, IsWrittenEnd, IsEndOf, StandsWith}
+use Rattle.mvo_store.specs.Writing.{IsFileDue, IsMergeFileAt, WritesFor, HasMadeStep, TakesMemory, AreLateEntries, EndsMerge, IsWrittenEnd, IsEndOf, StandsWith}
 use Rattle.mvo_store.proofs.Keeping.{OnlyNow}
 use Rattle.mvo_store.proofs.Checkpoints.{stop_or_misread}
 use Rattle.mvo_store.proofs.Logged.{unnamed}
@@ -50,7 +50,7 @@ use Rattle.mvo_store.proofs.Neighbours.{two_stand}
 
 -- ---- the two among the pairs
 
-module _ (content : Image) (m : ManifestData) (saw : SeenData) (seen : IsSeen FIRST_FORMAT content m saw) where
+module _ (content : Image) (m : ManifestData) (saw : SeenData) (seen : WasSeen FIRST_FORMAT content m saw) where
   abbrev first_now : Pair
   first_now = left_now FIRST_FORMAT content m saw seen
 
@@ -62,7 +62,7 @@ module _ (content : Image) (m : ManifestData) (saw : SeenData) (seen : IsSeen FI
   seen_there = ap (neighbours_at saw.place) seen.pairs ∙ ap first_two (drop_at seen.before (first_now ∷ second_now ∷ seen.behind) saw.place seen.at)
 
   -- so does the one pair
-  merged_there : (p : Pair) → merged_at m saw.place p ≡ merged m (pairs_now seen p)
+  pub merged_there : (p : Pair) → merged_at m saw.place p ≡ merged m (pairs_now seen p)
   merged_there p =
       let two : List Pair = first_now ∷ second_now ∷ [] in
       let front : take saw.place m.pairs ≡ seen.before = ap (λ (ps : List Pair). take saw.place ps) seen.pairs ∙ take_at seen.before (two ++ seen.behind) saw.place seen.at in
@@ -105,7 +105,7 @@ some_there m s still e = absurd (cc (sym still.two ∙ e))
 
 module _ (content : Image) (may : ℕ → List ℕ → Type 0) (m : ManifestData) (x : Parts) (settled : IsSettled FIRST_FORMAT content may m x) (s : Seen) (has : IsMerging content m s) where
   abbrev saw : SeenData
-  saw = seen_of s has.live_left has.live_right
+  saw = seen_with s has.live_left has.live_right
 
   is_manifest : IsManifest m
   is_manifest = settled.installed.own.is
@@ -214,7 +214,7 @@ module _ {D : Type 0} (d : Ghosts D) (old new : D) (m : ManifestData) (g : Mergi
             now = numbers_now (d.content new) (d.may_leave new) m x settled g.seen merge;
             late = late;
             late_is = late_now (d.content new) (d.may_leave new) m x settled g.seen merge left right are_here;
-            next_is = next_is ∙ merged_there (d.content new) m (seen_of g.seen merge.live_left merge.live_right) merge.seen (pair_with g.seen late);
+            next_is = next_is ∙ merged_there (d.content new) m (seen_with g.seen merge.live_left merge.live_right) merge.seen (pair_with g.seen late);
             entries = subst (λ (k : MergeStage). IsMergeWritten (d.content new) (d.may_leave new) g.seen k) at w.written;
             has = record {
               has = record {
@@ -252,6 +252,19 @@ module _ {D : Type 0} (d : Ghosts D) (old mid new : D) (file : ℕ) where
     touches_behind : LeavesOnly d.moment d.left_since old mid (AllOf (d.may_leave old)) → LeavesOnly d.moment d.left_since mid new (Touched file (d.may_leave mid) (λ _. ⊤)) → LeavesOnly d.moment d.left_since old new (Touched file (d.may_leave old) (λ _. ⊤))
     touches_behind first second = runs_on d.moment d.left_since old mid new (Touched file (d.may_leave old) (λ _. ⊤)) (Touched file (d.may_leave mid) (λ _. ⊤)) (touches_none first) second
         (λ image t. record { here = tt; others = λ n ne. looks.images n (image n) (t.others n ne) })
+
+-- one look after another
+pub looks_twice : {D X : Type 0} (d : Ghosts D) (old mid new : D) → AllStay (d.content old) (d.content mid) (d.may_leave old) (d.may_leave mid) → LeavesOnly d.moment d.left_since old mid (AllOf (d.may_leave old)) → d.fault_count mid ≡ d.fault_count old
+    → AllStay (d.content mid) (d.content new) (d.may_leave mid) (d.may_leave new) → LeavesOnly d.moment d.left_since mid new (AllOf (d.may_leave mid)) → (result : Result X Refusal) → CountsFaults (d.fault_count mid) (d.fault_count new) result → HasRead d old new result
+looks_twice {X = X} d old mid new looks first same more second result count = record {
+  rest = record {
+    content = λ n. more.content n ∙ looks.content n;
+    images = λ n c left. looks.images n c (more.images n c left);
+    keeps = λ n c left. more.keeps n c (looks.keeps n c left);
+  };
+  any_moment = runs_on d.moment d.left_since old mid new (AllOf (d.may_leave old)) (AllOf (d.may_leave mid)) first second (λ image all n. looks.images n (image n) (all n));
+  count = subst (λ n. CountsFaults {X = X} n (d.fault_count new) result) same count;
+}
 
 -- ---- what it comes to
 
@@ -369,9 +382,9 @@ module _ (m : ManifestData) (is : IsManifest m) (s : Seen) (still : StandStill m
 
 -- ---- the write
 
-still_counts : {X : Type 0} (n : ℕ) (e : Refusal) → e ≢ DiskFault → CountsFaults {X = X} n n (Err e)
-still_counts n DiskFault ne = absurd (ne refl)
-still_counts n e ne = refl
+still_counts : (X : Type 0) (n : ℕ) (e : Refusal) → e ≢ DiskFault → CountsFaults {X = X} n n (Err e)
+still_counts X n DiskFault ne = absurd (ne refl)
+still_counts X n e ne = refl
 
 module _ {D : Type 0} (d : Ghosts D) (m : ManifestData) (g : Merging) (late : List ℕ) where
   -- nothing is written
@@ -383,7 +396,7 @@ module _ {D : Type 0} (d : Ghosts D) (m : ManifestData) (g : Merging) (late : Li
     durable = tt;
     rest = record { content = λ n _. refl; images = λ n c _ left. left; keeps = λ n c _ left. left };
     any_moment = started d.moment d.left_since disk (Touched g.seen.pair.delta_file (d.may_leave disk) (λ _. ⊤)) (λ image left. record { here = tt; others = λ n _. only_now disk image left n });
-    count = still_counts (d.fault_count disk) e ne;
+    count = still_counts ManifestData (d.fault_count disk) e ne;
     refused = why;
     many = many;
     unchanged = λ _. refl;

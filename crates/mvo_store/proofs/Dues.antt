@@ -60,7 +60,7 @@ use Rattle.mvo_store.specs.declared.merging.Merging.{Merging}
 use Rattle.mvo_store.specs.declared.checkpointing.Checkpointing.{Checkpointing}
 use Rattle.mvo_store.specs.declared.seen.Seen.{Seen}
 use Rattle.mvo_store.specs.Checkpoint.{gained, made_of, IsCheckpointInto}
-use Rattle.mvo_store.specs.Merging.{seen_of, pair_with, IsMergeReady}
+use Rattle.mvo_store.specs.Merging.{seen_with, pair_with, IsMergeReady}
 use Rattle.mvo_store.specs.Steps.{manifest_after, places_after, segment_after}
 use Rattle.mvo_store.proofs.Keeping.{give_or, stays_up, AllLeave, OnlyNow, CountsNow, may_step, Begins, begins, file_others, fault_step, other_step, err_is, stays_safe}
 use Rattle.mvo_store.proofs.Working.{Installing, Installs, installs, installing, due_installs, slot_of_install, small, merged_parts_now}
@@ -189,7 +189,7 @@ is_rotation (Rotation fresh i) = true
 is_rotation j = false
 
 -- no step of a merge whose files aren't all written opens a gate
-never_opens : {A : Type 0} (stage : MergeStage) → merge_due_of stage ≡ Install Open → A
+pub never_opens : {A : Type 0} (stage : MergeStage) → merge_due_of stage ≡ Install Open → A
 never_opens MergeAtData e = absurd (cc e)
 never_opens MergeAtDelta e = absurd (cc e)
 
@@ -371,7 +371,7 @@ module _ {D : Type 0} (d : Ghosts D) (s : StoreData D) (rows : Map) (up : IsUp d
         → places.at ≡ moved g.left.data_file g.right.data_file g.pair.data_file g.made.records s.places.at → ArePlaces next.pairs (merged_parts_now (d.content s.disk) (d.may_leave s.disk) m up.parts g next is).lives places.at
     merge_places g next places is settled to =
         let merge = is.merge in
-        let saw = seen_of g merge.live_left merge.live_right in
+        let saw = seen_with g merge.live_left merge.live_right in
         let differ : IsDistinct nat_eq (map file_of (merged m (pairs_now merge.seen (pair_with g is.late))).pairs) = subst (λ (n : ManifestData). IsDistinct nat_eq (map file_of n.pairs)) is.next_is (data_files_differ next settled.installed.own.is) in
         let now = places_beside FIRST_FORMAT (d.content s.disk) m up.parts saw (pair_with g is.late) merge.seen is.now s.places.at small up.settled.installed.own.is up.settled.installed.parts.live differ up.places in
         let at_is : places.at ≡ moved g.left.data_file g.right.data_file g.pair.data_file (records_merged merge.live_left merge.live_right) s.places.at = to ∙ ap (λ (es : List EntryData). moved g.left.data_file g.right.data_file g.pair.data_file es s.places.at) merge.records in

@@ -45,7 +45,7 @@ pub record EndsAlone {D : Type 0} (d : Ghosts D) (s : StoreData D) : Type 0 wher
   pub at : merge.stage ≡ MergeAtDelta
 
 module _ {D : Type 0} (d : Ghosts D) (s t : StoreData D) (same : s ≡ t) (none : why_not_merge_delta t ≡ None) (invariant : s.down ≡ false → IsSound d s) where
-  begun : Begins d s EndMerge
+  pub begun : Begins d s EndMerge
   begun = begins d s t EndMerge same none invariant
 
   -- one runs
@@ -53,11 +53,14 @@ module _ {D : Type 0} (d : Ghosts D) (s t : StoreData D) (same : s ≡ t) (none 
   runs_alone = let may = may_end s begun.none in ends_alone s.jobs may.0 may.1
 
   -- it is this one
-  pub ends_at : (merge : Merging) → s.jobs ≡ Beside None (Some merge) → EndsAlone d s
-  ends_at merge is =
+  pub last_at : (merge : Merging) → s.jobs ≡ Beside None (Some merge) → merge.stage ≡ MergeAtDelta
+  last_at merge is =
       let e : Beside None (Some runs_alone.0) ≡ Beside None (Some merge) = sym runs_alone.1 ∙ is in
       let it : runs_alone.0 ≡ merge = cc in
-      record { begins = begun; merge = merge; is = is; at = last_stage merge.stage (subst (λ (k : Merging). merge_due_of k.stage ≡ MergeDelta) it runs_alone.2) }
+      last_stage merge.stage (subst (λ (k : Merging). merge_due_of k.stage ≡ MergeDelta) it runs_alone.2)
+
+  abbrev pub ends_at : (merge : Merging) → s.jobs ≡ Beside None (Some merge) → EndsAlone d s
+  ends_at merge is = record { begins = begun; merge = merge; is = is; at = last_at merge is }
 
 module _ {D : Type 0} {d : Ghosts D} {s : StoreData D} (b : EndsAlone d s) where
   abbrev g : Merging

@@ -8,7 +8,6 @@ pub mod Checkpoints
 pub mod Written
 pub mod Neighbours
 pub mod Numbered
-pub mod Asked
 pub mod Beside
 pub mod Turning
 pub mod Beginning

@@ -1,14 +1,16 @@
 -- A call that makes a step of a job, or begins a checkpoint or a merge: what the store is behind it.
-use Rattle.std.proofs.Common.{◌≡◌, ◌≢◌, ℕ, ◌≤◌, ◌&&◌, Bool, true, false, Option, Some, None, Result, Ok, Err, length, refl, sym, ap, subst, ◌∙◌}
+use Rattle.std.proofs.Common.{◌≡◌, ◌≢◌, ℕ, List, ◌≤◌, ◌&&◌, Bool, true, false, Option, Some, None, Result, Ok, Err, length, refl, sym, ap, subst, ◌∙◌}
 use Rattle.std.specs.Prelude.{is_some, IfSome}
 use Rattle.std.specs.Bool.{OnTrue, OnFalse}
 use Rattle.mvo_types.specs.Keys.{Map}
 use Rattle.mvo_types.specs.declared.refusal.Refusal.{Refusal}
 use Rattle.mvo_types.specs.declared.refusal.Refusal.TheVariants.{DiskFault}
 use Rattle.mvo_disk.specs.declared.disk.Disk.{Ghosts}
-use Rattle.mvo_disk.specs.Disk.{AllOf, AllStay, LeavesOnly, IsHonest}
+use Rattle.mvo_disk.specs.Disk.{Image, AllOf, AllStay, LeavesOnly, IsHonest}
 use Rattle.mvo_pair.specs.declared.pair.Pair.{Pair}
+use Rattle.mvo_manifest.specs.Data.{ManifestData}
 use Rattle.mvo_places.specs.Places.{PlaceMap, PlaceTable}
+use Rattle.mvo_recovery.specs.Parts.{Parts}
 use Rattle.mvo_store.specs.declared.due.Due.{Due}
 use Rattle.mvo_store.specs.declared.due.Due.TheVariants.{Install}
 use Rattle.mvo_store.specs.declared.step.Step.TheVariants.{Open}
@@ -19,22 +21,25 @@ use Rattle.mvo_store.specs.declared.merging.Merging.{Merging}
 use Rattle.mvo_store.specs.StoreData.{StoreData}
 use Rattle.mvo_store.specs.Causes.{why_not_due, why_not_install_open}
 use Rattle.mvo_store.specs.Files.{files_taken}
+use Rattle.mvo_store.specs.Merging.{seen_with, pair_with}
 use Rattle.mvo_store.specs.Jobs.{Job, job_due, is_due, step_due, after_step, with_step, with_checkpoint, with_merge, next_installed, after_install, has_rotation, merge_pair, checkpoint_pair}
 use Rattle.mvo_store.specs.Planning.{IsNewCheckpoint, IsReadCheckpoint}
 use Rattle.mvo_store.specs.MergePlanning.{IsNewMerge}
 use Rattle.mvo_store.specs.MergeReading.{IsReadMerge}
 use Rattle.mvo_store.specs.Safe.{IsSafeCheckpoint, IsSafeMerge, IsSafeWork, AreSafe, IsSafe, IsSound}
-use Rattle.mvo_store.specs.Standing.{IsRunning, HaveJobs, ShareNone, HasRoom, JobHasRoom, IsUp, MayTakeOverOf, HaveKeysOf}
-use Rattle.mvo_store.specs.Steps.{manifest_after, segment_after, places_after, manifest_by, segment_by, places_by, IsCheckpointOf, IsMergeOf}
+use Rattle.mvo_store.specs.Standing.{IsRunning, HasWork, HaveJobs, ShareNone, HasRoom, JobHasRoom, IsUp, MayTakeOverOf, HaveKeysOf}
+use Rattle.mvo_store.specs.Steps.{manifest_after, places_after, manifest_by, segment_by, places_by, IsNextBy, IsNextOf, IsCheckpointOf, IsMergeOf}
 use Rattle.mvo_store.specs.Writing.{StandsFor, IsJobStep, IsDueStep}
-use Rattle.mvo_store.specs.Calls.{StoreCall, call_of, IsReadToCheckpoint, IsReadToMerge, IsStoreStep}
-use Rattle.mvo_store.specs.Calls.StoreCall.{InstallOpen, CheckpointRead, MergeRead}
+use Rattle.mvo_store.specs.Calls.{StoreCall, call_of, why_not, IsRefused, IsReadToCheckpoint, IsReadToMerge, IsStoreStep}
+use Rattle.mvo_store.specs.Calls.StoreCall.{InstallOpen, CheckpointRead, CheckpointDelta, MergeRead}
 use Rattle.mvo_store.proofs.Keeping.{OnlyNow, CountsNow, Begins, begins, may_open, none_keeps_checkpoint, none_keeps_merge, stays_safe, fault_step, done_step}
 use Rattle.mvo_store.proofs.Beside.{IsDueIn, due_in_jobs}
+use Rattle.mvo_store.proofs.Beside.IsDueIn.{TheRotation, TheMerge, TheCheckpoint, OfMerge}
 use Rattle.mvo_store.proofs.Turning.{some_due, step_is, begins_beside_merge, begins_beside_checkpoint}
 use Rattle.mvo_store.proofs.Beginning.{checkpoint_shares_none, merge_shares_none, with_checkpoint_all, with_merge_all, merge_room}
-use Rattle.mvo_store.proofs.Dues.{IsPlain, begins_due, due_job, makes_of, rows_of, fault_only, safe_work, safe_room, safe_take_over, installed_is, stepped_safe, opened_safe, stands_of, step_others, step_leaves, step_slots, step_up, step_refused, refused_sound, have_keys, opened_up}
+use Rattle.mvo_store.proofs.Dues.{IsPlain, begins_due, due_job, makes_of, rows_of, fault_only, safe_work, safe_room, safe_take_over, never_opens, installed_is, stepped_safe, opened_safe, stands_of, step_others, step_leaves, step_slots, step_up, step_refused, refused_sound, have_keys, opened_up}
 use Rattle.mvo_store.proofs.Looks.{looked_up, looked_done}
+use Rattle.mvo_store.proofs.CameLate.{merged_there}
 
 -- ---- a step that is due
 
@@ -108,7 +113,29 @@ module _ {D : Type 0} {d : Ghosts D} {s : StoreData D} {step : Due} (plain : IsP
     pub due_refused_sound : down ≡ false → IsSound d (record s { disk = new; down = down })
     due_refused_sound is = refused_sound d s step b.job b.is new r.writes b.begins.sound (step_due b.job) refusal r.refused b.begins.up down other is
 
+-- a refusal, whatever the call would have answered
+refused_as : (A B : Type 0) (call : StoreCall) (o : Option Refusal) (e : Refusal) → IsRefused {A = A} call o (Err e) → IsRefused {A = B} call o (Err e)
+refused_as A B call None e h = h
+refused_as A B call (Some cause) e h = let same : cause ≡ e = cc h in subst (λ (r : Refusal). IsRefused {A = B} call (Some cause) (Err r)) same refl
+
+pub delta_refused : {D : Type 0} (A : Type 0) (d : Ghosts D) (old new : StoreData D) (e : Refusal) → IsStoreStep {A = Unit {0}} d old CheckpointDelta (Err e) new → IsStoreStep {A = A} d old CheckpointDelta (Err e) new
+delta_refused A d old new e h = record {
+  comes = record { refused = refused_as (Unit {0}) A CheckpointDelta (why_not old CheckpointDelta) e h.comes.refused; made = tt; left = h.comes.left };
+  honest = h.honest;
+  keeps = h.keeps;
+  others = h.others;
+}
+
 -- ---- the opening of a gate
+
+-- what the manifest of a job is made of
+next_by : (content : Image) (may : ℕ → List ℕ → Type 0) (m : ManifestData) (x : Parts) {jobs : Jobs} {j : Job} → IsDueIn (Install Open) jobs j → IsSafeWork m j → HasWork content may m x j → IsNextBy m j (manifest_after j m)
+next_by content may m x (TheRotation fresh i at) safe has = has.next_is
+next_by content may m x (TheMerge seen i at) safe has =
+    let merge = has.merge in
+    (length has.late, has.next_is ∙ sym (merged_there content m (seen_with seen merge.live_left merge.live_right) merge.seen (pair_with seen has.late)))
+next_by content may m x (TheCheckpoint c g at) safe has = safe.next_is
+next_by content may m x (OfMerge c g at) safe has = never_opens g.stage at
 
 module _ {D : Type 0} {d : Ghosts D} {s : StoreData D} (b : IsDueAt d s InstallOpen (Install Open)) where
   next_is : next_installed s.jobs ≡ Some b.job
@@ -146,6 +173,10 @@ module _ {D : Type 0} {d : Ghosts D} {s : StoreData D} (b : IsDueAt d s InstallO
       open_up : IsHonest (d.moment new) → (rows : Map) → IsUp d s rows → IsUp d opened rows
       open_up honest rows up = subst (λ (o : Option Job). IsUp d (with_next o) rows) (sym next_is) (opened_up d s rows up b.begins.sound.safe b.job (due_here b) new (i.writes honest) (after_step b.job) (i.makes honest) i.count places (moved_so rows up) free)
 
+      next_so : (rows : Map) → IsUp d s rows → IsNextOf s.manifest (next_installed s.jobs) (manifest_by (next_installed s.jobs) s.manifest)
+      next_so rows up = subst (λ (o : Option Job). IsNextOf s.manifest o (manifest_by o s.manifest)) (sym next_is)
+          (next_by (d.content s.disk) (d.may_leave s.disk) s.manifest up.parts (due_here b) (safe_work b.begins.sound.safe (due_here b)) (stands_of d s (Install Open) b.job b.is rows up).job.work)
+
       -- THE STORE IS SOUND WITH THE NEXT MANIFEST.
       pub open_sound : IsSound d opened
       open_sound = record {
@@ -156,7 +187,11 @@ module _ {D : Type 0} {d : Ghosts D} {s : StoreData D} (b : IsDueAt d s InstallO
       pub open_done : {A : Type 0} (a : A) → IsStoreStep {A = A} d s InstallOpen (Ok a) opened
       open_done a = done_step b.begins opened i.honest (step_leaves d s (Install Open) b.job b.is new i.writes) (step_slots d s (Install Open) b.job b.is new i.writes (after_step b.job) i.makes)
           (step_others d s (Install Open) b.job b.is opened (i.file (safe_work b.begins.sound.safe (due_here b)))) a
-          (record { after = refl; places = λ honest. let now = b.begins.sound.up (i.honest honest) in took (keys_here now.0 now.1) }) i.count open_up
+          (record {
+            after = refl;
+            next = λ honest. let now = b.begins.sound.up (i.honest honest) in next_so now.0 now.1;
+            places = λ honest. let now = b.begins.sound.up (i.honest honest) in took (keys_here now.0 now.1);
+          }) i.count open_up
 
     -- only a fault refuses it
     pub open_refused : {A : Type 0} → CountsNow d → (refusal : Refusal) → IsDueStep d s.disk new s.manifest (job_due (Install Open) s.jobs) (Err refusal) → IsStoreStep {A = A} d s InstallOpen (Err refusal) (record s { disk = new; down = true })

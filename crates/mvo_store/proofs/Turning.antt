@@ -11,7 +11,7 @@ use Rattle.mvo_store.specs.declared.checkpointing.Checkpointing.{Checkpointing}
 use Rattle.mvo_store.specs.declared.merging.Merging.{Merging}
 use Rattle.mvo_store.specs.declared.jobs.Jobs.{Jobs}
 use Rattle.mvo_store.specs.declared.jobs.Jobs.TheVariants.{Rotation as RotationAlone, Merge as MergeAlone, Beside}
-use Rattle.mvo_store.specs.Jobs.{is_step_of, first_due, Job, no_jobs, jobs_of, keeps_all_out, keeps_checkpoint_out, keeps_merge_out, has_checkpoint, due_of, merge_due_of, step_number, step_due, job_due, is_due, is_of_merge, with_step, after_step, checkpoint_by, merge_by, checkpoint_behind, with_data, next_installed, after_install}
+use Rattle.mvo_store.specs.Jobs.{is_step_of, first_due, Job, no_jobs, jobs_of, keeps_all_out, keeps_checkpoint_out, keeps_merge_out, has_checkpoint, due_of, merge_due_of, step_number, step_due, job_due, is_due, is_of_merge, with_step, after_step, checkpoint_by, merge_by, checkpoint_behind, with_data_file, next_installed, after_install}
 use Rattle.mvo_store.specs.Jobs.Job.{Rotation, Checkpoint, Merge, MergeInstall}
 use Rattle.mvo_store.specs.Standing.{ShareNone}
 use Rattle.mvo_store.proofs.Beside.{IsDueIn, due_in_jobs, checkpoint_step, merge_step}
@@ -36,8 +36,8 @@ step_is (OfMerge c g at) = at
 pub with_checkpoint_step : (step : Due) (c : Checkpointing) (g : Option Merging) → is_of_merge step ≡ false → with_step step (Beside (Some c) g) ≡ Beside (Some (checkpoint_behind c)) g
 with_checkpoint_step step c g is = ap (λ (b : Bool). cond b (Beside (Some c) (merge_by g)) (Beside (Some (checkpoint_behind c)) g)) is
 
-pub with_merge_step : (step : Due) (c : Option Checkpointing) (g : Merging) → is_of_merge step ≡ true → with_step step (Beside c (Some g)) ≡ Beside c (Some (with_data g))
-with_merge_step step c g is = ap (λ (b : Bool). cond b (Beside c (Some (with_data g))) (Beside (checkpoint_by c) (Some g))) is
+pub with_merge_step : (step : Due) (c : Option Checkpointing) (g : Merging) → is_of_merge step ≡ true → with_step step (Beside c (Some g)) ≡ Beside c (Some (with_data_file g))
+with_merge_step step c g is = ap (λ (b : Bool). cond b (Beside c (Some (with_data_file g))) (Beside (checkpoint_by c) (Some g))) is
 
 -- what holds of each holds of that one
 pub of_due : (P : Job → Type 0) {step : Due} {jobs : Jobs} {j : Job} → IsDueIn step jobs j → AllByRecursion P (jobs_of jobs) → P j

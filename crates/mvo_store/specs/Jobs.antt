@@ -197,14 +197,14 @@ abbrev pub checkpoint_behind : Checkpointing → Checkpointing
 checkpoint_behind c = record c { stage = stage_behind (length c.made.deltas) c.stage }
 
 -- a merge whose data file is written
-abbrev pub with_data : Merging → Merging
-with_data g = record g { stage = MergeAtDelta }
+abbrev pub with_data_file : Merging → Merging
+with_data_file g = record g { stage = MergeAtDelta }
 
 -- the job with one step behind it, other than the last file of a merge
 abbrev pub after_step : Job → Job
 after_step (Rotation fresh i) = Rotation fresh (stepped i)
 after_step (Checkpoint c) = Checkpoint (checkpoint_behind c)
-after_step (Merge g) = Merge (with_data g)
+after_step (Merge g) = Merge (with_data_file g)
 after_step (MergeInstall g i) = MergeInstall g (stepped i)
 
 abbrev pub checkpoint_by : Option Checkpointing → Option Checkpointing
@@ -213,7 +213,7 @@ checkpoint_by (Some c) = Some (checkpoint_behind c)
 
 abbrev pub merge_by : Option Merging → Option Merging
 merge_by None = None
-merge_by (Some g) = Some (with_data g)
+merge_by (Some g) = Some (with_data_file g)
 
 -- the step is one of a merge whose files aren't all written
 abbrev pub is_of_merge : Due → Bool
