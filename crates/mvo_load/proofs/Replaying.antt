@@ -42,7 +42,7 @@ use Rattle.mvo_image.specs.Rows.{after_record, after_groups}
 use Rattle.mvo_image.specs.Files.{SegmentIs}
 use Rattle.mvo_image.proofs.Opening.{segment_exact}
 use Rattle.mvo_load.specs.Parts.{IsReplayed}
-use Rattle.mvo_load.specs.Replay.{writes_of, after_writes}
+use Rattle.mvo_load.specs.Replay.{all_writes, after_writes}
 use Rattle.mvo_load.proofs.Fronts.{segment_on_disk}
 use Rattle.mvo_load.proofs.Giving.{after_frames}
 use Rattle.mvo_load.proofs.Groups.{after_push}
@@ -56,19 +56,19 @@ abbrev writes_in : RecordData → List Write
 writes_in r = r.writes
 
 -- the rows after the writes of some transactions are those after the transactions
-pub after_of_records : (m : Map) (rs : List RecordData) → after_writes m (writes_of rs) ≡ fold after_record m rs
+pub after_of_records : (m : Map) (rs : List RecordData) → after_writes m (all_writes rs) ≡ fold after_record m rs
 after_of_records m [] = refl
 after_of_records m (r ∷ rs) =
-    ap (after_writes m) (flat_map-cons writes_in r rs) ∙ fold-append with_write m r.writes (writes_of rs)
+    ap (after_writes m) (flat_map-cons writes_in r rs) ∙ fold-append with_write m r.writes (all_writes rs)
     ∙ after_of_records (after_record m r) rs
 
 -- the writes of one more transaction
-pub writes_more : (ws : List Write) (rs : List RecordData) (r : RecordData) → (ws ++ writes_of rs) ++ r.writes ≡ ws ++ writes_of (rs ++ r ∷ [])
+pub writes_more : (ws : List Write) (rs : List RecordData) (r : RecordData) → (ws ++ all_writes rs) ++ r.writes ≡ ws ++ all_writes (rs ++ r ∷ [])
 writes_more ws rs r =
-    append_assoc ws (writes_of rs) r.writes
-    ∙ ap (λ (l : List Write). ws ++ l) (ap (λ (l : List Write). writes_of rs ++ l) (sym (append-nil r.writes) ∙ sym (flat_map-cons writes_in r [])) ∙ sym (flat_map-append writes_in rs (r ∷ [])))
+    append_assoc ws (all_writes rs) r.writes
+    ∙ ap (λ (l : List Write). ws ++ l) (ap (λ (l : List Write). all_writes rs ++ l) (sym (append-nil r.writes) ∙ sym (flat_map-cons writes_in r [])) ∙ sym (flat_map-append writes_in rs (r ∷ [])))
 
-pub no_writes : (ws : List Write) → ws ≡ ws ++ writes_of []
+pub no_writes : (ws : List Write) → ws ≡ ws ++ all_writes []
 no_writes ws = sym (append-nil ws)
 
 pub after_both : (m : Map) (ws vs : List Write) → after_writes m (ws ++ vs) ≡ after_writes (after_writes m ws) vs
@@ -169,13 +169,13 @@ module _ (f : Format) (file start : ℕ) (bytes : List ℕ) (old : Map) where
 
   module _ (rest : List ℕ) (rows : Map) (ws : List Write) (gate mark : ℕ) (r : IsReplaying f file start bytes rest old rows ws gate mark) where
     pub replay_more : (g : GroupData) (later : List ℕ) (next : ℕ) (vs left : List Write) (new : Map) → step_found f file gate mark rest ≡ Ok (Some (g, later)) → next ≡ gate + (length rest - length later)
-        → vs ≡ ws ++ writes_of g.records → after_writes new left ≡ after_writes rows vs → IsReplaying f file start bytes later old new left next g.mark
+        → vs ≡ ws ++ all_writes g.records → after_writes new left ≡ after_writes rows vs → IsReplaying f file start bytes later old new left next g.mark
     replay_more g later next vs left new found next_is all put = record {
       gs = r.gs ++ g ∷ [];
       read = read_more f file start bytes rest r.gs gate mark r.read g later next (r.gs ++ g ∷ []) found next_is refl;
       rows_are =
-          put ∙ ap (after_writes rows) all ∙ after_both rows ws (writes_of g.records)
-          ∙ ap (λ (m : Map). after_writes m (writes_of g.records)) r.rows_are
+          put ∙ ap (after_writes rows) all ∙ after_both rows ws (all_writes g.records)
+          ∙ ap (λ (m : Map). after_writes m (all_writes g.records)) r.rows_are
           ∙ after_of_records (after_groups old r.gs) g.records ∙ sym (after_push old r.gs g);
     }
 

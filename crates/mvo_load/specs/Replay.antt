@@ -7,8 +7,8 @@ use Rattle.mvo_model.specs.History.{after_effect}
 use Rattle.mvo_group.specs.Data.{RecordData}
 
 -- the writes of these transactions
-abbrev pub writes_of : List RecordData → List Write
-writes_of rs = flat_map (λ r. r.writes) rs
+abbrev pub all_writes : List RecordData → List Write
+all_writes rs = flat_map (λ r. r.writes) rs
 
 -- the rows after these writes
 abbrev pub after_writes : Map → List Write → Map
