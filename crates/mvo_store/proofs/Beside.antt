@@ -1,27 +1,22 @@
 -- A step of one of two jobs leaves the other.
-use Rattle.std.proofs.Common.{◌≡◌, ◌≢◌, ◌⊎◌, inl, inr, ℕ, zero, suc, ◌+◌, ◌<◌, ◌≤◌, ◌^◌, ◌||◌, Bool, true, false, eqb, cond, List, [], ◌∷◌, ◌++◌, length, drop, Option, Some, None, refl, sym, ap, subst, ◌∙◌, arith, eq-eqb}
-use Rattle.std.specs.Prelude.{map}
-use Rattle.std.specs.List.{AllByRecursion, Contains, flat_map}
-use Rattle.std.proofs.lemmas.Bool.{eqb-true}
+use Rattle.std.proofs.Common.{◌≡◌, ◌≢◌, inl, inr, ℕ, zero, suc, ◌+◌, ◌<◌, ◌||◌, Bool, true, false, eqb, cond, List, [], ◌∷◌, Option, Some, None, refl, sym, ap, subst, ◌∙◌, arith, eq-eqb}
+use Rattle.std.specs.List.{Contains, flat_map}
 use Rattle.mvo_disk.specs.Disk.{Image, OthersStay}
 use Rattle.mvo_format.specs.declared.format.TheConstants.{FIRST_FORMAT}
 use Rattle.mvo_frame.specs.declared.segment.Segment.{Segment}
-use Rattle.mvo_pair.specs.declared.pair.Pair.{Pair}
 use Rattle.mvo_manifest.specs.Data.{ManifestData, named, pair_files}
-use Rattle.mvo_manifest.specs.Rules.{IsManifest, IsFile}
+use Rattle.mvo_manifest.specs.Rules.{IsManifest}
 use Rattle.mvo_recovery.specs.Parts.{Parts}
 use Rattle.mvo_recovery.specs.Settled.{IsSettled, other_slot}
-use Rattle.mvo_recovery.specs.Checkpoint.{raise}
 use Rattle.mvo_recovery.proofs.Named.{named_is_no_slot, pairs_named, slot_below}
 use Rattle.mvo_recovery.proofs.Pairs.{delta_among}
 use Rattle.mvo_recovery.proofs.Framed.{files_stay_others}
-use Rattle.mvo_beside.specs.Seen.{WasSeen, MayMergeNow, CountsStay, grown}
+use Rattle.mvo_beside.specs.Seen.{CountsStay}
 use Rattle.mvo_beside.proofs.Seen.{seen_stays, seen_where_counts_stay, seen_beside_install, stays_unnamed}
 use Rattle.mvo_store.specs.declared.install.Install.{Install as InstallData}
 use Rattle.mvo_store.specs.declared.limits.TheConstants.{MAX_GENERATION}
 use Rattle.mvo_store.specs.declared.due.Due.{Due}
-use Rattle.mvo_store.specs.declared.due.Due.TheVariants.{Data, Delta, MergeData, MergeDelta, Install}
-use Rattle.mvo_store.specs.declared.step.Step.TheVariants.{Close, Body, Open}
+use Rattle.mvo_store.specs.declared.due.Due.TheVariants.{Install}
 use Rattle.mvo_store.specs.declared.checkpoint_stage.CheckpointStage.{CheckpointStage}
 use Rattle.mvo_store.specs.declared.checkpoint_stage.CheckpointStage.TheVariants.{Data as AtData, Delta as AtDelta, Install as AtInstall}
 use Rattle.mvo_store.specs.declared.merge_stage.MergeStage.{MergeStage}
@@ -32,13 +27,13 @@ use Rattle.mvo_store.specs.declared.seen.Seen.{Seen}
 use Rattle.mvo_store.specs.declared.jobs.Jobs.{Jobs}
 use Rattle.mvo_store.specs.declared.jobs.Jobs.TheVariants.{Rotation as RotationAlone, Merge as MergeAlone, Beside}
 use Rattle.mvo_store.specs.Checkpoint.{gained, made_of, IsCheckpointInto}
-use Rattle.mvo_store.specs.Merging.{seen_with, IsMerging, IsMergeWritten}
-use Rattle.mvo_store.specs.Jobs.{Job, jobs_of, due_of, merge_due_of, step_due, is_step_of, first_due, job_due, is_of_merge, with_step, after_step, checkpoint_behind, with_data_file, job_takes_file}
+use Rattle.mvo_store.specs.Merging.{seen_with, IsMergeWritten}
+use Rattle.mvo_store.specs.Jobs.{Job, due_of, merge_due_of, step_due, is_step_of, first_due, job_due, is_of_merge, job_takes_file}
 use Rattle.mvo_store.specs.Jobs.Job.{Rotation, Checkpoint, Merge, MergeInstall}
-use Rattle.mvo_store.specs.Standing.{IsRunning, IsMergingAt, HaveJobs, ShareNoFile, ShareNone}
-use Rattle.mvo_store.specs.Writing.{IsFileAt, IsGaining, IsMergeFileAt}
+use Rattle.mvo_store.specs.Standing.{IsRunning, IsMergingAt, ShareNoFile}
+use Rattle.mvo_store.specs.Writing.{IsFileAt, IsMergeFileAt}
 use Rattle.mvo_store.proofs.Numbered.{same_due}
-use Rattle.mvo_store.proofs.Working.{IsOfPair, IsWrittenOf, IsNamedBefore, RestsOn, IsNew, written_of_pair, job_framed, records_framed, merge_new}
+use Rattle.mvo_store.proofs.Working.{IsOfPair, RestsOn, IsNew, written_of_pair, job_framed, records_framed, merge_new}
 
 -- ---- the job whose step is due
 

@@ -4,7 +4,7 @@ use Rattle.std.specs.Prelude.{⊤, All, AllPairs}
 use Rattle.std.specs.List.{Contains}
 use Rattle.std.proofs.lemmas.List.{take_at, drop_at, append-nil, length-take, length-drop}
 use Rattle.mvo_types.specs.declared.refusal.Refusal.{Refusal}
-use Rattle.mvo_types.specs.declared.refusal.Refusal.TheVariants.{DiskFault, OutOfMemory}
+use Rattle.mvo_types.specs.declared.refusal.Refusal.TheVariants.{DiskFault}
 use Rattle.mvo_disk.specs.declared.disk.Disk.{Ghosts}
 use Rattle.mvo_disk.specs.Disk.{Image, Only, AllStay, OthersStay, AllOf, Touched, LeavesOnly, IsHonest}
 use Rattle.mvo_disk.specs.Moments.{started, weaker, runs_on}
@@ -40,12 +40,12 @@ use Rattle.mvo_store.specs.Merging.{first_two, neighbours_at, merged_at, with_la
 use Rattle.mvo_store.specs.Jobs.{merge_due_of, step_due}
 use Rattle.mvo_store.specs.Jobs.Job.{Merge, MergeInstall}
 use Rattle.mvo_store.specs.Standing.{HasWork}
-use Rattle.mvo_store.specs.Writing.{IsFileDue, IsMergeFileAt, WritesFor, HasMadeStep, TakesMemory, AreLateEntries, EndsMerge, IsWrittenEnd, IsEndOf, StandsWith}
+use Rattle.mvo_store.specs.Writing.{IsFileDue, IsMergeFileAt, WritesFor, HasMadeStep, TakesMemory, AreLateEntries, IsWrittenEnd, IsEndOf}
 use Rattle.mvo_store.proofs.Keeping.{OnlyNow}
 use Rattle.mvo_store.proofs.Checkpoints.{stop_or_misread}
 use Rattle.mvo_store.proofs.Logged.{unnamed}
 use Rattle.mvo_store.proofs.Working.{IsNew, IsMergedOf, IsNamedBefore, RestsOn, merge_new, small}
-use Rattle.mvo_store.proofs.Written.{FillsNew, fill_writes, fill_makes}
+use Rattle.mvo_store.proofs.Written.{fill_writes, fill_makes}
 use Rattle.mvo_store.proofs.Neighbours.{two_stand}
 
 -- ---- the two among the pairs

@@ -1,5 +1,5 @@
 -- The numbers that count in the delta files of a manifest's pairs stay.
-use Rattle.std.proofs.Common.{◌≡◌, ◌≢◌, inl, inr, ℕ, ◌+◌, List, ◌++◌, length, take, drop, refl, sym, ap, subst, ◌∙◌, append_assoc}
+use Rattle.std.proofs.Common.{◌≡◌, ◌≢◌, inl, inr, ℕ, ◌+◌, List, ◌++◌, length, take, drop, sym, ap, subst, ◌∙◌, append_assoc}
 use Rattle.std.specs.List.{Contains, flat_map}
 use Rattle.std.proofs.lemmas.Bool.{cases_eq}
 use Rattle.std.proofs.lemmas.List.{take_at}
@@ -10,7 +10,7 @@ use Rattle.mvo_pair.specs.declared.pair.Pair.{Pair}
 use Rattle.mvo_pair.specs.Files.{HasNumbers, delta_bytes}
 use Rattle.mvo_pair.specs.Writing.{place_behind}
 use Rattle.mvo_pair.proofs.Appends.{length-delta}
-use Rattle.mvo_manifest.specs.Data.{ManifestData, named, pair_files}
+use Rattle.mvo_manifest.specs.Data.{ManifestData, pair_files}
 use Rattle.mvo_manifest.specs.Rules.{IsManifest}
 use Rattle.mvo_image.specs.Opens.{Image}
 use Rattle.mvo_recovery.proofs.Pairs.{pairs_apart, same_data, same_delta, data_no_delta, data_among, delta_among}

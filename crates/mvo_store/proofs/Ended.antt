@@ -1,11 +1,11 @@
 -- The call that writes the last file of a merge: what the store is behind it.
-use Rattle.std.proofs.Common.{◌≡◌, ◌≢◌, ◌⊎◌, inl, inr, Bool, true, false, cond, eqb, List, [], ◌∷◌, Option, Some, None, Result, Ok, Err, refl, sym, ap, subst, ◌∙◌}
+use Rattle.std.proofs.Common.{◌≡◌, ◌≢◌, ◌⊎◌, inl, inr, Bool, true, false, cond, eqb, Some, None, Result, Ok, Err, refl, sym, ap, subst, ◌∙◌}
 use Rattle.std.specs.Bool.{OnTrue, OnFalse}
 use Rattle.mvo_types.specs.Keys.{Map}
 use Rattle.mvo_types.specs.declared.refusal.Refusal.{Refusal}
 use Rattle.mvo_types.specs.declared.refusal.Refusal.TheVariants.{DiskFault, OutOfMemory}
 use Rattle.mvo_disk.specs.declared.disk.Disk.{Ghosts}
-use Rattle.mvo_disk.specs.Disk.{IsHonest, AllStay}
+use Rattle.mvo_disk.specs.Disk.{IsHonest}
 use Rattle.mvo_pair.specs.Writing.{IsStop, CountsFaults}
 use Rattle.mvo_manifest.specs.Data.{ManifestData}
 use Rattle.mvo_load.specs.Read.{IsMisread}
@@ -20,10 +20,10 @@ use Rattle.mvo_store.specs.declared.jobs.Jobs.TheVariants.{Merge as MergeAlone, 
 use Rattle.mvo_store.specs.StoreData.{StoreData}
 use Rattle.mvo_store.specs.Causes.{why_not_merge_delta}
 use Rattle.mvo_store.specs.Merging.{merged_at, pair_with}
-use Rattle.mvo_store.specs.Jobs.{Job, jobs_of, merge_due_of, step_number, step_due, job_due, with_manifest}
+use Rattle.mvo_store.specs.Jobs.{merge_due_of, step_number, step_due, job_due, with_manifest}
 use Rattle.mvo_store.specs.Jobs.Job.{Merge, MergeInstall}
-use Rattle.mvo_store.specs.Safe.{IsSafeMerge, IsSafeWork, AreSafe, IsSafe, IsSound}
-use Rattle.mvo_store.specs.Standing.{HasSlots, IsUp}
+use Rattle.mvo_store.specs.Safe.{IsSafeMerge, AreSafe, IsSafe, IsSound}
+use Rattle.mvo_store.specs.Standing.{IsUp}
 use Rattle.mvo_store.specs.Writing.{IsFileDue, IsMergeFileAt, StandsFor, WritesFile, IsEndOf}
 use Rattle.mvo_store.specs.Calls.{IsMergeEnded, IsStoreStep}
 use Rattle.mvo_store.specs.Calls.StoreCall.{MergeDelta as EndMerge}

@@ -28,7 +28,7 @@ use Rattle.mvo_store.specs.declared.step.Step.TheVariants.{Open}
 use Rattle.mvo_store.specs.declared.due.Due.{Due}
 use Rattle.mvo_store.specs.declared.due.Due.TheVariants.{MergeDelta, Install}
 use Rattle.mvo_store.specs.Causes.{why_not_take, why_not_rotate, why_not_checkpoint, why_not_merge, why_not_due, why_not_merge_delta, why_not_install_open}
-use Rattle.mvo_store.specs.Jobs.{no_jobs, keeps_all_out, keeps_checkpoint_out, keeps_merge_out, has_checkpoint, has_rotation, is_due}
+use Rattle.mvo_store.specs.Jobs.{keeps_all_out, keeps_checkpoint_out, keeps_merge_out, has_checkpoint, has_rotation, is_due}
 use Rattle.mvo_store.specs.Planning.{MayReadCheckpoint}
 use Rattle.mvo_store.specs.MergeReading.{MayReadMerge}
 use Rattle.mvo_store.specs.Calls.{StoreCall, why_not, MayMeet, IsRefused, Makes, HasNoFault, LeftBy, LeftByMemory, MayTouch, KeepsOthers, IsStoreStep, rows_after}

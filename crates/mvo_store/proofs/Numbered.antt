@@ -1,5 +1,5 @@
 -- The steps of the jobs, by their numbers.
-use Rattle.std.proofs.Common.{◌≡◌, ℕ, eqb, true, List, [], ◌∷◌, get_or, refl, sym, ap, ◌∙◌}
+use Rattle.std.proofs.Common.{◌≡◌, ℕ, eqb, true, [], ◌∷◌, get_or, refl, sym, ap, ◌∙◌}
 use Rattle.std.proofs.lemmas.Bool.{eqb-true}
 use Rattle.mvo_store.specs.declared.due.Due.{Due}
 use Rattle.mvo_store.specs.declared.due.Due.TheVariants.{Data, Delta, MergeData, MergeDelta, Install}

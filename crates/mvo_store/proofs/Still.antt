@@ -1,22 +1,21 @@
 -- A merge whose files aren't all written, once a checkpoint beside it is installed: that its manifest may still be made rests on no byte.
-use Rattle.std.proofs.Common.{◌≡◌, ◌≢◌, inl, inr, ℕ, zero, suc, ◌+◌, ◌<◌, ◌≤◌, ◌||◌, Bool, true, false, eqb, List, [], ◌∷◌, ◌++◌, length, drop, Option, Some, None, refl, sym, ap, subst, ◌∙◌, arith}
+use Rattle.std.proofs.Common.{◌≡◌, inl, inr, ℕ, zero, suc, ◌+◌, ◌||◌, Bool, true, false, eqb, List, [], ◌∷◌, ◌++◌, length, drop, Some, refl, sym, ap, ◌∙◌, arith}
 use Rattle.std.specs.Prelude.{map}
 use Rattle.std.specs.List.{list_any, flat_map}
 use Rattle.std.proofs.lemmas.Bool.{or_parts}
 use Rattle.std.proofs.lemmas.Grind.{flat_map-append}
 use Rattle.std.proofs.lemmas.List.Folds.{list_any-append}
 use Rattle.mvo_pair.specs.declared.pair.Pair.{Pair}
-use Rattle.mvo_manifest.specs.Data.{ManifestData, named, pair_files}
+use Rattle.mvo_manifest.specs.Data.{ManifestData, pair_files}
 use Rattle.mvo_recovery.specs.Checkpoint.{NewNumbers, raise}
 use Rattle.mvo_beside.specs.Seen.{grown}
 use Rattle.mvo_store.specs.declared.checkpointing.Checkpointing.{Checkpointing}
 use Rattle.mvo_store.specs.declared.merging.Merging.{Merging}
-use Rattle.mvo_store.specs.declared.limits.TheConstants.{MAX_GENERATION}
 use Rattle.mvo_store.specs.Checkpoint.{gained, next_of}
 use Rattle.mvo_store.specs.Files.{is_named}
 use Rattle.mvo_store.specs.Jobs.{job_takes_file}
 use Rattle.mvo_store.specs.Jobs.Job.{Checkpoint, Merge}
-use Rattle.mvo_store.specs.Merging.{first_two, neighbours_at, StandStill, MayBecome}
+use Rattle.mvo_store.specs.Merging.{first_two, neighbours_at, StandStill}
 use Rattle.mvo_store.specs.Safe.{IsSafeCheckpoint, IsSafeMerge}
 use Rattle.mvo_store.specs.Standing.{ShareNoFile}
 use Rattle.mvo_store.proofs.Working.{IsOfPair}

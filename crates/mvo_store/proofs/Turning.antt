@@ -1,5 +1,5 @@
 -- What holds of each job that runs, where one of them makes a step.
-use Rattle.std.proofs.Common.{◌≡◌, ℕ, Bool, true, false, cond, List, [], ◌∷◌, Option, Some, None, refl, sym, ap, subst, ◌∙◌}
+use Rattle.std.proofs.Common.{◌≡◌, Bool, true, false, cond, [], ◌∷◌, Option, Some, None, refl, sym, ap, subst, ◌∙◌}
 use Rattle.std.specs.Prelude.{is_some}
 use Rattle.std.specs.List.{AllByRecursion}
 use Rattle.mvo_store.specs.declared.due.Due.{Due}
@@ -11,8 +11,8 @@ use Rattle.mvo_store.specs.declared.checkpointing.Checkpointing.{Checkpointing}
 use Rattle.mvo_store.specs.declared.merging.Merging.{Merging}
 use Rattle.mvo_store.specs.declared.jobs.Jobs.{Jobs}
 use Rattle.mvo_store.specs.declared.jobs.Jobs.TheVariants.{Rotation as RotationAlone, Merge as MergeAlone, Beside}
-use Rattle.mvo_store.specs.Jobs.{is_step_of, first_due, Job, no_jobs, jobs_of, keeps_all_out, keeps_checkpoint_out, keeps_merge_out, has_checkpoint, due_of, merge_due_of, step_number, step_due, job_due, is_due, is_of_merge, with_step, after_step, checkpoint_by, merge_by, checkpoint_behind, with_data_file, next_installed, after_install}
-use Rattle.mvo_store.specs.Jobs.Job.{Rotation, Checkpoint, Merge, MergeInstall}
+use Rattle.mvo_store.specs.Jobs.{is_step_of, first_due, Job, no_jobs, jobs_of, keeps_all_out, keeps_checkpoint_out, keeps_merge_out, has_checkpoint, due_of, merge_due_of, step_due, job_due, is_due, is_of_merge, with_step, after_step, checkpoint_by, merge_by, checkpoint_behind, with_data_file, after_install}
+use Rattle.mvo_store.specs.Jobs.Job.{Checkpoint, Merge}
 use Rattle.mvo_store.specs.Standing.{ShareNone}
 use Rattle.mvo_store.proofs.Beside.{IsDueIn, due_in_jobs, checkpoint_step, merge_step}
 use Rattle.mvo_store.proofs.Beside.IsDueIn.{TheRotation, TheMerge, TheCheckpoint, OfMerge}

@@ -16,7 +16,6 @@ use Rattle.mvo_store.specs.declared.due.Due.TheVariants.{Data, Delta, Install}
 use Rattle.mvo_store.specs.declared.due.Due.TheVariants.{MergeData as DataOfMerge}
 use Rattle.mvo_store.specs.declared.due.Due.TheVariants.{MergeDelta as DeltaOfMerge}
 use Rattle.mvo_store.specs.declared.step.Step.TheVariants.{Close, Body, Open}
-use Rattle.mvo_store.specs.declared.jobs.Jobs.{Jobs}
 use Rattle.mvo_store.specs.declared.jobs.Jobs.TheVariants.{Beside}
 use Rattle.mvo_store.specs.declared.merging.Merging.{Merging}
 use Rattle.mvo_store.specs.declared.progress.Progress.{Progress}

@@ -1,4 +1,4 @@
-use Rattle.std.proofs.Common.{◌≡◌, ◌∙◌, ap}
+use Rattle.std.proofs.Common.{◌∙◌, ap}
 use Rattle.mvo_store.specs.declared.merging.Merging.{Merging}
 use Rattle.mvo_store.proofs.Written.{fill_step, merged_data_fills, records_hold}
 use Rattle.mvo_store.proofs.job_writing.write_merge_data.Goals as goal

@@ -1,8 +1,5 @@
-use Rattle.std.proofs.Common.{List, length, ◌<◌, ◌^◌, subst, sym, Ok, Err}
-use Rattle.mvo_disk.specs.Disk.{IsHonest}
-use Rattle.mvo_store.specs.Writing.{AreLateEntries, IsWrittenEnd, IsEndOf}
+use Rattle.std.proofs.Common.{Ok, Err}
 use Rattle.mvo_store.proofs.CameLate.{end_unread, end_behind}
-use Rattle.mvo_store.proofs.late.end_merge.Given as given
 use Rattle.mvo_store.proofs.late.end_merge.Goals as goal
 
 pub returns-in-Err : goal.returns-in-Err
