@@ -78,7 +78,7 @@ const OTHERS: [&str; 12] = [
 ];
 
 /// How far the jobs of a round and the transactions are.
-struct Script {
+struct Lines {
     numbers: Numbers,
     /// How many steps of checkpoints and of a merge the round has had.
     checkpoint: usize,
@@ -88,9 +88,9 @@ struct Script {
     name: u64,
 }
 
-impl Drop for Script {
+impl Drop for Lines {
     fn drop(self) {
-        let Script {
+        let Lines {
             numbers: _,
             checkpoint: _,
             merge: _,
@@ -103,7 +103,7 @@ impl Drop for Script {
 /// A script of so many lines.
 pub fn script(alloc: Global, count: u64) -> Result<String, AllocError> {
     let mut text = String::new(alloc);
-    let mut script = Script {
+    let mut lines = Lines {
         numbers: Numbers::new(SEED),
         checkpoint: 0,
         merge: 0,
@@ -112,15 +112,15 @@ pub fn script(alloc: Global, count: u64) -> Result<String, AllocError> {
     };
     for at in 0..count {
         if at < OF_PAIRS {
-            script.add_of_pairs(&mut text, at % 8)?;
+            lines.add_of_pairs(&mut text, at % 8)?;
         } else {
-            script.add_of_round(&mut text, (at - OF_PAIRS) % OF_ROUND)?;
+            lines.add_of_round(&mut text, (at - OF_PAIRS) % OF_ROUND)?;
         }
     }
     Ok(text)
 }
 
-impl Script {
+impl Lines {
     /// A line up to a pair.
     fn add_of_pairs(&mut self, text: &mut String, at: u64) -> Result<(), AllocError> {
         match at {

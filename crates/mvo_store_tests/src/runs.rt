@@ -130,11 +130,7 @@ const TO_BESIDE: [(Step, Reply); 13] = [
 
 impl Kind {
     // The disk that a run begins with.
-    fn disk(
-        self,
-        rt: &(impl Abort + Threads + Sync),
-        alloc: Global,
-    ) -> Result<MemDisk, Fail> {
+    fn disk(self, rt: &(impl Abort + Threads + Sync), alloc: Global) -> Result<MemDisk, Fail> {
         match self {
             Kind::Whole => new_disk(alloc),
             Kind::Beside => Ok(following(rt, alloc, &TO_BESIDE)?.into_disk()),

@@ -215,7 +215,9 @@ impl Observed {
             Reply::Polled(yes) => self.note_poll(event, yes),
             Reply::Ready => self.known.jobs.job = Job::Close,
             Reply::Progress(progress) => {
-                self.known.jobs.note_progress(event, progress, &mut self.counts)
+                self.known
+                    .jobs
+                    .note_progress(event, progress, &mut self.counts)
             }
             Reply::Shut => self.known.jobs.job = Job::Body,
             Reply::Installed(_) => self.known.jobs.note_installed(&mut self.counts),
