@@ -1,6 +1,6 @@
 -- The first bytes of a file are a segment where the file is one, as many as the longest segment
 -- has.
-use Rattle.std.proofs.Common.{◌≡◌, ℕ, ◌+◌, ◌-◌, ◌<◌, ◌≤◌, List, [], ◌∷◌, ◌++◌, length, take, drop, sym, ap, subst, ◌∙◌, append_assoc, arith}
+use Rattle.std.proofs.Common.{◌≡◌, ℕ, ◌+◌, ◌-◌, ◌≤◌, List, [], ◌∷◌, ◌++◌, length, take, drop, ap, ◌∙◌, append_assoc, arith}
 use Rattle.mvo_types.specs.declared.limits.TheConstants.{MAX_SEGMENT_LEN}
 use Rattle.mvo_group.specs.Data.{GroupData}
 use Rattle.mvo_group.specs.Body.{body_of}
@@ -10,7 +10,7 @@ use Rattle.mvo_format.specs.Found.{header}
 use Rattle.mvo_format.proofs.Fronts.{front_taken, front_back, length-header}
 use Rattle.mvo_frame.specs.declared.magic.TheConstants.{MAGIC}
 use Rattle.mvo_frame.specs.declared.kind.Kind.{Kind}
-use Rattle.mvo_frame.specs.Frames.{sized, IsNextFrame, Frames, HasFrames, IsSegment}
+use Rattle.mvo_frame.specs.Frames.{sized, Frames, IsSegment}
 
 -- as many bytes as the longest segment has
 abbrev pub segment_front : List ℕ → List ℕ

@@ -1,5 +1,5 @@
 -- The one answer of the bytes that were read is that of the files on the disk.
-use Rattle.std.proofs.Common.{◌≡◌, ℕ, List, take, Option, Result, subst}
+use Rattle.std.proofs.Common.{ℕ, List, take, Option, Result}
 use Rattle.mvo_types.specs.declared.refusal.Refusal.{Refusal}
 use Rattle.mvo_group.specs.Data.{GroupData}
 use Rattle.mvo_format.specs.declared.format.Format.{Format}
