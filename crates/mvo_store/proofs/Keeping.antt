@@ -14,11 +14,11 @@ use Rattle.mvo_recovery.specs.Parts.{Parts}
 use Rattle.mvo_recovery.specs.Settled.{IsSettled, IsUsed, GivesParts}
 use Rattle.mvo_recovery.proofs.Framed.{settled_gives, within_unused}
 use Rattle.mvo_load.specs.Read.{IsMisread}
-use Rattle.mvo_store.specs.declared.job.Job.{Job}
+use Rattle.mvo_store.specs.declared.jobs.Jobs.{Jobs}
 use Rattle.mvo_store.specs.StoreData.{StoreData, opening}
-use Rattle.mvo_store.specs.Standing.{IsUp, HasBody, HasJob, HasRoom, Gives, GivesOr, HasSlots, MayBeLeft, KeepsRows, IsKeeping, Keeps}
+use Rattle.mvo_store.specs.Standing.{IsUp, HasBody, HaveJobs, ShareNone, HasRoom, Gives, GivesOr, HasSlots, MayBeLeft, KeepsRows, IsKeeping, Keeps}
 use Rattle.mvo_store.specs.Writing.{StillGives}
-use Rattle.mvo_store.specs.Safe.{IsSafe, IsSafeJob, IsSound}
+use Rattle.mvo_store.specs.Safe.{IsSafe, AreSafe, IsSound}
 use Rattle.mvo_types.specs.declared.limits.TheConstants.{MAX_SEGMENTS}
 use Rattle.mvo_types.specs.declared.refusal.Refusal.{Refusal}
 use Rattle.mvo_types.specs.declared.refusal.Refusal.TheVariants.{DiskFault, OutOfMemory}
@@ -26,13 +26,13 @@ use Rattle.mvo_format.specs.declared.header.TheConstants.{HEADER_LEN}
 use Rattle.mvo_store.specs.declared.limits.TheConstants.{MAX_GENERATION}
 use Rattle.mvo_store.specs.declared.step.Step.TheVariants.{Open}
 use Rattle.mvo_store.specs.declared.due.Due.{Due}
-use Rattle.mvo_store.specs.declared.due.Due.TheVariants.{Install}
-use Rattle.mvo_store.specs.Causes.{has_rotation, why_not_take, why_not_rotate, why_not_checkpoint, why_not_merge, why_not_due, why_not_install_open}
-use Rattle.mvo_store.specs.Jobs.{is_due}
+use Rattle.mvo_store.specs.declared.due.Due.TheVariants.{MergeDelta, Install}
+use Rattle.mvo_store.specs.Causes.{why_not_take, why_not_rotate, why_not_checkpoint, why_not_merge, why_not_due, why_not_merge_delta, why_not_install_open}
+use Rattle.mvo_store.specs.Jobs.{keeps_all_out, keeps_checkpoint_out, keeps_merge_out, has_checkpoint, has_rotation, is_due}
 use Rattle.mvo_store.specs.Planning.{MayReadCheckpoint}
 use Rattle.mvo_store.specs.MergeReading.{MayReadMerge}
 use Rattle.mvo_store.specs.Calls.{StoreCall, why_not, MayMeet, IsRefused, Makes, HasNoFault, LeftBy, LeftByMemory, MayTouch, KeepsOthers, IsStoreStep, rows_after}
-use Rattle.mvo_store.specs.Calls.StoreCall.{Take, AppendOpen, CheckpointRead, MergeRead}
+use Rattle.mvo_store.specs.Calls.StoreCall.{Take, AppendOpen, CheckpointRead, MergeRead, MergeDelta as MergeDeltaCall}
 
 -- ---- the slots
 
@@ -123,10 +123,10 @@ module _ {D : Type 0} (d : Ghosts D) where
     pub up_keeps : HasSlots (d.content s.disk) → KeepsRows d s rows
     up_keeps slots = record { images = now_left slots; up = λ _. (up, slots) }
 
-    -- Its disk, its places and its job are others: the last segment stays, and the job stands.
-    pub stays_up : (new : D) (places : PlaceTable) (job : Option Job) → IsSettled FIRST_FORMAT (d.content new) (d.may_leave new) s.manifest up.parts → d.content new s.segment.file ≡ d.content s.disk s.segment.file
-        → HasJob (d.content new) (d.may_leave new) s.manifest up.parts job → places.at ≡ s.places.at → HasRoom places job → d.fault_count new ≡ d.fault_count s.disk → IsUp d (record s { disk = new; places = places; job = job }) rows
-    stays_up new places job settled last stands same room count =
+    -- Its disk, its places and its jobs are others: the last segment stays, and the jobs stand.
+    pub stays_up : (new : D) (places : PlaceTable) (jobs : Jobs) → IsSettled FIRST_FORMAT (d.content new) (d.may_leave new) s.manifest up.parts → d.content new s.segment.file ≡ d.content s.disk s.segment.file
+        → HaveJobs (d.content new) (d.may_leave new) s.manifest up.parts jobs → ShareNone jobs → places.at ≡ s.places.at → HasRoom places jobs → d.fault_count new ≡ d.fault_count s.disk → IsUp d (record s { disk = new; places = places; jobs = jobs }) rows
+    stays_up new places jobs settled last stands apart same room count =
         let written : s.written ≡ true → HasBody up.parts s.pending s.segment.gate s.segment.next (d.content new s.segment.file) = λ e. subst (λ (c : List ℕ). HasBody up.parts s.pending s.segment.gate s.segment.next c) (sym last) (up.written e) in
         let are : ArePlaces s.manifest.pairs up.parts.lives places.at = subst (λ (at : PlaceMap). ArePlaces s.manifest.pairs up.parts.lives at) (sym same) up.places in
         search arith
@@ -174,12 +174,26 @@ cause_apart s (Take g) cause is = grind arith
 cause_apart s call cause is = grind arith
 
 -- a step of a job may be made
-pub may_step : {D : Type 0} (step : Due) (s : StoreData D) → why_not_due step s ≡ None → is_due step s.job ≡ true
+pub may_step : {D : Type 0} (step : Due) (s : StoreData D) → why_not_due step s ≡ None → is_due step s.jobs ≡ true
 may_step step s e = grind arith
 
 -- the gate of a manifest may be opened
-pub may_open : {D : Type 0} (s : StoreData D) → why_not_install_open s ≡ None → (is_due (Install Open) s.job ≡ true) × ((s.written && has_rotation s.job) ≡ false)
+pub may_open : {D : Type 0} (s : StoreData D) → why_not_install_open s ≡ None → (is_due (Install Open) s.jobs ≡ true) × ((s.written && has_rotation s.jobs) ≡ false)
 may_open s e = grind arith
+
+-- the last file of a merge may be written
+pub may_end : {D : Type 0} (s : StoreData D) → why_not_merge_delta s ≡ None → (is_due MergeDelta s.jobs ≡ true) × (has_checkpoint s.jobs ≡ false)
+may_end s e = grind arith
+
+-- no job keeps one out that begins
+pub none_keeps_all : {D : Type 0} (s : StoreData D) → why_not_rotate s ≡ None → keeps_all_out s.jobs ≡ false
+none_keeps_all s e = grind arith
+
+pub none_keeps_checkpoint : {D : Type 0} (s : StoreData D) → why_not_checkpoint s ≡ None → keeps_checkpoint_out s.jobs ≡ false
+none_keeps_checkpoint s e = grind arith
+
+pub none_keeps_merge : {D : Type 0} (place : ℕ) (s : StoreData D) → why_not_merge place s ≡ None → keeps_merge_out s.jobs ≡ false
+none_keeps_merge place s e = grind arith
 
 -- a rotation may begin
 pub may_begin : {D : Type 0} (s : StoreData D) → why_not_rotate s ≡ None → (s.manifest.generation < MAX_GENERATION) × (s.segment.gate ≢ HEADER_LEN) × (length s.manifest.segments < MAX_SEGMENTS)
@@ -206,6 +220,7 @@ module _ {D : Type 0} (d : Ghosts D) where
   same_left : (call : StoreCall) (s : StoreData D) → LeftByMemory d call s s
   same_left CheckpointRead s = record { after = refl; no_fault = refl }
   same_left (MergeRead place) s = record { after = refl; no_fault = refl }
+  same_left MergeDeltaCall s = record { after = refl; no_fault = refl }
   same_left call s = refl
 
   -- nothing changes
@@ -301,16 +316,17 @@ module _ {D : Type 0} {d : Ghosts D} {s : StoreData D} {call : StoreCall} (b : B
 -- ---- what safety needs
 
 module _ {D : Type 0} {d : Ghosts D} {s : StoreData D} (safe : IsSafe d s) where
-  -- the disk, the places and the job are others
-  pub stays_safe : (new : D) (places : PlaceTable) (job : Option Job) → IsSafeJob s.manifest job → HasRoom places job → d.fault_count new ≡ d.fault_count s.disk → IsSafe d (record s { disk = new; places = places; job = job })
-  stays_safe new places job is room count = record {
+  -- the disk, the places and the jobs are others
+  pub stays_safe : (new : D) (places : PlaceTable) (jobs : Jobs) → AreSafe s.manifest jobs → ShareNone jobs → HasRoom places jobs → d.fault_count new ≡ d.fault_count s.disk → IsSafe d (record s { disk = new; places = places; jobs = jobs })
+  stays_safe new places jobs is apart room count = record {
     file = safe.file;
     few = safe.few;
     written = safe.written;
-    job = is;
+    jobs = is;
+    apart = apart;
     room_for = room;
     room = subst (λ n. n + 1 < 2 ^ 64) (sym count) safe.room;
   }
 
   pub looked_safe : (new : D) → d.fault_count new ≡ d.fault_count s.disk → IsSafe d (record s { disk = new })
-  looked_safe new = stays_safe new s.places s.job safe.job safe.room_for
+  looked_safe new = stays_safe new s.places s.jobs safe.jobs safe.apart safe.room_for

@@ -41,6 +41,7 @@ use Rattle.mvo_recovery.proofs.Rotated.{fresh_frames}
 use Rattle.mvo_recovery.proofs.Begun.{first_settled}
 use Rattle.mvo_types.specs.Causes.{when, or_next}
 use Rattle.mvo_store.specs.declared.limits.TheConstants.{MAX_FAULTS}
+use Rattle.mvo_store.specs.Jobs.{no_jobs}
 use Rattle.mvo_store.specs.StoreData.{StoreData}
 use Rattle.mvo_store.specs.Safe.{IsSafe}
 use Rattle.mvo_store.specs.Formatting.{has_open_slot, why_not_format, IsFormatted}
@@ -111,8 +112,8 @@ module _ (f : Format) (image : Image) (m : ManifestData) (rows : Map) (mark gate
 
 -- the store over what was read is safe
 pub opened_safe : {D : Type 0} (d : Ghosts D) (old new : D) (m : ManifestData) (places : PlaceTable) (mark gate file : ℕ) → IsFile file → gate < MAX_SEGMENT_LEN → HasSynced d (IsUsed m) 1024 old new → d.fault_count old < MAX_FAULTS
-    → IsSafe d (record { disk = new; manifest = m; places = places; segment = record { file = file; gate = gate; next = gate }; mark = mark; pending = None; written = false; job = None; down = false })
-opened_safe d old new m places mark gate file is few synced faults = record { file = is; few = few; written = λ e. absurd (cc e); job = tt; room_for = tt; room = omega (arith, synced.count, faults) }
+    → IsSafe d (record { disk = new; manifest = m; places = places; segment = record { file = file; gate = gate; next = gate }; mark = mark; pending = None; written = false; jobs = no_jobs; down = false })
+opened_safe d old new m places mark gate file is few synced faults = record { file = is; few = few; written = λ e. absurd (cc e); jobs = tt; apart = tt; room_for = tt; room = omega (arith, synced.count, faults) }
 
 module _ {D : Type 0} (d : Ghosts D) (old new : D) (m : ManifestData) (rows : Map) (mark gate file : ℕ) (loaded : IsLoaded FIRST_FORMAT (d.content old) m rows mark gate) (places : PlaceTable) (have : HavePlaces FIRST_FORMAT (d.content old) m.pairs places.at) (synced : HasSynced d (IsUsed m) 1024 old new) (is : IsLastFile m file) (few : d.fault_count old < MAX_FAULTS) where
   abbrev pub opened_store : StoreData D
@@ -124,7 +125,7 @@ module _ {D : Type 0} (d : Ghosts D) (old new : D) (m : ManifestData) (rows : Ma
     mark = mark;
     pending = None;
     written = false;
-    job = None;
+    jobs = no_jobs;
     down = false;
   }
 

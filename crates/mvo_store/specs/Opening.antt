@@ -10,6 +10,7 @@ use Rattle.mvo_pair.specs.Writing.{IsStop, CountsFaults}
 use Rattle.mvo_image.specs.Opens.{Outcome}
 use Rattle.mvo_image.specs.Files.{OpensAs}
 use Rattle.mvo_store.specs.declared.limits.TheConstants.{MAX_FAULTS}
+use Rattle.mvo_store.specs.Jobs.{no_jobs}
 use Rattle.mvo_store.specs.StoreData.{StoreData}
 
 -- all files read as before
@@ -40,7 +41,7 @@ pub record HasBegun {D : Type 0} (d : Ghosts D) (old : D) (s : StoreData D) (mar
     pub mark_is : s.mark ≡ mark
     pub pending : s.pending ≡ None
     pub written : s.written ≡ false
-    pub job : s.job ≡ None
+    pub jobs : s.jobs ≡ no_jobs
     pub down : s.down ≡ false
     pub few : d.fault_count old < MAX_FAULTS
     pub count : d.fault_count s.disk ≡ d.fault_count old

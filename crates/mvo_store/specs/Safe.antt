@@ -1,5 +1,6 @@
 -- What the code of a store rests on, whatever its disk answered: no byte of a file.
 use Rattle.std.specs.Prelude.{◌≡◌, ◌+◌, ◌<◌, ◌≤◌, ◌^◌, ℕ, true, List, length, Option, Some, None}
+use Rattle.std.specs.List.{AllByRecursion}
 use Rattle.mvo_types.specs.Keys.{Map}
 use Rattle.mvo_types.specs.declared.limits.TheConstants.{MAX_SEGMENT_LEN, MAX_PAIR_RECORDS}
 use Rattle.mvo_disk.specs.declared.disk.Disk.{Ghosts}
@@ -18,10 +19,13 @@ use Rattle.mvo_store.specs.declared.checkpoint_stage.CheckpointStage.{Checkpoint
 use Rattle.mvo_store.specs.declared.checkpoint_stage.CheckpointStage.TheVariants.{Data as AtData, Delta as AtDelta, Install as AtInstall}
 use Rattle.mvo_store.specs.declared.checkpointing.Checkpointing.{Checkpointing}
 use Rattle.mvo_store.specs.declared.merging.Merging.{Merging}
-use Rattle.mvo_store.specs.declared.job.Job.{Job}
-use Rattle.mvo_store.specs.declared.job.Job.TheVariants.{Rotation, Checkpoint, Merge, MergeInstall}
-use Rattle.mvo_store.specs.Merging.{MayMergeInto}
-use Rattle.mvo_store.specs.Standing.{IsUp, HasRoom}
+use Rattle.mvo_store.specs.declared.jobs.Jobs.{Jobs}
+use Rattle.mvo_store.specs.declared.limits.TheConstants.{MAX_GENERATION}
+use Rattle.mvo_store.specs.Jobs.{Job, jobs_of}
+use Rattle.mvo_store.specs.Jobs.Job.{Rotation, Checkpoint, Merge, MergeInstall}
+use Rattle.mvo_store.specs.Checkpoint.{next_of}
+use Rattle.mvo_store.specs.Merging.{StandStill, MayBecome}
+use Rattle.mvo_store.specs.Standing.{IsUp, HasRoom, ShareNone}
 use Rattle.mvo_store.specs.StoreData.{StoreData}
 
 -- ---- a job that runs
@@ -45,17 +49,20 @@ pub record IsSafeRotation (m : ManifestData) (fresh : Segment) (next : ManifestD
   pub few : fresh.gate < MAX_SEGMENT_LEN
   pub next_is : IsNext m next
 
--- each pair that gains numbers is one of the manifest's
+-- Each pair that gains numbers is one of the manifest's. Once its manifest is installed, another
+-- may be.
 pub record IsSafeCheckpoint (m : ManifestData) (c : Checkpointing) : Type 0 where
+  pub generation : m.generation < MAX_GENERATION
   pub pair : IsSafePair c.pair c.made.records
   pub known : AreOfPairs m.pairs c.made.deltas
   pub within : IsWithin (length c.made.deltas) c.stage
-  pub next_is : IsNext m c.next
+  pub next_is : c.next ≡ next_of m c.pair c.made.deltas
 
--- the manifest that the merge is to make keeps the rules
+-- Of the two pairs the manifest may make the one, so that it keeps the rules.
 pub record IsSafeMerge (m : ManifestData) (g : Merging) : Type 0 where
   pub pair : IsSafePair g.seen.pair g.seen.made.records
-  pub may_make : MayMergeInto m g.seen.place g.seen.pair
+  pub still : StandStill m g.seen
+  pub may_become : MayBecome m g.seen
 
 pub record IsSafeInstall (m : ManifestData) (p : Pair) (es : List EntryData) (next : ManifestData)
     : Type 0 where
@@ -68,9 +75,8 @@ IsSafeWork m (Checkpoint c) = IsSafeCheckpoint m c
 IsSafeWork m (Merge g) = IsSafeMerge m g
 IsSafeWork m (MergeInstall g i) = IsSafeInstall m g.pair g.made.records i.next
 
-abbrev pub IsSafeJob : ManifestData → Option Job → Type 0
-IsSafeJob m None = Unit {0}
-IsSafeJob m (Some j) = IsSafeWork m j
+abbrev pub AreSafe : ManifestData → Jobs → Type 0
+AreSafe m jobs = AllByRecursion (IsSafeWork m) (jobs_of jobs)
 
 -- ---- a store
 
@@ -83,8 +89,9 @@ pub record IsSafe {D : Type 0} (d : Ghosts D) (s : StoreData D) : Type 0 where
   pub file : IsFile s.segment.file
   pub few : s.segment.gate < MAX_SEGMENT_LEN
   pub written : s.written ≡ true → HasNext s.pending s.segment.next
-  pub job : IsSafeJob s.manifest s.job
-  pub room_for : HasRoom s.places s.job
+  pub jobs : AreSafe s.manifest s.jobs
+  pub apart : ShareNone s.jobs
+  pub room_for : HasRoom s.places s.jobs
   pub room : d.fault_count s.disk + 1 < 2 ^ 64
 
 -- It is safe, and up with some rows where its disk has answered as written.

@@ -13,6 +13,7 @@ ghost use Rattle.mvo_store.specs.Standing.{IsUp, Gives, HasSlots, KeepsRows};
 ghost use Rattle.mvo_store.specs.Opening.{IsAnswer, HasBegun, KeepsContent, LeavesAsBefore};
 ghost use Rattle.mvo_store.specs.Opening.{HasSynced, IsNotOpened};
 
+use crate::jobs::Jobs;
 use crate::limits::MAX_FAULTS;
 use crate::store::Store;
 use crate::syncing::sync_used;
@@ -125,7 +126,7 @@ impl<D: Disk> Store<D> {
             mark,
             pending: None,
             written: false,
-            job: None,
+            jobs: Jobs::none(),
             down: false,
         };
         Ok((store, rows, mark))

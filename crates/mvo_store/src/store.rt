@@ -1,4 +1,4 @@
-use crate::job::Job;
+use crate::jobs::Jobs;
 use mvo_disk::Disk;
 use mvo_frame::Segment;
 use mvo_group::Group;
@@ -28,8 +28,8 @@ pub struct Store<D: Disk> {
     pub(crate) pending: Option<Group>,
     /// Whether its body stands behind the gate and is synced.
     pub(crate) written: bool,
-    /// The job that runs.
-    pub(crate) job: Option<Job>,
+    /// The jobs that run.
+    pub(crate) jobs: Jobs,
     /// Whether the disk met a fault, or a file came back otherwise than it was written.
     pub(crate) down: bool,
 }
@@ -45,7 +45,7 @@ impl<D: Disk + Drop> Drop for Store<D> {
             mark: _,
             pending: _,
             written: _,
-            job: _,
+            jobs: _,
             down: _,
         } = self;
     }
@@ -88,7 +88,7 @@ impl<D: Disk> Store<D> {
             mark: _,
             pending: _,
             written: _,
-            job: _,
+            jobs: _,
             down: _,
         } = self;
         disk

@@ -2,6 +2,8 @@
 #![tactic(auto)]
 
 #[cfg(test)]
+mod beside;
+#[cfg(test)]
 mod bodies;
 #[cfg(test)]
 mod checkpoints;
@@ -21,6 +23,8 @@ mod marks;
 mod merges;
 #[cfg(test)]
 mod numbers;
+#[cfg(test)]
+mod refused;
 #[cfg(test)]
 mod reply;
 #[cfg(test)]

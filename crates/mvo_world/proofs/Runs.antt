@@ -54,7 +54,7 @@ module _ {D : Type 0} (d : Ghosts D) where
     begins_here = record {
       core = subst (λ (m : ℕ). OpensAs rows m w.core) (sym begins.mark_is) core;
       ring = none;
-      store = record { pending = begins.pending; written = begins.written; job = begins.job; down = begins.down };
+      store = record { pending = begins.pending; written = begins.written; jobs = begins.jobs; down = begins.down };
     }
 
     pub opened_here : mark ≤ MAX_STAMP → LeavesAsBefore d old (disk_of w.store) → (HasHonestDisk d w → Gives rows mark (d.content old)) → (HasHonestDisk d w → HasSlots (d.content old) → KeepsRows d w.store rows) → IsOpenedOver d old rows w

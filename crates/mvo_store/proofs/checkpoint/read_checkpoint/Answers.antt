@@ -1,4 +1,5 @@
 use Rattle.std.proofs.Common.{⊎_elim}
+use Rattle.mvo_store.specs.Files.{files_taken}
 use Rattle.mvo_store.specs.Planning.{CountsFit, MayPlan}
 use Rattle.mvo_store.proofs.Checkpoints.{may_plan_of, safe_planned, read_to, counts_are, read_stands, read_never, plan_why, plan_stop, plan_count}
 use Rattle.mvo_store.proofs.checkpoint.read_checkpoint.Given as given
@@ -19,17 +20,17 @@ returns-in-Err-clause-stop g c = λ honest x settled are.
 pub returns-in-Ok-planned-clause-safe : goal.returns-in-Ok-planned-clause-safe
 returns-in-Ok-planned-clause-safe g c =
     let e = c.in-Ok-planned.ensures.planned in
-    safe_planned c.args.manifest.now c.in-Ok.contents.groups.items c.in-Ok.contents.mark.0 (may g (goal.at.returns-in-Ok-planned-clause-safe g c).In-Ok) c.in-Ok-planned.checkpoint e.plan e.known
+    safe_planned c.args.manifest.now c.in-Ok.contents.groups.items c.in-Ok.contents.mark.0 (may g (goal.at.returns-in-Ok-planned-clause-safe g c).In-Ok) (files_taken c.args.other) c.in-Ok-planned.checkpoint e.plan e.known
 
 pub returns-in-Ok-planned-clause-to : goal.returns-in-Ok-planned-clause-to
 returns-in-Ok-planned-clause-to g c =
-    read_to _ (g.D.Disk.content c.args.disk.now) c.args.manifest.now c.in-Ok.contents.groups.items c.in-Ok.contents.mark.0 (may g (goal.at.returns-in-Ok-planned-clause-to g c).In-Ok) c.in-Ok.ensures.place.mark (λ honest. (c.in-Ok.ensures.says honest).0) c.in-Ok-planned.checkpoint c.in-Ok-planned.ensures.planned.plan
+    read_to _ (g.D.Disk.content c.args.disk.now) c.args.manifest.now c.in-Ok.contents.groups.items c.in-Ok.contents.mark.0 (may g (goal.at.returns-in-Ok-planned-clause-to g c).In-Ok) c.in-Ok.ensures.place.mark (λ honest. (c.in-Ok.ensures.says honest).0) (files_taken c.args.other) c.in-Ok-planned.checkpoint c.in-Ok-planned.ensures.planned.plan
 
 pub returns-in-Ok-planned-clause-stands : goal.returns-in-Ok-planned-clause-stands
 returns-in-Ok-planned-clause-stands g c = λ honest x settled are.
     let old = c.args.disk.now in
     let may_plan = may g (goal.at.returns-in-Ok-planned-clause-stands g c).In-Ok in
-    read_stands (g.D.Disk.content old) (g.D.Disk.may_leave old) c.args.manifest.now x settled c.requires.may.sealed c.in-Ok.contents.groups.items (c.in-Ok.ensures.says honest) c.args.places.now.at are c.in-Ok.contents.mark.0 c.in-Ok.ensures.place.mark may_plan c.in-Ok-planned.checkpoint c.in-Ok-planned.ensures.planned
+    read_stands (g.D.Disk.content old) (g.D.Disk.may_leave old) c.args.manifest.now x settled c.requires.may.sealed c.in-Ok.contents.groups.items (c.in-Ok.ensures.says honest) c.args.places.now.at are c.in-Ok.contents.mark.0 c.in-Ok.ensures.place.mark may_plan (files_taken c.args.other) c.in-Ok-planned.checkpoint c.in-Ok-planned.ensures.planned
 
 pub returns-in-Err-planned-clause-why : goal.returns-in-Err-planned-clause-why
 returns-in-Err-planned-clause-why g c = plan_why _ c.in-Err-planned.refusal c.in-Err-planned.ensures.refused

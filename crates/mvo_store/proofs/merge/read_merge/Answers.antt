@@ -1,6 +1,7 @@
 use Rattle.std.proofs.Common.{◌≡◌, Option, Some, false, sym, ap, subst, ◌∙◌}
 use Rattle.mvo_pair.specs.declared.pair.Pair.{Pair}
 use Rattle.mvo_store.specs.Causes.{are_too_many}
+use Rattle.mvo_store.specs.Files.{files_taken}
 use Rattle.mvo_store.specs.Merging.{neighbours_at}
 use Rattle.mvo_store.proofs.Neighbours.{are_two, left_files, right_files, only_stops, may_rise, may_few, safe_merge, merge_to, job_as_read}
 use Rattle.mvo_store.proofs.merge.read_merge.Given as given
@@ -40,13 +41,13 @@ pub returns-clause-safe : goal.returns-clause-safe
 returns-clause-safe g c =
     let at = (goal.at.returns-clause-safe g c).In-Some in
     let made = c.in_ok-made.ensures in
-    safe_merge c.args.manifest.now c.pairs.ensures.manifest c.args.place _ _ (two g at) _ _ c.in-Ok.ensures.some.0 c.in-Ok.ensures.some.1 (fits g at) c.requires.may.generation c.in_ok-made.made made.records made.renumbering c.planned_merge.result c.planned_merge.ensures
+    safe_merge c.args.manifest.now c.pairs.ensures.manifest c.args.place _ _ (two g at) _ _ c.in-Ok.ensures.some.0 c.in-Ok.ensures.some.1 (fits g at) c.requires.may.generation c.in_ok-made.made made.records made.renumbering (files_taken c.args.other) c.planned_merge.result c.planned_merge.ensures
 
 pub returns-clause-to : goal.returns-clause-to
 returns-clause-to g c =
     let at = (goal.at.returns-clause-to g c).In-Some in
     let made = c.in_ok-made.ensures in
-    merge_to c.args.manifest.now c.pairs.ensures.manifest c.args.place _ _ (two g at) _ _ c.in-Ok.ensures.some.0 c.in-Ok.ensures.some.1 (fits g at) c.requires.may.generation c.in_ok-made.made made.records made.renumbering c.planned_merge.result c.planned_merge.ensures _ (g.D.Disk.content c.args.disk.now) c.in-Ok.ensures.has
+    merge_to c.args.manifest.now c.pairs.ensures.manifest c.args.place _ _ (two g at) _ _ c.in-Ok.ensures.some.0 c.in-Ok.ensures.some.1 (fits g at) c.requires.may.generation c.in_ok-made.made made.records made.renumbering (files_taken c.args.other) c.planned_merge.result c.planned_merge.ensures _ (g.D.Disk.content c.args.disk.now) c.in-Ok.ensures.has
 
 pub returns-clause-stands : goal.returns-clause-stands
 returns-clause-stands g c = λ honest x at settled are.
@@ -54,4 +55,4 @@ returns-clause-stands g c = λ honest x at settled are.
     let here = (goal.at.returns-clause-stands g c).In-Some in
     let made = c.in_ok-made.ensures in
     let both = are_two (g.D.Disk.content old) (g.D.Disk.may_leave old) c.args.manifest.now x settled at are c.args.place _ _ (two g here) in
-    job_as_read c.args.manifest.now c.pairs.ensures.manifest c.args.place _ _ (two g here) _ _ c.in-Ok.ensures.some.0 c.in-Ok.ensures.some.1 (fits g here) c.requires.may.generation c.in_ok-made.made made.records made.renumbering c.planned_merge.result c.planned_merge.ensures (g.D.Disk.content old) (g.D.Disk.may_leave old) x both (c.in-Ok.ensures.live honest)
+    job_as_read c.args.manifest.now c.pairs.ensures.manifest c.args.place _ _ (two g here) _ _ c.in-Ok.ensures.some.0 c.in-Ok.ensures.some.1 (fits g here) c.requires.may.generation c.in_ok-made.made made.records made.renumbering (files_taken c.args.other) c.planned_merge.result c.planned_merge.ensures (g.D.Disk.content old) (g.D.Disk.may_leave old) x both (c.in-Ok.ensures.live honest) are.apart
