@@ -27,7 +27,7 @@ impl Trial<MemDisk, OpenGate> for Waits {
         let mut told = Vec::new(alloc);
         seal(rt, alloc, engine)?;
         engine.lock_store(rt).checkpoint_read()?;
-        waits(rt, engine, &mut told)?;
+        stays(rt, engine, &mut told)?;
         checkpoint_ends(rt, engine, &mut told)?;
         goes_on(rt, engine, &mut told)?;
         stands(rt, engine, &mut told)?;
@@ -62,7 +62,7 @@ fn flush_and_rotate<L: Run, D: Disk, G: Gate + Drop, R: Wait>(
 }
 
 // The merge is refused at its last file, and runs on: no other one begins, and no rotation.
-fn waits<L: Run, D: Disk, G: Gate + Drop, R: Wait>(
+fn stays<L: Run, D: Disk, G: Gate + Drop, R: Wait>(
     rt: &R,
     engine: &Engine<L, D, G>,
     told: &mut Vec<bool>,
