@@ -1,14 +1,16 @@
 //! A merge beside a checkpoint, in one thread and in two.
+ghost use Rattle.mvo_engine.specs.Opened.{IsNamedBy};
 
-use super::formatted;
 use super::jobs::{has_nothing, installs, is_busy};
 use super::rows::{change, found, put};
 use super::trial::{Trial, all_right, tried};
+use super::{SEED, formatted};
 use mvo_disk::{Disk, MemDisk};
-use mvo_engine::{Engine, Gate, OpenGate, Run};
+use mvo_engine::{Engine, Fresh, Gate, OpenGate, Run};
 use mvo_store::{Generation, Progress};
 use mvo_types::Refusal;
 use std::alloc::Global;
+use std::marker::Brand;
 use std::sync::Wait;
 use std::test::*;
 use std::thread::{Threads, join};
@@ -116,24 +118,25 @@ fn stands<L: Run, D: Disk, G: Gate + Drop, R: Wait>(
 }
 
 /// A thread merges while another makes a checkpoint.
-#[derive(Drop)]
-struct Meet;
+fn meet<L: Run + Send + Sync, D: Disk + Send, R: Threads + Wait + Sync>(
+    rt: &R,
+    alloc: Global,
+    engine: &Engine<L, D, OpenGate>,
+) -> Result<Vec<bool>, Refusal> {
+    let mut told = Vec::new(alloc);
+    seal(rt, alloc, engine)?;
+    let (merged, made) = in_two_threads(rt, engine);
+    merge_ends(rt, engine, merged)?;
+    checkpoint_is_made(rt, engine, made)?;
+    stands(rt, engine, &mut told)?;
+    Ok(told)
+}
 
-impl Trial<MemDisk, OpenGate> for Meet {
-    fn go<L: Run + Send + Sync, R: Threads + Wait + Sync>(
-        &self,
-        rt: &R,
-        alloc: Global,
-        engine: &Engine<L, MemDisk, OpenGate>,
-    ) -> Result<Vec<bool>, Refusal> {
-        let mut told = Vec::new(alloc);
-        seal(rt, alloc, engine)?;
-        let (merged, made) = join(rt, || engine.merge(rt, 0), || engine.checkpoint(rt));
-        merge_ends(rt, engine, merged)?;
-        checkpoint_is_made(rt, engine, made)?;
-        stands(rt, engine, &mut told)?;
-        Ok(told)
-    }
+fn in_two_threads<L: Run + Send + Sync, D: Disk + Send, R: Threads + Wait + Sync>(
+    rt: &R,
+    engine: &Engine<L, D, OpenGate>,
+) -> (Result<Generation, Refusal>, Result<Generation, Refusal>) {
+    join(rt, || engine.merge(rt, 0), || engine.checkpoint(rt))
 }
 
 // Where a checkpoint ran when the last file was to be written, the merge goes on now.
@@ -165,6 +168,29 @@ fn checkpoint_is_made<L: Run, D: Disk, G: Gate + Drop, R: Wait>(
     Ok(())
 }
 
+/// An engine over what is on the disk.
+fn meeting<D: Disk + Drop + Send, R: Threads + Wait + Sync>(
+    rt: &R,
+    alloc: Global,
+    disk: D,
+) -> Result<Vec<bool>, Refusal> {
+    match Fresh::open(rt, alloc, SEED, disk) {
+        Ok(fresh) => run_meeting::<Brand, D, R>(rt, alloc, fresh),
+        Err((refusal, _)) => Err(refusal),
+    }
+}
+
+fn run_meeting<L: Run + Send + Sync, D: Disk + Drop + Send, R: Threads + Wait + Sync>(
+    rt: &R,
+    alloc: Global,
+    fresh: Fresh<D>,
+) -> Result<Vec<bool>, Refusal>
+    requires { IsNamedBy D.Disk L.opening L.marks L.ring L.name L.parts fresh }
+{
+    let engine = Engine::<L, D, OpenGate>::new(fresh, OpenGate);
+    meet(rt, alloc, &engine)
+}
+
 #[test]
 fn a_merge_waits_at_its_last_file(rt: HostRuntime) -> Result<(), Fail> {
     let alloc = rt.alloc();
@@ -176,7 +202,7 @@ fn a_merge_waits_at_its_last_file(rt: HostRuntime) -> Result<(), Fail> {
 #[test]
 fn a_merge_and_a_checkpoint_meet(rt: HostRuntime) -> Result<(), Fail> {
     let alloc = rt.alloc();
-    let (told, _) = tried(&rt, alloc, formatted(alloc)?, OpenGate, &Meet)?;
+    let told = meeting(&rt, alloc, formatted(alloc)?)?;
     all_right(&rt, &told, 4);
     Ok(())
 }
