@@ -27,10 +27,10 @@ pub fn transact<L: Run, D: Disk, G: Gate + Drop, R: Wait>(
     rt: &R,
     alloc: Global,
     engine: &Engine<L, D, G>,
+    session: &mut Session<'_, L, D, G>,
     keys: &Keys,
     work: Work,
 ) -> Result<Checksum, Refusal> {
-    let mut session = engine.session(rt)?;
     let mut sum = Checksum(0);
     let mut keeping = Keeping::new(work.upkeep);
     for index in 0..work.count.checked_div(work.step).unwrap_or(0) {
@@ -38,7 +38,7 @@ pub fn transact<L: Run, D: Disk, G: Gate + Drop, R: Wait>(
         let at = round.wrapping_mul(2);
         let (one, other) = (keys.at(at), keys.at(at.wrapping_add(1)));
         let other = if one == other { one ^ 1 } else { other };
-        let read = tried(rt, alloc, &mut session, (one, other), round)?;
+        let read = tried(rt, alloc, session, (one, other), round)?;
         sum.add(&read.0);
         sum.add(&read.1);
         keeping.count(rt, engine, ROWS)?;

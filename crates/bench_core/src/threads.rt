@@ -25,6 +25,13 @@ use std::time::Instant;
 
 const SEED: u64 = 2;
 
+/// So many threads, with the names of the transactions' figure and of the sessions' end.
+const RUNS: [(usize, &str, &str); 3] = [
+    (1, "threads_1", "sessions_end_1"),
+    (2, "threads_2", "sessions_end_2"),
+    (4, "threads_4", "sessions_end_4"),
+];
+
 /// So many rows a transaction, where all are written or read.
 const EACH: u64 = 100;
 
@@ -39,16 +46,22 @@ struct Task<'a> {
     upkeep: u64,
 }
 
-/// What came of it: the checksum, and the nanoseconds in all.
+/// What came of it: the checksum, the nanoseconds of all transactions, and those in which the
+/// sessions let go of their receipts.
 #[derive(Clone, Copy)]
 struct Done {
     sum: Checksum,
     nanos: u128,
+    end: u128,
 }
+
+/// A thread's session behind its transactions, and the checksum of what they read.
+type Ended<'e, L, D> = (Checksum, Session<'e, L, D, OpenGate>);
 
 /// Runs the transactions of `updates` with one, two and four threads, each time over rows of its
 /// own. One thread is told the same as the core without an engine, which the checksum shows. The
-/// checksum of several is the sum of a number in all rows, which no transaction changes.
+/// checksum of several is the sum of a number in all rows, which no transaction changes. A session
+/// lives as long as the threads; what its end takes is told apart.
 pub fn run<R: Runtime + Threads + Wait + Sync>(
     rt: &R,
     alloc: Global,
@@ -56,7 +69,7 @@ pub fn run<R: Runtime + Threads + Wait + Sync>(
 ) -> Result<()> {
     let (rows, count) = (config.rows, config.transactions);
     let keys = Keys::uniform(alloc, rows, SEED, count.saturating_mul(2))?;
-    for (threads, name) in [(1, "threads_1"), (2, "threads_2"), (4, "threads_4")] {
+    for (threads, name, end) in RUNS {
         let task = Task {
             rows,
             data: config.data,
@@ -66,10 +79,11 @@ pub fn run<R: Runtime + Threads + Wait + Sync>(
             upkeep: config.upkeep,
         };
         let done = on_disk(rt, alloc, formatted(alloc)?, task)?;
-        let each = done.nanos.checked_div(u128::from(count)).unwrap_or(0);
+        let each = |nanos: u128| nanos.checked_div(u128::from(count)).unwrap_or(0);
         let figure = Figure::start(rt, config, name)?;
         figure.tell_sum(rt, done.sum)?;
-        figure.tell_nanos(rt, count, each)?;
+        figure.tell_nanos(rt, count, each(done.nanos))?;
+        Figure::start(rt, config, end)?.tell_nanos(rt, count, each(done.end))?;
     }
     Ok(())
 }
@@ -106,7 +120,7 @@ fn with_engine<L: Run + Send + Sync, D: Disk + Drop + Send, R: Clock + Threads +
     fresh: Fresh<D>,
     task: Task<'_>,
 ) -> Result<Done, Stopped>
-    requires { IsNamedBy D.Disk L.image L.marks L.ring L.name L.parts fresh }
+    requires { IsNamedBy D.Disk L.opening L.marks L.ring L.name L.parts fresh }
 {
     let engine = Engine::<L, D, OpenGate>::new(fresh, OpenGate);
     on_engine(rt, alloc, &engine, task)
@@ -120,38 +134,54 @@ fn on_engine<L: Run + Send + Sync, D: Disk + Send, R: Clock + Threads + Wait + S
     task: Task<'_>,
 ) -> Result<Done, Stopped> {
     load(rt, alloc, engine, task)?;
-    let Ok(start) = Instant::now(rt) else {
-        return Err(Stopped::Unexpected);
-    };
+    let start = now(rt)?;
     let told = all_threads(rt, alloc, engine, task)?;
-    let Ok(time) = start.elapsed(rt) else {
-        return Err(Stopped::Unexpected);
-    };
-    let nanos = time.as_nanos();
-    let sum = match first_of(told)? {
+    let nanos = nanos_since(rt, start)?;
+    let start = now(rt)?;
+    let first = first_of(told)?;
+    let end = nanos_since(rt, start)?;
+    let sum = match first {
         Some(sum) => sum,
         None => total(rt, engine, task.rows)?,
     };
-    Ok(Done { sum, nanos })
+    Ok(Done { sum, nanos, end })
 }
 
-/// The checksum of the one thread, or none of several. Refused where one of them was.
-fn first_of(told: Vec<Result<Checksum, Refusal>>) -> Result<Option<Checksum>, Refusal> {
+fn now(rt: &impl Clock) -> Result<Instant, Stopped> {
+    match Instant::now(rt) {
+        Ok(now) => Ok(now),
+        Err(_) => Err(Stopped::Unexpected),
+    }
+}
+
+fn nanos_since(rt: &impl Clock, start: Instant) -> Result<u128, Stopped> {
+    match start.elapsed(rt) {
+        Ok(time) => Ok(time.as_nanos()),
+        Err(_) => Err(Stopped::Unexpected),
+    }
+}
+
+/// Ends the sessions. The checksum of the one thread, or none of several. Refused where one of them
+/// was.
+fn first_of<L: Run, D: Disk>(
+    told: Vec<Result<Ended<'_, L, D>, Refusal>>,
+) -> Result<Option<Checksum>, Refusal> {
     let is_one = told.len() == 1;
     let mut first = None;
     for one in told {
-        first = Some(one?);
+        let (sum, _) = one?;
+        first = Some(sum);
     }
     Ok(if is_one { first } else { None })
 }
 
-/// The transactions of all threads, and the checksum of what each one read.
-fn all_threads<L: Run + Send + Sync, D: Disk + Send, R: Threads + Wait + Sync>(
+/// The transactions of all threads, with the session of each one and the checksum of what it read.
+fn all_threads<'e, L: Run + Send + Sync, D: Disk + Send, R: Threads + Wait + Sync>(
     rt: &R,
     alloc: Global,
-    engine: &Engine<L, D, OpenGate>,
+    engine: &'e Engine<L, D, OpenGate>,
     task: Task<'_>,
-) -> Result<Vec<Result<Checksum, Refusal>>, AllocError> {
+) -> Result<Vec<Result<Ended<'e, L, D>, Refusal>>, AllocError> {
     let Task {
         keys,
         count,
@@ -171,9 +201,22 @@ fn all_threads<L: Run + Send + Sync, D: Disk + Send, R: Threads + Wait + Sync>(
                 count,
                 upkeep,
             };
-            transact(rt, alloc, engine, keys, work)
+            one_thread(rt, alloc, engine, keys, work)
         },
     )
+}
+
+/// The transactions of one thread through a session, which it answers.
+fn one_thread<'e, L: Run, D: Disk, R: Wait>(
+    rt: &R,
+    alloc: Global,
+    engine: &'e Engine<L, D, OpenGate>,
+    keys: &Keys,
+    work: Work,
+) -> Result<Ended<'e, L, D>, Refusal> {
+    let mut session = engine.session(rt)?;
+    let sum = transact(rt, alloc, engine, &mut session, keys, work)?;
+    Ok((sum, session))
 }
 
 /// Puts all rows.

@@ -1,4 +1,4 @@
--- A disk in a folder may go to another thread, where what reads its files may.
+-- A disk in a folder may go to another thread, where what reads its files and what is told of it may.
 use denote.RattleType.{RattleType}
 use denote.Param.Send.{IsSend, sendable, recorded_send, struct_send}
 use denote.Struct.Declared.{shape}
@@ -9,7 +9,6 @@ use Rattle.std.specs.contracts.fs.FileRead.TheImpl as reads
 use Rattle.std.specs.contracts.fs.FileWrite.TheImpl as writes
 use Rattle.std.specs.contracts.fs.FileSeek.TheImpl as seeks
 use Rattle.mvo_disk.specs.contracts.record.Record as Record
-use Rattle.mvo_disk.specs.contracts.mirror.Mirror as Mirror
 use Rattle.mvo_disk.specs.contracts.folder.Folder as Folder
 use Rattle.mvo_disk.specs.contracts.dir_disk.DirDisk as DirDisk
 
@@ -19,12 +18,9 @@ file_send = search (sendable, crosses) depth 40
 record_send : IsSend Record.the_row
 record_send = search (sendable, crosses) depth 40
 
-mirror_send : IsSend Mirror.the_field.row
-mirror_send = let r = record_send in search (sendable, crosses) depth 40
-
-module _ (R T : RattleType) (n : Read.Ghosts T.Denot) (is : IsSend R) where
+module _ (R S P T : RattleType) (n : Read.Ghosts T.Denot) (is : IsSend R) (shown : IsSend P) where
   folder_send : IsSend (Folder.the_field R T reads.ghosts writes.ghosts seeks.ghosts n).row
   folder_send = let f = file_send in search (sendable, crosses) depth 40
 
-  pub disk_send : IsSend (DirDisk.the_row R T n)
-  disk_send = recorded_send _ _ _ (DirDisk.the_type R T n).to_one (struct_send (shape (DirDisk.the_type R T n)) (folder_send, (mirror_send, (search sendable, (search sendable, tt)))))
+  pub disk_send : IsSend (DirDisk.the_row R S P T n)
+  disk_send = recorded_send _ _ _ (DirDisk.the_type R S P T n).to_one (struct_send (shape (DirDisk.the_type R S P T n)) (folder_send, (record_send, (search (sendable, crosses) depth 40, (shown, (search sendable, (search sendable, (search sendable, (search sendable, tt)))))))))

@@ -1,7 +1,10 @@
 use anyhow::{Result, bail};
-use mvo_disk::{DirDisk, Silent, make_folder};
+use mvo_disk::{DirDisk, Silent, Unknown, make_folder};
 use std::fs::{self, Files};
 use std::{env, process};
+
+/// A disk in a folder of the system.
+pub type HostDisk = DirDisk<HostRuntime, Unknown, Silent>;
 
 /// A folder for the benchmark's files, which is removed behind it.
 #[derive(Drop)]
@@ -31,12 +34,12 @@ impl Scratch {
     }
 
     /// The disk in a folder in it, which is made.
-    pub fn disk(&self, rt: &HostRuntime, name: &str) -> Result<DirDisk<HostRuntime>> {
+    pub fn disk(&self, rt: &HostRuntime, name: &str) -> Result<HostDisk> {
         let path = self.path_of(rt, name)?;
         if make_folder(rt, rt.alloc(), &path).is_err() {
             bail!("the folder isn't made");
         }
-        match DirDisk::open(rt.clone()?, rt.alloc(), &path, &mut Silent) {
+        match DirDisk::open(rt.clone()?, rt.alloc(), &path, Unknown, Silent) {
             Ok(disk) => Ok(disk),
             Err(refusal) => bail!("the folder isn't opened: {refusal:?}"),
         }

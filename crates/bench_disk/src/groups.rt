@@ -1,8 +1,7 @@
-use crate::folder::Scratch;
+use crate::folder::{HostDisk, Scratch};
 use crate::raw::Raw;
 use crate::times::Times;
 use anyhow::{Result, bail};
-use mvo_disk::DirDisk;
 use mvo_group::{Group, Record, Write};
 use mvo_store::{Store, format};
 use mvo_types::{Refusal, Row, RowKey, Stamp};
@@ -13,7 +12,7 @@ use std::time::Instant;
 /// The seed of the stores' tables.
 const SEED: u64 = 7;
 
-type HostStore = Store<DirDisk<HostRuntime>>;
+type HostStore = Store<HostDisk>;
 
 /// The bytes that a group of so many commits of a row of 100 bytes takes: its length, its body, a
 /// gate, and the gate before them.

@@ -42,7 +42,7 @@ fn run_in<L: Run + Send + Sync, D: Disk + Drop + Send, R: Threads + Wait + Sync>
     sessions: usize,
     commits: u64,
 ) -> Result<Stamp, Refusal>
-    requires { IsNamedBy D.Disk L.image L.marks L.ring L.name L.parts fresh }
+    requires { IsNamedBy D.Disk L.opening L.marks L.ring L.name L.parts fresh }
 {
     let engine = Engine::<L, D, OpenGate>::new(fresh, OpenGate);
     let shared = &engine;

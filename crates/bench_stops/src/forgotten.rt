@@ -94,7 +94,8 @@ where
     print_found(rt, report)
 }
 
-fn print_found(rt: &impl Print, report: Report) -> Result<()> {
+/// Prints whether something is wrong, and what.
+pub fn print_found(rt: &impl Print, report: Report) -> Result<()> {
     match report.failed {
         None => println!(rt; "ok")?,
         Some(failed) => {

@@ -1,8 +1,8 @@
 //! What stops and faults leave of a script: whether it is what was promised, with how much was
 //! looked at. Counts go to standard output, times to standard error. Without an argument the script
 //! is one flush, and then it is printed what is found where the store forgets one of its syncs, or
-//! those of an opening. With the argument all it is longer scripts; with a number it is so many
-//! random lines.
+//! those of an opening, and of random lines in which a merge runs beside checkpoints. With the
+//! argument all it is longer scripts; with a number it is so many random lines.
 #![tactic(auto)]
 
 mod forgotten;
@@ -17,6 +17,9 @@ use std::env;
 use std::rt::Clock;
 use std::thread::Threads;
 use std::time::Instant;
+
+/// So many random lines have one round.
+const ONE_ROUND: u64 = 92;
 
 /// What is looked at.
 #[derive(Clone, Copy)]
@@ -53,7 +56,21 @@ where
     forgotten::print_opening(rt, scripts::FLUSH)?;
     let millis = start.elapsed(rt)?.as_nanos() / 1_000_000;
     eprintln!(rt; "forgotten syncs: {millis} ms")?;
-    Ok(())
+    check_round(rt)
+}
+
+/// Prints whether what stops and faults leave of one round is what was promised.
+fn check_round<R>(rt: &R) -> Result<()>
+where
+    R: AllocGlobal + Print + Eprint + Threads + Sync,
+{
+    let text = random::script(rt.alloc(), ONE_ROUND)?;
+    let recorded = recorded_of(rt, rt.alloc(), text.as_bytes())?;
+    let report = check_stops(rt, &recorded, &mut Quiet)?;
+    let (calls, images) = (report.counts.calls, report.counts.images);
+    eprintln!(rt; "a merge beside checkpoints: {calls} calls, {images} images")?;
+    print!(rt; "a merge beside checkpoints: ")?;
+    forgotten::print_found(rt, report)
 }
 
 fn check_all<R>(rt: &R) -> Result<()>

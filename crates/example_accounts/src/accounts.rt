@@ -73,7 +73,7 @@ pub fn total_on_disk<D: Disk + Drop, R: Threads + Wait + Sync>(
 }
 
 fn run_total<L: Run, D: Disk + Drop, R: Wait>(rt: &R, fresh: Fresh<D>) -> Result<u64, Refusal>
-    requires { IsNamedBy D.Disk L.image L.marks L.ring L.name L.parts fresh }
+    requires { IsNamedBy D.Disk L.opening L.marks L.ring L.name L.parts fresh }
 {
     let engine = Engine::<L, D, OpenGate>::new(fresh, OpenGate);
     let mut session = engine.session(rt)?;
@@ -87,7 +87,7 @@ fn run<L: Run + Send + Sync, D: Disk + Drop + Send, R: Threads + Wait + Sync>(
     alloc: Global,
     fresh: Fresh<D>,
 ) -> Result<(Told, D), Refusal>
-    requires { IsNamedBy D.Disk L.image L.marks L.ring L.name L.parts fresh }
+    requires { IsNamedBy D.Disk L.opening L.marks L.ring L.name L.parts fresh }
 {
     let engine = Engine::<L, D, OpenGate>::new(fresh, OpenGate);
     let told = go(rt, alloc, &engine)?;

@@ -55,7 +55,7 @@ fn run<L: Run, D: Disk + Drop, R: Wait>(
     alloc: Global,
     fresh: Fresh<D>,
 ) -> Result<u64, Refusal>
-    requires { IsNamedBy D.Disk L.image L.marks L.ring L.name L.parts fresh }
+    requires { IsNamedBy D.Disk L.opening L.marks L.ring L.name L.parts fresh }
 {
     let engine = Engine::<L, D, OpenGate>::new(fresh, OpenGate);
     let mut session = engine.session(rt)?;

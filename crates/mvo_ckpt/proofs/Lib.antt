@@ -2,6 +2,7 @@ pub mod Walked
 pub mod Lasts
 pub mod AllMet
 pub mod Parts
+mod Known
 pub mod Rows
 pub mod Staying
 pub mod Naming

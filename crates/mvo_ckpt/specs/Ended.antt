@@ -1,6 +1,6 @@
 -- The live records that groups end, and those that they leave.
-use Rattle.std.specs.Prelude.{ℕ, not, List, [], ◌∷◌, ◌++◌, map, filter}
-use Rattle.std.specs.List.{enumerate_from}
+use Rattle.std.specs.Prelude.{◌≡◌, ℕ, true, not, ◌==◌, List, [], ◌∷◌, ◌++◌, map, filter}
+use Rattle.std.specs.List.{enumerate_from, AllByRecursion, list_any}
 use Rattle.mvo_group.specs.Data.{GroupData}
 use Rattle.mvo_pair.specs.Data.{Numbered, key_of}
 use Rattle.mvo_pair.specs.declared.pair.Pair.{Pair}
@@ -26,6 +26,10 @@ deltas_of gs [] lives = []
 deltas_of gs (p ∷ ps) [] = []
 deltas_of gs (p ∷ ps) (live ∷ lives) =
     delta_by p.data_file (ended gs live) ++ deltas_of gs ps lives
+
+-- each delta is that of one of these pairs
+abbrev pub AreOfPairs : List Pair → List DeltaData → Type 0
+AreOfPairs ps ds = AllByRecursion (λ d. list_any (λ p. p.data_file == d.data_file) ps ≡ true) ds
 
 -- the live records after a checkpoint, those of the new pair last
 abbrev pub lives_after : List GroupData → List (List Numbered) → List (List Numbered)

@@ -1,9 +1,9 @@
 //! Builds what a checkpoint writes.
-ghost use Rattle.std.specs.Prelude.{◌≡◌, ◌++◌, IfOk, OnOk, List};
+ghost use Rattle.std.specs.Prelude.{◌≡◌, ◌++◌, ◌≤◌, IfOk, OnOk, List, length};
 ghost use Rattle.mvo_pair.specs.Data.{Numbered};
 ghost use Rattle.mvo_ckpt.specs.Writes.{records_of, gone_of};
 ghost use Rattle.mvo_places.specs.Places.{ArePlaces};
-ghost use Rattle.mvo_ckpt.specs.Ended.{delta_by, deltas_of};
+ghost use Rattle.mvo_ckpt.specs.Ended.{delta_by, deltas_of, AreOfPairs};
 ghost use Rattle.mvo_ckpt.specs.Walk.{part_of, deltas_by};
 
 use crate::checkpoint::{Checkpoint, DeltaEntries};
@@ -71,6 +71,8 @@ pub fn build(
     ensures gone { IfOk result (λ c. c.gone ≡ gone_of groups.items) }
     ensures deltas { (lives : List (List Numbered)) → ArePlaces pairs.now lives places.now.at →
         IfOk result (λ c. c.deltas ≡ deltas_of groups.items pairs.now lives) }
+    ensures known { IfOk result (λ c. AreOfPairs pairs.now c.deltas) }
+    ensures few { IfOk result (λ c. length c.deltas ≤ length pairs.now) }
 {
     let mut newest = no_writes(alloc, places.seed());
     take_groups(&mut newest, places, groups)?;

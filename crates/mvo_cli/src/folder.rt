@@ -1,7 +1,7 @@
 use crate::fault::Fault;
 use crate::seed::draw_seed;
 use crate::shown::Shown;
-use mvo_disk::{DirDisk, Disk, FolderRefusal, make_folder};
+use mvo_disk::{DirDisk, Disk, FolderRefusal, Unknown, make_folder};
 use mvo_store::{Store, format};
 use mvo_types::{Refusal, Rows, Stamp};
 use mvo_world::World;
@@ -20,17 +20,23 @@ fn fault_of(refusal: FolderRefusal) -> Fault {
     }
 }
 
+/// The disk in a folder, with what its files hold.
+type HostDisk<R> = DirDisk<R, Unknown, Shown<R>>;
+
 /// The disk in a folder. Its reading is shown on standard error where that is a terminal.
 pub fn open_disk<R: AllocGlobal + Eprint + Files<File = File> + Clone + Drop>(
     rt: &R,
     folder: &str,
     is_terminal: bool,
-) -> Result<DirDisk<R>, Fault> {
+) -> Result<HostDisk<R>, Fault> {
     let Ok(own) = rt.clone() else {
         return Err(Fault::OutOfMemory);
     };
-    let mut shown = Shown::new(rt, is_terminal);
-    match DirDisk::open(own, rt.alloc(), folder, &mut shown) {
+    let Ok(errors) = rt.clone() else {
+        return Err(Fault::OutOfMemory);
+    };
+    let shown = Shown::new(errors, is_terminal);
+    match DirDisk::open(own, rt.alloc(), folder, Unknown, shown) {
         Ok(disk) => Ok(disk),
         Err(refusal) => Err(fault_of(refusal)),
     }
@@ -63,7 +69,7 @@ fn format_disk<D: Disk + Drop>(alloc: Global, disk: D) -> Result<(), Fault> {
 }
 
 /// The world over the store in a folder.
-pub fn open_world<R>(rt: &R, folder: &str, is_terminal: bool) -> Result<World<DirDisk<R>>, Fault>
+pub fn open_world<R>(rt: &R, folder: &str, is_terminal: bool) -> Result<World<HostDisk<R>>, Fault>
 where
     R: AllocGlobal + Eprint + Files<File = File> + RandomSource + Threads + Sync + Clone + Drop,
 {

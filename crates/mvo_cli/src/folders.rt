@@ -1,6 +1,7 @@
 use crate::fault::Fault;
 use crate::folder::open_disk;
-use mvo_disk::{DirDisk, Disk};
+use crate::shown::Shown;
+use mvo_disk::{DirDisk, Disk, Unknown};
 
 /// Opens the disks in folders, such that a store on one may be used by many threads.
 pub trait Folders {
@@ -12,7 +13,7 @@ pub trait Folders {
 }
 
 impl Folders for HostRuntime {
-    type Disk = DirDisk<HostRuntime>;
+    type Disk = DirDisk<HostRuntime, Unknown, Shown<HostRuntime>>;
 
     fn open_folder(&self, folder: &str, is_terminal: bool) -> Result<Self::Disk, Fault> {
         open_disk(self, folder, is_terminal)

@@ -3,34 +3,37 @@ use mvo_disk::Progress;
 /// How many bytes are read between two lines of progress.
 const STEP_LEN: u64 = 16_777_216;
 
-/// Shows on standard error, where that is a terminal, how far reading has come.
+/// Shows on standard error, where that is a terminal, how far the first reading of all files has
+/// come.
 #[derive(Drop)]
-pub struct Shown<'a, R: Eprint> {
-    rt: &'a R,
-    is_terminal: bool,
+pub struct Shown<R: Eprint + Drop> {
+    rt: R,
+    // Whether there is anything left to show.
+    is_on: bool,
     // How many bytes were read at the last word.
     last: u64,
 }
 
-impl<'a, R: Eprint> Shown<'a, R> {
+impl<R: Eprint + Drop> Shown<R> {
     /// Nothing is read yet.
-    pub fn new(rt: &'a R, is_terminal: bool) -> Shown<'a, R> {
+    pub fn new(rt: R, is_terminal: bool) -> Shown<R> {
         Shown {
             rt,
-            is_terminal,
+            is_on: is_terminal,
             last: 0,
         }
     }
 }
 
-impl<R: Eprint> Progress for Shown<'_, R> {
+impl<R: Eprint + Drop> Progress for Shown<R> {
     fn tell(&mut self, read: u64, all: u64) {
         let is_due = read >= all || read.saturating_sub(self.last) >= STEP_LEN;
-        if !self.is_terminal || !is_due {
+        if !self.is_on || !is_due {
             return;
         }
         self.last = read;
-        let end = if read >= all { "\n" } else { "" };
-        let _ = eprint!(self.rt; "\rread {read} of {all} bytes{end}");
+        self.is_on = read < all;
+        let end = if self.is_on { "" } else { "\n" };
+        let _ = eprint!(&self.rt; "\rread {read} of {all} bytes{end}");
     }
 }

@@ -8,26 +8,58 @@ use std::test::*;
 
 const KEY: RowKey = RowKey { table: 0, key: 7 };
 
-fn row(alloc: Global) -> Result<Row, AllocError> {
-    Row::new(KEY, 70, [0x61].to_vec(alloc)?)
+/// The place of no operation.
+const NONE: usize = 9;
+
+/// How many of the operations somebody says, which of them otherwise, and whether that is held.
+const CASES: [(usize, usize, bool); 5] = [
+    (5, NONE, true),
+    (4, NONE, false),
+    (5, 4, false),
+    (5, 2, false),
+    (5, 1, false),
+];
+
+fn row(alloc: Global, byte: u8) -> Result<Row, AllocError> {
+    Row::new(KEY, 70, [byte].to_vec(alloc)?)
 }
 
-/// What `work` asks for, with what it is answered: by hand.
-fn told(alloc: Global) -> Result<Vec<(Op, Answer)>, AllocError> {
-    let mut told = Vec::new(alloc);
-    told.push((Op::Insert(row(alloc)?), Answer::Inserted))?;
-    told.push((Op::Read(KEY), Answer::Found(Some(row(alloc)?))))?;
+fn found(alloc: Global, byte: u8) -> Result<Answer, AllocError> {
+    Ok(Answer::Found(Some(row(alloc, byte)?)))
+}
+
+fn scanned(alloc: Global) -> Result<Answer, AllocError> {
     let mut rows = Vec::new(alloc);
-    rows.push(row(alloc)?)?;
-    told.push((Op::Scan(0, 70, 80), Answer::Rows(rows)))?;
-    told.push((Op::Delete(KEY), Answer::Deleted))?;
-    told.push((Op::Read(KEY), Answer::Found(None)))?;
+    rows.push(row(alloc, 0x61)?)?;
+    Ok(Answer::Rows(rows))
+}
+
+/// What `work` asks for at a place, with what it is answered: by hand. Or with another byte in the
+/// row that was found, with another bound of the scan, with another answer to the last.
+fn operation(alloc: Global, at: usize, is_other: bool) -> Result<(Op, Answer), AllocError> {
+    let by = u8::from(is_other);
+    match at {
+        0 => Ok((Op::Insert(row(alloc, 0x61)?), Answer::Inserted)),
+        1 => Ok((Op::Read(KEY), found(alloc, 0x61 + by)?)),
+        2 => Ok((Op::Scan(0, 70, 80 + u64::from(by)), scanned(alloc)?)),
+        3 => Ok((Op::Delete(KEY), Answer::Deleted)),
+        _ if is_other => Ok((Op::Read(KEY), Answer::Absent)),
+        _ => Ok((Op::Read(KEY), Answer::Found(None))),
+    }
+}
+
+/// The first so many, one of which is another.
+fn told(alloc: Global, count: usize, other: usize) -> Result<Vec<(Op, Answer)>, AllocError> {
+    let mut told = Vec::new(alloc);
+    for at in 0..count {
+        told.push(operation(alloc, at, at == other)?)?;
+    }
     Ok(told)
 }
 
 fn work(alloc: Global, core: &mut Core) -> Result<TxId, Refusal> {
     let tx = core.begin_tx()?;
-    core.insert(tx, row(alloc)?)?;
+    core.insert(tx, row(alloc, 0x61)?)?;
     core.read(tx, KEY)?;
     core.scan(tx, 0, 70, 80)?;
     core.delete(tx, KEY)?;
@@ -35,46 +67,38 @@ fn work(alloc: Global, core: &mut Core) -> Result<TxId, Refusal> {
     Ok(tx)
 }
 
-/// Whether it holds what it was told; that without the last operation; that with another answer to
-/// the last, with another bound of the scan, and with another byte in the row that was found; and
-/// whether a transaction that never began holds it.
-fn answers(alloc: Global, core: &Core, tx: TxId) -> Result<[bool; 6], AllocError> {
-    let whole = told(alloc)?;
-    let mut short = told(alloc)?;
-    short.pop();
-    let mut other = told(alloc)?;
-    other[4] = (Op::Read(KEY), Answer::Absent);
-    let mut wide = told(alloc)?;
-    let mut rows = Vec::new(alloc);
-    rows.push(row(alloc)?)?;
-    wide[2] = (Op::Scan(0, 70, 81), Answer::Rows(rows));
-    let mut byte = told(alloc)?;
-    let found = Row::new(KEY, 70, [0x62].to_vec(alloc)?)?;
-    byte[1] = (Op::Read(KEY), Answer::Found(Some(found)));
-    Ok([
-        core.holds(tx, &whole),
-        core.holds(tx, &short),
-        core.holds(tx, &other),
-        core.holds(tx, &wide),
-        core.holds(tx, &byte),
-        core.holds(TxId(99), &whole),
-    ])
+fn is_held(
+    alloc: Global,
+    core: &Core,
+    tx: TxId,
+    count: usize,
+    other: usize,
+) -> Result<bool, AllocError> {
+    let told = told(alloc, count, other)?;
+    Ok(core.holds(tx, &told))
 }
 
-fn asked(alloc: Global) -> Result<([bool; 6], [bool; 6]), Refusal> {
+/// Whether each case is as it is wanted, and a transaction that never began holds nothing.
+fn is_as_wanted(alloc: Global, core: &Core, tx: TxId) -> Result<bool, AllocError> {
+    for (count, other, wanted) in CASES {
+        if is_held(alloc, core, tx, count, other)? != wanted {
+            return Ok(false);
+        }
+    }
+    Ok(!is_held(alloc, core, TxId(99), 5, NONE)?)
+}
+
+/// Of a transaction that is Active, and then of the same that is Preparing.
+fn asked(alloc: Global) -> Result<(bool, bool), Refusal> {
     let mut core = Core::open(alloc, 1, Rows::new(alloc), Stamp(0))?;
     let tx = work(alloc, &mut core)?;
-    let active = answers(alloc, &core, tx)?;
+    let active = is_as_wanted(alloc, &core, tx)?;
     core.precommit(tx)?;
-    Ok((active, answers(alloc, &core, tx)?))
+    Ok((active, is_as_wanted(alloc, &core, tx)?))
 }
 
 #[test]
 fn just_what_was_told_is_held(rt: HostRuntime) -> Result<(), Fail> {
-    let one = [true, false, false, false, false, false];
-    match asked(rt.alloc()) {
-        Ok(told) => same(&rt, &told, &(one, one)),
-        Err(refusal) => assert!(rt; false, "{refusal}"),
-    }
+    same(&rt, &asked(rt.alloc()), &Ok((true, true)));
     Ok(())
 }

@@ -7,8 +7,6 @@ mod copies;
 mod day;
 mod day_work;
 mod spending;
-#[cfg(test)]
-mod tests;
 
 pub use day::Day;
 pub use day_work::DayWork;

@@ -43,7 +43,7 @@ fn run<L: Run + Send + Sync, D: Disk + Drop + Send, W: DayWork + Sync, R: Thread
     sessions: usize,
     work: &W,
 ) -> Result<Day, Refusal>
-    requires { IsNamedBy D.Disk L.image L.marks L.ring L.name L.parts fresh }
+    requires { IsNamedBy D.Disk L.opening L.marks L.ring L.name L.parts fresh }
     ensures { IfOk result (λ day.
         IsDay L.watched day.start.0 day.receipts.items day.commits.items) }
 {

@@ -60,9 +60,10 @@ pub fn make_folder<R: Files<File = File>>(
 
 /// A folder that this process alone uses, and the handles of its files.
 ///
-/// A handle is kept of each file of which something isn't durable, and of the one that was synced
-/// last. The others are opened anew as they are used, so few handles do for all files. A file is
-/// opened under its name alone: a link is never followed, and a file with a second name is refused.
+/// A handle is kept of each file of which something isn't durable, and of the other one that was
+/// used last. The others are opened anew as they are used, so few handles do for all files. A file
+/// is opened under its name alone: a link is never followed, and a file with a second name is
+/// refused.
 pub struct Folder<R: Files<File = File> + Drop> {
     rt: R,
     path: String,
@@ -74,8 +75,9 @@ pub struct Folder<R: Files<File = File> + Drop> {
     is_there: Vec<bool>,
     // The handle of each file that was written or cut since its last sync.
     handles: Vec<Option<File>>,
-    // The file that was synced last, if it hasn't been written or cut since, and its handle.
-    synced: Option<(u16, File)>,
+    // The file that was read or synced last, if it hasn't been written or cut since, with its
+    // handle.
+    used: Option<(u16, File)>,
     // Whether a stop may still take away a file that was made.
     has_new: bool,
     ghost full: { length handles.items ≡ FILE_COUNT },
@@ -91,7 +93,7 @@ impl<R: Files<File = File> + Drop> Drop for Folder<R> {
             entry: _,
             is_there: _,
             handles: _,
-            synced: _,
+            used: _,
             has_new: _,
         } = self;
     }
@@ -192,7 +194,7 @@ impl<R: Files<File = File> + Drop> Folder<R> {
             entry,
             is_there,
             handles,
-            synced: None,
+            used: None,
             has_new: true,
         })
     }
@@ -234,10 +236,39 @@ impl<R: Files<File = File> + Drop> Folder<R> {
         Ok(())
     }
 
-    /// Fills the slice from the bytes of a file that was found, at an offset.
-    pub fn read(&mut self, file: u16, at: u64, into: &mut [u8]) -> io::Result<()> {
-        self.locate(file)?;
-        open_file(&self.rt, self.name.as_str())?.read_exact_at(into, at)
+    /// The length of a file. One that isn't there has 0 bytes.
+    pub fn len(&mut self, file: u16) -> io::Result<u64>
+        requires { file < FILE_COUNT }
+    {
+        if let Some(handle) = &self.handles[file as usize] {
+            return Ok(handle.metadata()?.len());
+        }
+        if !self.is_there[file as usize] {
+            return Ok(0);
+        }
+        let handle = self.reopen(file)?;
+        let len = handle.metadata()?.len();
+        self.used = Some((file, handle));
+        Ok(len)
+    }
+
+    /// Fills the slice from the bytes of a file, at an offset. Fewer bytes than that fail.
+    pub fn read(&mut self, file: u16, at: u64, into: &mut [u8]) -> io::Result<()>
+        requires { file < FILE_COUNT }
+    {
+        if let Some(handle) = &self.handles[file as usize] {
+            return handle.read_exact_at(into, at);
+        }
+        if into.is_empty() {
+            return Ok(());
+        }
+        if !self.is_there[file as usize] {
+            return Err(io::Error::from(io::ErrorKind::NotFound));
+        }
+        let handle = self.reopen(file)?;
+        handle.read_exact_at(into, at)?;
+        self.used = Some((file, handle));
+        Ok(())
     }
 
     // Makes a file that isn't there. A link to nothing counts as there.
@@ -255,10 +286,10 @@ impl<R: Files<File = File> + Drop> Folder<R> {
 
     // The handle of a file that is there: the one that was kept, or a new one.
     fn reopen(&mut self, file: u16) -> io::Result<File> {
-        match self.synced.take() {
-            Some((synced, handle)) if synced == file => Ok(handle),
+        match self.used.take() {
+            Some((used, handle)) if used == file => Ok(handle),
             kept => {
-                self.synced = kept;
+                self.used = kept;
                 self.locate(file)?;
                 open_file(&self.rt, self.name.as_str())
             }
@@ -307,7 +338,7 @@ impl<R: Files<File = File> + Drop> Folder<R> {
     {
         if let Some(handle) = self.handles[file as usize].take() {
             handle.sync_data()?;
-            self.synced = Some((file, handle));
+            self.used = Some((file, handle));
         }
         self.sync_names()
     }

@@ -95,7 +95,7 @@ impl MemDisk {
     /// The calls since the record began, in order. One that failed is not among them.
     pub fn calls(&self) -> &[Call]
         ensures record { result.now ≡ calls_of self.now }
-        ensures moment { length result.now ≡ ⟦<MemDisk as Disk>⟧.moment self.now }
+        ensures moment { length result.now ≡ (⟦<MemDisk as Disk>⟧.moment self.now).calls }
     {
         &self.calls
     }
@@ -171,7 +171,9 @@ impl Disk for MemDisk {
     ghost use Rattle.mvo_disk.specs.Disk.{Only, Holds, PartlyHolds, Torn, Cut, Follows, Reaches};
     ghost use Rattle.mvo_disk.specs.Disk.{Keeps, Counts};
     ghost use Rattle.mvo_disk.specs.Memory.{counts_now, only_now, counts_later};
-    ghost use Rattle.mvo_disk.specs.Record.{calls_of, content_of, images_of, left_since, Records};
+    ghost use Rattle.mvo_disk.specs.Record.{calls_of, content_of, images_of, moment_of, left_since};
+    ghost use Rattle.mvo_disk.specs.Record.{Records};
+    ghost use Rattle.mvo_disk.specs.Disk.{Answers};
     ghost use Rattle.mvo_disk.specs.Record.{FilesStay, OtherFilesStay, FileSettles, GoesOn};
     ghost use Rattle.mvo_disk.specs.Record.{RecordsWrite};
     ghost use Rattle.mvo_disk.specs.Failing.{FailsWhenDue};
@@ -180,19 +182,21 @@ impl Disk for MemDisk {
 
     ghost may_leave = { images_of };
 
-    ghost moment = { λ m. length (calls_of m) };
+    ghost moment = { moment_of };
 
-    ghost left_since = { left_since };
+    ghost left_since = { λ m t. left_since m t.calls };
 
     ghost fault_count = { λ m. m.fault_count };
 
     ghost content_may_stay = { λ m n. m.sound n };
 
-    ghost counts_now = { λ m. counts_now m.start.items (calls_of m) };
+    ghost counts_now = { λ m t image before. counts_now m.start.items (calls_of m) t.calls image
+        before.calls };
 
     ghost only_now = { λ m. only_now m.start.items (calls_of m) };
 
-    ghost counts_later = { λ m. counts_later m.start.items (calls_of m) };
+    ghost counts_later = { λ m t u image before. counts_later m.start.items (calls_of m) t.calls
+        u.calls image before.calls };
 
     // Each call is refused where it is the one that is to fail, and for want of memory. It is then
     // not recorded, and no file has changed.
@@ -200,6 +204,8 @@ impl Disk for MemDisk {
         requires file { file < FILE_COUNT }
         requires room { self.old.fault_count + 1 < 2 ^ 64 }
         ensures len { IfOk result (λ n. n ≡ length (content_of self.old file)) }
+        ensures honest { Answers (moment_of self.old) (moment_of self.new)
+            (λ n. n ≡ length (content_of self.old file)) result }
         ensures rest { FilesStay self.old self.new }
         ensures time { GoesOn self.old self.new }
         ensures count { Counts self.old.fault_count self.new.fault_count result }
@@ -227,6 +233,8 @@ impl Disk for MemDisk {
         requires room { self.old.fault_count + 1 < 2 ^ 64 }
         ensures bytes { OnOk result (into.new ≡ take (length into.old)
             (drop at (content_of self.old file))) }
+        ensures honest { Answers (moment_of self.old) (moment_of self.new) (λ _. into.new ≡
+            take (length into.old) (drop at (content_of self.old file))) result }
         ensures rest { FilesStay self.old self.new }
         ensures time { GoesOn self.old self.new }
         ensures count { Counts self.old.fault_count self.new.fault_count result }

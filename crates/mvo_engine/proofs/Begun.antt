@@ -8,7 +8,6 @@ use Rattle.std.proofs.lemmas.List.Elements.{All-nil}
 use Rattle.mvo_types.specs.declared.limits.TheConstants.{MAX_STAMP}
 use Rattle.mvo_types.specs.Keys.{Map}
 use Rattle.mvo_disk.specs.declared.disk.Disk.{Ghosts}
-use Rattle.mvo_disk.specs.Disk.{Image}
 use Rattle.mvo_group.specs.Data.{GroupData, group_of}
 use Rattle.mvo_theory.specs.State.{Marks, opened}
 use Rattle.mvo_core.specs.Data.{CoreData}
@@ -18,10 +17,9 @@ use Rattle.mvo_store.specs.Seen.{disk_of, mark_of}
 use Rattle.mvo_store.specs.StoreData.{StoreData}
 use Rattle.mvo_store.specs.Standing.{Gives, HasSlots, KeepsRows, FollowsMark}
 use Rattle.mvo_store.specs.Opening.{KeepsContent}
-use Rattle.mvo_world.specs.WorldData.{WorldData, IsJustOpened, waiting}
-use Rattle.mvo_world.specs.Past.{opened_over}
-use Rattle.mvo_world.specs.Standing.{IsAfter}
-use Rattle.mvo_store.proofs.Marked.{gives_stamp}
+use Rattle.mvo_world.specs.WorldData.{WorldData, waiting}
+use Rattle.mvo_world.specs.Promise.{IsOpenedOver}
+use Rattle.mvo_run.specs.Opening.{Opening, opening_of}
 use Rattle.mvo_engine.specs.Sound.{IsSoundCore, IsSoundStore, last_mark}
 use Rattle.mvo_engine.specs.Opened.{HasOpened, opening_groups}
 
@@ -52,27 +50,28 @@ none_sent : (gs hs : List GroupData) → map (λ g. g.mark) (gs ++ hs) ≡ [] �
 none_sent [] hs e = refl
 none_sent (g ∷ gs) hs e = absurd cc
 
-pub opened_world : {D : Type 0} (d : Ghosts D) (old : D) (w : WorldData D) → KeepsContent d old (disk_of w.store) → (rows : Map) → Gives rows (mark_of w.store) (d.content old) → IsJustOpened rows w
-    → (HasSlots (d.content old) → IsAfter d (opened_over rows (mark_of w.store)) w) → HasOpened d (d.content (disk_of w.store)) w.core w.store
-opened_world {D} d old w content rows gives begun after = record {
+pub opened_world : {D : Type 0} (d : Ghosts D) (old : D) (w : WorldData D) → KeepsContent d old (disk_of w.store) → (rows : Map) → IsOpenedOver d old rows w → HasOpened d (opening_of d (disk_of w.store)) w.core w.store
+opened_world {D} d old w content rows is = record {
   rows = rows;
-  gives = subst (Gives rows (mark_of w.store)) (sym same) gives;
-  core = begun.core;
-  pending = begun.store.pending;
-  keeps = λ slots.
-      let h = after (subst HasSlots same slots) in
-      subst (λ (gs : List GroupData). KeepsRows d w.store (after_groups rows gs)) (none_sent h.sent (waiting w) h.marks) h.store;
+  gives = λ now. subst (Gives rows (mark_of w.store)) (sym same) (is.gives now);
+  stamp = is.stamp;
+  core = is.begins.core;
+  pending = is.begins.store.pending;
+  was = λ now. now;
+  keeps = λ now slots.
+      let h = is.after (λ _. subst HasSlots same slots) in
+      subst (λ (gs : List GroupData). KeepsRows d w.store (after_groups rows gs)) (none_sent h.sent (waiting w) h.marks) (h.store now);
 }
   where
     same : d.content (disk_of w.store) ≡ d.content old
     same = fun_ext content
 
--- by another name of what its disk held
-pub renamed : {D : Type 0} (d : Ghosts D) {old image : Image} {c : CoreData} {s : StoreData D} → HasOpened d old c s → old ≡ image → HasOpened d image c s
-renamed d {c = c} {s = s} h same = subst (λ (x : Image). HasOpened d x c s) same h
+-- by another name of its opening
+pub renamed : {D : Type 0} (d : Ghosts D) {old new : Opening} {c : CoreData} {s : StoreData D} → HasOpened d old c s → old ≡ new → HasOpened d new c s
+renamed d {c = c} {s = s} h same = subst (λ (x : Opening). HasOpened d x c s) same h
 
-module _ {D : Type 0} (d : Ghosts D) {image : Image} {c : CoreData} {s : StoreData D} (h : HasOpened d image c s) where
-  pub sound_core : (sent : List GroupData) → sent ≡ opening_groups (mark_of s) → IsSoundCore image c sent
+module _ {D : Type 0} (d : Ghosts D) {o : Opening} {c : CoreData} {s : StoreData D} (h : HasOpened d o c s) where
+  pub sound_core : (sent : List GroupData) → sent ≡ opening_groups (mark_of s) → IsSoundCore o c sent
   sound_core sent is = record {
     rows = h.rows;
     mark = mark_of s;
@@ -81,11 +80,11 @@ module _ {D : Type 0} (d : Ghosts D) {image : Image} {c : CoreData} {s : StoreDa
     state = opened h.rows (mark_of s);
     stands = h.core;
     closed = record { drawn = omega arith; above = tt };
-    groups = subst (HaveRecordsOf (opened h.rows (mark_of s)) 0) (sym is) (opened_of h.rows (mark_of s) (gives_stamp image h.rows (mark_of s) h.gives) (mark_of s == 0) refl);
+    groups = subst (HaveRecordsOf (opened h.rows (mark_of s)) 0) (sym is) (opened_of h.rows (mark_of s) h.stamp (mark_of s == 0) refl);
     last = ap last_mark is ∙ opened_mark (mark_of s) (mark_of s == 0) refl ∙ ap (λ (m : Marks). m.closed) h.core.marks;
   }
 
-  pub sound_store : (received : List GroupData) → received ≡ opening_groups (mark_of s) → IsSoundStore d image s received
+  pub sound_store : (received : List GroupData) → received ≡ opening_groups (mark_of s) → IsSoundStore d o s received
   sound_store received is = record {
     rows = h.rows;
     mark = mark_of s;
@@ -94,5 +93,6 @@ module _ {D : Type 0} (d : Ghosts D) {image : Image} {c : CoreData} {s : StoreDa
     received_is = is ∙ sym (append-nil (opening_groups (mark_of s))) ∙ ap (λ (o : Option GroupData). opening_groups (mark_of s) ++ option_to_list o) (sym h.pending);
     mark_is = sym (opened_mark (mark_of s) (mark_of s == 0) refl);
     follows = subst (FollowsMark (mark_of s)) (sym h.pending) tt;
-    keeps = λ slots. subst (KeepsRows d s) (sym (opened_rows (mark_of s) h.rows (mark_of s == 0))) (h.keeps slots);
+    was = h.was;
+    keeps = λ now slots. subst (KeepsRows d s) (sym (opened_rows (mark_of s) h.rows (mark_of s == 0))) (h.keeps now slots);
   }

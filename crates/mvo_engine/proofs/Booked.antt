@@ -6,7 +6,7 @@ use Rattle.mvo_types.specs.declared.ids.TxId.{TxId}
 use Rattle.mvo_types.specs.declared.ids.Stamp.{Stamp}
 use Rattle.mvo_types.specs.declared.refusal.Refusal.{Refusal}
 use Rattle.mvo_types.specs.Keys.{Map}
-use Rattle.mvo_disk.specs.Disk.{Image}
+use Rattle.mvo_run.specs.Opening.{Opening}
 use Rattle.mvo_group.specs.Data.{GroupData}
 use Rattle.mvo_model.specs.History.{History}
 use Rattle.mvo_theory.specs.State.{State, StampedTx, preparing_of, opened}
@@ -167,7 +167,7 @@ module _ (w : Watched) {c : CoreData} {total : ℕ} (i : IsBooked w c total) whe
   closed old new' (Err r) new h = record { rows = i.rows; steps = i.steps; state = i.state; stands = h.1.1.stands; counted = i.counted }
 
 -- what the lock keeps, over a step that stores no commit and closes no group
-pub stays_sound : {w : Watched} {image : Image} {c : CoreData} {sent : List GroupData} {total : ℕ} {A P : Type 0} {call : Call} {new : CoreData} → IsSoundCore image c sent × IsBooked w c total × P → (result : Result A Refusal) → IsStep c call result new → is_quiet call ≡ true
-    → IsSoundCore image new sent × IsBooked w new total × P
+pub stays_sound : {w : Watched} {o : Opening} {c : CoreData} {sent : List GroupData} {total : ℕ} {A P : Type 0} {call : Call} {new : CoreData} → IsSoundCore o c sent × IsBooked w c total × P → (result : Result A Refusal) → IsStep c call result new → is_quiet call ≡ true
+    → IsSoundCore o new sent × IsBooked w new total × P
 stays_sound {w = w} {call = call} {new = new} i result step quiet =
     (sound_over i.0 result step (quiet_group call (came result) quiet), quietly w i.1 call result new step quiet, i.2)

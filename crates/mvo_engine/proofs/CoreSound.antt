@@ -1,7 +1,6 @@
 -- The core under its lock stays sound.
 use Rattle.std.proofs.Common.{◌≡◌, ℕ, ◌≤◌, List, [], ◌∷◌, ◌++◌, Result, Ok, Err, sym, ap, ◌∙◌, subst, arith}
 use Rattle.mvo_types.specs.declared.refusal.Refusal.{Refusal}
-use Rattle.mvo_disk.specs.Disk.{Image}
 use Rattle.mvo_group.specs.Data.{GroupData}
 use Rattle.mvo_model.specs.Trace.{Step}
 use Rattle.mvo_theory.specs.State.{State, StampedTx, Marks}
@@ -25,21 +24,22 @@ use Rattle.mvo_world.proofs.Chain.{groups_stay, group_of_next}
 use Rattle.mvo_world.proofs.Moves.{groups_closed}
 use Rattle.mvo_world.proofs.Sound.{same_closed}
 use Rattle.mvo_world.proofs.Standing.{mark_after-append, groups_push}
+use Rattle.mvo_run.specs.Opening.{Opening}
 use Rattle.mvo_engine.specs.Sound.{IsSoundCore, last_mark}
 use Rattle.mvo_engine.specs.Legal.{IsLegalCore}
 use Rattle.mvo_engine.specs.States.{SendsState}
 use Rattle.mvo_engine.specs.Calls.{HasSent}
 
-module _ {image : Image} {c : CoreData} {sent : List GroupData} (i : IsSoundCore image c sent) where
+module _ {o : Opening} {c : CoreData} {sent : List GroupData} (i : IsSoundCore o c sent) where
   abbrev standing : Stands c
   standing = record { opening = i.rows; steps = i.steps; state = i.state; stands = i.stands; closed = i.closed }
 
   -- over the rows that the run opened with, by what it stands for and what was sent
-  so_far : (steps : List Step) (s : State) {new : CoreData} {sent' : List GroupData} → StandsFor i.rows steps s new → IsClosedAt s.marks.closed s → HaveRecordsOf s 0 sent' → last_mark sent' ≡ closed_mark_of new → IsSoundCore image new sent'
+  so_far : (steps : List Step) (s : State) {new : CoreData} {sent' : List GroupData} → StandsFor i.rows steps s new → IsClosedAt s.marks.closed s → HaveRecordsOf s 0 sent' → last_mark sent' ≡ closed_mark_of new → IsSoundCore o new sent'
   so_far steps s stands closed groups last = record { rows = i.rows; mark = i.mark; gives = i.gives; steps = steps; state = s; stands = stands; closed = closed; groups = groups; last = last }
 
   -- over a step that closes no group
-  pub stays_sound : {A : Type 0} {call : Call} {new : CoreData} (result : Result A Refusal) → IsStep c call result new → group_of call (came result) ≡ [] → IsSoundCore image new sent
+  pub stays_sound : {A : Type 0} {call : Call} {new : CoreData} (result : Result A Refusal) → IsStep c call result new → group_of call (came result) ≡ [] → IsSoundCore o new sent
   stays_sound {call = call} result step none =
       let l = step i.rows i.steps i.state i.stands in
       let kept = i.stands.versions.kept in
@@ -50,11 +50,11 @@ module _ {image : Image} {c : CoreData} {sent : List GroupData} (i : IsSoundCore
       (i.last ∙ sym (same_closed standing call (came result) none l))
 
   -- over a collection
-  pub collected : (new : CoreData) → StandsAsBefore c new → new ≡ record c { versions = new.versions } → IsSoundCore image new sent
+  pub collected : (new : CoreData) → StandsAsBefore c new → new ≡ record c { versions = new.versions } → IsSoundCore o new sent
   collected new stands rest = so_far i.steps i.state (stands i.rows i.steps i.state i.stands) i.closed i.groups (i.last ∙ sym (ap (λ (x : CoreData). x.closed) rest))
 
   -- over the closing of a group
-  pub closed_to : (sent' : List GroupData) (new : CoreData) (x : closing.Closed) (g : GroupData) → sent' ≡ sent ++ g ∷ [] → IsClosedNow i.rows i.steps i.state x new g → IsSoundCore image new sent'
+  pub closed_to : (sent' : List GroupData) (new : CoreData) (x : closing.Closed) (g : GroupData) → sent' ≡ sent ++ g ∷ [] → IsClosedNow i.rows i.steps i.state x new g → IsSoundCore o new sent'
   closed_to sent' new x g there now =
       let s = i.state in
       let is = group_of_next i.rows i.steps s g now.commits i.stands.versions.kept i.closed now.next now.records now.rules in
@@ -65,18 +65,18 @@ module _ {image : Image} {c : CoreData} {sent : List GroupData} (i : IsSoundCore
       (ap last_mark there ∙ mark_after-append 0 sent (g ∷ []) ∙ now.mark ∙ ap (λ (m : Marks). m.closed) now.stands.marks)
 
   -- over one that is refused
-  unclosed : (sent' : List GroupData) (new : CoreData) → sent' ≡ sent → StandsFor i.rows i.steps i.state new → IsSoundCore image new sent'
+  unclosed : (sent' : List GroupData) (new : CoreData) → sent' ≡ sent → StandsFor i.rows i.steps i.state new → IsSoundCore o new sent'
   unclosed sent' new same stands =
       so_far i.steps i.state stands i.closed (subst (HaveRecordsOf i.state 0) (sym same) i.groups)
       (ap last_mark same ∙ i.last ∙ sym (ap (λ (m : Marks). m.closed) i.stands.marks) ∙ ap (λ (m : Marks). m.closed) stands.marks)
 
   -- over either, by what was sent
-  pub after_closing : (old new' : SendsState) → old.sent ≡ sent → (result : Result closing.Closed Refusal) (new : CoreData) → HasSent i.rows i.steps i.state old result new new' → IsSoundCore image new new'.sent
+  pub after_closing : (old new' : SendsState) → old.sent ≡ sent → (result : Result closing.Closed Refusal) (new : CoreData) → HasSent i.rows i.steps i.state old result new new' → IsSoundCore o new new'.sent
   after_closing old new' is (Ok x) new h = closed_to new'.sent new x h.1.0 (h.1.1 ∙ ap (λ (gs : List GroupData). gs ++ h.1.0 ∷ []) is) h.1.2
   after_closing old new' is (Err r) new h = unclosed new'.sent new (h.0 ∙ is) h.1.1.stands
 
   -- what is known of it
-  pub legal : IsLegalCore image c sent
+  pub legal : IsLegalCore o c sent
   legal = record {
     rows = i.rows;
     mark = i.mark;

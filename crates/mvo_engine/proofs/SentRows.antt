@@ -9,7 +9,7 @@ use Rattle.mvo_types.specs.Keys.{Map}
 use Rattle.mvo_model.specs.History.{after_history}
 use Rattle.mvo_model.specs.Trace.{Step}
 use Rattle.mvo_disk.specs.declared.disk.Disk.{Ghosts}
-use Rattle.mvo_disk.specs.Disk.{Image}
+use Rattle.mvo_run.specs.Opening.{Opening}
 use Rattle.mvo_group.specs.Data.{GroupData}
 use Rattle.mvo_theory.specs.State.{State, StampedTx, Marks, timeline, after_settled}
 use Rattle.mvo_theory.specs.Marks.{Commit, settled_to}
@@ -76,7 +76,7 @@ rising_line start (x ∷ xs) ys past up later up' =
     let until = past.0.until in
     (each_append (λ (y : StampedTx). x.end < y.end) xs ys up.0 (each_weaker (λ (y : StampedTx). start < y.end) (λ (y : StampedTx). x.end < y.end) (λ y p. omega (arith, p, until)) ys later), rising_line start xs ys past.1 up.1 later up')
 
-module _ {image : Image} {c : CoreData} {sent : List GroupData} (i : IsSoundCore image c sent) where
+module _ {o : Opening} {c : CoreData} {sent : List GroupData} (i : IsSoundCore o c sent) where
   begun : AllByRecursion (λ (x : StampedTx). x.id < x.end) (timeline i.state)
   begun =
       each_append (λ (x : StampedTx). x.id < x.end) i.state.past i.state.stamped
@@ -101,7 +101,7 @@ module _ {image : Image} {c : CoreData} {sent : List GroupData} (i : IsSoundCore
       drawn (none_first (timeline i.state) begun) i.groups (omega (arith, last, marks, closed))
 
   -- what is known with both locks
-  pub audited : {D : Type 0} (d : Ghosts D) (made raised : ℕ) (st : StoreState D) (behind : List GroupData) → st.received ++ behind ≡ sent → LeavesReceived d image st.received st.store → IsAudited d image (record { core = c; sends = record { sent = sent; raised = raised }; made = made }) st
+  pub audited : {D : Type 0} (d : Ghosts D) (made raised : ℕ) (st : StoreState D) (behind : List GroupData) → st.received ++ behind ≡ sent → LeavesReceived d o st.received st.store → IsAudited d o (record { core = c; sends = record { sent = sent; raised = raised }; made = made }) st
   audited d made raised st behind begins leaves = record {
     behind = behind;
     begins = begins;
@@ -112,8 +112,8 @@ module _ {image : Image} {c : CoreData} {sent : List GroupData} (i : IsSoundCore
     state = i.state;
     stands = i.stands;
     agrees = sent_agrees;
-    images = λ slots left of.
-        let g = leaves.images slots left of in
+    images = λ now slots left of.
+        let g = leaves.images now slots left of in
         record {
           rows = g.rows;
           mark = g.mark;

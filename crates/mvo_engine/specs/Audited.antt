@@ -5,14 +5,15 @@ use Rattle.mvo_types.specs.Keys.{Map}
 use Rattle.mvo_model.specs.History.{after_history}
 use Rattle.mvo_model.specs.Trace.{Step}
 use Rattle.mvo_disk.specs.declared.disk.Disk.{Ghosts}
-use Rattle.mvo_disk.specs.Disk.{Image, AllOf}
+use Rattle.mvo_disk.specs.Disk.{Image, AllOf, IsHonest}
 use Rattle.mvo_group.specs.Data.{GroupData}
 use Rattle.mvo_theory.specs.State.{State, timeline, after_settled}
 use Rattle.mvo_theory.specs.Marks.{Commit, settled_to}
 use Rattle.mvo_core.specs.Standing.{StandsFor}
 use Rattle.mvo_store.specs.Rows.{after_groups}
 use Rattle.mvo_store.specs.Seen.{disk_of, mark_of}
-use Rattle.mvo_store.specs.Standing.{Gives, HasSlots}
+use Rattle.mvo_run.specs.Opening.{Opening}
+use Rattle.mvo_engine.specs.Opening.{GaveWhenOpened, WasFormatted}
 use Rattle.mvo_engine.specs.Sound.{last_mark, GivesReceived}
 use Rattle.mvo_engine.specs.States.{CoreState, StoreState}
 
@@ -32,18 +33,20 @@ AgreesWithHistory opening s sent =
     after_commits (not_sent s sent) (after_groups opening sent) ≡ after_settled s.stamped s.base
 
 -- The groups that were received are a beginning of those that were sent, which agree with the
--- history. Each image that a stop now may leave gives the opening rows followed by a beginning of
--- those that were sent, up to a mark at least the store's.
-pub record IsAudited {D : Type 0} (d : Ghosts D) (opening : Image) (c : CoreState)
+-- history. Each image that a stop now may leave of a disk that was formatted, and has answered as
+-- written, gives the opening rows followed by a beginning of those that were sent, up to a mark at
+-- least the store's.
+pub record IsAudited {D : Type 0} (d : Ghosts D) (o : Opening) (c : CoreState)
     (s : StoreState D) : Type 0 where
   pub behind : List GroupData
   pub begins : s.received ++ behind ≡ c.sends.sent
   pub rows : Map
   pub mark : ℕ
-  pub gives : Gives rows mark opening
+  pub gives : GaveWhenOpened rows mark o
   pub steps : List Step
   pub state : State
   pub stands : StandsFor rows steps state c.core
   pub agrees : AgreesWithHistory rows state c.sends.sent
-  pub images : HasSlots opening → (image : Image) → AllOf (d.may_leave (disk_of s.store)) image →
-      GivesReceived opening c.sends.sent (mark_of s.store) image
+  pub images : IsHonest (d.moment (disk_of s.store)) → WasFormatted o → (image : Image) →
+      AllOf (d.may_leave (disk_of s.store)) image →
+      GivesReceived o c.sends.sent (mark_of s.store) image

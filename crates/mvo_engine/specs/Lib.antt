@@ -1,5 +1,6 @@
 pub use Rattle.mvo_run.specs.Watching
 pub mod Sound
+pub mod Opening
 pub mod Opened
 pub mod States
 pub mod Calls

@@ -1,10 +1,10 @@
 -- What the values under the two locks keep.
-use Rattle.std.specs.Prelude.{◌≡◌, ℕ, ◌≤◌, List, ◌++◌}
+use Rattle.std.specs.Prelude.{◌≡◌, ℕ, ◌≤◌, IsTrue, List, ◌++◌}
 use Rattle.std.specs.Option.{option_to_list}
 use Rattle.mvo_types.specs.Keys.{Map}
 use Rattle.mvo_model.specs.Trace.{Step}
 use Rattle.mvo_disk.specs.declared.disk.Disk.{Ghosts}
-use Rattle.mvo_disk.specs.Disk.{Image, AllOf}
+use Rattle.mvo_disk.specs.Disk.{Image, AllOf, IsHonest}
 use Rattle.mvo_group.specs.Data.{GroupData}
 use Rattle.mvo_theory.specs.State.{State}
 use Rattle.mvo_theory.specs.Marks.{IsClosedAt}
@@ -17,6 +17,8 @@ use Rattle.mvo_store.specs.Rows.{after_groups}
 use Rattle.mvo_store.specs.Seen.{disk_of, mark_of, pending_of}
 use Rattle.mvo_store.specs.StoreData.{StoreData}
 use Rattle.mvo_store.specs.Standing.{Gives, HasSlots, KeepsRows, FollowsMark}
+use Rattle.mvo_run.specs.Opening.{Opening}
+use Rattle.mvo_engine.specs.Opening.{GaveWhenOpened, WasFormatted}
 
 -- The mark up to which the groups lead that went through a ring. The first one leads from 0 to the
 -- opening mark and has no records, unless that mark is 0.
@@ -25,10 +27,10 @@ last_mark groups = mark_after 0 groups
 
 -- The core stands for a state to which steps over the opening rows led. The groups that were sent
 -- hold its commits, up to the mark of the last one.
-pub record IsSoundCore (image : Image) (c : CoreData) (sent : List GroupData) : Type 0 where
+pub record IsSoundCore (o : Opening) (c : CoreData) (sent : List GroupData) : Type 0 where
   pub rows : Map
   pub mark : ℕ
-  pub gives : Gives rows mark image
+  pub gives : GaveWhenOpened rows mark o
   pub steps : List Step
   pub state : State
   pub stands : StandsFor rows steps state c
@@ -37,26 +39,28 @@ pub record IsSoundCore (image : Image) (c : CoreData) (sent : List GroupData) : 
   pub last : last_mark sent ≡ closed_mark_of c
 
 -- The groups that were received are durable, but for the one that is being appended. Where the disk
--- was formatted, a stop now leaves the opening rows followed by the durable ones, or also by that
--- one.
-pub record IsSoundStore {D : Type 0} (d : Ghosts D) (image : Image) (s : StoreData D)
+-- was formatted, and as long as it answers as written, a stop now leaves the opening rows followed
+-- by the durable ones, or also by that one.
+pub record IsSoundStore {D : Type 0} (d : Ghosts D) (o : Opening) (s : StoreData D)
     (received : List GroupData) : Type 0 where
   pub rows : Map
   pub mark : ℕ
-  pub gives : Gives rows mark image
+  pub gives : GaveWhenOpened rows mark o
   pub durable : List GroupData
   pub received_is : received ≡ durable ++ option_to_list (pending_of s)
   pub mark_is : mark_of s ≡ last_mark durable
   pub follows : FollowsMark (mark_of s) (pending_of s)
-  pub keeps : HasSlots image → KeepsRows d s (after_groups rows durable)
+  pub was : IsHonest (d.moment (disk_of s)) → IsTrue o.honest
+  pub keeps : IsHonest (d.moment (disk_of s)) → WasFormatted o →
+      KeepsRows d s (after_groups rows durable)
 
 -- An image is well formed, and gives the opening rows followed by a beginning of the groups that
 -- were received, up to a mark at least this one.
-pub record GivesReceived (opening : Image) (received : List GroupData) (least : ℕ)
+pub record GivesReceived (o : Opening) (received : List GroupData) (least : ℕ)
     (image : Image) : Type 0 where
   pub rows : Map
   pub mark : ℕ
-  pub opened : Gives rows mark opening
+  pub opened : Gives rows mark o.image
   pub front : List GroupData
   pub behind : List GroupData
   pub received_is : received ≡ front ++ behind
@@ -64,15 +68,16 @@ pub record GivesReceived (opening : Image) (received : List GroupData) (least : 
   pub gives : Gives (after_groups rows front) (last_mark front) image
   pub covers : least ≤ last_mark front
 
--- Each image that a stop now may leave of a disk that was formatted gives the opening rows followed
--- by a beginning of the groups that were received, up to a mark at least the store's.
-pub record LeavesReceived {D : Type 0} (d : Ghosts D) (opening : Image) (received : List GroupData)
+-- Each image that a stop now may leave of a disk that was formatted, and has answered as written,
+-- gives the opening rows followed by a beginning of the groups that were received, up to a mark at
+-- least the store's.
+pub record LeavesReceived {D : Type 0} (d : Ghosts D) (o : Opening) (received : List GroupData)
     (s : StoreData D) : Type 0 where
-  pub images : HasSlots opening → (image : Image) → AllOf (d.may_leave (disk_of s)) image →
-      GivesReceived opening received (mark_of s) image
+  pub images : IsHonest (d.moment (disk_of s)) → WasFormatted o → (image : Image) →
+      AllOf (d.may_leave (disk_of s)) image → GivesReceived o received (mark_of s) image
 
 -- An image is well formed, and gives the opening rows followed by groups.
-pub record GivesSome (opening : Image) (image : Image) : Type 0 where
+pub record GivesSome (o : Opening) (image : Image) : Type 0 where
   pub received : List GroupData
   pub least : ℕ
-  pub gives : GivesReceived opening received least image
+  pub gives : GivesReceived o received least image

@@ -42,7 +42,7 @@ impl<'e, L: Run> CoreGuard<'e, L> {
     /// of transactions that ran one after another by their ends, and none ended above the clock.
     pub fn clock(&self) -> Stamp
         ensures value { result.0 ≡ self.now.core.table.clock }
-        ensures legal { IsLegalCore L.image self.now.core self.now.sends.sent }
+        ensures legal { IsLegalCore L.opening self.now.core self.now.sends.sent }
     {
         self.held.clock()
     }

@@ -52,15 +52,15 @@ impl<L: Run, D: Disk + Drop, G: Gate + Drop> Drop for Engine<L, D, G> {
 impl<L: Run, D: Disk, G: Gate + Drop> Engine<L, D, G> {
     ghost use Rattle.std.specs.Prelude.{◌≡◌, [], None, IfOk, IfErr};
     ghost use Rattle.mvo_types.specs.declared.refusal.Refusal.{Refusal};
-    ghost use Rattle.mvo_disk.specs.Disk.{Image, AllOf};
-    ghost use Rattle.mvo_store.specs.Standing.{HasSlots};
+    ghost use Rattle.mvo_disk.specs.Disk.{Image, AllOf, IsHonest};
+    ghost use Rattle.mvo_engine.specs.Opening.{WasFormatted};
     ghost use Rattle.mvo_engine.specs.Audited.{IsAudited};
     ghost use Rattle.mvo_engine.specs.Opened.{IsNamedBy};
     ghost use Rattle.mvo_engine.specs.Sound.{GivesSome};
 
     /// An engine of these parts, which name its run.
     pub fn new(fresh: Fresh<D>, gate: G) -> Engine<L, D, G>
-        requires { IsNamedBy D.Disk L.image L.marks L.ring L.name L.parts fresh }
+        requires { IsNamedBy D.Disk L.opening L.marks L.ring L.name L.parts fresh }
     {
         let Fresh {
             alloc,
@@ -158,19 +158,21 @@ impl<L: Run, D: Disk, G: Gate + Drop> Engine<L, D, G> {
     /// were sent, which agree with the history, and so does each image that a stop now may leave.
     /// It changes nothing, takes no memory and waits for nobody.
     pub fn audit(&self, core: &mut CoreGuard<'_, L>, store: &mut StoreGuard<'_, L, D>)
-        ensures audited { IsAudited D.Disk L.image core.old store.old }
+        ensures audited { IsAudited D.Disk L.opening core.old store.old }
         ensures core { core.new ≡ core.old }
         ensures store { store.new ≡ store.old }
     {
         core.held.audit(&mut *store.held);
     }
 
-    /// The disk, as it stands. Where it was formatted, it gives the opening rows followed by groups
-    /// that were received, and so does each image that a stop may leave of it from now on.
+    /// The disk, as it stands. Where it was formatted and has answered as written, it gives the
+    /// opening rows followed by groups that were received, and so does each image that a stop may
+    /// leave of it from now on.
     pub fn into_disk(self) -> D
-        ensures gives { HasSlots L.image → GivesSome L.image (D.content result) }
-        ensures images { HasSlots L.image → (image : Image) →
-            AllOf (D.may_leave result) image → GivesSome L.image image }
+        ensures gives { IsHonest (D.moment result) → WasFormatted L.opening →
+            GivesSome L.opening (D.content result) }
+        ensures images { IsHonest (D.moment result) → WasFormatted L.opening → (image : Image) →
+            AllOf (D.may_leave result) image → GivesSome L.opening image }
     {
         let Engine {
             gate: _,

@@ -36,6 +36,7 @@ impl<D: Disk> Model for Fresh<D> {
     ghost use Rattle.mvo_store.specs.Places.{coded_places};
     ghost use Rattle.mvo_store.specs.Seen.{disk_of, mark_of};
     ghost use Rattle.mvo_run.specs.Rings.{ring_of, ring_from};
+    ghost use Rattle.mvo_run.specs.Opening.{opening_of};
     ghost use Rattle.mvo_run.specs.declared.run.TheConstants.{MAX_SESSIONS};
     ghost use Rattle.mvo_engine.specs.Opened.{FreshData, HasOpened, AreFreshSeats, IsFreshRing};
 
@@ -52,7 +53,7 @@ impl<D: Disk> Model for Fresh<D> {
       parts = f.blank.parts;
     } };
 
-    ghost invariant = { λ f. HasOpened D.Disk (D.content (disk_of f.store)) f.core f.store ×
+    ghost invariant = { λ f. HasOpened D.Disk (opening_of D.Disk (disk_of f.store)) f.core f.store ×
         AreFreshSeats f.marks (mark_of f.store) f.publisher f.seat ×
         IsFreshRing (mark_of f.store) f.producer f.consumer × (f.blank.parts ≡ MAX_SESSIONS) };
 }
@@ -61,6 +62,7 @@ impl<D: Disk> Fresh<D> {
     ghost use Rattle.std.specs.Prelude.{◌≡◌, ℕ, IfOk, IfErr};
     ghost use Rattle.mvo_types.specs.declared.refusal.Refusal.{Refusal};
     ghost use Rattle.mvo_types.specs.Keys.{Map};
+    ghost use Rattle.mvo_disk.specs.Disk.{IsHonest};
     ghost use Rattle.mvo_store.specs.Standing.{Gives};
     ghost use Rattle.mvo_store.specs.Opening.{KeepsContent, LeavesAsBefore};
     ghost use Rattle.mvo_store.specs.Opening.{IsNotOpened, IsNotOfFiles};
@@ -81,8 +83,8 @@ impl<D: Disk> Fresh<D> {
         ensures count { IfOk result (λ fresh.
             D.fault_count (disk_of fresh.store) ≡ D.fault_count disk) }
         ensures refused { IfErr result (λ e. IsNotOpened D.Disk disk e.0 e.1) }
-        ensures well_formed { IfErr result (λ e. (rows : Map) (mark : ℕ) →
-            Gives rows mark (D.content disk) → IsNotOfFiles e.0) }
+        ensures well_formed { IfErr result (λ e. IsHonest (D.moment e.1) →
+            (rows : Map) (mark : ℕ) → Gives rows mark (D.content disk) → IsNotOfFiles e.0) }
         ensures content_err { IfErr result (λ e. KeepsContent D.Disk disk e.1) }
         ensures any_moment_err { IfErr result (λ e. LeavesAsBefore D.Disk disk e.1) }
     {

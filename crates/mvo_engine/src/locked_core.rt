@@ -52,7 +52,7 @@ impl<L: Run> Model for LockedCore<L> {
 
     ghost view = { λ s. record { core = s.core; sends = s.sends; made = s.made } };
 
-    ghost invariant = { λ s. IsSoundCore L.image s.core s.sends.sent
+    ghost invariant = { λ s. IsSoundCore L.opening s.core s.sends.sent
         × IsBooked L.watched s.core s.book.total
         × HasSpareParts L.parts s.made s.spare.parts s.spare.amount };
 }
@@ -82,7 +82,7 @@ impl<L: Run> LockedCore<L> {
         sends: Sends<L>,
         ledger: (Book<L>, Share<L>),
     ) -> LockedCore<L>
-        requires sound { IsSoundCore L.image core sends.sent }
+        requires sound { IsSoundCore L.opening core sends.sent }
         requires booked { IsBooked L.watched core ledger.0.total }
         requires parts { HasSpareParts L.parts 0 ledger.1.parts ledger.1.amount }
         ensures core { result.core ≡ core }
@@ -103,7 +103,7 @@ impl<L: Run> LockedCore<L> {
     /// The timestamp that was drawn last, or the opening mark.
     pub fn clock(&self) -> Stamp
         ensures value { result.0 ≡ self.now.core.table.clock }
-        ensures legal { IsLegalCore L.image self.now.core self.now.sends.sent }
+        ensures legal { IsLegalCore L.opening self.now.core self.now.sends.sent }
     {
         self.core.clock()
     }
@@ -202,7 +202,7 @@ impl<L: Run> LockedCore<L> {
 
     /// What is known with both locks. It changes nothing.
     pub fn audit<D: Disk>(&mut self, store: &mut LockedStore<L, D>)
-        ensures audited { IsAudited D.Disk L.image self.old store.old }
+        ensures audited { IsAudited D.Disk L.opening self.old store.old }
         ensures core { self.new ≡ self.old }
         ensures store { store.new ≡ store.old }
     {

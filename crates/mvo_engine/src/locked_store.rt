@@ -52,7 +52,7 @@ impl<L: Run, D: Disk> Model for LockedStore<L, D> {
       published = s.publisher.known.published;
     } };
 
-    ghost invariant = { λ s. IsSoundStore D.Disk L.image s.store (received s.ring) ×
+    ghost invariant = { λ s. IsSoundStore D.Disk L.opening s.store (received s.ring) ×
         (s.publisher.marks ≡ L.marks) × (s.publisher.known.published ≤ mark_of s.store) ×
         (ring_from s.ring ≡ L.ring) };
 }
@@ -62,7 +62,8 @@ impl<L: Run, D: Disk> LockedStore<L, D> {
     ghost use Rattle.std.specs.Prelude.{OnOk, IfOk, IfErr};
     ghost use Rattle.rtrb.specs.Ring.{sent, received};
     ghost use Rattle.mvo_group.specs.Data.{GroupData};
-    ghost use Rattle.mvo_store.specs.Standing.{HasSlots};
+    ghost use Rattle.mvo_disk.specs.Disk.{IsHonest};
+    ghost use Rattle.mvo_engine.specs.Opening.{WasFormatted};
     ghost use Rattle.mvo_store.specs.Seen.{disk_of, mark_of, installed_manifest};
     ghost use Rattle.mvo_store.specs.Causes.{why_not_take};
     ghost use Rattle.mvo_store.specs.Calls.StoreCall.{AppendBody, RotateWrite};
@@ -83,7 +84,7 @@ impl<L: Run, D: Disk> LockedStore<L, D> {
         ring: Consumer<Group, Global, Chain>,
         publisher: Publisher,
     ) -> LockedStore<L, D>
-        requires sound { IsSoundStore D.Disk L.image store (received ring) }
+        requires sound { IsSoundStore D.Disk L.opening store (received ring) }
         requires marks { publisher.marks ≡ L.marks }
         requires published { publisher.known.published ≤ mark_of store }
         requires ring { ring_from ring ≡ L.ring }
@@ -101,9 +102,9 @@ impl<L: Run, D: Disk> LockedStore<L, D> {
     /// The disk, as it stands.
     pub fn into_disk(self) -> D
         ensures disk { result ≡ disk_of self.store }
-        ensures images { LeavesReceived D.Disk L.image self.received self.store }
-        ensures gives { HasSlots L.image →
-            GivesReceived L.image self.received (mark_of self.store) (D.content result) }
+        ensures images { LeavesReceived D.Disk L.opening self.received self.store }
+        ensures gives { IsHonest (D.moment result) → WasFormatted L.opening →
+            GivesReceived L.opening self.received (mark_of self.store) (D.content result) }
     {
         let LockedStore {
             store,
@@ -116,10 +117,10 @@ impl<L: Run, D: Disk> LockedStore<L, D> {
 
     /// The mark of the last group that is durable, or the one that the store opened at. Each image
     /// that a stop now may leave gives the opening rows followed by the groups that were received,
-    /// up to a mark at least this one.
+    /// up to a mark at least this one, as long as the disk answers as written.
     pub fn mark(&self) -> Stamp
         ensures value { result.0 ≡ mark_of self.now.store }
-        ensures images { LeavesReceived D.Disk L.image self.now.received self.now.store }
+        ensures images { LeavesReceived D.Disk L.opening self.now.received self.now.store }
     {
         self.store.mark()
     }
@@ -129,7 +130,7 @@ impl<L: Run, D: Disk> LockedStore<L, D> {
     pub fn audit(&mut self, producer: &mut Producer<Group, Global, Chain>)
         requires { ring_of producer.old ≡ L.ring }
         ensures begins { (rest : List GroupData) × (self.old.received ++ rest ≡ sent producer.old) }
-        ensures images { LeavesReceived D.Disk L.image self.old.received self.old.store }
+        ensures images { LeavesReceived D.Disk L.opening self.old.received self.old.store }
         ensures sent { sent producer.new ≡ sent producer.old }
         ensures ring { ring_of producer.new ≡ ring_of producer.old }
         ensures same { self.new ≡ self.old }

@@ -68,7 +68,7 @@ impl<L: Run> Sends<L> {
     /// nothing.
     pub fn audit<D: Disk>(&mut self, store: &mut LockedStore<L, D>)
         ensures begins { (rest : List GroupData) × (store.old.received ++ rest ≡ self.old.sent) }
-        ensures images { LeavesReceived D.Disk L.image store.old.received store.old.store }
+        ensures images { LeavesReceived D.Disk L.opening store.old.received store.old.store }
         ensures same { self.new ≡ self.old }
         ensures store { store.new ≡ store.old }
     {

@@ -65,7 +65,7 @@ impl<'e, L: Run, D: Disk> StoreGuard<'e, L, D> {
     /// up to a mark at least this one.
     pub fn mark(&self) -> Stamp
         ensures value { result.0 ≡ mark_of self.now.store }
-        ensures images { LeavesReceived D.Disk L.image self.now.received self.now.store }
+        ensures images { LeavesReceived D.Disk L.opening self.now.received self.now.store }
     {
         self.held.mark()
     }

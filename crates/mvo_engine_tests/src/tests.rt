@@ -1,3 +1,4 @@
+mod beside;
 mod counting;
 mod depending;
 mod down;

@@ -1,5 +1,6 @@
 //! Data files and delta files.
 
+mod late;
 mod plain;
 mod spelling;
 mod vectors;

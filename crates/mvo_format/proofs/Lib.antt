@@ -1,2 +1,3 @@
 pub mod Said
 pub mod Headers
+pub mod Fronts

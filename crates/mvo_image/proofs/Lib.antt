@@ -3,3 +3,4 @@ pub mod Base
 pub mod One
 pub mod Exact
 pub mod Opening
+pub mod Fronts

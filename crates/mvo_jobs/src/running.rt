@@ -73,7 +73,7 @@ where
     J: Gate + Sync,
     W: Write,
     R: Threads + Wait + Sync,
-    requires { IsNamedBy D.Disk L.image L.marks L.ring L.name L.parts fresh }
+    requires { IsNamedBy D.Disk L.opening L.marks L.ring L.name L.parts fresh }
 {
     let engine = Engine::<L, D, OpenGate>::new(fresh, OpenGate);
     let work = SessionWork::new(alloc, &engine, gate, commits);

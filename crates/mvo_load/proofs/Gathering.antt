@@ -32,8 +32,9 @@ use Rattle.mvo_types.proofs.Maps.{keys_total, exact_keys}
 use Rattle.mvo_load.specs.Leading.{Leads}
 use Rattle.mvo_load.specs.Parts.{HaveRows, HavePlaces}
 use Rattle.mvo_load.specs.Gathered.{AreGathered, AreMade, MayLie, with_places}
-use Rattle.mvo_load.specs.Files.{bytes_of, IsPart}
+use Rattle.mvo_load.specs.Files.{PairBytes, bytes_of, IsPart}
 use Rattle.mvo_load.specs.declared.part.Part.{Part}
+use Rattle.mvo_load.proofs.Fronts.{pair_on_disk}
 use Rattle.mvo_load.proofs.Ordered.{all_of, apart_each, rows_each, made_in_order}
 use Rattle.mvo_load.proofs.Pairing.{HasFiles, front_of, pair_files_fit, data_files_differ, live_push, none_alone, one_more_alone, Behind, Whole}
 use Rattle.mvo_load.proofs.Steps.{pair_leads}
@@ -53,7 +54,7 @@ may_lie p (l ∷ live) fits few = ((omega (arith, fits.«data»), omega (arith, 
 abbrev pub AreFiles : Pair → Type 0
 AreFiles p = (p.data_file < 1024) × (p.delta_file < 1024)
 
-all_files : (ps : List Pair) → AllByRecursion HasFiles ps → AllByRecursion AreFiles ps
+pub all_files : (ps : List Pair) → AllByRecursion HasFiles ps → AllByRecursion AreFiles ps
 all_files [] fit = tt
 all_files (p ∷ ps) fit = ((fit.0.«data», fit.0.delta), all_files ps fit.1)
 
@@ -152,7 +153,7 @@ module _ (f : Format) (image : Image) (m : ManifestData) where
   placed_of part = part.placed.items
 
   abbrev pub ArePartsOf : List Pair → List Part → Type 0
-  ArePartsOf ps parts = AllZip (λ of part. IsPart f of part.live.items part.placed.items) (map (bytes_of image) ps) parts
+  ArePartsOf ps parts = AllZip (λ of part. IsPart f of part.live.items part.placed.items) (map (bytes_of f image) ps) parts
 
   -- the parts of some more pairs, one after another
   pub more_gathered : IsManifest m → (ps qs : List Pair) (parts : List Part) (before : List Numbered) (placed : Placed) → GatheredSoFar (ps ++ qs) before placed → ArePartsOf ps parts
@@ -162,7 +163,8 @@ module _ (f : Format) (image : Image) (m : ManifestData) where
   more_gathered good [] qs (part ∷ parts) before placed here are = absurd are
   more_gathered good (p ∷ ps) qs [] before placed here are = absurd are
   more_gathered good (p ∷ ps) qs (part ∷ parts) before placed here are =
-      let one = one_gathered p (ps ++ qs) before placed here are.0.live (live_of part) are.0.moved are.0.only good in
+      let only = pair_on_disk f p (image p.data_file) (image p.delta_file) (Ok are.0.live) are.0.only in
+      let one = one_gathered p (ps ++ qs) before placed here are.0.live (live_of part) are.0.moved only good in
       let next = subst (λ (es : Placed). GatheredSoFar (ps ++ qs) (before ++ live_of part) (placed ++ es)) (sym are.0.each) one in
       let all = more_gathered good ps qs parts (before ++ live_of part) (placed ++ placed_of part) next are.1 in
       let live_is : (before ++ live_of part) ++ flat_map live_of parts ≡ before ++ flat_map live_of (part ∷ parts) =
@@ -247,3 +249,20 @@ module _ (f : Format) (image : Image) (m : ManifestData) (live : List Numbered) 
 
   pub leads_made : Leads (Behind f image m rows) (Whole f image m)
   leads_made out only = all.leads apart out (subst (λ (r : Map). IsOnly (Behind f image m r) out) rows_are only)
+
+-- the places of parts that were found may lie in a table, whatever their bytes
+module _ (f : Format) where
+  abbrev lying : Part → Placed
+  lying part = part.placed.items
+
+  pub small_parts : (bs : List PairBytes) (parts : List Part) → AllByRecursion HasFiles (map (λ b. b.pair) bs) → AllZip (λ of part. IsPart f of part.live.items part.placed.items) bs parts
+      → All MayLie (flat_map lying parts)
+  small_parts [] [] fit are = All-from_recursion MayLie [] tt
+  small_parts [] (part ∷ parts) fit are = absurd are
+  small_parts (b ∷ bs) [] fit are = absurd are
+  small_parts (b ∷ bs) (part ∷ parts) fit are =
+      let p = b.pair in
+      let live = are.0.live in
+      let here = All-from_recursion MayLie (places_in p.data_file live) (may_lie p live fit.0 (recursion_from_All (λ l. l.0 < p.records) live (live_numbers_rise f p b.data_bytes b.delta_bytes live are.0.only.0).1)) in
+      let mine = subst (λ (es : Placed). All MayLie es) (sym are.0.each) here in
+      subst (λ (es : Placed). All MayLie es) (sym (flat_map-cons lying part parts)) (All-append MayLie (lying part) (flat_map lying parts) mine (small_parts bs parts fit.1 are.1))

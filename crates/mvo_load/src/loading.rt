@@ -1,6 +1,7 @@
 //! Finds out what a disk holds.
-ghost use Rattle.std.specs.Prelude.{◌≡◌, ◌<◌, ◌+◌, ◌^◌, IfOk};
-ghost use Rattle.mvo_disk.specs.Disk.{AllStay, AllOf, LeavesOnly};
+ghost use Rattle.std.specs.Prelude.{◌≡◌, ◌<◌, ◌≤◌, ◌+◌, ◌^◌, IfOk};
+ghost use Rattle.mvo_disk.specs.Disk.{AllStay, AllOf, LeavesOnly, IsHonest};
+ghost use Rattle.mvo_types.specs.declared.limits.TheConstants.{MAX_SEGMENT_LEN, MAX_STAMP};
 ghost use Rattle.mvo_pair.specs.Answers.{Tells};
 ghost use Rattle.mvo_pair.specs.Writing.{IsStop, CountsFaults};
 ghost use Rattle.mvo_image.specs.Files.{OpensAs};
@@ -38,12 +39,14 @@ pub fn load<D: Disk>(
     seed: u64,
 ) -> Result<Loaded, Refusal>
     requires room { D.fault_count disk.old + 1 < 2 ^ 64 }
-    ensures says { Tells IsStop (λ l. (l.rows, l.mark.0)) result
+    ensures says { IsHonest (D.moment disk.new) → Tells IsStop (λ l. (l.rows, l.mark.0)) result
         (OpensAs format (D.content disk.old)) }
-    ensures parts { IfOk result (λ l. IsLoaded format (D.content disk.old) l.manifest l.rows
-        l.mark.0 l.gate) }
-    ensures places { IfOk result (λ l. HavePlaces format (D.content disk.old) l.manifest.pairs
-        l.places.at) }
+    ensures parts { IsHonest (D.moment disk.new) → IfOk result (λ l. IsLoaded format
+        (D.content disk.old) l.manifest l.rows l.mark.0 l.gate) }
+    ensures places { IsHonest (D.moment disk.new) → IfOk result (λ l. HavePlaces format
+        (D.content disk.old) l.manifest.pairs l.places.at) }
+    ensures few { IfOk result (λ l. l.gate < MAX_SEGMENT_LEN) }
+    ensures stamp { IfOk result (λ l. l.mark.0 ≤ MAX_STAMP) }
     ensures count { CountsFaults (D.fault_count disk.old) (D.fault_count disk.new) result }
     ensures rest { AllStay (D.content disk.old) (D.content disk.new) (D.may_leave disk.old)
         (D.may_leave disk.new) }

@@ -7,6 +7,7 @@ ghost use Rattle.mvo_image.specs.Opens.{Segments, OpensWith};
 ghost use Rattle.mvo_image.specs.Files.{SegmentSays};
 ghost use Rattle.mvo_load.specs.Leading.{LeadsOn};
 ghost use Rattle.mvo_load.specs.Parts.{Joins, HaveRows, HavePlaces};
+ghost use Rattle.mvo_disk.specs.Disk.{IsHonest};
 ghost use Rattle.mvo_load.specs.Read.{HasRead};
 
 use crate::at_once::at_once;
@@ -49,11 +50,11 @@ fn load_in_turn<D: Disk>(
     seed: u64,
 ) -> Result<(Rows, Places), Refusal>
     requires room { D.fault_count disk.old + 1 < 2 ^ 64 }
-    ensures live { IfOk result (λ found. HaveRows format (D.content disk.old) manifest.now.pairs
-        found.0) }
-    ensures places { IfOk result (λ found. HavePlaces format (D.content disk.old)
-        manifest.now.pairs found.1.at) }
-    ensures leads { LeadsOn
+    ensures live { IsHonest (D.moment disk.new) → IfOk result (λ found. HaveRows format
+        (D.content disk.old) manifest.now.pairs found.0) }
+    ensures places { IsHonest (D.moment disk.new) → IfOk result (λ found. HavePlaces format
+        (D.content disk.old) manifest.now.pairs found.1.at) }
+    ensures leads { IsHonest (D.moment disk.new) → LeadsOn
         (λ found. Segments (SegmentSays format) (D.content disk.old) found.0 manifest.now.segments
         manifest.now.checkpoint_mark [])
         (OpensWith (SegmentSays format) format (D.content disk.old) (Some manifest.now)) result }
@@ -88,11 +89,11 @@ fn load_beside<D: Disk>(
     seed: u64,
 ) -> Result<(Rows, Places), Refusal>
     requires room { D.fault_count disk.old + 1 < 2 ^ 64 }
-    ensures live { IfOk result (λ found. HaveRows format (D.content disk.old) manifest.now.pairs
-        found.0) }
-    ensures places { IfOk result (λ found. HavePlaces format (D.content disk.old)
-        manifest.now.pairs found.1.at) }
-    ensures leads { LeadsOn
+    ensures live { IsHonest (D.moment disk.new) → IfOk result (λ found. HaveRows format
+        (D.content disk.old) manifest.now.pairs found.0) }
+    ensures places { IsHonest (D.moment disk.new) → IfOk result (λ found. HavePlaces format
+        (D.content disk.old) manifest.now.pairs found.1.at) }
+    ensures leads { IsHonest (D.moment disk.new) → LeadsOn
         (λ found. Segments (SegmentSays format) (D.content disk.old) found.0 manifest.now.segments
         manifest.now.checkpoint_mark [])
         (OpensWith (SegmentSays format) format (D.content disk.old) (Some manifest.now)) result }
@@ -133,11 +134,11 @@ pub fn load_pairs<D: Disk>(
     seed: u64,
 ) -> Result<(Rows, Places), Refusal>
     requires room { D.fault_count disk.old + 1 < 2 ^ 64 }
-    ensures live { IfOk result (λ found. HaveRows format (D.content disk.old) manifest.now.pairs
-        found.0) }
-    ensures places { IfOk result (λ found. HavePlaces format (D.content disk.old)
-        manifest.now.pairs found.1.at) }
-    ensures leads { LeadsOn
+    ensures live { IsHonest (D.moment disk.new) → IfOk result (λ found. HaveRows format
+        (D.content disk.old) manifest.now.pairs found.0) }
+    ensures places { IsHonest (D.moment disk.new) → IfOk result (λ found. HavePlaces format
+        (D.content disk.old) manifest.now.pairs found.1.at) }
+    ensures leads { IsHonest (D.moment disk.new) → LeadsOn
         (λ found. Segments (SegmentSays format) (D.content disk.old) found.0 manifest.now.segments
         manifest.now.checkpoint_mark [])
         (OpensWith (SegmentSays format) format (D.content disk.old) (Some manifest.now)) result }

@@ -35,12 +35,13 @@ fn move_place(places: &mut Places, left: u16, right: u16, key: RowKey, place: Pl
 /// their places in the left or the right pair's data file lie in this one, each at its own number.
 /// A key whose record came to a delta meanwhile has its place elsewhere, or none, and keeps it.
 ///
-/// It takes no memory and no room, and the time of two look-ups a record.
+/// So it is where each record has a key of its own. It takes no memory and no room, and the time of
+/// two look-ups a record.
 pub fn move_places(places: &mut Places, left: u16, right: u16, data_file: u16, records: &[Entry])
     requires file { data_file ≤ MAX_FILE }
     requires few { length records.now ≤ MAX_PAIR_RECORDS }
-    requires keys { HaveOwnKeys records.now }
-    ensures moved { places.new.at ≡ moved left right data_file records.now places.old.at }
+    ensures moved { HaveOwnKeys records.now →
+        places.new.at ≡ moved left right data_file records.now places.old.at }
     ensures room { places.new.room ≡ places.old.room }
 {
     for (number, entry) in records.iter().enumerate() {

@@ -4,7 +4,7 @@ use Rattle.std.specs.List.{flat_map}
 use Rattle.std.proofs.lemmas.List.{take_at}
 use Rattle.std.proofs.lemmas.List.Concat.{flat_map-cons}
 use Rattle.std.proofs.lemmas.Grind.{flat_map-append}
-use Rattle.mvo_disk.specs.Disk.{Holds, Torn, Touched, Only, LeavesOnly, AllOf}
+use Rattle.mvo_disk.specs.Disk.{Holds, Torn, Touched, Only, LeavesOnly, AllOf, Moment}
 use Rattle.mvo_disk.specs.Moments.{started, weaker}
 use Rattle.mvo_disk.specs.Torn.{torn_whole}
 use Rattle.mvo_bytes.specs.Fields.{field}
@@ -19,7 +19,7 @@ length-numbers (n ∷ ns) = ap (λ (l : List ℕ). length l) (flat_map-cons (fie
     four : length (field 4 n) ≡ 4 → length (flat_map (field 4) ns) ≡ 4 * length ns → length (field 4 n) + length (flat_map (field 4) ns) ≡ 4 * length (n ∷ ns)
     four a b = omega arith
 
-length-delta : (version : ℕ) (ns : List ℕ) (count : ℕ) → length ns ≡ count → length (delta_bytes version ns) ≡ place_behind count
+pub length-delta : (version : ℕ) (ns : List ℕ) (count : ℕ) → length ns ≡ count → length (delta_bytes version ns) ≡ place_behind count
 length-delta version ns count is =
     let whole : length (delta_bytes version ns) ≡ length (header delta_magic version) + length (flat_map (field 4) ns) = length-append (header delta_magic version) (flat_map (field 4) ns) in
     let front : length (header delta_magic version) ≡ 4 + length (field 4 version) = length-append delta_magic (field 4 version) in
@@ -55,7 +55,7 @@ module _ (version below count : ℕ) (ns old : List ℕ) (has : HasNumbers versi
 
 -- ---- every moment
 
-module _ {D : Type 0} (moment : D → ℕ) (left_since : D → ℕ → (ℕ → List ℕ) → Type 0) (content : D → ℕ → List ℕ) (may_leave : D → ℕ → List ℕ → Type 0) where
+module _ {D : Type 0} (moment : D → Moment) (left_since : D → Moment → (ℕ → List ℕ) → Type 0) (content : D → ℕ → List ℕ) (may_leave : D → ℕ → List ℕ → Type 0) where
   pub keeps_within : (old new : D) (file count n : ℕ) → LeavesOnly moment left_since old new (Touched file (may_leave old) (Torn (place_behind count) n (content old file))) → KeepsNumbers moment left_since content may_leave old new file count
   keeps_within old new file count n only version below ns has =
       weaker moment left_since old new (Touched file (may_leave old) (Torn (place_behind count) n (content old file))) (Touched file (may_leave old) (HasNumbers version below count ns))

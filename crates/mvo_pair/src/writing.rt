@@ -1,7 +1,7 @@
 //! Writes the files of a pair to a disk.
 ghost use Rattle.std.specs.Prelude.{◌≡◌, ◌≤◌, ◌<◌, ◌+◌, ◌^◌, ℕ, List, length, OnOk, IfErr, ⊤};
 ghost use Rattle.std.specs.List.{flat_map};
-ghost use Rattle.mvo_disk.specs.Disk.{Holds, Only, OthersStay, LeavesOnly, Touched};
+ghost use Rattle.mvo_disk.specs.Disk.{Holds, Only, OthersStay, LeavesOnly, Touched, IsHonest};
 ghost use Rattle.mvo_bytes.specs.Fields.{field};
 ghost use Rattle.mvo_pair.specs.Files.{AreEntries, AreNumbers, HasEntries, HasNumbers, data_bytes, delta_bytes};
 ghost use Rattle.mvo_pair.specs.Writing.{IsWriteRefusal, KeepsNumbers, GainsNumbers, place_behind};
@@ -38,6 +38,7 @@ pub fn write_data<D: Disk>(
     ensures refused { IfErr result (IsWriteRefusal D.fault_count disk.old disk.new) }
     ensures rest { OthersStay pair.data_file (D.content disk.old) (D.content disk.new)
         (D.may_leave disk.old) (D.may_leave disk.new) }
+    ensures honest { (D.moment disk.new).honest ≡ (D.moment disk.old).honest }
     ensures any_moment { LeavesOnly D.moment D.left_since disk.old disk.new
         (Touched pair.data_file (D.may_leave disk.old) (λ _. ⊤)) }
 {
@@ -70,6 +71,7 @@ pub fn write_delta<D: Disk>(
     ensures refused { IfErr result (IsWriteRefusal D.fault_count disk.old disk.new) }
     ensures rest { OthersStay pair.delta_file (D.content disk.old) (D.content disk.new)
         (D.may_leave disk.old) (D.may_leave disk.new) }
+    ensures honest { (D.moment disk.new).honest ≡ (D.moment disk.old).honest }
     ensures any_moment { LeavesOnly D.moment D.left_since disk.old disk.new
         (Touched pair.delta_file (D.may_leave disk.old) (λ _. ⊤)) }
 {
@@ -91,9 +93,8 @@ pub fn append_delta<D: Disk>(
 ) -> Result<(), Refusal>
     requires file { pair.delta_file < 1024 }
     requires room { D.fault_count disk.old + 1 < 2 ^ 64 }
-    requires start { place_behind pair.entries ≤ length (D.content disk.old pair.delta_file) }
-    requires durable { Only (D.content disk.old pair.delta_file)
-        (D.may_leave disk.old pair.delta_file) }
+    requires start { IsHonest (D.moment disk.old) →
+        place_behind pair.entries ≤ length (D.content disk.old pair.delta_file) }
     ensures written { OnOk result (Holds (D.content disk.old pair.delta_file)
         (place_behind pair.entries) (flat_map (field 4) numbers.now)
         (D.content disk.new pair.delta_file)) }
@@ -105,8 +106,10 @@ pub fn append_delta<D: Disk>(
     ensures refused { IfErr result (IsWriteRefusal D.fault_count disk.old disk.new) }
     ensures rest { OthersStay pair.delta_file (D.content disk.old) (D.content disk.new)
         (D.may_leave disk.old) (D.may_leave disk.new) }
-    ensures any_moment { KeepsNumbers D.moment D.left_since D.content D.may_leave disk.old disk.new
-        pair.delta_file pair.entries }
+    ensures honest { (D.moment disk.new).honest ≡ (D.moment disk.old).honest }
+    ensures any_moment { Only (D.content disk.old pair.delta_file)
+        (D.may_leave disk.old pair.delta_file) → KeepsNumbers D.moment D.left_since D.content
+        D.may_leave disk.old disk.new pair.delta_file pair.entries }
 {
     let bytes = encode_numbers(alloc, numbers)?;
     let place = HEADER + NUMBER * pair.entries as usize;

@@ -1,3 +1,4 @@
 pub mod Rings
+pub mod Opening
 pub mod Watching
 pub mod Receiving

@@ -3,7 +3,6 @@ use Rattle.std.specs.Prelude.{ℕ, []}
 use Rattle.atomic_table.specs.Seated.{TableId}
 use Rattle.rtrb.specs.declared.producer.Producer.{Producer}
 use Rattle.rtrb.specs.declared.consumer.Consumer.{Consumer}
-use Rattle.mvo_disk.specs.Disk.{Image}
 use denote.RawPtr.{Ptr, null_ptr}
 
 -- which ring it is
@@ -33,6 +32,3 @@ no_marks = record {
   offset = 0;
   slot_names = [];
 }
-
-abbrev pub no_image : Image
-no_image n = []

@@ -4,16 +4,16 @@ use std::sync::ledger::Ledger;
 /// So many sessions may be made of one engine: each has one part of the ledger.
 pub const MAX_SESSIONS: u32 = 1_048_576;
 
-/// Names one run of an engine: what its disk held when it was opened, its marks and its ring, a
+/// Names one run of an engine: what it was opened over, its marks and its ring, a
 /// ledger of `MAX_SESSIONS` parts, and the receipt that the ledger counts, which may be any: no
 /// code knows which. The values under the locks and the sessions agree on it.
 pub trait Run: Ledger {
-    ghost use Rattle.mvo_disk.specs.Disk.{Image};
+    ghost use Rattle.mvo_run.specs.Opening.{Opening};
     ghost use Rattle.atomic_table.specs.Seated.{TableId};
     ghost use Rattle.mvo_run.specs.Rings.{RingName};
     ghost use Rattle.mvo_run.specs.Watching.{Watched};
 
-    ghost image: { Image };
+    ghost opening: { Opening };
 
     ghost marks: { TableId };
 
@@ -23,10 +23,11 @@ pub trait Run: Ledger {
 }
 
 impl Run for Brand {
-    ghost use Rattle.mvo_run.specs.Rings.{no_image, no_marks, no_ring};
+    ghost use Rattle.mvo_run.specs.Rings.{no_marks, no_ring};
+    ghost use Rattle.mvo_run.specs.Opening.{no_opening};
     ghost use Rattle.mvo_run.specs.Watching.{nothing_watched};
 
-    ghost image = { no_image };
+    ghost opening = { no_opening };
 
     ghost marks = { no_marks };
 

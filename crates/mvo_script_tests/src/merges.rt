@@ -58,7 +58,7 @@ const STEP_BY_STEP: [Exchange; 22] = [
     ("merge-read 0", "refused 52"),
     ("merge 0", "refused 52"),
     ("rotate", "refused 52"),
-    ("checkpoint", "refused 52"),
+    ("checkpoint", "refused 56"),
     ("merge-delta", "refused 56"),
     ("install-close", "refused 56"),
     ("merge-data", "more"),
@@ -81,23 +81,72 @@ fn a_merge_is_made_step_by_step(rt: HostRuntime) -> Result<(), Fail> {
     assert_session(&rt, rt.alloc(), session.as_slice())
 }
 
-const BESIDE_A_CHECKPOINT: [Exchange; 12] = [
+/// The row is deleted, and the segment that has this is sealed.
+const DELETED: [Exchange; 5] = [
     ("begin t3", "began 5"),
     ("delete t3 0 5", "deleted"),
     ("commit t3", "committed 6"),
     ("flush", "durable 6"),
     ("rotate", "installed 5"),
+];
+
+/// The lines behind two pairs and that segment.
+fn behind_deleted(alloc: Global, lines: &[Exchange]) -> Result<Vec<Exchange>, AllocError> {
+    let mut session = behind_pairs(alloc, &DELETED)?;
+    session.extend_from_slice(lines)?;
+    Ok(session)
+}
+
+const BESIDE_A_CHECKPOINT: [Exchange; 22] = [
     ("checkpoint-read", "more"),
+    ("merge-read 0", "more"),
     ("merge-read 0", "refused 52"),
-    ("merge 0", "refused 52"),
+    ("checkpoint-read", "refused 52"),
+    ("rotate", "refused 52"),
+    ("merge-delta", "refused 56"),
+    ("merge-data", "more"),
+    ("merge-delta", "refused 52"),
     ("checkpoint-data", "more"),
     ("checkpoint-delta", "more"),
     ("checkpoint-delta", "ready"),
-    ("merge-read 0", "refused 52"),
+    ("merge-delta", "refused 52"),
+    ("install-close", "closed"),
+    ("install-body", "written"),
+    ("install-open", "installed 6"),
+    ("merge-delta", "ready"),
+    ("checkpoint-read", "refused 52"),
+    ("install-close", "closed"),
+    ("install-body", "written"),
+    ("install-open", "installed 7"),
+    ("begin t4", "began 7"),
+    ("read t4 0 5", "none"),
 ];
 
 #[test]
-fn a_merge_waits_for_a_checkpoint(rt: HostRuntime) -> Result<(), Fail> {
-    let session = behind_pairs(rt.alloc(), &BESIDE_A_CHECKPOINT)?;
+fn a_merge_runs_beside_a_checkpoint(rt: HostRuntime) -> Result<(), Fail> {
+    let session = behind_deleted(rt.alloc(), &BESIDE_A_CHECKPOINT)?;
+    assert_session(&rt, rt.alloc(), session.as_slice())
+}
+
+const STAYS_AT_ITS_DELTA: [Exchange; 14] = [
+    ("checkpoint-read", "more"),
+    ("merge 0", "refused 52"),
+    ("merge-read 0", "refused 52"),
+    ("merge-data", "refused 56"),
+    ("merge-delta", "refused 52"),
+    ("checkpoint-data", "more"),
+    ("checkpoint-delta", "more"),
+    ("checkpoint-delta", "ready"),
+    ("install-close", "closed"),
+    ("install-body", "written"),
+    ("install-open", "installed 6"),
+    ("merge-delta", "ready"),
+    ("merge 0", "refused 52"),
+    ("install-close", "closed"),
+];
+
+#[test]
+fn a_merge_is_stopped_by_a_checkpoint(rt: HostRuntime) -> Result<(), Fail> {
+    let session = behind_deleted(rt.alloc(), &STAYS_AT_ITS_DELTA)?;
     assert_session(&rt, rt.alloc(), session.as_slice())
 }

@@ -1,94 +1,79 @@
--- A store whose job makes a step, or has opened the gate of its manifest; and one beside calls that look at the disk, or empty a file that is not used.
-use Rattle.std.proofs.Common.{rules, ◌≡◌, ◌≢◌, inl, inr, ℕ, ◌+◌, eqb, ◌&&◌, Bool, true, false, List, [], ◌∷◌, length, get_or, Option, Some, None, Ok, Err, refl, sym, ap, subst, ◌∙◌, arith, ◌<◌, ◌++◌, ◌⊎◌, ◌||◌, eq-eqb}
-use Rattle.std.specs.Prelude.{map, nat_eq, ⊤, MatchOption}
+-- A store of which a job makes a step, or has opened the gate of its manifest.
+use Rattle.std.proofs.Common.{rules, ◌≡◌, ◌≢◌, inl, inr, ℕ, ◌+◌, ◌&&◌, Bool, true, false, List, [], ◌∷◌, length, Option, Some, None, Ok, Err, refl, sym, ap, subst, ◌∙◌, arith, ◌<◌, ◌++◌, ◌^◌, cond, ltb}
+use Rattle.std.specs.Prelude.{map, nat_eq}
 use Rattle.std.specs.Bool.{OnTrue, OnFalse}
-use Rattle.std.proofs.Math.Bool.{or-true}
-use Rattle.std.proofs.lemmas.Bool.{eqb-true}
-use Rattle.std.specs.List.{AllByRecursion, IsDistinct}
+use Rattle.std.proofs.lemmas.Bool.{ltb-true}
+use Rattle.std.specs.List.{IsDistinct}
 use Rattle.mvo_types.specs.Keys.{Map}
 use Rattle.mvo_types.specs.declared.refusal.Refusal.{Refusal}
 use Rattle.mvo_types.specs.declared.refusal.Refusal.TheVariants.{DiskFault, OutOfMemory}
 use Rattle.mvo_types.specs.declared.row.RowKey.{RowKey}
 use Rattle.mvo_types.specs.declared.limits.TheConstants.{MAX_SEGMENT_LEN}
 use Rattle.mvo_disk.specs.declared.disk.Disk.{Ghosts}
-use Rattle.mvo_disk.specs.Disk.{OthersStay, AllOf, AllStay, Touched, LeavesOnly}
-use Rattle.mvo_disk.specs.Moments.{weaker, runs_on}
+use Rattle.mvo_disk.specs.Disk.{OthersStay, IsHonest}
+use Rattle.mvo_disk.specs.Moments.{weaker}
 use Rattle.mvo_group.specs.Data.{GroupData}
 use Rattle.mvo_format.specs.declared.format.TheConstants.{FIRST_FORMAT}
 use Rattle.mvo_frame.specs.declared.segment.Segment.{Segment}
 use Rattle.mvo_frame.specs.Standing.{gate_of}
-use Rattle.mvo_pair.specs.Writing.{IsWriteRefusal, CountsFaults}
-use Rattle.mvo_pair.specs.Data.{EntryData, Numbered, AreApart}
+use Rattle.mvo_pair.specs.Writing.{IsWriteRefusal}
+use Rattle.mvo_pair.specs.Data.{EntryData}
 use Rattle.mvo_pair.specs.declared.pair.Pair.{Pair}
 use Rattle.mvo_manifest.specs.Data.{ManifestData}
-use Rattle.mvo_places.specs.Places.{PlaceTable, ArePlaces, Rise, file_of, taken_over}
+use Rattle.mvo_manifest.specs.Rules.{IsFile}
+use Rattle.mvo_places.specs.Places.{PlaceTable, ArePlaces, file_of, taken_over}
 use Rattle.mvo_ckpt.specs.Writes.{records_of, gone_of}
 use Rattle.mvo_ckpt.proofs.Taking.{places_taken_over}
-use Rattle.mvo_merge.specs.Merged.{merged, without}
+use Rattle.mvo_merge.specs.Merged.{merged as records_merged}
 use Rattle.mvo_merge.specs.Moved.{HaveOwnKeys, moved}
 use Rattle.mvo_merge.proofs.Kept.{own_keys}
-use Rattle.mvo_merge.proofs.Late.{none_late}
-use Rattle.mvo_merge.proofs.Placed.{places_merged}
 use Rattle.mvo_load.proofs.Pairing.{data_files_differ}
 use Rattle.mvo_recovery.specs.Parts.{IsLastFile, Parts}
-use Rattle.mvo_recovery.specs.Settled.{IsSettled, other_slot, IsUsed, FilesStay}
+use Rattle.mvo_recovery.specs.Settled.{IsSettled, other_slot}
 use Rattle.mvo_recovery.specs.Checkpoint.{NewNumbers, raise, lives_after, checkpointed, checkpointed_parts}
-use Rattle.mvo_recovery.specs.Merging.{merged_parts}
-use Rattle.mvo_recovery.proofs.Named.{slot_below, last_named, named_is_no_slot, last_once, last_used}
+use Rattle.mvo_recovery.specs.Merging.{merged}
+use Rattle.mvo_beside.specs.Seen.{pairs_now}
+use Rattle.mvo_beside.proofs.Proved.{places_beside}
+use Rattle.mvo_recovery.proofs.Named.{slot_below, last_named, named_is_no_slot, last_once}
 use Rattle.mvo_recovery.proofs.Checkpointed.{last_stays, last_after}
-use Rattle.mvo_recovery.proofs.Installed.{after_install}
+use Rattle.mvo_recovery.proofs.Installed.{after_install as settled_after}
 use Rattle.mvo_recovery.proofs.Beside.{rotated_last}
-use Rattle.mvo_store.specs.declared.step.Step.TheVariants.{Close, Body, Open}
+use Rattle.mvo_store.specs.declared.step.Step.TheVariants.{Close, Open}
 use Rattle.mvo_store.specs.declared.due.Due.{Due}
-use Rattle.mvo_store.specs.declared.due.Due.TheVariants.{Data, Delta, MergeData, MergeDelta, Install}
-use Rattle.mvo_store.specs.declared.job.Job.{Job}
-use Rattle.mvo_store.specs.declared.job.Job.TheVariants.{Rotation, Checkpoint, Merge, MergeInstall}
+use Rattle.mvo_store.specs.declared.due.Due.TheVariants.{MergeDelta, Install}
+use Rattle.mvo_store.specs.declared.jobs.Jobs.{Jobs}
+use Rattle.mvo_store.specs.declared.jobs.Jobs.TheVariants.{Rotation as RotationAlone, Merge as MergeAlone, Beside}
 use Rattle.mvo_store.specs.StoreData.{StoreData, opening}
-use Rattle.mvo_store.specs.Causes.{why_not_due, why_not_install_open, is_rotation, has_rotation}
-use Rattle.mvo_store.specs.Jobs.{step_number, step_due, is_due, after_step, job_takes_file, takes_file}
-use Rattle.mvo_store.specs.Standing.{HasJob, HasRoom, JobHasRoom, IsUp, MayBeLeft, HasSlots, HasBody, HasWork, MayTakeOver}
-use Rattle.mvo_store.specs.Writing.{StandsWith, StillGives, WritesFor, HasMadeStep, TakesMemory, IsStepRefusal, IsOpened}
-use Rattle.mvo_store.specs.Calls.{call_of, why_not, MayMeet, Makes, HasStepped, IsFileOfJob, MayWrite, KeepsOthers, IsStoreStep, rows_after, StoreCall, HasNoFault, LeftByMemory}
+use Rattle.mvo_store.specs.Causes.{why_not_due}
+use Rattle.mvo_store.specs.Jobs.{Job, has_rotation, step_due, merge_due_of, job_due, is_due, stage_behind, with_step, after_step, next_installed, after_install}
+use Rattle.mvo_store.specs.Jobs.Job.{Rotation, Checkpoint, Merge, MergeInstall}
+use Rattle.mvo_store.specs.Standing.{IsRunning, HaveJobs, ShareNone, HasRoom, JobHasRoom, IsUp, MayBeLeft, HasSlots, HasBody, HasWork, MayTakeOver, HaveKeys}
+use Rattle.mvo_store.specs.Safe.{IsWithin, IsSafeWork, AreSafe, HasNext, IsSafe, IsSound}
+use Rattle.mvo_store.specs.Writing.{StandsWith, StillGives, IsFileDue, IsFileAt, IsMergeFileAt, WritesFile, WritesFor, HasMadeStep, TakesMemory, IsStepRefusal, IsOpened}
+use Rattle.mvo_store.specs.Calls.{call_of, why_not, MayMeet, Makes, HasStepped, IsFileOf, IsFileOfJob, MayTouch, KeepsOthers, IsStoreStep, rows_after}
 use Rattle.mvo_store.specs.declared.install.Install.{Install as InstallData}
-use Rattle.mvo_store.specs.declared.checkpoint_stage.CheckpointStage.TheVariants.{Install as AtInstall}
+use Rattle.mvo_store.specs.declared.checkpoint_stage.CheckpointStage.TheVariants.{Data as AtData, Delta as AtDelta, Install as AtInstall}
+use Rattle.mvo_store.specs.declared.checkpoint_stage.CheckpointStage.{CheckpointStage}
+use Rattle.mvo_store.specs.declared.merge_stage.MergeStage.{MergeStage}
+use Rattle.mvo_store.specs.declared.merge_stage.MergeStage.TheVariants.{Data as MergeAtData, Delta as MergeAtDelta}
+use Rattle.mvo_store.specs.declared.merging.Merging.{Merging}
 use Rattle.mvo_store.specs.declared.checkpointing.Checkpointing.{Checkpointing}
 use Rattle.mvo_store.specs.declared.seen.Seen.{Seen}
 use Rattle.mvo_store.specs.Checkpoint.{gained, made_of, IsCheckpointInto}
-use Rattle.mvo_store.specs.Merging.{pairs_of, IsMerging, IsMergeReady}
+use Rattle.mvo_store.specs.Merging.{seen_with, pair_with, IsMergeReady}
 use Rattle.mvo_store.specs.Steps.{manifest_after, places_after, segment_after}
-use Rattle.mvo_store.proofs.Keeping.{give_or, stays_up, AllLeave, OnlyNow, CountsNow, slots_as, now_left, touched_left, may_step, Begins, begins, file_others, fault_step, other_step, err_is, all_others, done_step, looked_step}
-use Rattle.mvo_store.proofs.Neighbours.{rise_two, apart_two}
-use Rattle.mvo_store.proofs.Working.{Installing, Installs, installs, installing, due_installs, slot_of_install, IsOfPair, RestsOn, JobRestsOn, job_framed, written_of_pair, merged_of_pair}
-use Rattle.mvo_store.proofs.Working.Installing.{OfRotation, OfCheckpoint, OfMerge}
-use Rattle.mvo_load.specs.Read.{HasRead}
-use Rattle.mvo_recovery.proofs.Framed.{files_stay_others, settled_all, settled_framed}
-use Rattle.mvo_store.specs.Reclaiming.{IsLeastDead, HasDead}
-use Rattle.mvo_store.proofs.Logged.{unnamed_unused}
+use Rattle.mvo_store.proofs.Keeping.{give_or, stays_up, AllLeave, OnlyNow, CountsNow, may_step, Begins, begins, file_others, fault_step, other_step, err_is, stays_safe}
+use Rattle.mvo_store.proofs.Working.{Installing, Installs, installs, installing, due_installs, slot_of_install, small, merged_parts_now}
+use Rattle.mvo_store.proofs.Beside.{IsDueIn, due_in_jobs, merge_stays, checkpoint_stays, merge_runs_on}
+use Rattle.mvo_store.proofs.Beside.IsDueIn.{TheRotation, TheMerge, TheCheckpoint, OfMerge}
+use Rattle.mvo_store.proofs.Turning.{some_due, step_is, of_due, all_stepped, share_stepped, share_installed}
+use Rattle.mvo_store.proofs.Still.{merge_safe_after}
+use Rattle.mvo_store.proofs.Working.Installing.{OfRotation, OfCheckpoint, OfMerge as OfMergeReady}
+use Rattle.mvo_load.specs.Read.{IsMisread}
 
--- ---- the steps by their numbers
-
-numbered : ℕ → Due
-numbered n = get_or (Data ∷ Delta ∷ MergeData ∷ MergeDelta ∷ Install Close ∷ Install Body ∷ []) n (Install Open)
-
-numbered_back : (a : Due) → numbered (step_number a) ≡ a
-unfolding numbered
-numbered_back (Install Close) = refl
-numbered_back step = refl
-
--- no two have one number
-pub same_due : (a b : Due) → eqb (step_number a) (step_number b) ≡ true → a ≡ b
-same_due a b e = sym (numbered_back a) ∙ ap numbered (eqb-true (step_number a) (step_number b) e) ∙ numbered_back b
-
--- the step that is due
-pub due_is : (step : Due) (o : Option Job) (j : Job) → o ≡ Some j → is_due step o ≡ true → step_due j ≡ step
-due_is step o j is due = same_due (step_due j) step (subst (λ (k : Option Job). is_due step k ≡ true) is due)
-
--- why it isn't made
-pub due_cause : {D : Type 0} (step : Due) (s : StoreData D) (e : Refusal) → why_not_due step s ≡ Some e → e ≢ DiskFault
-due_cause step s e is = grind arith
-
-pub open_cause : {D : Type 0} (s : StoreData D) (e : Refusal) → why_not_install_open s ≡ Some e → e ≢ DiskFault
-open_cause s e is = grind arith
+-- the job whose step is due stands among those that run
+pub due_is : (step : Due) (jobs : Jobs) (j : Job) → job_due step jobs ≡ Some j → IsDueIn step jobs j
+due_is = due_in_jobs
 
 -- only a fault refuses the opening of a gate
 pub fault_only : {D : Type 0} (fault_count : D → ℕ) (due : Due) (old new : D) (e : Refusal) → due ≡ Install Open → IsStepRefusal fault_count due old new e → (e ≡ DiskFault) × (fault_count new ≡ fault_count old + 1)
@@ -101,23 +86,25 @@ count_of fault_count old new e fault refused = grind arith
 pub memory_left : {D : Type 0} (fault_count : D → ℕ) (old new : D) (e : Refusal) → e ≢ DiskFault → IsWriteRefusal fault_count old new e → (e ≡ OutOfMemory) × (new ≡ old)
 memory_left fault_count old new e ne refused = grind arith
 
--- a job is there where a step is due
-pub none_due : (step : Due) (o : Option Job) → o ≡ None → is_due step o ≡ true → ⊥
-none_due step o none due = absurd (cc (sym (subst (λ (k : Option Job). is_due step k ≡ true) none due)))
-
 -- ---- the calls
 
--- each but the opening of a manifest's gate is a step of a job
-pub why_of : {D : Type 0} (s : StoreData D) (step : Due) → step ≢ Install Open → why_not s (call_of step) ≡ why_not_due step s
-why_of s (Install Open) other = absurd (other refl)
+-- a step other than the last file of a merge and the opening of a manifest's gate
+abbrev pub IsPlain : Due → Type 0
+IsPlain step = (step ≢ MergeDelta) × (step ≢ Install Open)
+
+-- each such call is a step of a job
+pub why_of : {D : Type 0} (s : StoreData D) (step : Due) → IsPlain step → why_not s (call_of step) ≡ why_not_due step s
+why_of s (Install Open) other = absurd (other.1 refl)
+why_of s MergeDelta other = absurd (other.0 refl)
 why_of s step other = refl
 
 module _ {D : Type 0} (d : Ghosts D) (old new : StoreData D) where
-  pub makes_of : (step : Due) → step ≢ Install Open → HasStepped old new → Makes d (call_of step) old new
-  makes_of (Install Open) other h = absurd (other refl)
+  pub makes_of : (step : Due) → IsPlain step → HasStepped step old new → Makes d (call_of step) old new
+  makes_of (Install Open) other h = absurd (other.1 refl)
+  makes_of MergeDelta other h = absurd (other.0 refl)
   makes_of step other h = h
 
-  due_file : (step : Due) (n : ℕ) → IsFileOfJob old.manifest old.job n → MayWrite d old (call_of step) n
+  due_file : (step : Due) (n : ℕ) → IsFileOf step old n → MayTouch d (call_of step) old new n
   due_file (Install Close) n h = h
   due_file step n h = h
 
@@ -126,14 +113,15 @@ pub rows_of : {D A : Type 0} (s : StoreData D) (a : A) (step : Due) (rows : Map)
 rows_of s a (Install Close) rows = refl
 rows_of s a step rows = refl
 
-pub begins_due : {D : Type 0} (d : Ghosts D) (s t : StoreData D) (step : Due) → step ≢ Install Open → s ≡ t → why_not_due step t ≡ None → (s.down ≡ false → (rows : Map) × IsUp d s rows) → Begins d s (call_of step)
+pub begins_due : {D : Type 0} (d : Ghosts D) (s t : StoreData D) (step : Due) → IsPlain step → s ≡ t → why_not_due step t ≡ None → (s.down ≡ false → IsSound d s) → Begins d s (call_of step)
 begins_due d s t step other same none = begins d s t (call_of step) same (why_of t step other ∙ none)
 
-pub due_in : {D : Type 0} (s : StoreData D) (step : Due) → step ≢ Install Open → why_not s (call_of step) ≡ None → is_due step s.job ≡ true
+pub due_in : {D : Type 0} (s : StoreData D) (step : Due) → IsPlain step → why_not s (call_of step) ≡ None → is_due step s.jobs ≡ true
 due_in s step other none = may_step step s (sym (why_of s step other) ∙ none)
 
-pub due_of_job : {D : Type 0} (s : StoreData D) (step : Due) → step ≢ Install Open → why_not s (call_of step) ≡ None → (j : Job) → s.job ≡ Some j → step_due j ≡ step
-due_of_job s step other none j is = due_is step s.job j is (due_in s step other none)
+-- the job whose step it is
+pub due_job : {D : Type 0} (s : StoreData D) (step : Due) → IsPlain step → why_not s (call_of step) ≡ None → (j : Job) × (job_due step s.jobs ≡ Some j)
+due_job s step other none = some_due step s.jobs (due_in s step other none)
 
 pub memory_of : (step : Due) → TakesMemory step → MayMeet (call_of step) OutOfMemory
 memory_of (Install Close) h = absurd h
@@ -143,64 +131,178 @@ memory_of step h = inl refl
 pub fault_of : (step : Due) → MayMeet (call_of step) DiskFault
 fault_of (Install Close) = refl
 fault_of (Install Open) = refl
+fault_of MergeDelta = inr (inl refl)
 fault_of step = inr refl
 
 -- ---- a store
 
-step_room : (places : PlaceTable) (made : Option ManifestData) (j : Job) → JobHasRoom places j → JobHasRoom places (after_step made j)
-step_room places made (Rotation fresh i) room = tt
-step_room places made (Checkpoint c) room = room
-step_room places None (Merge g) room = tt
-step_room places (Some next) (Merge g) room = tt
-step_room places made (MergeInstall g i) room = tt
+step_room : (places : PlaceTable) (j : Job) → JobHasRoom places j → JobHasRoom places (after_step j)
+step_room places (Rotation fresh i) room = tt
+step_room places (Checkpoint c) room = room
+step_room places (Merge g) room = tt
+step_room places (MergeInstall g i) room = tt
 
-module _ {D : Type 0} (d : Ghosts D) (s : StoreData D) (j : Job) (is : s.job ≡ Some j) where
+-- ---- what safety needs of a job
+
+within_behind : (older : ℕ) (stage : CheckpointStage) → IsWithin older stage → IsWithin older (stage_behind older stage)
+within_behind older AtData within = omega arith
+within_behind older (AtDelta written) within = go (ltb written older) refl
+  where
+    go : (b : Bool) → ltb written older ≡ b → IsWithin older (cond b (AtDelta (written + 1)) (AtInstall Close))
+    go true is = omega (arith, ltb-true written older is)
+    go false is = tt
+within_behind older (AtInstall step) within = tt
+
+-- with one step behind it the job is safe
+pub step_safe : (m : ManifestData) (j : Job) → IsSafeWork m j → IsSafeWork m (after_step j)
+step_safe m (Rotation fresh i) safe = record { file = safe.file; few = safe.few; next_is = safe.next_is }
+step_safe m (Checkpoint c) safe = record { generation = safe.generation; pair = safe.pair; known = safe.known; within = within_behind (length c.made.deltas) c.stage safe.within; next_is = safe.next_is }
+step_safe m (Merge g) safe = record { pair = safe.pair; still = safe.still; may_become = safe.may_become }
+step_safe m (MergeInstall g i) safe = record { pair = safe.pair; next_is = safe.next_is }
+
+-- there is room for the places of what it installs
+pub safe_take_over : (m : ManifestData) (places : PlaceTable) (j : Job) → IsSafeWork m j → JobHasRoom places j → MayTakeOver places j
+safe_take_over m places (Rotation fresh i) safe room = tt
+safe_take_over m places (Checkpoint c) safe room = record { file = safe.pair.data_file.1; few = safe.pair.few; room = room }
+safe_take_over m places (Merge g) safe room = tt
+safe_take_over m places (MergeInstall g i) safe room = record { file = safe.pair.data_file.1; few = safe.pair.few }
+
+-- where its manifest is installed, the segment that takes frames is a file of the disk
+opened_file : (m : ManifestData) (j : Job) (segment : Segment) → IsSafeWork m j → IsFile segment.file → IsFile (segment_after j segment).file
+opened_file m (Rotation fresh i) segment safe file = safe.file
+opened_file m j segment safe file = file
+
+opened_few : (m : ManifestData) (j : Job) (segment : Segment) → IsSafeWork m j → segment.gate < MAX_SEGMENT_LEN → (segment_after j segment).gate < MAX_SEGMENT_LEN
+opened_few m (Rotation fresh i) segment safe few = safe.few
+opened_few m j segment safe few = few
+
+opened_next : {jobs : Jobs} {j : Job} → IsDueIn (Install Open) jobs j → (segment : Segment) (b : Bool) (o : Option GroupData) → (b && has_rotation jobs) ≡ false → (b ≡ true → HasNext o segment.next) → b ≡ true → HasNext o (segment_after j segment).next
+opened_next (TheRotation fresh i at) segment true o free has is = absurd (cc free)
+opened_next (TheRotation fresh i at) segment false o free has is = absurd (cc is)
+opened_next (TheMerge seen i at) segment b o free has is = has is
+opened_next (TheCheckpoint c g at) segment b o free has is = has is
+opened_next (OfMerge c g at) segment b o free has is = has is
+
+-- the job is a rotation
+abbrev is_rotation : Job → Bool
+is_rotation (Rotation fresh i) = true
+is_rotation j = false
+
+-- no step of a merge whose files aren't all written opens a gate
+pub never_opens : {A : Type 0} (stage : MergeStage) → merge_due_of stage ≡ Install Open → A
+never_opens MergeAtData e = absurd (cc e)
+never_opens MergeAtDelta e = absurd (cc e)
+
+-- the job that opens a gate is the one whose manifest is the next
+pub installed_is : {jobs : Jobs} {j : Job} → IsDueIn (Install Open) jobs j → next_installed jobs ≡ Some j
+installed_is (TheRotation fresh i at) = refl
+installed_is (TheMerge seen i at) = refl
+installed_is (TheCheckpoint c g at) = refl
+installed_is (OfMerge c g at) = never_opens g.stage at
+
+-- those that run on are safe
+opened_jobs : (m : ManifestData) {jobs : Jobs} {j : Job} → IsDueIn (Install Open) jobs j → AreSafe m jobs → ShareNone jobs → AreSafe (manifest_after j m) (after_install jobs)
+opened_jobs m (TheRotation fresh i at) all apart = tt
+opened_jobs m (TheMerge seen i at) all apart = tt
+opened_jobs m (TheCheckpoint c None at) all apart = tt
+opened_jobs m (TheCheckpoint c (Some g) at) all apart = (merge_safe_after m c g apart all.0 all.1.0, tt)
+opened_jobs m (OfMerge c g at) all apart = never_opens g.stage at
+
+-- and need no room
+opened_room : (places : PlaceTable) (jobs : Jobs) → HasRoom places (after_install jobs)
+opened_room places (RotationAlone fresh i) = tt
+opened_room places (MergeAlone seen i) = tt
+opened_room places (Beside c None) = tt
+opened_room places (Beside c (Some g)) = (tt, tt)
+
+module _ {D : Type 0} {d : Ghosts D} {s : StoreData D} (safe : IsSafe d s) {step : Due} {j : Job} (due : IsDueIn step s.jobs j) where
+  pub safe_work : IsSafeWork s.manifest j
+  safe_work = of_due (IsSafeWork s.manifest) due safe.jobs
+
+  pub safe_room : JobHasRoom s.places j
+  safe_room = of_due (JobHasRoom s.places) due safe.room_for
+
+  pub stepped_safe : (new : D) → d.fault_count new ≡ d.fault_count s.disk → IsSafe d (record s { disk = new; jobs = with_step step s.jobs })
+  stepped_safe new count = stays_safe safe new s.places (with_step step s.jobs)
+      (all_stepped (IsSafeWork s.manifest) (IsSafeWork s.manifest) due safe.jobs (step_safe s.manifest j safe_work) (λ c g e k p. p) (λ c g e k p. p)) (share_stepped due safe.apart)
+      (all_stepped (JobHasRoom s.places) (JobHasRoom s.places) due safe.room_for (step_room s.places j safe_room) (λ c g e k p. p) (λ c g e k p. p)) count
+
+pub opened_safe : {D : Type 0} {d : Ghosts D} {s : StoreData D} (safe : IsSafe d s) {j : Job} (due : IsDueIn (Install Open) s.jobs j) → (new : D) (places : PlaceTable) → (s.written && has_rotation s.jobs) ≡ false → d.fault_count new ≡ d.fault_count s.disk
+    → IsSafe d (record s { disk = new; manifest = manifest_after j s.manifest; places = places; segment = segment_after j s.segment; jobs = after_install s.jobs })
+opened_safe {D} {d} {s} safe {j} due new places free count = record {
+  file = opened_file s.manifest j s.segment (safe_work safe due) safe.file;
+  few = opened_few s.manifest j s.segment (safe_work safe due) safe.few;
+  written = opened_next due s.segment s.written s.pending free safe.written;
+  jobs = opened_jobs s.manifest due safe.jobs safe.apart;
+  apart = share_installed s.jobs;
+  room_for = opened_room places s.jobs;
+  room = subst (λ n. n + 1 < 2 ^ 64) (sym count) safe.room;
+}
+
+-- the file of a checkpoint's step, and of a merge's
+at_checkpoint : (m : ManifestData) (j : Job) (c : Checkpointing) (n : ℕ) → j ≡ Checkpoint c → IsFileDue m j n → IsFileAt m c c.stage n
+at_checkpoint m j c n is at = subst (λ (k : Job). IsFileDue m k n) is at
+
+at_merge : (m : ManifestData) (j : Job) (g : Merging) (n : ℕ) → j ≡ Merge g → IsFileDue m j n → IsMergeFileAt g.seen.pair g.stage n
+at_merge m j g n is at = subst (λ (k : Job). IsFileDue m k n) is at
+
+module _ {D : Type 0} (d : Ghosts D) (s : StoreData D) (step : Due) (j : Job) (is : job_due step s.jobs ≡ Some j) where
+  abbrev due_here : IsDueIn step s.jobs j
+  due_here = due_is step s.jobs j is
+
   pub stands_of : (rows : Map) (up : IsUp d s rows) → StandsWith d s.disk s.manifest up.parts j
-  stands_of rows up = record { settled = up.settled; job = subst (λ (o : Option Job). HasJob (d.content s.disk) (d.may_leave s.disk) s.manifest up.parts o) is up.job }
+  stands_of rows up = record { settled = up.settled; job = of_due (IsRunning (d.content s.disk) (d.may_leave s.disk) s.manifest up.parts) due_here up.jobs }
 
-  module _ (new : D) (writes : WritesFor d s.disk new s.manifest j) where
+  -- the other files are as they were
+  pub step_others : (t : StoreData D) → WritesFile d s.disk t.disk (IsFileDue s.manifest j) → KeepsOthers d (call_of step) s t
+  step_others t w = file_others d (call_of step) s t w.file (due_file d s t step w.file (subst (λ (o : Option Job). IsFileOfJob s.manifest o w.file) (sym is) w.is)) w.rest
+
+  module _ (new : D) (writes : IsHonest (d.moment new) → WritesFor d s.disk new s.manifest j) where
     as_it_was : new ≡ s.disk → s.down ≡ false → record s { disk = new; down = false } ≡ s
     as_it_was same up = ap (λ (k : D). record s { disk = k; down = false }) same ∙ ap (λ (b : Bool). record s { down = b }) (sym up)
 
     -- a stop within the step leaves the rows
-    pub step_leaves : AllLeave d s new
-    step_leaves rows up slots =
-        let w = writes up.parts (stands_of rows up) in
+    pub step_leaves : IsHonest (d.moment new) → AllLeave d s new
+    step_leaves honest rows up slots =
+        let w = writes honest up.parts (stands_of rows up) in
         weaker d.moment d.left_since s.disk new (StillGives up.parts) (MayBeLeft rows s.mark (opening s)) (λ image g. record { slots = g.slots; gives = give_or d s rows up image g.gives }) (w.leaves slots)
 
-    -- and the other files
-    pub step_others : (rows : Map) → IsUp d s rows → (step : Due) (t : StoreData D) → t.disk ≡ new → KeepsOthers d (call_of step) s t
-    step_others rows up step t at =
-        let w = writes up.parts (stands_of rows up) in
-        file_others d (call_of step) s t w.file (due_file d s t step w.file (subst (λ (o : Option Job). IsFileOfJob s.manifest o w.file) (sym is) w.is))
-        (subst (λ (disk : D). OthersStay w.file (d.content s.disk) (d.content disk) (d.may_leave s.disk) (d.may_leave disk)) (sym at) w.rest)
+    module _ (behind : Job) (makes : IsHonest (d.moment new) → HasMadeStep d s.disk new s.manifest j behind) where
+      pub step_slots : IsHonest (d.moment new) → (rows : Map) → IsUp d s rows → HasSlots (d.content s.disk) → HasSlots (d.content new)
+      step_slots honest rows up = (makes honest up.parts (stands_of rows up)).slots
 
-    module _ (made : Option ManifestData) (makes : HasMadeStep d s.disk new s.manifest j made) where
-      pub step_slots : (rows : Map) → IsUp d s rows → HasSlots (d.content s.disk) → HasSlots (d.content new)
-      step_slots rows up = (makes up.parts (stands_of rows up)).slots
-
-      -- THE STORE STANDS with the step behind the job.
-      pub step_up : step_due j ≢ Install Open → d.fault_count new ≡ d.fault_count s.disk → (rows : Map) → IsUp d s rows → IsUp d (record s { disk = new; job = Some (after_step made j) }) rows
-      step_up other count rows up =
-          let w = writes up.parts (stands_of rows up) in
-          let stands = (makes up.parts (stands_of rows up)).stands other in
-          stays_up d s rows up new s.places (Some (after_step made j)) stands.settled (w.rest.content s.segment.file (λ e. w.other (subst (IsLastFile s.manifest) e up.last))) stands.job refl
-          (step_room s.places made j (subst (λ (o : Option Job). HasRoom s.places o) is up.room_for)) count
+    -- THE STORE STANDS with the step behind the job, and the other one as it stood.
+    pub step_up : (IsHonest (d.moment new) → HasMadeStep d s.disk new s.manifest j (after_step j)) → step ≢ Install Open → d.fault_count new ≡ d.fault_count s.disk → IsHonest (d.moment new) → (rows : Map) → IsUp d s rows → IsUp d (record s { disk = new; jobs = with_step step s.jobs }) rows
+    step_up makes other count honest rows up =
+        let stood = stands_of rows up in
+        let w = writes honest up.parts stood in
+        let made = makes honest up.parts stood in
+        let stands = made.stands (λ e. other (sym (step_is due_here) ∙ e)) in
+        let both = λ (c : Checkpointing) (g : Merging) (e : s.jobs ≡ Beside (Some c) (Some g)). subst ShareNone e up.apart in
+        stays_up d s rows up new s.places (with_step step s.jobs) stands.settled (w.rest.content s.segment.file (λ e. w.other (subst (IsLastFile s.manifest) e up.last)))
+        (all_stepped (IsRunning (d.content s.disk) (d.may_leave s.disk) s.manifest up.parts) (IsRunning (d.content new) (d.may_leave new) s.manifest up.parts) due_here up.jobs stands.job
+        (λ c g e k runs. merge_stays (d.content s.disk) (d.content new) (d.may_leave s.disk) (d.may_leave new) s.manifest up.parts up.settled w.file w.rest c g (both c g e) (at_checkpoint s.manifest j c w.file k w.is) runs.work made.counts)
+        (λ c g e k runs. checkpoint_stays (d.content s.disk) (d.content new) (d.may_leave s.disk) (d.may_leave new) s.manifest up.parts up.settled w.file w.rest c g (both c g e) (at_merge s.manifest j g w.file k w.is) (merge_work c g e k rows up) runs))
+        (share_stepped due_here up.apart) refl
+        (all_stepped (JobHasRoom s.places) (JobHasRoom s.places) due_here up.room_for (step_room s.places j (of_due (JobHasRoom s.places) due_here up.room_for)) (λ c g e k p. p) (λ c g e k p. p)) count
+      where
+        merge_work : (c : Checkpointing) (g : Merging) → s.jobs ≡ Beside (Some c) (Some g) → j ≡ Merge g → (rows : Map) (up : IsUp d s rows) → HasWork (d.content s.disk) (d.may_leave s.disk) s.manifest up.parts (Merge g)
+        merge_work c g e k rows up = subst (λ (i : Job). HasWork (d.content s.disk) (d.may_leave s.disk) s.manifest up.parts i) k (stands_of rows up).job.work
 
     -- memory or a fault refuses it
-    pub step_refused : {A : Type 0} → OnlyNow d → CountsNow d → (step : Due) → step ≢ Install Open → Begins d s (call_of step) → step_due j ≡ step → (e : Refusal) → IsStepRefusal d.fault_count (step_due j) s.disk new e
+    pub step_refused : {A : Type 0} → OnlyNow d → CountsNow d → Begins d s (call_of step) → (IsHonest (d.moment new) → IsHonest (d.moment s.disk)) → WritesFile d s.disk new (IsFileDue s.manifest j) → (e : Refusal) → IsStepRefusal d.fault_count (step_due j) s.disk new e
         → (b : Bool) → OnTrue b (e ≡ DiskFault) → OnFalse b (e ≢ DiskFault) → IsStoreStep {A = A} d s (call_of step) (Err e) (record s { disk = new; down = b })
-    step_refused {A} only_now counts_now step apart b due e refused true fault other = fault_step b counts_now new e fault (fault_of step) (count_of d.fault_count s.disk new e fault refused.refusal) step_leaves
-        (step_others b.rows b.is_up step (record s { disk = new; down = true }) refl)
-    step_refused {A} only_now counts_now step apart b due e refused false fault other =
+    step_refused {A} only_now counts_now b was file e refused true fault other = fault_step b counts_now new e fault (fault_of step) (count_of d.fault_count s.disk new e fault refused.refusal) was step_leaves
+        (step_others (record s { disk = new; down = true }) file)
+    step_refused {A} only_now counts_now b was file e refused false fault other =
         let left = memory_left d.fault_count s.disk new e other refused.refusal in
-        let memory : MayMeet (call_of step) e = subst (MayMeet (call_of step)) (sym left.0) (memory_of step (subst TakesMemory due (refused.memory left.0))) in
-        other_step d only_now s (record s { disk = new; down = false }) (call_of step) e (as_it_was left.1 b.up) other (err_is d A (call_of step) (why_not s (call_of step)) e b.none memory)
+        let memory : MayMeet (call_of step) e = subst (MayMeet (call_of step)) (sym left.0) (memory_of step (subst TakesMemory (step_is due_here) (refused.memory left.0))) in
+        other_step d only_now s (record s { disk = new; down = false }) (call_of step) e (as_it_was left.1 b.up) other (λ is. subst IsMisread left.0 is) (err_is d A (call_of step) (why_not s (call_of step)) e b.none memory)
 
     -- the store stays as it stood, unless the disk met a fault
-    pub refused_up : (rows : Map) → IsUp d s rows → (due : Due) (e : Refusal) → IsStepRefusal d.fault_count due s.disk new e → s.down ≡ false → (b : Bool) → OnFalse b (e ≢ DiskFault) → b ≡ false → IsUp d (record s { disk = new; down = b }) rows
-    refused_up rows is_up due e refused up true other is = absurd (cc is)
-    refused_up rows is_up due e refused up false other is = subst (λ (t : StoreData D). IsUp d t rows) (sym (as_it_was (memory_left d.fault_count s.disk new e other refused.refusal).1 up)) is_up
+    pub refused_sound : IsSound d s → (due : Due) (e : Refusal) → IsStepRefusal d.fault_count due s.disk new e → s.down ≡ false → (b : Bool) → OnFalse b (e ≢ DiskFault) → b ≡ false → IsSound d (record s { disk = new; down = b })
+    refused_sound sound due e refused up true other is = absurd (cc is)
+    refused_sound sound due e refused up false other is = subst (λ (t : StoreData D). IsSound d t) (sym (as_it_was (memory_left d.fault_count s.disk new e other refused.refusal).1 up)) sound
 
 -- raised counts leave the data files
 files_stay : (new : NewNumbers) (ps : List Pair) → map file_of (map (raise new) ps) ≡ map file_of ps
@@ -216,23 +318,13 @@ module _ {D : Type 0} (d : Ghosts D) (s : StoreData D) (rows : Map) (up : IsUp d
   abbrev m : ManifestData
   m = s.manifest
 
-  -- no two of the live records of two neighbours have one key
-  lives_apart : (g : Seen) → (has : IsMerging m up.parts g) → AreApart (has.lives.left ∷ has.lives.right ∷ [])
-  lives_apart g has = apart_two has.lives.before has.lives.left has.lives.right has.lives.behind (subst AreApart has.two.lives up.places.apart)
-
-  -- there is room for the places of what the job installs
-  pub may_take_over : (j : Job) → s.job ≡ Some j → MayTakeOver s.places j
-  may_take_over j is = go j (subst (λ (o : Option Job). HasJob (d.content s.disk) (d.may_leave s.disk) m up.parts o) is up.job).work (subst (λ (o : Option Job). HasRoom s.places o) is up.room_for)
+  -- the records of a merge have each a key of their own
+  pub have_keys : {step : Due} {j : Job} → IsDueIn step s.jobs j → HaveKeys j
+  have_keys {step} {j} due = go j (of_due (IsRunning (d.content s.disk) (d.may_leave s.disk) m up.parts) due up.jobs).work
     where
-      go : (j : Job) → HasWork (d.content s.disk) (d.may_leave s.disk) m up.parts j → JobHasRoom s.places j → MayTakeOver s.places j
-      go (Rotation fresh i) has room = tt
-      go (Checkpoint c) has room = let may_be = has.into.may_checkpoint in record { file = may_be.data_file.1; few = omega (arith, may_be.counted, may_be.pair.records); room = room }
-      go (Merge g) has room = tt
-      go (MergeInstall g i) has room = let may_be = has.merge.may_merge in record {
-        file = may_be.data_file.1;
-        few = omega (arith, may_be.counted, may_be.few, ap (λ (es : List EntryData). length es) has.merge.records);
-        keys = subst HaveOwnKeys (sym has.merge.records) (own_keys has.merge.lives.left has.merge.lives.right (lives_apart g has.merge));
-      }
+      go : (j : Job) → HasWork (d.content s.disk) (d.may_leave s.disk) m up.parts j → HaveKeys j
+      go (MergeInstall g i) has = subst HaveOwnKeys (sym has.merge.records) (own_keys has.merge.live_left has.merge.live_right has.merge.seen.apart)
+      go j has = tt
 
   module _ (new : D) (slot : ℕ) (at : slot ≡ other_slot m) (rest : OthersStay slot (d.content s.disk) (d.content new) (d.may_leave s.disk) (d.may_leave new)) (count : d.fault_count new ≡ d.fault_count s.disk) where
     last_apart : s.segment.file ≢ slot
@@ -240,23 +332,23 @@ module _ {D : Type 0} (d : Ghosts D) (s : StoreData D) (rows : Map) (up : IsUp d
 
     -- THE NEXT MANIFEST IS INSTALLED.
     next_settled : (next : ManifestData) → next.generation ≡ m.generation + 1 → (i : Installs (d.content s.disk) (d.may_leave s.disk) up.parts next) → IsOpened d new m next → IsSettled FIRST_FORMAT (d.content new) (d.may_leave new) next i.parts
-    next_settled next one_more i is = after_install FIRST_FORMAT (d.content s.disk) (d.content new) (d.may_leave s.disk) (d.may_leave new) m up.parts up.settled (other_slot m) refl
+    next_settled next one_more i is = settled_after FIRST_FORMAT (d.content s.disk) (d.content new) (d.may_leave s.disk) (d.may_leave new) m up.parts up.settled (other_slot m) refl
         (subst (λ k. OthersStay k (d.content s.disk) (d.content new) (d.may_leave s.disk) (d.may_leave new)) at rest) is.durable next i.parts one_more i.ready is.has
 
     -- the store is up with it, with these places and this segment
-    with_next : (next : ManifestData) (i : Installs (d.content s.disk) (d.may_leave s.disk) up.parts next) (places : PlaceTable) (segment : Segment) → IsSettled FIRST_FORMAT (d.content new) (d.may_leave new) next i.parts → IsLastFile next segment.file
+    with_next : (next : ManifestData) (i : Installs (d.content s.disk) (d.may_leave s.disk) up.parts next) (places : PlaceTable) (segment : Segment) (jobs : Jobs) → HaveJobs (d.content new) (d.may_leave new) next i.parts jobs → ShareNone jobs → HasRoom places jobs → IsSettled FIRST_FORMAT (d.content new) (d.may_leave new) next i.parts → IsLastFile next segment.file
         → segment.gate ≡ gate_of i.parts.last → segment.gate < MAX_SEGMENT_LEN → (s.written ≡ true → HasBody i.parts s.pending segment.gate segment.next (d.content new segment.file)) → ArePlaces next.pairs i.parts.lives places.at
-        → IsUp d (record s { disk = new; manifest = next; places = places; segment = segment; job = None }) rows
-    with_next next i places segment settled last gate few written are =
+        → IsUp d (record s { disk = new; manifest = next; places = places; segment = segment; jobs = jobs }) rows
+    with_next next i places segment jobs runs apart room settled last gate few written are =
         let rows_are = up.rows_are ∙ sym i.same.rows in
         let mark_is = up.mark_is ∙ sym i.same.mark in
         search (rules, arith)
 
     -- the segment that took frames takes them then
-    installed_up : (next : ManifestData) (i : Installs (d.content s.disk) (d.may_leave s.disk) up.parts next) (places : PlaceTable) → IsSettled FIRST_FORMAT (d.content new) (d.may_leave new) next i.parts
+    installed_up : (next : ManifestData) (i : Installs (d.content s.disk) (d.may_leave s.disk) up.parts next) (places : PlaceTable) (jobs : Jobs) → HaveJobs (d.content new) (d.may_leave new) next i.parts jobs → ShareNone jobs → HasRoom places jobs → IsSettled FIRST_FORMAT (d.content new) (d.may_leave new) next i.parts
         → i.parts.middle ≡ up.parts.middle → i.parts.last ≡ up.parts.last → IsLastFile next s.segment.file → ArePlaces next.pairs i.parts.lives places.at
-        → IsUp d (record s { disk = new; manifest = next; places = places; job = None }) rows
-    installed_up next i places settled same_middle same_last last = with_next next i places s.segment settled last (up.gate ∙ ap gate_of (sym same_last)) up.few
+        → IsUp d (record s { disk = new; manifest = next; places = places; jobs = jobs }) rows
+    installed_up next i places jobs runs apart room settled same_middle same_last last = with_next next i places s.segment jobs runs apart room settled last (up.gate ∙ ap gate_of (sym same_last)) up.few
         (λ e. subst (λ (b : List ℕ). HasBody i.parts s.pending s.segment.gate s.segment.next b) (sym (rest.content s.segment.file last_apart)) (body_as up.parts i.parts same_middle same_last s.pending s.segment.gate s.segment.next (d.content s.disk s.segment.file) (up.written e)))
 
     -- the places then
@@ -274,151 +366,70 @@ module _ {D : Type 0} (d : Ghosts D) (s : StoreData D) (rows : Map) (up : IsUp d
         let at_is : places.at ≡ taken_over file (records_of gs) (gone_of gs) old_at = are ∙ ap (λ (es : List EntryData). taken_over file es c.made.gone old_at) made.records ∙ ap (λ (ks : List RowKey). taken_over file (records_of gs) ks old_at) made.gone in
         rw (at_is, made.lives, has.next_is) taken
 
-    merge_places : (g : Seen) (next : ManifestData) (places : PlaceTable) → (is : IsMergeReady (d.content s.disk) (d.may_leave s.disk) m up.parts g next)
-        → IsSettled FIRST_FORMAT (d.content new) (d.may_leave new) next (merged_parts up.parts is.merge.lives)
-        → places.at ≡ moved g.left.data_file g.right.data_file g.pair.data_file g.made.records s.places.at → ArePlaces next.pairs (merged_parts up.parts is.merge.lives).lives places.at
+    merge_places : (g : Seen) (next : ManifestData) (places : PlaceTable) → (is : IsMergeReady (d.content s.disk) (d.may_leave s.disk) m g next)
+        → IsSettled FIRST_FORMAT (d.content new) (d.may_leave new) next (merged_parts_now (d.content s.disk) (d.may_leave s.disk) m up.parts g next is)
+        → places.at ≡ moved g.left.data_file g.right.data_file g.pair.data_file g.made.records s.places.at → ArePlaces next.pairs (merged_parts_now (d.content s.disk) (d.may_leave s.disk) m up.parts g next is).lives places.at
     merge_places g next places is settled to =
-        let has = is.merge in
-        let ls = has.lives in
-        let two = pairs_of m g in
-        let rises = rise_two ls.before ls.left ls.right ls.behind (subst (λ (l : List (List Numbered)). AllByRecursion Rise l) has.two.lives up.places.rise) in
-        let left = none_late ls.left rises.0 in
-        let right = none_late ls.right rises.1 in
-        let apart : IsDistinct nat_eq (map file_of (two.before ++ g.pair ∷ two.behind)) = subst (λ (n : ManifestData). IsDistinct nat_eq (map file_of n.pairs)) is.next_is (data_files_differ next settled.installed.own.is) in
-        let were : ArePlaces (two.before ++ g.left ∷ g.right ∷ two.behind) (ls.before ++ ls.left ∷ ls.right ∷ ls.behind) s.places.at =
-        subst (λ (l : List (List Numbered)). ArePlaces (two.before ++ g.left ∷ g.right ∷ two.behind) l s.places.at) has.two.lives (subst (λ (ps : List Pair). ArePlaces ps up.parts.lives s.places.at) has.two.pairs up.places) in
-        let all : ArePlaces (two.before ++ g.left ∷ g.right ∷ two.behind) (ls.before ++ without [] ls.left ∷ without [] ls.right ∷ ls.behind) s.places.at = rw (left.1, right.1) were in
-        let now = places_merged two.before two.behind g.left g.right g.pair ls.before ls.behind ls.left ls.right [] [] s.places.at has.two.each left.0 right.0
-        (apart_two ls.before ls.left ls.right ls.behind (subst AreApart has.two.lives up.places.apart)) apart all in
-        let at_is : places.at ≡ moved g.left.data_file g.right.data_file g.pair.data_file (merged ls.left ls.right) s.places.at = to ∙ ap (λ (es : List EntryData). moved g.left.data_file g.right.data_file g.pair.data_file es s.places.at) has.records in
+        let merge = is.merge in
+        let saw = seen_with g merge.live_left merge.live_right in
+        let differ : IsDistinct nat_eq (map file_of (merged m (pairs_now merge.seen (pair_with g is.late))).pairs) = subst (λ (n : ManifestData). IsDistinct nat_eq (map file_of n.pairs)) is.next_is (data_files_differ next settled.installed.own.is) in
+        let now = places_beside FIRST_FORMAT (d.content s.disk) m up.parts saw (pair_with g is.late) merge.seen is.now s.places.at small up.settled.installed.own.is up.settled.installed.parts.live differ up.places in
+        let at_is : places.at ≡ moved g.left.data_file g.right.data_file g.pair.data_file (records_merged merge.live_left merge.live_right) s.places.at = to ∙ ap (λ (es : List EntryData). moved g.left.data_file g.right.data_file g.pair.data_file es s.places.at) merge.records in
         rw (at_is, is.next_is) now
 
-    -- THE STORE IS UP WITH IT.
-    open_up : {j : Job} {i : InstallData} → Installing j i → HasWork (d.content s.disk) (d.may_leave s.disk) m up.parts j → (places : PlaceTable) → IsOpened d new m (manifest_after j m) → places.at ≡ places_after j s.places.at → (s.written && is_rotation j) ≡ false
-        → IsUp d (record s { disk = new; manifest = manifest_after j m; places = places; segment = segment_after j s.segment; job = None }) rows
-    open_up (OfRotation fresh k) has places opened to free =
+    -- THE STORE IS UP WITH IT, and with the jobs that run on.
+    open_up : {j : Job} {i : InstallData} → Installing j i → HasWork (d.content s.disk) (d.may_leave s.disk) m up.parts j → (places : PlaceTable) → IsOpened d new m (manifest_after j m) → places.at ≡ places_after j s.places.at → (is_rotation j ≡ true → s.written ≡ false)
+        → (jobs : Jobs) → ((y : Parts) → HaveJobs (d.content new) (d.may_leave new) (manifest_after j m) y jobs) → ShareNone jobs → HasRoom places jobs
+        → IsUp d (record s { disk = new; manifest = manifest_after j m; places = places; segment = segment_after j s.segment; jobs = jobs }) rows
+    open_up (OfRotation fresh k) has places opened to free jobs runs apart room =
         let i = installs (d.content s.disk) (d.may_leave s.disk) m up.parts up.settled (OfRotation fresh k) has in
-        with_next k.next i places fresh (next_settled k.next (ap (λ (n : ManifestData). n.generation) has.next_is) i opened) (subst (λ (n : ManifestData). IsLastFile n fresh.file) (sym has.next_is) (rotated_last m fresh.file))
-        has.gate (omega (arith, has.gate)) (λ e. absurd (grind arith)) (rw (to, has.next_is) up.places)
-    open_up (OfCheckpoint pair c next step) has places opened to free =
+        with_next k.next i places fresh jobs (runs i.parts) apart room (next_settled k.next (ap (λ (n : ManifestData). n.generation) has.next_is) i opened) (subst (λ (n : ManifestData). IsLastFile n fresh.file) (sym has.next_is) (rotated_last m fresh.file))
+        has.gate (omega (arith, has.gate)) (λ e. absurd (cc (sym e ∙ free refl))) (rw (to, has.next_is) up.places)
+    open_up (OfCheckpoint pair c next step) has places opened to free jobs runs apart room =
         let i = installs (d.content s.disk) (d.may_leave s.disk) m up.parts up.settled (OfCheckpoint pair c next step) has in
         let settled = next_settled next (ap (λ (n : ManifestData). n.generation) has.into.next_is) i opened in
         let made = made_of pair c has.into.segment in
         let log = has.into.log in
         let stays = last_stays FIRST_FORMAT (d.content s.disk) (d.may_leave s.disk) m up.parts made log in
         let it : s.segment.file ≡ log.last_file = last_once m stays.0 log.last_file s.segment.file stays.1 up.last in
-        installed_up next i places settled refl refl
+        installed_up next i places jobs (runs i.parts) apart room settled refl refl
         (subst (λ (n : ManifestData). IsLastFile n s.segment.file) (sym has.into.next_is) (subst (IsLastFile (checkpointed m made)) (sym it) (last_after FIRST_FORMAT (d.content s.disk) (d.may_leave s.disk) m up.parts made log)))
         (checkpoint_places (record { pair = pair; made = c; next = next; stage = AtInstall step }) places has.into settled to)
-    open_up (OfMerge g k) has places opened to free =
-        let i = installs (d.content s.disk) (d.may_leave s.disk) m up.parts up.settled (OfMerge g k) has in
+    open_up (OfMergeReady g k) has places opened to free jobs runs apart room =
+        let i = installs (d.content s.disk) (d.may_leave s.disk) m up.parts up.settled (OfMergeReady g k) has in
         let settled = next_settled k.next (ap (λ (n : ManifestData). n.generation) has.next_is) i opened in
-        installed_up k.next i places settled refl refl (subst (λ (n : ManifestData). IsLastFile n s.segment.file) (sym has.next_is) (up.last.0, up.last.1)) (merge_places g k.next places has settled to)
+        installed_up k.next i places jobs (runs i.parts) apart room settled refl refl (subst (λ (n : ManifestData). IsLastFile n s.segment.file) (sym has.next_is) (up.last.0, up.last.1)) (merge_places g k.next places has settled to)
+
+    -- a merge that isn't ready runs on
+    runs_on_after : {jobs : Jobs} {j : Job} → IsDueIn (Install Open) jobs j → HaveJobs (d.content s.disk) (d.may_leave s.disk) m up.parts jobs → ShareNone jobs → AreSafe m jobs → (y : Parts) → HaveJobs (d.content new) (d.may_leave new) (manifest_after j m) y (after_install jobs)
+    runs_on_after (TheRotation fresh i due) runs apart safe y = tt
+    runs_on_after (TheMerge seen i due) runs apart safe y = tt
+    runs_on_after (TheCheckpoint c None due) runs apart safe y = tt
+    runs_on_after (TheCheckpoint c (Some g) due) runs apart safe y = (
+      merge_runs_on (d.content s.disk) (d.content new) (d.may_leave s.disk) (d.may_leave new) m up.parts up.settled (subst (λ k. OthersStay k (d.content s.disk) (d.content new) (d.may_leave s.disk) (d.may_leave new)) at rest) c g apart runs.0.work.into safe.0.generation runs.1.0.work y,
+      tt,
+    )
+    runs_on_after (OfMerge c g due) runs apart safe y = never_opens g.stage due
+
+  -- a rotation's last step waits for no body
+  free_of : {jobs : Jobs} {j : Job} → IsDueIn (Install Open) jobs j → (s.written && has_rotation jobs) ≡ false → is_rotation j ≡ true → s.written ≡ false
+  free_of (TheRotation fresh i due) free is = not_written s.written free
+    where
+      not_written : (b : Bool) → (b && true) ≡ false → b ≡ false
+      not_written true e = absurd (cc e)
+      not_written false e = refl
+  free_of (TheMerge seen i due) free is = absurd (cc is)
+  free_of (TheCheckpoint c g due) free is = absurd (cc is)
+  free_of (OfMerge c g due) free is = absurd (cc is)
 
   -- THE STORE IS UP with what the step of a job that opens the gate has made.
-  pub opened_up : (j : Job) → s.job ≡ Some j → step_due j ≡ Install Open → (new : D) → WritesFor d s.disk new m j → (made : Option ManifestData) → HasMadeStep d s.disk new m j made → d.fault_count new ≡ d.fault_count s.disk
-      → (places : PlaceTable) → places.at ≡ places_after j s.places.at → (s.written && has_rotation s.job) ≡ false
-      → IsUp d (record s { disk = new; manifest = manifest_after j m; places = places; segment = segment_after j s.segment; job = None }) rows
-  opened_up j is due new writes made makes count places to free =
-      let stands : StandsWith d s.disk m up.parts j = record { settled = up.settled; job = subst (λ (o : Option Job). HasJob (d.content s.disk) (d.may_leave s.disk) m up.parts o) is up.job } in
+  pub opened_up : (safe : IsSafe d s) (j : Job) (due : IsDueIn (Install Open) s.jobs j) (new : D) → WritesFor d s.disk new m j → (behind : Job) → HasMadeStep d s.disk new m j behind → d.fault_count new ≡ d.fault_count s.disk
+      → (places : PlaceTable) → places.at ≡ places_after j s.places.at → (s.written && has_rotation s.jobs) ≡ false
+      → IsUp d (record s { disk = new; manifest = manifest_after j m; places = places; segment = segment_after j s.segment; jobs = after_install s.jobs }) rows
+  opened_up safe j due new writes behind makes count places to free =
+      let stands : StandsWith d s.disk m up.parts j = record { settled = up.settled; job = of_due (IsRunning (d.content s.disk) (d.may_leave s.disk) m up.parts) due up.jobs } in
       let w = writes up.parts stands in
-      let i = installing j _ (due_installs m j Open due) in
-      open_up new w.file (slot_of_install m w.file i w.is) w.rest count i stands.job.work places ((makes up.parts stands).opened due) to (subst (λ (o : Option Job). (s.written && has_rotation o) ≡ false) is free)
-
--- ---- looks at the disk
-
-module _ {D : Type 0} {d : Ghosts D} {s : StoreData D} {call : StoreCall} (b : Begins d s call) (new : D) (rest : AllStay (d.content s.disk) (d.content new) (d.may_leave s.disk) (d.may_leave new)) where
-  -- the store stays up, whatever job runs then
-  pub looked_up : (rows : Map) (up : IsUp d s rows) (places : PlaceTable) (job : Option Job) → places.at ≡ s.places.at → HasRoom places job → HasJob (d.content s.disk) (d.may_leave s.disk) s.manifest up.parts job → d.fault_count new ≡ d.fault_count s.disk
-      → IsUp d (record s { disk = new; places = places; job = job }) rows
-  looked_up rows up places job same room has = stays_up d s rows up new places job (settled_all (d.content s.disk) (d.content new) (d.may_leave s.disk) (d.may_leave new) FIRST_FORMAT s.manifest up.parts rest up.settled) (rest.content s.segment.file)
-      (job_framed (d.content s.disk) (d.content new) (d.may_leave s.disk) (d.may_leave new) s.manifest up.settled.installed.own.is up.parts up.parts.last (λ some. some) job
-      (record { content = λ n _. rest.content n; images = λ n c _. rest.images n c }) (rest.content (other_slot s.manifest)) has) same room
-
-  -- so with the one that runs
-  pub looked_same : d.fault_count new ≡ d.fault_count s.disk → (rows : Map) → IsUp d s rows → IsUp d (record s { disk = new }) rows
-  looked_same count rows up = looked_up rows up s.places s.job refl up.room_for up.job count
-
-  pub still_up : d.fault_count new ≡ d.fault_count s.disk → (rows : Map) × IsUp d (record s { disk = new }) rows
-  still_up count = (b.rows, looked_same count b.rows b.is_up)
-
-  module _ (any_moment : LeavesOnly d.moment d.left_since s.disk new (AllOf (d.may_leave s.disk))) where
-    pub looks_leave : AllLeave d s new
-    looks_leave rows up slots = weaker d.moment d.left_since s.disk new (AllOf (d.may_leave s.disk)) (MayBeLeft rows s.mark (opening s)) (now_left d s rows up slots) any_moment
-
-    looks_slots : HasSlots (d.content s.disk) → HasSlots (d.content new)
-    looks_slots = slots_as (d.content s.disk) (d.content new) (rest.content 0) (rest.content 1)
-
-    -- a call that has done no more
-    pub looked_fault : {A : Type 0} → CountsNow d → (e : Refusal) → e ≡ DiskFault → MayMeet call DiskFault → d.fault_count new ≡ d.fault_count s.disk + 1 → IsStoreStep {A = A} d s call (Err e) (record s { disk = new; down = true })
-    looked_fault counts_now e at may count = fault_step b counts_now new e at may count looks_leave (all_others d call s (record s { disk = new; down = true }) rest)
-
-    pub looked_memory : {A : Type 0} → MayMeet call OutOfMemory → (HasNoFault d s (record s { disk = new }) → LeftByMemory d call s (record s { disk = new })) → d.fault_count new ≡ d.fault_count s.disk → IsStoreStep {A = A} d s call (Err OutOfMemory) (record s { disk = new })
-    looked_memory may left count = looked_step b (record s { disk = new }) looks_leave looks_slots (all_others d call s (record s { disk = new }) rest) may (left count) (looked_same count)
-
-    module _ (places : PlaceTable) (job : Option Job) where
-      pub looked_done : {A : Type 0} (a : A) → Makes d call s (record s { disk = new; places = places; job = job }) → d.fault_count new ≡ d.fault_count s.disk → ((rows : Map) → IsUp d s rows → IsUp d (record s { disk = new; places = places; job = job }) (rows_after {A = A} s call (Ok a) rows))
-          → IsStoreStep d s call (Ok a) (record s { disk = new; places = places; job = job })
-      looked_done a = done_step b (record s { disk = new; places = places; job = job }) looks_leave looks_slots (all_others d call s (record s { disk = new; places = places; job = job }) rest) a
-
--- the counter where memory was refused behind a read
-pub read_count : {D X : Type 0} (d : Ghosts D) (old new : D) (e : Refusal) → HasRead {X = X} d old new (Err e) → e ≡ OutOfMemory → d.fault_count new ≡ d.fault_count old
-read_count {D} {X} d old new e read memory = subst (λ (k : Refusal). CountsFaults {X = X} (d.fault_count old) (d.fault_count new) (Err k)) memory read.count
-
--- ---- a file is emptied
-
--- it is used, or a job writes it
-abbrev IsKept : {D : Type 0} → StoreData D → ℕ → Type 0
-IsKept s n = IsUsed s.manifest n ⊎ (takes_file s.job n ≡ true)
-
-dead_not_kept : {D : Type 0} (d : Ghosts D) (s : StoreData D) (n : ℕ) → HasDead d s n → IsKept s n → ⊥
-dead_not_kept d s n dead (inl used) = unnamed_unused s.manifest n dead.first dead.unnamed used
-dead_not_kept d s n dead (inr is) = absurd (cc (is, dead.unused))
-
-of_pair : (p : Pair) (n : ℕ) → IsOfPair p n → (eqb p.data_file n || eqb p.delta_file n) ≡ true
-of_pair p n (inl here) = ap (λ t. t || eqb p.delta_file n) (eq-eqb p.data_file n (sym here))
-of_pair p n (inr here) = ap (λ t. eqb p.data_file n || t) (eq-eqb p.delta_file n (sym here)) ∙ or-true (eqb p.data_file n)
-
--- so are the files that a job rests on
-rests_kept : (m : ManifestData) (j : Job) (n : ℕ) → RestsOn m j n → IsUsed m n ⊎ (job_takes_file j n ≡ true)
-rests_kept m (Rotation fresh i) n here = inr (eq-eqb fresh.file n (sym here))
-rests_kept m (Checkpoint c) n (inl on) = inr (of_pair c.pair n (written_of_pair c.pair c.stage n on))
-rests_kept m (Checkpoint c) n (inr before) = inl (inr before.0)
-rests_kept m (Merge g) n on = inr (of_pair g.seen.pair n (merged_of_pair g.seen.pair g.stage n on))
-rests_kept m (MergeInstall g i) n here = inr (of_pair g.pair n here)
-
-job_rests_kept : (m : ManifestData) (o : Option Job) (n : ℕ) → JobRestsOn m o n → IsUsed m n ⊎ (takes_file o n ≡ true)
-job_rests_kept m None n on = absurd on
-job_rests_kept m (Some j) n on = rests_kept m j n on
-
-module _ {D : Type 0} {d : Ghosts D} {s : StoreData D} {call : StoreCall} (b : Begins d s call) (mid new : D) (file : ℕ) (dead : HasDead d s file) (looks : AllStay (d.content s.disk) (d.content mid) (d.may_leave s.disk) (d.may_leave mid)) (rest : OthersStay file (d.content mid) (d.content new) (d.may_leave mid) (d.may_leave new)) where
-  -- the other files are as they were
-  pub others_stay : OthersStay file (d.content s.disk) (d.content new) (d.may_leave s.disk) (d.may_leave new)
-  others_stay = record {
-    content = λ n ne. rest.content n ne ∙ looks.content n;
-    images = λ n c ne left. looks.images n c (rest.images n c ne left);
-    keeps = λ n c ne left. rest.keeps n c ne (looks.keeps n c left);
-  }
-
-  kept_stay : FilesStay (IsKept s) (d.content s.disk) (d.content new) (d.may_leave s.disk) (d.may_leave new)
-  kept_stay = files_stay_others (d.content s.disk) (d.content new) (d.may_leave s.disk) (d.may_leave new) (IsKept s) file (dead_not_kept d s file dead) others_stay
-
-  pub emptied_slots : HasSlots (d.content s.disk) → HasSlots (d.content new)
-  emptied_slots = slots_as (d.content s.disk) (d.content new) (kept_stay.content 0 (inl (inl (omega arith)))) (kept_stay.content 1 (inl (inl (omega arith))))
-
-  -- THE STORE STAYS UP where a dead file is emptied.
-  pub emptied_up : d.fault_count new ≡ d.fault_count s.disk → (rows : Map) → IsUp d s rows → IsUp d (record s { disk = new }) rows
-  emptied_up count rows up = stays_up d s rows up new s.places s.job
-      (settled_framed (d.content s.disk) (d.content new) (d.may_leave s.disk) (d.may_leave new) FIRST_FORMAT s.manifest up.parts (record { content = λ n is. kept_stay.content n (inl is); images = λ n c is. kept_stay.images n c (inl is) }) up.settled)
-      (kept_stay.content s.segment.file (inl (last_used s.manifest s.segment.file up.last)))
-      (job_framed (d.content s.disk) (d.content new) (d.may_leave s.disk) (d.may_leave new) s.manifest up.settled.installed.own.is up.parts up.parts.last (λ some. some) s.job
-      (record { content = λ n on. kept_stay.content n (job_rests_kept s.manifest s.job n on); images = λ n c on. kept_stay.images n c (job_rests_kept s.manifest s.job n on) })
-      (kept_stay.content (other_slot s.manifest) (inl (inl (slot_below (s.manifest.generation + 1))))) up.job) refl up.room_for count
-
-  pub emptying_leaves : LeavesOnly d.moment d.left_since s.disk mid (AllOf (d.may_leave s.disk)) → LeavesOnly d.moment d.left_since mid new (Touched file (d.may_leave mid) (λ bytes. ⊤)) → AllLeave d s new
-  emptying_leaves first second rows up slots = runs_on d.moment d.left_since s.disk mid new (MayBeLeft rows s.mark (opening s)) (Touched file (d.may_leave mid) (λ bytes. ⊤)) (looks_leave b mid looks first rows up slots) second
-      (λ image t. touched_left d s rows up slots file dead.first (unnamed_unused s.manifest file dead.first dead.unnamed) image (record { here = t.here; others = λ n ne. looks.images n (image n) (t.others n ne) }))
-
--- the file that a look found
-pub least_found : {D : Type 0} (d : Ghosts D) (s : StoreData D) (found : Option ℕ) (file : ℕ) (P : Type 0) → found ≡ Some file → MatchOption found P (λ n. IsLeastDead (d.content s.disk) s.manifest s.job n) → IsLeastDead (d.content s.disk) s.manifest s.job file
-least_found d s found file P is least = subst (λ (o : Option ℕ). MatchOption o P (λ n. IsLeastDead (d.content s.disk) s.manifest s.job n)) is least
+      let i = installing j _ (due_installs m j Open (step_is due)) in
+      let slot = slot_of_install m w.file i w.is in
+      open_up new w.file slot w.rest count i stands.job.work places ((makes up.parts stands).opened (step_is due)) to (free_of due free) (after_install s.jobs)
+      (runs_on_after new w.file slot w.rest count due up.jobs up.apart safe.jobs) (share_installed s.jobs) (opened_room places s.jobs)

@@ -1,10 +1,10 @@
 -- A store keeps its rows over a step, and each slot its gate. What each way through a call comes to, where no cause of a refusal stands.
-use Rattle.std.proofs.Common.{◌≡◌, ◌≢◌, inl, inr, ℕ, ◌<◌, ◌≤◌, true, false, List, [], Option, Some, None, sym, subst, ◌∙◌, arith, rules, ◌&&◌, ⊎_elim, length, refl, ◌+◌, Ok, Err}
+use Rattle.std.proofs.Common.{◌≡◌, ◌≢◌, inl, inr, ℕ, ◌<◌, ◌≤◌, true, false, List, [], Option, Some, None, sym, subst, ◌∙◌, arith, ◌&&◌, ⊎_elim, length, refl, ◌+◌, ◌^◌, Ok, Err}
 use Rattle.std.specs.Prelude.{⊤}
 use Rattle.std.proofs.lemmas.Bool.{cases_eq}
 use Rattle.mvo_types.specs.Keys.{Map}
 use Rattle.mvo_disk.specs.declared.disk.Disk.{Ghosts}
-use Rattle.mvo_disk.specs.Disk.{Image, AllOf, OthersStay, Touched, LeavesOnly, AllStay}
+use Rattle.mvo_disk.specs.Disk.{Image, AllOf, OthersStay, Touched, LeavesOnly, AllStay, Moment, IsBefore, IsHonest}
 use Rattle.mvo_disk.specs.Moments.{weaker, started, at_end}
 use Rattle.mvo_group.specs.Data.{GroupData}
 use Rattle.mvo_format.specs.declared.format.TheConstants.{FIRST_FORMAT}
@@ -13,23 +13,26 @@ use Rattle.mvo_places.specs.Places.{PlaceMap, PlaceTable, ArePlaces}
 use Rattle.mvo_recovery.specs.Parts.{Parts}
 use Rattle.mvo_recovery.specs.Settled.{IsSettled, IsUsed, GivesParts}
 use Rattle.mvo_recovery.proofs.Framed.{settled_gives, within_unused}
-use Rattle.mvo_store.specs.declared.job.Job.{Job}
+use Rattle.mvo_load.specs.Read.{IsMisread}
+use Rattle.mvo_store.specs.declared.jobs.Jobs.{Jobs}
 use Rattle.mvo_store.specs.StoreData.{StoreData, opening}
-use Rattle.mvo_store.specs.Standing.{IsUp, HasBody, HasJob, HasRoom, Gives, GivesOr, HasSlots, MayBeLeft, KeepsRows, IsKeeping, Keeps}
+use Rattle.mvo_store.specs.Standing.{IsUp, HasBody, HaveJobs, ShareNone, HasRoom, Gives, GivesOr, HasSlots, MayBeLeft, KeepsRows, IsKeeping, Keeps}
 use Rattle.mvo_store.specs.Writing.{StillGives}
-use Rattle.mvo_types.specs.declared.limits.TheConstants.{MAX_SEGMENTS, MAX_PAIRS}
+use Rattle.mvo_store.specs.Safe.{IsSafe, AreSafe, IsSound}
+use Rattle.mvo_types.specs.declared.limits.TheConstants.{MAX_SEGMENTS}
 use Rattle.mvo_types.specs.declared.refusal.Refusal.{Refusal}
 use Rattle.mvo_types.specs.declared.refusal.Refusal.TheVariants.{DiskFault, OutOfMemory}
 use Rattle.mvo_format.specs.declared.header.TheConstants.{HEADER_LEN}
 use Rattle.mvo_store.specs.declared.limits.TheConstants.{MAX_GENERATION}
 use Rattle.mvo_store.specs.declared.step.Step.TheVariants.{Open}
 use Rattle.mvo_store.specs.declared.due.Due.{Due}
-use Rattle.mvo_store.specs.declared.due.Due.TheVariants.{Install}
-use Rattle.mvo_store.specs.Causes.{are_too_many, has_rotation, why_not_take, why_not_rotate, why_not_checkpoint, why_not_merge, why_not_due, why_not_install_open}
-use Rattle.mvo_store.specs.Jobs.{is_due}
-use Rattle.mvo_store.specs.Merging.{neighbours_at}
-use Rattle.mvo_store.specs.Calls.{StoreCall, why_not, MayMeet, IsRefused, Makes, HasNoFault, LeftBy, LeftByMemory, MayWrite, KeepsOthers, IsStoreStep, rows_after}
-use Rattle.mvo_store.specs.Calls.StoreCall.{Take, AppendOpen, CheckpointRead, MergeRead}
+use Rattle.mvo_store.specs.declared.due.Due.TheVariants.{MergeDelta, Install}
+use Rattle.mvo_store.specs.Causes.{why_not_take, why_not_rotate, why_not_checkpoint, why_not_merge, why_not_due, why_not_merge_delta, why_not_install_open}
+use Rattle.mvo_store.specs.Jobs.{keeps_all_out, keeps_checkpoint_out, keeps_merge_out, has_checkpoint, has_rotation, is_due}
+use Rattle.mvo_store.specs.Planning.{MayReadCheckpoint}
+use Rattle.mvo_store.specs.MergeReading.{MayReadMerge}
+use Rattle.mvo_store.specs.Calls.{StoreCall, why_not, MayMeet, IsRefused, Makes, HasNoFault, LeftBy, LeftByMemory, MayTouch, KeepsOthers, IsStoreStep, rows_after}
+use Rattle.mvo_store.specs.Calls.StoreCall.{Take, AppendOpen, CheckpointRead, MergeRead, MergeDelta as MergeDeltaCall}
 
 -- ---- the slots
 
@@ -95,7 +98,7 @@ module _ {D : Type 0} (d : Ghosts D) where
   OnlyNow = (disk : D) (image : Image) → d.left_since disk (d.moment disk) image → AllOf (d.may_leave disk) image
 
   abbrev pub CountsNow : Type 0
-  CountsNow = (disk : D) (t : ℕ) (image : Image) → t ≤ d.moment disk → AllOf (d.may_leave disk) image → d.left_since disk t image
+  CountsNow = (disk : D) (t : Moment) (image : Image) → IsBefore t (d.moment disk) → AllOf (d.may_leave disk) image → d.left_since disk t image
 
   -- ---- a store that is up
 
@@ -120,10 +123,10 @@ module _ {D : Type 0} (d : Ghosts D) where
     pub up_keeps : HasSlots (d.content s.disk) → KeepsRows d s rows
     up_keeps slots = record { images = now_left slots; up = λ _. (up, slots) }
 
-    -- Its disk, its places and its job are others: the last segment stays, and the job stands.
-    pub stays_up : (new : D) (places : PlaceTable) (job : Option Job) → IsSettled FIRST_FORMAT (d.content new) (d.may_leave new) s.manifest up.parts → d.content new s.segment.file ≡ d.content s.disk s.segment.file
-        → HasJob (d.content new) (d.may_leave new) s.manifest up.parts job → places.at ≡ s.places.at → HasRoom places job → d.fault_count new ≡ d.fault_count s.disk → IsUp d (record s { disk = new; places = places; job = job }) rows
-    stays_up new places job settled last stands same room count =
+    -- Its disk, its places and its jobs are others: the last segment stays, and the jobs stand.
+    pub stays_up : (new : D) (places : PlaceTable) (jobs : Jobs) → IsSettled FIRST_FORMAT (d.content new) (d.may_leave new) s.manifest up.parts → d.content new s.segment.file ≡ d.content s.disk s.segment.file
+        → HaveJobs (d.content new) (d.may_leave new) s.manifest up.parts jobs → ShareNone jobs → places.at ≡ s.places.at → HasRoom places jobs → d.fault_count new ≡ d.fault_count s.disk → IsUp d (record s { disk = new; places = places; jobs = jobs }) rows
+    stays_up new places jobs settled last stands apart same room count =
         let written : s.written ≡ true → HasBody up.parts s.pending s.segment.gate s.segment.next (d.content new s.segment.file) = λ e. subst (λ (c : List ℕ). HasBody up.parts s.pending s.segment.gate s.segment.next c) (sym last) (up.written e) in
         let are : ArePlaces s.manifest.pairs up.parts.lives places.at = subst (λ (at : PlaceMap). ArePlaces s.manifest.pairs up.parts.lives at) (sym same) up.places in
         search arith
@@ -153,11 +156,11 @@ module _ {D : Type 0} (d : Ghosts D) where
 
   -- the step went well
   pub step_keeps : (made : Map → Map) (s t : StoreData D) → s.down ≡ false → AllLeave s t.disk
-      → ((rows : Map) → IsUp d s rows → IsUp d t (made rows)) → (HasSlots (d.content s.disk) → HasSlots (d.content t.disk))
+      → ((rows : Map) → IsUp d s rows → IsUp d t (made rows)) → ((rows : Map) → IsUp d s rows → HasSlots (d.content s.disk) → HasSlots (d.content t.disk))
       → IsKeeping d made s t
   step_keeps made s t is moments ups slots = record {
     any_moment = λ rows k. moments rows (k.up is).0 (k.up is).1;
-    keeps = λ rows k. up_keeps t (made rows) (ups rows (k.up is).0) (slots (k.up is).1);
+    keeps = λ rows k. up_keeps t (made rows) (ups rows (k.up is).0) (slots rows (k.up is).0 (k.up is).1);
   }
 
 -- the store is up
@@ -165,13 +168,32 @@ up_of : {D : Type 0} (s : StoreData D) (call : StoreCall) → why_not s call ≡
 up_of s (Take g) e = grind arith
 up_of s call e = grind arith
 
+-- no cause is a fault or what was misread
+cause_apart : {D : Type 0} (s : StoreData D) (call : StoreCall) (cause : Refusal) → why_not s call ≡ Some cause → (cause ≢ DiskFault) × (IsMisread cause → ⊥)
+cause_apart s (Take g) cause is = grind arith
+cause_apart s call cause is = grind arith
+
 -- a step of a job may be made
-pub may_step : {D : Type 0} (step : Due) (s : StoreData D) → why_not_due step s ≡ None → is_due step s.job ≡ true
+pub may_step : {D : Type 0} (step : Due) (s : StoreData D) → why_not_due step s ≡ None → is_due step s.jobs ≡ true
 may_step step s e = grind arith
 
 -- the gate of a manifest may be opened
-pub may_open : {D : Type 0} (s : StoreData D) → why_not_install_open s ≡ None → (is_due (Install Open) s.job ≡ true) × ((s.written && has_rotation s.job) ≡ false)
+pub may_open : {D : Type 0} (s : StoreData D) → why_not_install_open s ≡ None → (is_due (Install Open) s.jobs ≡ true) × ((s.written && has_rotation s.jobs) ≡ false)
 may_open s e = grind arith
+
+-- the last file of a merge may be written
+pub may_end : {D : Type 0} (s : StoreData D) → why_not_merge_delta s ≡ None → (is_due MergeDelta s.jobs ≡ true) × (has_checkpoint s.jobs ≡ false)
+may_end s e = grind arith
+
+-- no job keeps one out that begins
+pub none_keeps_all : {D : Type 0} (s : StoreData D) → why_not_rotate s ≡ None → keeps_all_out s.jobs ≡ false
+none_keeps_all s e = grind arith
+
+pub none_keeps_checkpoint : {D : Type 0} (s : StoreData D) → why_not_checkpoint s ≡ None → keeps_checkpoint_out s.jobs ≡ false
+none_keeps_checkpoint s e = grind arith
+
+pub none_keeps_merge : {D : Type 0} (place : ℕ) (s : StoreData D) → why_not_merge place s ≡ None → keeps_merge_out s.jobs ≡ false
+none_keeps_merge place s e = grind arith
 
 -- a rotation may begin
 pub may_begin : {D : Type 0} (s : StoreData D) → why_not_rotate s ≡ None → (s.manifest.generation < MAX_GENERATION) × (s.segment.gate ≢ HEADER_LEN) × (length s.manifest.segments < MAX_SEGMENTS)
@@ -182,21 +204,11 @@ pub free_to_take : {D : Type 0} (s : StoreData D) → why_not_take s ≡ None �
 free_to_take s e = grind arith
 
 -- a checkpoint may begin
-pub record MayRead {D : Type 0} (s : StoreData D) : Type 0 where
-  pub generation : s.manifest.generation < MAX_GENERATION
-  pub sealed : 2 ≤ length s.manifest.segments
-  pub room : length s.manifest.pairs < MAX_PAIRS
-
-pub may_read : {D : Type 0} (s : StoreData D) → why_not_checkpoint s ≡ None → MayRead s
+pub may_read : {D : Type 0} (s : StoreData D) → why_not_checkpoint s ≡ None → MayReadCheckpoint s.manifest
 may_read s e = grind arith
 
 -- a merge may begin
-pub record MayMergeAt {D : Type 0} (place : ℕ) (s : StoreData D) : Type 0 where
-  pub generation : s.manifest.generation < MAX_GENERATION
-  pub some : Rattle.std.specs.Prelude.is_some (neighbours_at place s.manifest.pairs) ≡ true
-  pub few : are_too_many (neighbours_at place s.manifest.pairs) ≡ false
-
-pub may_merge_at : {D : Type 0} (place : ℕ) (s : StoreData D) → why_not_merge place s ≡ None → MayMergeAt place s
+pub may_merge_at : {D : Type 0} (place : ℕ) (s : StoreData D) → why_not_merge place s ≡ None → MayReadMerge s.manifest place
 may_merge_at place s e = grind arith
 
 -- a refusal keeps the rows as they are
@@ -208,11 +220,12 @@ module _ {D : Type 0} (d : Ghosts D) where
   same_left : (call : StoreCall) (s : StoreData D) → LeftByMemory d call s s
   same_left CheckpointRead s = record { after = refl; no_fault = refl }
   same_left (MergeRead place) s = record { after = refl; no_fault = refl }
+  same_left MergeDeltaCall s = record { after = refl; no_fault = refl }
   same_left call s = refl
 
   -- nothing changes
-  left_same : (call : StoreCall) (e : Refusal) (s : StoreData D) → e ≢ DiskFault → LeftBy d call e s s
-  left_same call e s ne = record { fault = λ is. absurd (ne is); memory = λ is. same_left call s; other = λ f m. refl }
+  left_same : (call : StoreCall) (e : Refusal) (s : StoreData D) → e ≢ DiskFault → (IsMisread e → ⊥) → LeftBy d call e s s
+  left_same call e s ne never = record { fault = λ is. absurd (ne is); memory = λ is. same_left call s; misread = λ is. absurd (never is); other = λ f m n. refl }
 
   -- ---- the files
 
@@ -224,9 +237,9 @@ module _ {D : Type 0} (d : Ghosts D) where
   same_others call s = record { content = λ n _. refl; images = λ n c _ left. left; keeps = λ n c _ left. left }
 
   -- but the one that the call may write
-  pub file_others : (call : StoreCall) (old new : StoreData D) (file : ℕ) → MayWrite d old call file → OthersStay file (d.content old.disk) (d.content new.disk) (d.may_leave old.disk) (d.may_leave new.disk) → KeepsOthers d call old new
+  pub file_others : (call : StoreCall) (old new : StoreData D) (file : ℕ) → MayTouch d call old new file → OthersStay file (d.content old.disk) (d.content new.disk) (d.may_leave old.disk) (d.may_leave new.disk) → KeepsOthers d call old new
   file_others call old new file may rest =
-      let apart : (n : ℕ) → (MayWrite d old call n → ⊥) → n ≢ file = λ n others e. others (subst (MayWrite d old call) (sym e) may) in
+      let apart : (n : ℕ) → (MayTouch d call old new n → ⊥) → n ≢ file = λ n others e. others (subst (MayTouch d call old new) (sym e) may) in
       record { content = λ n others. rest.content n (apart n others); images = λ n c others. rest.images n c (apart n others); keeps = λ n c others. rest.keeps n c (apart n others) }
 
   -- ---- a call that no cause refuses, of a store that is up
@@ -234,53 +247,86 @@ module _ {D : Type 0} (d : Ghosts D) where
   pub record Begins (s : StoreData D) (call : StoreCall) : Type 0 where
     pub none : why_not s call ≡ None
     pub up : s.down ≡ false
-    pub rows : Map
-    pub is_up : IsUp d s rows
+    pub sound : IsSound d s
 
   -- so it is, where a store's value is known and its invariant
-  pub begins : (s t : StoreData D) (call : StoreCall) → s ≡ t → why_not t call ≡ None → (s.down ≡ false → (rows : Map) × IsUp d s rows) → Begins s call
+  pub begins : (s t : StoreData D) (call : StoreCall) → s ≡ t → why_not t call ≡ None → (s.down ≡ false → IsSound d s) → Begins s call
   begins s t call same none invariant =
       let here = subst (λ (u : StoreData D). why_not u call ≡ None) (sym same) none in
-      let now = invariant (up_of s call here) in
-      record { none = here; up = up_of s call here; rows = now.0; is_up = now.1 }
+      record { none = here; up = up_of s call here; sound = invariant (up_of s call here) }
 
   -- ---- each way
 
   pub err_is : (A : Type 0) (call : StoreCall) (why : Option Refusal) (e : Refusal) → why ≡ None → MayMeet call e → IsRefused {A = A} call why (Err e)
   err_is A call why e none may = subst (λ (o : Option Refusal). IsRefused {A = A} call o (Err e)) (sym none) may
 
-  err_step : {A : Type 0} (s t : StoreData D) (call : StoreCall) (e : Refusal) → IsRefused {A = A} call (why_not s call) (Err e) → LeftBy d call e s t → Keeps d s t → KeepsOthers d call s t → IsStoreStep {A = A} d s call (Err e) t
-  err_step {A} s t call e refused left keeps others = record { comes = record { refused = refused; made = tt; left = left }; keeps = err_keeps A d s t call e keeps; others = others }
+  err_step : {A : Type 0} (s t : StoreData D) (call : StoreCall) (e : Refusal) → IsRefused {A = A} call (why_not s call) (Err e) → LeftBy d call e s t → (IsHonest (d.moment t.disk) → IsHonest (d.moment s.disk)) → (IsHonest (d.moment t.disk) → Keeps d s t) → KeepsOthers d call s t → IsStoreStep {A = A} d s call (Err e) t
+  err_step {A} s t call e refused left was keeps others = record { comes = record { refused = refused; made = tt; left = left }; honest = was; keeps = λ honest. err_keeps A d s t call e (keeps honest); others = others }
 
   -- it is refused, and nothing has changed
-  pub other_step : {A : Type 0} → OnlyNow d → (s t : StoreData D) (call : StoreCall) (e : Refusal) → t ≡ s → e ≢ DiskFault → IsRefused {A = A} call (why_not s call) (Err e) → IsStoreStep {A = A} d s call (Err e) t
-  other_step {A} only_now s t call e same ne refused = subst (λ (u : StoreData D). IsStoreStep {A = A} d s call (Err e) u) (sym same) (err_step s s call e refused (left_same call e s ne) (refused_keeps d only_now s) (same_others call s))
+  pub other_step : {A : Type 0} → OnlyNow d → (s t : StoreData D) (call : StoreCall) (e : Refusal) → t ≡ s → e ≢ DiskFault → (IsMisread e → ⊥) → IsRefused {A = A} call (why_not s call) (Err e) → IsStoreStep {A = A} d s call (Err e) t
+  other_step {A} only_now s t call e same ne never refused = subst (λ (u : StoreData D). IsStoreStep {A = A} d s call (Err e) u) (sym same) (err_step s s call e refused (left_same call e s ne never) (λ h. h) (λ _. refused_keeps d only_now s) (same_others call s))
 
   -- so where a cause stands
-  pub refused_step : {A : Type 0} → OnlyNow d → (s : StoreData D) (call : StoreCall) (cause : Refusal) → cause ≢ DiskFault → why_not s call ≡ Some cause → IsStoreStep {A = A} d s call (Err cause) s
-  refused_step {A} only_now s call cause ne is = other_step only_now s s call cause refl ne (subst (λ (o : Option Refusal). IsRefused {A = A} call o (Err cause)) (sym is) refl)
+  pub refused_step : {A : Type 0} → OnlyNow d → (s : StoreData D) (call : StoreCall) (cause : Refusal) → why_not s call ≡ Some cause → IsStoreStep {A = A} d s call (Err cause) s
+  refused_step {A} only_now s call cause is =
+      let apart = cause_apart s call cause is in
+      other_step only_now s s call cause refl apart.0 apart.1 (subst (λ (o : Option Refusal). IsRefused {A = A} call o (Err cause)) (sym is) refl)
 
   -- and where memory is refused first
   pub memory_step : {A : Type 0} → OnlyNow d → (s : StoreData D) (call : StoreCall) → why_not s call ≡ None → MayMeet call OutOfMemory → IsStoreStep {A = A} d s call (Err OutOfMemory) s
-  memory_step {A} only_now s call none may = other_step only_now s s call OutOfMemory refl (λ e. cc) (err_is A call (why_not s call) OutOfMemory none may)
+  memory_step {A} only_now s call none may = other_step only_now s s call OutOfMemory refl (λ e. cc) (λ never. never) (err_is A call (why_not s call) OutOfMemory none may)
 
 module _ {D : Type 0} {d : Ghosts D} {s : StoreData D} {call : StoreCall} (b : Begins d s call) where
   -- the disk met a fault
-  pub fault_step : {A : Type 0} → CountsNow d → (disk : D) (e : Refusal) → e ≡ DiskFault → MayMeet call DiskFault → d.fault_count disk ≡ d.fault_count s.disk + 1 → AllLeave d s disk → KeepsOthers d call s (record s { disk = disk; down = true })
+  pub fault_step : {A : Type 0} → CountsNow d → (disk : D) (e : Refusal) → e ≡ DiskFault → MayMeet call DiskFault → d.fault_count disk ≡ d.fault_count s.disk + 1 → (IsHonest (d.moment disk) → IsHonest (d.moment s.disk)) → (IsHonest (d.moment disk) → AllLeave d s disk) → KeepsOthers d call s (record s { disk = disk; down = true })
       → IsStoreStep {A = A} d s call (Err e) (record s { disk = disk; down = true })
-  fault_step {A} counts_now disk e at may count leaves others = subst (λ (r : Refusal). IsStoreStep {A = A} d s call (Err r) (record s { disk = disk; down = true })) (sym at)
+  fault_step {A} counts_now disk e at may count was leaves others = subst (λ (r : Refusal). IsStoreStep {A = A} d s call (Err r) (record s { disk = disk; down = true })) (sym at)
       (err_step d s (record s { disk = disk; down = true }) call DiskFault (err_is d A call (why_not s call) DiskFault b.none may)
-      (record { fault = λ is. record { after = refl; count = count }; memory = λ is. absurd (cc is); other = λ ne m. absurd (ne refl) }) (fault_keeps d counts_now s disk b.up leaves) others)
+      (record { fault = λ is. record { after = refl; count = count }; memory = λ is. absurd (cc is); misread = λ never. absurd never; other = λ ne m n. absurd (ne refl) }) was (λ honest. fault_keeps d counts_now s disk b.up (leaves honest)) others)
 
-  module _ (t : StoreData D) (leaves : AllLeave d s t.disk) (slots : HasSlots (d.content s.disk) → HasSlots (d.content t.disk)) (others : KeepsOthers d call s t) where
+  -- what was read breaks a rule
+  pub misread_step : {A : Type 0} (disk : D) (e : Refusal) → IsMisread e → MayMeet call e → d.fault_count disk ≡ d.fault_count s.disk → (IsHonest (d.moment disk) → ⊥) → KeepsOthers d call s (record s { disk = disk; down = true })
+      → IsStoreStep {A = A} d s call (Err e) (record s { disk = disk; down = true })
+  misread_step {A} disk e is may count lied others = err_step d s (record s { disk = disk; down = true }) call e (err_is d A call (why_not s call) e b.none may)
+      (record {
+        fault = λ at. absurd (subst IsMisread at is);
+        memory = λ at. absurd (subst IsMisread at is);
+        misread = λ _. record { after = refl; no_fault = count; lied = lied };
+        other = λ f m never. absurd (never is);
+      }) (λ honest. absurd (lied honest)) (λ honest. absurd (lied honest)) others
+
+  module _ (t : StoreData D) (was : IsHonest (d.moment t.disk) → IsHonest (d.moment s.disk)) (leaves : IsHonest (d.moment t.disk) → AllLeave d s t.disk) (slots : IsHonest (d.moment t.disk) → (rows : Map) → IsUp d s rows → HasSlots (d.content s.disk) → HasSlots (d.content t.disk)) (others : KeepsOthers d call s t) where
     -- the call does what it is for
-    pub done_step : {A : Type 0} (a : A) → Makes d call s t → HasNoFault d s t → ((rows : Map) → IsUp d s rows → IsUp d t (rows_after {A = A} s call (Ok a) rows)) → IsStoreStep d s call (Ok a) t
+    pub done_step : {A : Type 0} (a : A) → Makes d call s t → HasNoFault d s t → (IsHonest (d.moment t.disk) → (rows : Map) → IsUp d s rows → IsUp d t (rows_after {A = A} s call (Ok a) rows)) → IsStoreStep d s call (Ok a) t
     done_step {A} a makes no_fault ups =
         let refused : IsRefused {A = A} call (why_not s call) (Ok a) = subst (λ (o : Option Refusal). IsRefused {A = A} call o (Ok a)) (sym b.none) tt in
-        let keeps = step_keeps d (rows_after {A = A} s call (Ok a)) s t b.up leaves ups slots in
-        search rules
+        record {
+          comes = record { refused = refused; made = record { makes = makes; no_fault = no_fault }; left = tt };
+          honest = was;
+          keeps = λ honest. step_keeps d (rows_after {A = A} s call (Ok a)) s t b.up (leaves honest) (ups honest) (slots honest);
+          others = others;
+        }
 
     -- it has looked at the disk before memory is refused
-    pub looked_step : {A : Type 0} → MayMeet call OutOfMemory → LeftByMemory d call s t → ((rows : Map) → IsUp d s rows → IsUp d t rows) → IsStoreStep {A = A} d s call (Err OutOfMemory) t
+    pub looked_step : {A : Type 0} → MayMeet call OutOfMemory → LeftByMemory d call s t → (IsHonest (d.moment t.disk) → (rows : Map) → IsUp d s rows → IsUp d t rows) → IsStoreStep {A = A} d s call (Err OutOfMemory) t
     looked_step {A} may left ups = err_step d s t call OutOfMemory (err_is d A call (why_not s call) OutOfMemory b.none may)
-        (record { fault = λ is. absurd (cc is); memory = λ _. left; other = λ _ ne. absurd (ne refl) }) (step_keeps d (λ rows. rows) s t b.up leaves ups slots) others
+        (record { fault = λ is. absurd (cc is); memory = λ _. left; misread = λ never. absurd never; other = λ _ ne n. absurd (ne refl) }) was (λ honest. step_keeps d (λ rows. rows) s t b.up (leaves honest) (ups honest) (slots honest)) others
+
+-- ---- what safety needs
+
+module _ {D : Type 0} {d : Ghosts D} {s : StoreData D} (safe : IsSafe d s) where
+  -- the disk, the places and the jobs are others
+  pub stays_safe : (new : D) (places : PlaceTable) (jobs : Jobs) → AreSafe s.manifest jobs → ShareNone jobs → HasRoom places jobs → d.fault_count new ≡ d.fault_count s.disk → IsSafe d (record s { disk = new; places = places; jobs = jobs })
+  stays_safe new places jobs is apart room count = record {
+    file = safe.file;
+    few = safe.few;
+    written = safe.written;
+    jobs = is;
+    apart = apart;
+    room_for = room;
+    room = subst (λ n. n + 1 < 2 ^ 64) (sym count) safe.room;
+  }
+
+  pub looked_safe : (new : D) → d.fault_count new ≡ d.fault_count s.disk → IsSafe d (record s { disk = new })
+  looked_safe new = stays_safe new s.places s.jobs safe.jobs safe.apart safe.room_for

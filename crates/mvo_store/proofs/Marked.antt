@@ -1,6 +1,6 @@
 -- What an image gives: its mark is a timestamp of the clock, and what opening a disk answers is fixed by it. A disk that is synced, a store over what is found on it, and a new one.
 use Rattle.std.proofs.Common.{◌≡◌, ℕ, ◌+◌, ◌≤◌, rules, ⊎_elim, length, List, [], ◌∷◌, Ok, sym, subst, arith, inl, inr, Err, ap, ◌∙◌, ◌<◌, false, None, zero, suc, Bool, ◌++◌}
-use Rattle.mvo_types.specs.declared.limits.TheConstants.{MAX_STAMP}
+use Rattle.mvo_types.specs.declared.limits.TheConstants.{MAX_STAMP, MAX_SEGMENT_LEN}
 use Rattle.mvo_types.specs.Keys.{Map}
 use Rattle.mvo_group.specs.Data.{GroupData}
 use Rattle.mvo_group.specs.Body.{body_of}
@@ -22,7 +22,7 @@ use Rattle.mvo_store.specs.Opening.{IsAnswer, IsNotOpened, IsNotOfFiles, HasSync
 use Rattle.std.proofs.lemmas.Bool.{lt-leb}
 use Rattle.std.proofs.lemmas.List.Elements.{All-contains}
 use Rattle.std.specs.FinMap as map
-use Rattle.mvo_disk.specs.Disk.{Only, AllOf, Image, OthersStay}
+use Rattle.mvo_disk.specs.Disk.{Only, AllOf, Image, OthersStay, IsHonest}
 use Rattle.mvo_format.specs.declared.format.Format.{Format}
 use Rattle.mvo_format.specs.Found.{header}
 use Rattle.mvo_frame.specs.declared.magic.TheConstants.{MAGIC}
@@ -41,7 +41,9 @@ use Rattle.mvo_recovery.proofs.Rotated.{fresh_frames}
 use Rattle.mvo_recovery.proofs.Begun.{first_settled}
 use Rattle.mvo_types.specs.Causes.{when, or_next}
 use Rattle.mvo_store.specs.declared.limits.TheConstants.{MAX_FAULTS}
+use Rattle.mvo_store.specs.Jobs.{no_jobs}
 use Rattle.mvo_store.specs.StoreData.{StoreData}
+use Rattle.mvo_store.specs.Safe.{IsSafe}
 use Rattle.mvo_store.specs.Formatting.{has_open_slot, why_not_format, IsFormatted}
 use Rattle.mvo_store.proofs.Keeping.{slots_as, up_keeps, settled_slots}
 
@@ -78,9 +80,9 @@ same_rows content rows mark answer given gives =
 
 module _ {D : Type 0} (d : Ghosts D) where
   -- what gives rows isn't refused for its bytes
-  pub not_of_files : (old new : D) (e : Refusal) → IsNotOpened d old e new → (rows : Map) (mark : ℕ) → Gives rows mark (d.content old) → IsNotOfFiles e
-  not_of_files old new e (inl spent) rows mark gives = inl spent.refusal
-  not_of_files old new e (inr refused) rows mark gives = ⊎_elim (λ stop. inr stop) (λ answer. let same = same_outcome (d.content old) (Err e) answer rows mark gives in absurd (cc same)) refused.why
+  pub not_of_files : (old new : D) (e : Refusal) → IsNotOpened d old e new → IsHonest (d.moment new) → (rows : Map) (mark : ℕ) → Gives rows mark (d.content old) → IsNotOfFiles e
+  not_of_files old new e (inl spent) honest rows mark gives = inl spent.refusal
+  not_of_files old new e (inr refused) honest rows mark gives = ⊎_elim (λ stop. inr stop) (λ answer. let same = same_outcome (d.content old) (Err e) answer rows mark gives in absurd (cc same)) (refused.why honest)
 
 -- ---- what is opened
 
@@ -108,6 +110,11 @@ module _ (f : Format) (image : Image) (m : ManifestData) (rows : Map) (mark gate
         parts = let sealed = have_sealed f image last.sealed m.checkpoint_mark last.earlier last.middle last.before in search (rules, loaded, last, sealed);
       }
 
+-- the store over what was read is safe
+pub opened_safe : {D : Type 0} (d : Ghosts D) (old new : D) (m : ManifestData) (places : PlaceTable) (mark gate file : ℕ) → IsFile file → gate < MAX_SEGMENT_LEN → HasSynced d (IsUsed m) 1024 old new → d.fault_count old < MAX_FAULTS
+    → IsSafe d (record { disk = new; manifest = m; places = places; segment = record { file = file; gate = gate; next = gate }; mark = mark; pending = None; written = false; jobs = no_jobs; down = false })
+opened_safe d old new m places mark gate file is few synced faults = record { file = is; few = few; written = λ e. absurd (cc e); jobs = tt; apart = tt; room_for = tt; room = omega (arith, synced.count, faults) }
+
 module _ {D : Type 0} (d : Ghosts D) (old new : D) (m : ManifestData) (rows : Map) (mark gate file : ℕ) (loaded : IsLoaded FIRST_FORMAT (d.content old) m rows mark gate) (places : PlaceTable) (have : HavePlaces FIRST_FORMAT (d.content old) m.pairs places.at) (synced : HasSynced d (IsUsed m) 1024 old new) (is : IsLastFile m file) (few : d.fault_count old < MAX_FAULTS) where
   abbrev pub opened_store : StoreData D
   opened_store = record {
@@ -118,7 +125,7 @@ module _ {D : Type 0} (d : Ghosts D) (old new : D) (m : ManifestData) (rows : Ma
     mark = mark;
     pending = None;
     written = false;
-    job = None;
+    jobs = no_jobs;
     down = false;
   }
 
@@ -162,9 +169,9 @@ none_stands faults content few shut =
     ap (λ (b : Bool). or_next (when b ClockSpent) (or_next (when (has_open_slot content) AlreadyFormatted) None)) (lt-leb MAX_FAULTS faults few) ∙ ap (λ (b : Bool). or_next (when b AlreadyFormatted) None) shut
 
 module _ {D : Type 0} (d : Ghosts D) (old new : D) where
-  pub is_formatted : why_not_format (d.fault_count old) (d.content old) ≡ None → ((n : ℕ) → d.may_leave new n (d.content new n)) → IsSettled FIRST_FORMAT (d.content new) (d.may_leave new) (first_manifest 0 2) no_parts → HasSlots (d.content new) → d.fault_count new ≡ d.fault_count old
+  pub is_formatted : why_not_format (d.fault_count old) (d.content old) ≡ None → ((n : ℕ) → d.may_leave new n (d.content new n)) → IsSettled FIRST_FORMAT (d.content new) (d.may_leave new) (first_manifest 0 2) no_parts → HasSlots (d.content new)
       → IsFormatted d old new
-  is_formatted free stays settled slots count =
+  is_formatted free stays settled slots =
       let gives : (image : Image) → AllOf (d.may_leave new) image → Gives map.empty 0 image = settled_gives FIRST_FORMAT (d.content new) (d.may_leave new) (first_manifest 0 2) no_parts settled in
       let images : (image : Image) → AllOf (d.may_leave new) image → MayBeLeft map.empty 0 None image = λ image all. record { slots = settled_slots d new (first_manifest 0 2) no_parts settled slots image all; gives = gives image all } in
       let now = gives (d.content new) stays in

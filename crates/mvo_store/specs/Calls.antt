@@ -5,25 +5,32 @@ use Rattle.mvo_types.specs.declared.refusal.Refusal.{Refusal}
 use Rattle.mvo_types.specs.declared.refusal.Refusal.TheVariants.{DiskFault, OutOfMemory}
 use Rattle.mvo_types.specs.Keys.{Map}
 use Rattle.mvo_disk.specs.declared.disk.Disk.{Ghosts}
+use Rattle.mvo_disk.specs.Disk.{IsHonest}
 use Rattle.mvo_group.specs.Data.{GroupData}
+use Rattle.mvo_format.specs.declared.header.TheConstants.{VERSION}
+use Rattle.mvo_pair.specs.Files.{delta_bytes}
 use Rattle.mvo_manifest.specs.Data.{ManifestData}
+use Rattle.mvo_load.specs.Read.{IsMisread}
 use Rattle.mvo_store.specs.declared.due.Due.{Due}
 use Rattle.mvo_store.specs.declared.due.Due.TheVariants.{Data, Delta, Install}
 use Rattle.mvo_store.specs.declared.due.Due.TheVariants.{MergeData as DataOfMerge}
 use Rattle.mvo_store.specs.declared.due.Due.TheVariants.{MergeDelta as DeltaOfMerge}
 use Rattle.mvo_store.specs.declared.step.Step.TheVariants.{Close, Body, Open}
-use Rattle.mvo_store.specs.declared.job.Job.{Job}
+use Rattle.mvo_store.specs.declared.jobs.Jobs.TheVariants.{Beside}
+use Rattle.mvo_store.specs.declared.merging.Merging.{Merging}
 use Rattle.mvo_store.specs.declared.progress.Progress.{Progress}
 use Rattle.mvo_store.specs.StoreData.{StoreData}
 use Rattle.mvo_store.specs.Standing.{IsKeeping, after_taken}
 use Rattle.mvo_store.specs.Causes.{why_not_take, why_not_append_body, why_not_append_open}
 use Rattle.mvo_store.specs.Causes.{why_not_rotate, why_not_checkpoint, why_not_merge}
-use Rattle.mvo_store.specs.Causes.{why_not_due, why_not_install_open, why_not_reclaim}
-use Rattle.mvo_store.specs.Jobs.{with_step, progress_of}
-use Rattle.mvo_store.specs.Steps.{IsRotationOf, IsCheckpointOf, IsMergeOf, IsInstalledBy}
+use Rattle.mvo_store.specs.Causes.{why_not_due, why_not_merge_delta, why_not_install_open}
+use Rattle.mvo_store.specs.Causes.{why_not_reclaim}
+use Rattle.mvo_store.specs.Jobs.{Job, no_jobs, job_due, with_step, with_manifest, progress_of}
+use Rattle.mvo_store.specs.Steps.{IsRotationOf, IsCheckpointOf, IsMergeOf, IsInstalled}
 use Rattle.mvo_store.specs.Files.{IsLeastFree}
-use Rattle.mvo_store.specs.Writing.{IsFileDue}
-use Rattle.mvo_store.specs.Reclaiming.{IsLeastDead}
+use Rattle.mvo_store.specs.Merging.{merged_at, pair_with}
+use Rattle.mvo_store.specs.Writing.{IsFileDue, AreLateEntries}
+use Rattle.mvo_store.specs.Reclaiming.{IsUnused, IsLeastDead}
 
 pub data StoreCall : Type 0 where
   Take : GroupData → StoreCall
@@ -64,20 +71,24 @@ why_not s CheckpointData = why_not_due Data s
 why_not s CheckpointDelta = why_not_due Delta s
 why_not s (MergeRead place) = why_not_merge place s
 why_not s MergeData = why_not_due DataOfMerge s
-why_not s MergeDelta = why_not_due DeltaOfMerge s
+why_not s MergeDelta = why_not_merge_delta s
 why_not s InstallClose = why_not_due (Install Close) s
 why_not s InstallBody = why_not_due (Install Body) s
 why_not s InstallOpen = why_not_install_open s
 why_not s Reclaim = why_not_reclaim s
 
 -- What may refuse it where no cause stands: want of memory and a fault of the disk. Opening or
--- closing a gate and emptying a file take no memory, and taking a group asks for neither.
+-- closing a gate and emptying a file take no memory, and taking a group asks for neither. What is
+-- read may break a rule.
 abbrev pub MayMeet : StoreCall → Refusal → Type 0
 MayMeet (Take g) e = ⊥
 MayMeet AppendOpen e = e ≡ DiskFault
 MayMeet InstallClose e = e ≡ DiskFault
 MayMeet InstallOpen e = e ≡ DiskFault
 MayMeet Reclaim e = e ≡ DiskFault
+MayMeet CheckpointRead e = (e ≡ OutOfMemory) ⊎ ((e ≡ DiskFault) ⊎ IsMisread e)
+MayMeet (MergeRead place) e = (e ≡ OutOfMemory) ⊎ ((e ≡ DiskFault) ⊎ IsMisread e)
+MayMeet MergeDelta e = (e ≡ OutOfMemory) ⊎ ((e ≡ DiskFault) ⊎ IsMisread e)
 MayMeet call e = (e ≡ OutOfMemory) ⊎ (e ≡ DiskFault)
 
 -- the first cause that stands is the refusal
@@ -117,34 +128,52 @@ pub record IsDurable {D : Type 0} (old new : StoreData D) : Type 0 where
     written = false;
   }
 
--- nothing but the job and the disk is another
-abbrev pub HasNewJob : {D : Type 0} → StoreData D → StoreData D → Type 0
-HasNewJob old new = new ≡ record old { disk = new.disk; job = new.job }
+-- nothing but the jobs and the disk is another
+abbrev pub HasNewJobs : {D : Type 0} → StoreData D → StoreData D → Type 0
+HasNewJobs old new = new ≡ record old { disk = new.disk; jobs = new.jobs }
 
 -- a rotation runs, and nothing of it is installed yet
 pub record IsRotated {D : Type 0} (old new : StoreData D) : Type 0 where
-  pub rotation : IsRotationOf old.manifest new.job
-  pub after : HasNewJob old new
+  pub none : old.jobs ≡ no_jobs
+  pub rotation : IsRotationOf old.manifest new.jobs
+  pub after : HasNewJobs old new
 
 -- a checkpoint of the oldest sealed segment runs, and nothing of it is written yet
 pub record IsReadToCheckpoint {D : Type 0} (d : Ghosts D) (old new : StoreData D) : Type 0 where
-  pub checkpoint : IsCheckpointOf (d.content old.disk) old.manifest new.job
+  pub checkpoint : IsCheckpointOf (IsHonest (d.moment new.disk)) (d.content old.disk) old.manifest
+      old.jobs new.jobs
   pub after : new ≡ record old {
     disk = new.disk;
     places = record old.places { room = new.places.room };
-    job = new.job;
+    jobs = new.jobs;
   }
 
 -- a merge of the pair at a place and the one behind it runs, and nothing of it is written yet
 pub record IsReadToMerge {D : Type 0} (d : Ghosts D) (place : ℕ) (old new : StoreData D) : Type 0
   where
-    pub merge : IsMergeOf (d.content old.disk) old.manifest place new.job
-    pub after : HasNewJob old new
+    pub merge : IsMergeOf (IsHonest (d.moment new.disk)) (d.content old.disk) old.manifest place
+        old.jobs new.jobs
+    pub after : HasNewJobs old new
 
--- the job that runs has one step behind it
-abbrev pub HasStepped : {D : Type 0} → StoreData D → StoreData D → Type 0
-HasStepped old new =
-    new ≡ record old { disk = new.disk; job = with_step old.manifest old.job }
+-- the job whose step this was has it behind it, and the other one is as it was
+abbrev pub HasStepped : {D : Type 0} → Due → StoreData D → StoreData D → Type 0
+HasStepped step old new =
+    new ≡ record old { disk = new.disk; jobs = with_step step old.jobs }
+
+-- The merge that ran alone has its last file, which holds the numbers that came late, renumbered.
+-- Its manifest, which is made of the installed one, is to be installed.
+pub record IsMergeEnded {D : Type 0} (d : Ghosts D) (old new : StoreData D) : Type 0 where
+  pub merge : Merging
+  pub was : old.jobs ≡ Beside None (Some merge)
+  pub late : List ℕ
+  pub are : AreLateEntries (IsHonest (d.moment new.disk)) (d.content old.disk) old.manifest
+      merge.seen late
+  pub bytes : d.content new.disk merge.seen.pair.delta_file ≡ delta_bytes VERSION late
+  pub after : new ≡ record old {
+    disk = new.disk;
+    jobs = with_manifest (merged_at old.manifest merge.seen.place (pair_with merge.seen late))
+        old.jobs;
+  }
 
 -- what an accepted call makes of the store
 abbrev pub Makes : {D : Type 0} → Ghosts D → StoreCall → StoreData D → StoreData D → Type 0
@@ -153,14 +182,14 @@ Makes d AppendBody old new = IsBodyWritten old new
 Makes d AppendOpen old new = IsDurable old new
 Makes d RotateWrite old new = IsRotated old new
 Makes d CheckpointRead old new = IsReadToCheckpoint d old new
-Makes d CheckpointData old new = HasStepped old new
-Makes d CheckpointDelta old new = HasStepped old new
+Makes d CheckpointData old new = HasStepped Data old new
+Makes d CheckpointDelta old new = HasStepped Delta old new
 Makes d (MergeRead place) old new = IsReadToMerge d place old new
-Makes d MergeData old new = HasStepped old new
-Makes d MergeDelta old new = HasStepped old new
-Makes d InstallClose old new = HasStepped old new
-Makes d InstallBody old new = HasStepped old new
-Makes d InstallOpen old new = IsInstalledBy old.job old new
+Makes d MergeData old new = HasStepped DataOfMerge old new
+Makes d MergeDelta old new = IsMergeEnded d old new
+Makes d InstallClose old new = HasStepped (Install Close) old new
+Makes d InstallBody old new = HasStepped (Install Body) old new
+Makes d InstallOpen old new = IsInstalled (IsHonest (d.moment new.disk)) old new
 Makes d Reclaim old new = new ≡ record old { disk = new.disk }
 
 -- so it does, and no call of the device failed
@@ -177,7 +206,7 @@ AnswersMark new mark = mark ≡ new.mark
 
 -- whether the delta file that was due is the last
 abbrev pub AnswersProgress : {D : Type 0} → StoreData D → Progress → Type 0
-AnswersProgress old progress = progress ≡ progress_of old.job
+AnswersProgress old progress = progress ≡ progress_of old.jobs
 
 -- the generation of the installed manifest
 abbrev pub AnswersGeneration : {D : Type 0} → StoreData D → ℕ → Type 0
@@ -199,14 +228,23 @@ pub record HasLooked {D : Type 0} (d : Ghosts D) (old new : StoreData D) : Type 
 abbrev pub LeftByMemory : {D : Type 0} → Ghosts D → StoreCall → StoreData D → StoreData D → Type 0
 LeftByMemory d CheckpointRead old new = HasLooked d old new
 LeftByMemory d (MergeRead place) old new = HasLooked d old new
+LeftByMemory d MergeDelta old new = HasLooked d old new
 LeftByMemory d call old new = new ≡ old
 
--- nothing changes, but after a fault
+-- A file came back otherwise than it was written: the store is down, and nothing else of it has
+-- changed.
+pub record HasMisread {D : Type 0} (d : Ghosts D) (old new : StoreData D) : Type 0 where
+  pub after : new ≡ record old { disk = new.disk; down = true }
+  pub no_fault : HasNoFault d old new
+  pub lied : IsHonest (d.moment new.disk) → ⊥
+
+-- nothing changes, but after a fault and what was misread
 pub record LeftBy {D : Type 0} (d : Ghosts D) (call : StoreCall) (e : Refusal)
     (old new : StoreData D) : Type 0 where
   pub fault : e ≡ DiskFault → IsFault d old new
   pub memory : e ≡ OutOfMemory → LeftByMemory d call old new
-  pub other : e ≢ DiskFault → e ≢ OutOfMemory → new ≡ old
+  pub misread : IsMisread e → HasMisread d old new
+  pub other : e ≢ DiskFault → e ≢ OutOfMemory → (IsMisread e → ⊥) → new ≡ old
 
 -- ---- what it comes to
 
@@ -225,37 +263,59 @@ rows_after s call result rows = rows
 
 -- ---- the files
 
--- the file of the next step of the job that runs
+-- a file that may be cut: the least dead one, where the disk has answered as written
+pub record IsReclaimable {D : Type 0} (d : Ghosts D) (honest : Type 0) (s : StoreData D) (n : ℕ)
+    : Type 0 where
+  pub unused : IsUnused s.manifest s.jobs n
+  pub least : honest → IsLeastDead (d.content s.disk) s.manifest s.jobs n
+
+-- the file of the next step of a job
 abbrev pub IsFileOfJob : ManifestData → Option Job → ℕ → Type 0
 IsFileOfJob m None n = ⊥
 IsFileOfJob m (Some j) n = IsFileDue m j n
 
+-- that of the job whose step this is
+abbrev pub IsFileOf : {D : Type 0} → Due → StoreData D → ℕ → Type 0
+IsFileOf step s n = IsFileOfJob s.manifest (job_due step s.jobs) n
+
 -- The one file that a call may write, accepted or refused. None where it takes a group or reads.
-abbrev pub MayWrite : {D : Type 0} → Ghosts D → StoreData D → StoreCall → ℕ → Type 0
-MayWrite d s (Take g) n = ⊥
-MayWrite d s AppendBody n = n ≡ s.segment.file
-MayWrite d s AppendOpen n = n ≡ s.segment.file
-MayWrite d s RotateWrite n = IsLeastFree s.manifest [] n
-MayWrite d s CheckpointRead n = ⊥
-MayWrite d s (MergeRead place) n = ⊥
-MayWrite d s Reclaim n = IsLeastDead (d.content s.disk) s.manifest s.job n
-MayWrite d s call n = IsFileOfJob s.manifest s.job n
+abbrev pub MayWrite : {D : Type 0} → Ghosts D → Type 0 → StoreData D → StoreCall → ℕ → Type 0
+MayWrite d honest s (Take g) n = ⊥
+MayWrite d honest s AppendBody n = n ≡ s.segment.file
+MayWrite d honest s AppendOpen n = n ≡ s.segment.file
+MayWrite d honest s RotateWrite n = IsLeastFree s.manifest [] n
+MayWrite d honest s CheckpointRead n = ⊥
+MayWrite d honest s (MergeRead place) n = ⊥
+MayWrite d honest s Reclaim n = IsReclaimable d honest s n
+MayWrite d honest s CheckpointData n = IsFileOf Data s n
+MayWrite d honest s CheckpointDelta n = IsFileOf Delta s n
+MayWrite d honest s MergeData n = IsFileOf DataOfMerge s n
+MayWrite d honest s MergeDelta n = IsFileOf DeltaOfMerge s n
+MayWrite d honest s InstallClose n = IsFileOf (Install Close) s n
+MayWrite d honest s InstallBody n = IsFileOf (Install Body) s n
+MayWrite d honest s InstallOpen n = IsFileOf (Install Open) s n
+
+-- so far as the disk has answered as written behind it
+abbrev pub MayTouch : {D : Type 0} → Ghosts D → StoreCall → StoreData D → StoreData D → ℕ → Type 0
+MayTouch d call old new n = MayWrite d (IsHonest (d.moment new.disk)) old call n
 
 -- All others keep their content and exactly their images.
 pub record KeepsOthers {D : Type 0} (d : Ghosts D) (call : StoreCall) (old new : StoreData D)
     : Type 0 where
-  pub content : (n : ℕ) → (MayWrite d old call n → ⊥) →
+  pub content : (n : ℕ) → (MayTouch d call old new n → ⊥) →
       d.content new.disk n ≡ d.content old.disk n
-  pub images : (n : ℕ) (c : List ℕ) → (MayWrite d old call n → ⊥) →
+  pub images : (n : ℕ) (c : List ℕ) → (MayTouch d call old new n → ⊥) →
       d.may_leave new.disk n c → d.may_leave old.disk n c
-  pub keeps : (n : ℕ) (c : List ℕ) → (MayWrite d old call n → ⊥) →
+  pub keeps : (n : ℕ) (c : List ℕ) → (MayTouch d call old new n → ⊥) →
       d.may_leave old.disk n c → d.may_leave new.disk n c
 
 -- ---- all of it
 
--- So it is; a stop at any moment leaves the rows; and the other files stay.
+-- So it is; a wrong answer of the disk isn't forgotten; where it has answered as written up to the
+-- end of the call, a stop at any moment leaves the rows; and the other files stay.
 pub record IsStoreStep {D A : Type 0} (d : Ghosts D) (old : StoreData D) (call : StoreCall)
     (result : Result A Refusal) (new : StoreData D) : Type 0 where
   pub comes : ComesTo d old call result new
-  pub keeps : IsKeeping d (rows_after old call result) old new
+  pub honest : IsHonest (d.moment new.disk) → IsHonest (d.moment old.disk)
+  pub keeps : IsHonest (d.moment new.disk) → IsKeeping d (rows_after old call result) old new
   pub others : KeepsOthers d call old new

@@ -1,11 +1,15 @@
--- The jobs: which step of one comes next, which files it takes, and what a step makes of it.
-use Rattle.std.specs.Prelude.{ℕ, ◌+◌, ◌==◌, ◌||◌, nat_lt, Bool, false, length, Option, Some, None, if◌then◌else◌}
+-- The jobs: which step of one comes next, which files they take, and what a step makes of them.
+use Rattle.std.specs.Prelude.{ℕ, ◌+◌, ◌==◌, ◌||◌, nat_lt, Bool, true, false, List, [], ◌∷◌, ◌++◌, length, Option, Some, None, is_some, if◌then◌else◌}
+use Rattle.std.specs.List.{list_any}
+use Rattle.mvo_frame.specs.declared.segment.Segment.{Segment}
+use Rattle.mvo_pair.specs.declared.pair.Pair.{Pair}
 use Rattle.mvo_manifest.specs.Data.{ManifestData}
 use Rattle.mvo_store.specs.declared.step.Step.{Step}
 use Rattle.mvo_store.specs.declared.step.Step.TheVariants.{Close, Body, Open}
 use Rattle.mvo_store.specs.declared.install.Install.{Install as InstallData}
 use Rattle.mvo_store.specs.declared.checkpoint_stage.CheckpointStage.{CheckpointStage}
 use Rattle.mvo_store.specs.declared.checkpoint_stage.CheckpointStage.TheVariants.{Data as AtData, Delta as AtDelta, Install as AtInstall}
+use Rattle.mvo_store.specs.declared.checkpointing.Checkpointing.{Checkpointing}
 use Rattle.mvo_store.specs.declared.merge_stage.MergeStage.{MergeStage}
 use Rattle.mvo_store.specs.declared.merge_stage.MergeStage.TheVariants.{Data as MergeAtData, Delta as MergeAtDelta}
 use Rattle.mvo_store.specs.declared.merging.Merging.{Merging}
@@ -14,9 +18,61 @@ use Rattle.mvo_store.specs.declared.due.Due.{Due}
 use Rattle.mvo_store.specs.declared.due.Due.TheVariants.{Data, Delta, MergeData, MergeDelta, Install}
 use Rattle.mvo_store.specs.declared.progress.Progress.{Progress}
 use Rattle.mvo_store.specs.declared.progress.Progress.TheVariants.{More, Ready}
-use Rattle.mvo_store.specs.declared.job.Job.{Job}
-use Rattle.mvo_store.specs.declared.job.Job.TheVariants.{Rotation, Checkpoint, Merge, MergeInstall}
-use Rattle.mvo_store.specs.Merging.{merged_at}
+use Rattle.mvo_store.specs.declared.jobs.Jobs.{Jobs}
+use Rattle.mvo_store.specs.declared.jobs.Jobs.TheVariants.{Rotation as RotationAlone, Merge as MergeAlone, Beside}
+
+-- ---- those that run
+
+-- one of them, by itself
+pub data Job : Type 0 where
+  Rotation : (fresh : Segment) → InstallData → Job
+  Checkpoint : Checkpointing → Job
+  Merge : Merging → Job
+  MergeInstall : Seen → InstallData → Job
+
+abbrev pub no_jobs : Jobs
+no_jobs = Beside None None
+
+abbrev pub checkpoint_alone : Option Checkpointing → List Job
+checkpoint_alone None = []
+checkpoint_alone (Some c) = Checkpoint c ∷ []
+
+abbrev pub merge_alone : Option Merging → List Job
+merge_alone None = []
+merge_alone (Some g) = Merge g ∷ []
+
+-- each of them
+abbrev pub jobs_of : Jobs → List Job
+jobs_of (RotationAlone fresh i) = Rotation fresh i ∷ []
+jobs_of (MergeAlone seen i) = MergeInstall seen i ∷ []
+jobs_of (Beside c g) = checkpoint_alone c ++ merge_alone g
+
+-- ---- which of them keep another out
+
+-- a rotation
+abbrev pub keeps_all_out : Jobs → Bool
+keeps_all_out (Beside None None) = false
+keeps_all_out jobs = true
+
+-- a checkpoint
+abbrev pub keeps_checkpoint_out : Jobs → Bool
+keeps_checkpoint_out (Beside None g) = false
+keeps_checkpoint_out jobs = true
+
+-- a merge
+abbrev pub keeps_merge_out : Jobs → Bool
+keeps_merge_out (Beside c None) = false
+keeps_merge_out jobs = true
+
+-- a checkpoint runs
+abbrev pub has_checkpoint : Jobs → Bool
+has_checkpoint (Beside (Some c) g) = true
+has_checkpoint jobs = false
+
+-- a rotation runs
+abbrev pub has_rotation : Jobs → Bool
+has_rotation (RotationAlone fresh i) = true
+has_rotation jobs = false
 
 -- ---- which step comes next
 
@@ -47,12 +103,22 @@ step_due (Checkpoint c) = due_of c.stage
 step_due (Merge g) = merge_due_of g.stage
 step_due (MergeInstall g i) = Install i.step
 
--- this step of the job that runs is the next
-abbrev pub is_due : Due → Option Job → Bool
-is_due step None = false
-is_due step (Some j) = step_number (step_due j) == step_number step
+abbrev pub is_step_of : Due → Job → Bool
+is_step_of step j = step_number (step_due j) == step_number step
 
--- ---- what it installs
+-- The one of these whose next step it is. There is one at most.
+abbrev pub first_due : Due → List Job → Option Job
+first_due step [] = None
+first_due step (j ∷ js) = if is_step_of step j then Some j else first_due step js
+
+abbrev pub job_due : Due → Jobs → Option Job
+job_due step jobs = first_due step (jobs_of jobs)
+
+-- this step of a job that runs is the next
+abbrev pub is_due : Due → Jobs → Bool
+is_due step jobs = is_some (job_due step jobs)
+
+-- ---- what is installed
 
 -- the install of a checkpoint, once its files are written
 abbrev pub install_at : ManifestData → CheckpointStage → Option InstallData
@@ -67,7 +133,14 @@ install_of (Checkpoint c) = install_at c.next c.stage
 install_of (Merge g) = None
 install_of (MergeInstall g i) = Some i
 
--- ---- which files it takes
+-- The job whose manifest is the next to be installed. A merge that isn't ready has none.
+abbrev pub next_installed : Jobs → Option Job
+next_installed (RotationAlone fresh i) = Some (Rotation fresh i)
+next_installed (MergeAlone seen i) = Some (MergeInstall seen i)
+next_installed (Beside None g) = None
+next_installed (Beside (Some c) g) = Some (Checkpoint c)
+
+-- ---- which files they take
 
 -- the job gives the file new content
 abbrev pub job_takes_file : Job → ℕ → Bool
@@ -76,18 +149,42 @@ job_takes_file (Checkpoint c) n = c.pair.data_file == n || c.pair.delta_file == 
 job_takes_file (Merge g) n = g.seen.pair.data_file == n || g.seen.pair.delta_file == n
 job_takes_file (MergeInstall g i) n = g.pair.data_file == n || g.pair.delta_file == n
 
--- the job that runs does
-abbrev pub takes_file : Option Job → ℕ → Bool
-takes_file None n = false
-takes_file (Some j) n = job_takes_file j n
+-- one of those that run does
+abbrev pub takes_file : Jobs → ℕ → Bool
+takes_file jobs n = list_any (λ j. job_takes_file j n) (jobs_of jobs)
 
--- ---- what a step makes of it
+-- the pair of a checkpoint
+abbrev pub checkpoint_pair : Jobs → Option Pair
+checkpoint_pair (Beside (Some c) g) = Some c.pair
+checkpoint_pair jobs = None
+
+-- that of a merge whose files aren't all written
+abbrev pub merge_pair : Jobs → Option Pair
+merge_pair (Beside c (Some g)) = Some g.seen.pair
+merge_pair jobs = None
+
+-- ---- those that begin
+
+-- a checkpoint, where none is kept out
+abbrev pub with_checkpoint : Checkpointing → Jobs → Jobs
+with_checkpoint c (Beside None g) = Beside (Some c) g
+with_checkpoint c jobs = jobs
+
+-- a merge, where none is kept out
+abbrev pub with_merge : Merging → Jobs → Jobs
+with_merge g (Beside c None) = Beside c (Some g)
+with_merge g jobs = jobs
+
+-- ---- what a step makes of them
 
 -- Opening the gate is the last.
 abbrev pub next_step : Step → Step
 next_step Close = Body
 next_step Body = Open
 next_step Open = Open
+
+abbrev pub stepped : InstallData → InstallData
+stepped i = record i { step = next_step i.step }
 
 -- Of a checkpoint with so many older delta files to write: they come behind the new pair's own.
 abbrev pub stage_behind : ℕ → CheckpointStage → CheckpointStage
@@ -96,56 +193,63 @@ stage_behind older (AtDelta written) =
     if nat_lt written older then AtDelta (written + 1) else AtInstall Close
 stage_behind older (AtInstall step) = AtInstall (next_step step)
 
--- With one file more a merge has its data file, or all of it and a manifest.
-abbrev pub with_merge : Option ManifestData → Merging → Job
-with_merge None g = Merge (record g { stage = MergeAtDelta })
-with_merge (Some next) g = MergeInstall g.seen (record { next = next; step = Close })
+abbrev pub checkpoint_behind : Checkpointing → Checkpointing
+checkpoint_behind c = record c { stage = stage_behind (length c.made.deltas) c.stage }
 
--- the job with one step behind it, which has made a manifest or none
-abbrev pub after_step : Option ManifestData → Job → Job
-after_step made (Rotation fresh i) = Rotation fresh (record i { step = next_step i.step })
-after_step made (Checkpoint c) =
-    Checkpoint (record c { stage = stage_behind (length c.made.deltas) c.stage })
-after_step made (Merge g) = with_merge made g
-after_step made (MergeInstall g i) = MergeInstall g (record i { step = next_step i.step })
+-- a merge whose data file is written
+abbrev pub with_data_file : Merging → Merging
+with_data_file g = record g { stage = MergeAtDelta }
 
-abbrev pub merge_made_by : ManifestData → Seen → MergeStage → Option ManifestData
-merge_made_by m g MergeAtData = None
-merge_made_by m g MergeAtDelta = Some (merged_at m g.place g.pair)
+-- the job with one step behind it, other than the last file of a merge
+abbrev pub after_step : Job → Job
+after_step (Rotation fresh i) = Rotation fresh (stepped i)
+after_step (Checkpoint c) = Checkpoint (checkpoint_behind c)
+after_step (Merge g) = Merge (with_data_file g)
+after_step (MergeInstall g i) = MergeInstall g (stepped i)
 
--- The manifest that the step makes of the installed one: that of a merge with its last file, and
--- none else.
-abbrev pub made_by : ManifestData → Job → Option ManifestData
-made_by m (Rotation fresh i) = None
-made_by m (Checkpoint c) = None
-made_by m (Merge g) = merge_made_by m g.seen g.stage
-made_by m (MergeInstall g i) = None
+abbrev pub checkpoint_by : Option Checkpointing → Option Checkpointing
+checkpoint_by None = None
+checkpoint_by (Some c) = Some (checkpoint_behind c)
 
--- the job that runs with one step behind it, which has made a manifest or none
-abbrev pub brought_on : Option ManifestData → Option Job → Option Job
-brought_on made None = None
-brought_on made (Some j) = Some (after_step made j)
+abbrev pub merge_by : Option Merging → Option Merging
+merge_by None = None
+merge_by (Some g) = Some (with_data_file g)
 
--- the same over the installed manifest
-abbrev pub with_step : ManifestData → Option Job → Option Job
-with_step m None = None
-with_step m (Some j) = Some (after_step (made_by m j) j)
+-- the step is one of a merge whose files aren't all written
+abbrev pub is_of_merge : Due → Bool
+is_of_merge MergeData = true
+is_of_merge MergeDelta = true
+is_of_merge step = false
 
--- ---- how far it is
+-- Those that run, where this step was the next of one of them and is behind it. The other one is
+-- as it was.
+abbrev pub with_step : Due → Jobs → Jobs
+with_step step (RotationAlone fresh i) = RotationAlone fresh (stepped i)
+with_step step (MergeAlone seen i) = MergeAlone seen (stepped i)
+with_step step (Beside c g) =
+    if is_of_merge step then Beside c (merge_by g) else Beside (checkpoint_by c) g
 
--- Of a checkpoint with so many older delta files to write: Ready with the last, and More with each
--- before it.
+-- A merge with its last file written, and with this manifest to be installed, runs alone.
+abbrev pub with_manifest : ManifestData → Jobs → Jobs
+with_manifest next (Beside None (Some g)) =
+    MergeAlone g.seen (record { next = next; step = Close })
+with_manifest next jobs = jobs
+
+-- Those that run on once the next manifest is installed: a merge that isn't ready.
+abbrev pub after_install : Jobs → Jobs
+after_install (RotationAlone fresh i) = no_jobs
+after_install (MergeAlone seen i) = no_jobs
+after_install (Beside c g) = Beside None g
+
+-- ---- how far a checkpoint is
+
+-- Of one with so many older delta files to write: Ready with the last, and More with each before
+-- it.
 abbrev pub progress_at : ℕ → CheckpointStage → Progress
 progress_at older AtData = More
 progress_at older (AtDelta written) = if nat_lt written older then More else Ready
 progress_at older (AtInstall step) = More
 
-abbrev pub progress_in : Job → Progress
-progress_in (Rotation fresh i) = More
-progress_in (Checkpoint c) = progress_at (length c.made.deltas) c.stage
-progress_in (Merge g) = More
-progress_in (MergeInstall g i) = More
-
-abbrev pub progress_of : Option Job → Progress
-progress_of None = More
-progress_of (Some j) = progress_in j
+abbrev pub progress_of : Jobs → Progress
+progress_of (Beside (Some c) g) = progress_at (length c.made.deltas) c.stage
+progress_of jobs = More

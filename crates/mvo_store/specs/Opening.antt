@@ -3,13 +3,14 @@ use Rattle.std.specs.Prelude.{◌≡◌, ◌⊎◌, ℕ, ◌≤◌, ◌<◌, Lis
 use Rattle.mvo_types.specs.declared.refusal.Refusal.{Refusal}
 use Rattle.mvo_types.specs.declared.refusal.Refusal.TheVariants.{ClockSpent}
 use Rattle.mvo_disk.specs.declared.disk.Disk.{Ghosts}
-use Rattle.mvo_disk.specs.Disk.{Image, Only, AllOf, LeavesOnly}
+use Rattle.mvo_disk.specs.Disk.{Image, Only, AllOf, LeavesOnly, IsHonest}
 use Rattle.mvo_format.specs.declared.format.TheConstants.{FIRST_FORMAT}
 use Rattle.mvo_pair.specs.Answers.{IsOnly}
 use Rattle.mvo_pair.specs.Writing.{IsStop, CountsFaults}
 use Rattle.mvo_image.specs.Opens.{Outcome}
 use Rattle.mvo_image.specs.Files.{OpensAs}
 use Rattle.mvo_store.specs.declared.limits.TheConstants.{MAX_FAULTS}
+use Rattle.mvo_store.specs.Jobs.{no_jobs}
 use Rattle.mvo_store.specs.StoreData.{StoreData}
 
 -- all files read as before
@@ -40,16 +41,16 @@ pub record HasBegun {D : Type 0} (d : Ghosts D) (old : D) (s : StoreData D) (mar
     pub mark_is : s.mark ≡ mark
     pub pending : s.pending ≡ None
     pub written : s.written ≡ false
-    pub job : s.job ≡ None
+    pub jobs : s.jobs ≡ no_jobs
     pub down : s.down ≡ false
     pub few : d.fault_count old < MAX_FAULTS
     pub count : d.fault_count s.disk ≡ d.fault_count old
 
--- The counter isn't spent. Opening answers this refusal; or memory or a call of the device was
--- refused, which is counted.
+-- The counter isn't spent. Opening answers this refusal, where the disk has answered as written; or
+-- memory or a call of the device was refused, which is counted.
 pub record IsRefused {D : Type 0} (d : Ghosts D) (old : D) (e : Refusal) (new : D) : Type 0 where
   pub few : d.fault_count old < MAX_FAULTS
-  pub why : IsStop e ⊎ IsAnswer (d.content old) (Err e)
+  pub why : IsHonest (d.moment new) → IsStop e ⊎ IsAnswer (d.content old) (Err e)
   pub count : CountsFaults {X = Unit {0}} (d.fault_count old) (d.fault_count new) (Err e)
 
 -- the counter is spent, and nothing was looked at

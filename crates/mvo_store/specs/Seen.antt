@@ -2,6 +2,7 @@
 use Rattle.std.specs.Prelude.{◌≡◌, ℕ, false, Option, None}
 use Rattle.mvo_group.specs.Data.{GroupData}
 use Rattle.mvo_manifest.specs.Data.{ManifestData}
+use Rattle.mvo_store.specs.Jobs.{no_jobs}
 use Rattle.mvo_store.specs.StoreData.{StoreData}
 
 abbrev pub disk_of : {D : Type 0} → StoreData D → D
@@ -23,5 +24,5 @@ installed_manifest s = s.manifest
 pub record IsAtRest {D : Type 0} (s : StoreData D) : Type 0 where
   pub pending : s.pending ≡ None
   pub written : s.written ≡ false
-  pub job : s.job ≡ None
+  pub jobs : s.jobs ≡ no_jobs
   pub down : s.down ≡ false

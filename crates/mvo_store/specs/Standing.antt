@@ -1,6 +1,7 @@
 -- How a store stands over its disk, and what a stop leaves of it.
 use Rattle.std.specs.Prelude.{◌≡◌, ◌≢◌, ℕ, ◌<◌, ◌≤◌, ◌+◌, ◌^◌, true, false, List, [], ◌∷◌, length}
 use Rattle.std.specs.Prelude.{Option, Some, None}
+use Rattle.std.specs.List.{AllByRecursion}
 use Rattle.mvo_types.specs.Keys.{Map}
 use Rattle.mvo_types.specs.declared.limits.TheConstants.{MAX_SEGMENT_LEN, MAX_FILE, MAX_PAIR_RECORDS}
 use Rattle.mvo_disk.specs.declared.disk.Disk.{Ghosts}
@@ -26,11 +27,12 @@ use Rattle.mvo_store.specs.declared.install.Install.{Install as InstallData}
 use Rattle.mvo_store.specs.declared.seen.Seen.{Seen}
 use Rattle.mvo_store.specs.declared.checkpointing.Checkpointing.{Checkpointing}
 use Rattle.mvo_store.specs.declared.merging.Merging.{Merging}
-use Rattle.mvo_store.specs.declared.job.Job.{Job}
-use Rattle.mvo_store.specs.declared.job.Job.TheVariants.{Rotation, Checkpoint, Merge, MergeInstall}
+use Rattle.mvo_store.specs.declared.jobs.Jobs.{Jobs}
+use Rattle.mvo_store.specs.declared.jobs.Jobs.TheVariants.{Beside}
 use Rattle.mvo_store.specs.Checkpoint.{IsCheckpointing}
 use Rattle.mvo_store.specs.Merging.{IsMerging, IsMergeWritten, IsMergeReady}
-use Rattle.mvo_store.specs.Jobs.{install_of}
+use Rattle.mvo_store.specs.Jobs.{Job, jobs_of, install_of, job_takes_file}
+use Rattle.mvo_store.specs.Jobs.Job.{Rotation, Checkpoint, Merge, MergeInstall}
 use Rattle.mvo_store.specs.StoreData.{StoreData, opening}
 
 -- ---- a group that is being appended
@@ -68,26 +70,35 @@ pub record IsRotating (content : Image) (may : ℕ → List ℕ → Type 0) (m :
   pub gate : fresh.gate ≡ HEADER_LEN
 
 -- a merge whose files aren't all written
-pub record IsMergingAt (content : Image) (may : ℕ → List ℕ → Type 0) (m : ManifestData) (x : Parts)
+pub record IsMergingAt (content : Image) (may : ℕ → List ℕ → Type 0) (m : ManifestData)
     (g : Merging) : Type 0 where
-  pub merge : IsMerging m x g.seen
+  pub merge : IsMerging content m g.seen
   pub written : IsMergeWritten content may g.seen g.stage
 
 -- how what a job has made stands for a manifest
 abbrev pub HasWork : Image → (ℕ → List ℕ → Type 0) → ManifestData → Parts → Job → Type 0
 HasWork content may m x (Rotation fresh i) = IsRotating content may m x fresh i.next
 HasWork content may m x (Checkpoint c) = IsCheckpointing content may m x c
-HasWork content may m x (Merge g) = IsMergingAt content may m x g
-HasWork content may m x (MergeInstall g i) = IsMergeReady content may m x g i.next
+HasWork content may m x (Merge g) = IsMergingAt content may m g
+HasWork content may m x (MergeInstall g i) = IsMergeReady content may m g i.next
 
 pub record IsRunning (content : Image) (may : ℕ → List ℕ → Type 0) (m : ManifestData) (x : Parts)
     (j : Job) : Type 0 where
   pub work : HasWork content may m x j
   pub install : HasInstallOf (install_of j) (other_slot m) (content (other_slot m))
 
-abbrev pub HasJob : Image → (ℕ → List ℕ → Type 0) → ManifestData → Parts → Option Job → Type 0
-HasJob content may m x None = Unit {0}
-HasJob content may m x (Some j) = IsRunning content may m x j
+-- no file is taken by both
+abbrev pub ShareNoFile : Job → Job → Type 0
+ShareNoFile j k = (n : ℕ) → job_takes_file j n ≡ true → job_takes_file k n ≡ false
+
+-- a checkpoint and a merge beside one another share no file
+abbrev pub ShareNone : Jobs → Type 0
+ShareNone (Beside (Some c) (Some g)) = ShareNoFile (Checkpoint c) (Merge g)
+ShareNone jobs = Unit {0}
+
+-- each of those that run stands beside the manifest
+abbrev pub HaveJobs : Image → (ℕ → List ℕ → Type 0) → ManifestData → Parts → Jobs → Type 0
+HaveJobs content may m x jobs = AllByRecursion (IsRunning content may m x) (jobs_of jobs)
 
 -- there is room for the places of the records that the job installs
 abbrev pub JobHasRoom : PlaceTable → Job → Type 0
@@ -96,9 +107,8 @@ JobHasRoom places (Checkpoint c) = length c.made.records ≤ places.room
 JobHasRoom places (Merge g) = Unit {0}
 JobHasRoom places (MergeInstall g i) = Unit {0}
 
-abbrev pub HasRoom : PlaceTable → Option Job → Type 0
-HasRoom places None = Unit {0}
-HasRoom places (Some j) = JobHasRoom places j
+abbrev pub HasRoom : PlaceTable → Jobs → Type 0
+HasRoom places jobs = AllByRecursion (JobHasRoom places) (jobs_of jobs)
 
 -- the places of the checkpoint's records can be put there without memory
 pub record FitsRecords (places : PlaceTable) (c : Checkpointing) : Type 0 where
@@ -110,13 +120,28 @@ pub record FitsRecords (places : PlaceTable) (c : Checkpointing) : Type 0 where
 pub record MovesRecords (g : Seen) : Type 0 where
   pub file : g.pair.data_file ≤ MAX_FILE
   pub few : length g.made.records ≤ MAX_PAIR_RECORDS
-  pub keys : HaveOwnKeys g.made.records
+
+-- the records of a merge have each a key of their own
+abbrev pub HaveKeys : Job → Type 0
+HaveKeys (Rotation fresh i) = Unit {0}
+HaveKeys (Checkpoint c) = Unit {0}
+HaveKeys (Merge g) = Unit {0}
+HaveKeys (MergeInstall g i) = HaveOwnKeys g.made.records
 
 abbrev pub MayTakeOver : PlaceTable → Job → Type 0
 MayTakeOver places (Rotation fresh i) = Unit {0}
 MayTakeOver places (Checkpoint c) = FitsRecords places c
 MayTakeOver places (Merge g) = Unit {0}
 MayTakeOver places (MergeInstall g i) = MovesRecords g
+
+-- the same of the job whose install is under way
+abbrev pub HaveKeysOf : Option Job → Type 0
+HaveKeysOf None = Unit {0}
+HaveKeysOf (Some j) = HaveKeys j
+
+abbrev pub MayTakeOverOf : PlaceTable → Option Job → Type 0
+MayTakeOverOf places None = Unit {0}
+MayTakeOverOf places (Some j) = MayTakeOver places j
 
 -- ---- the store
 
@@ -135,9 +160,10 @@ pub record IsUp {D : Type 0} (d : Ghosts D) (s : StoreData D) (rows : Map) : Typ
   pub pending : FollowsMark s.mark s.pending
   pub written : s.written ≡ true → HasBody parts s.pending s.segment.gate s.segment.next
       (d.content s.disk s.segment.file)
-  pub job : HasJob (d.content s.disk) (d.may_leave s.disk) s.manifest parts s.job
+  pub jobs : HaveJobs (d.content s.disk) (d.may_leave s.disk) s.manifest parts s.jobs
+  pub apart : ShareNone s.jobs
   pub places : ArePlaces s.manifest.pairs parts.lives s.places.at
-  pub room_for : HasRoom s.places s.job
+  pub room_for : HasRoom s.places s.jobs
   pub room : d.fault_count s.disk + 1 < 2 ^ 64
 
 -- the image is well formed, and gives these rows and this mark

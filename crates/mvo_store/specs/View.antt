@@ -11,6 +11,6 @@ store_data s = record {
   mark = s.mark.0;
   pending = s.pending;
   written = s.written;
-  job = s.job;
+  jobs = s.jobs;
   down = s.down;
 }

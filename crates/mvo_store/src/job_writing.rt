@@ -1,30 +1,32 @@
 //! Writes the file of a job's next step.
-ghost use Rattle.std.specs.Prelude.{◌≡◌, ◌<◌, ◌+◌, ◌^◌, None, IfOk, OnErr};
-ghost use Rattle.mvo_store.specs.Jobs.{step_due, merge_made_by, made_by};
-ghost use Rattle.mvo_store.specs.Writing.{StandsFor, IsJobStep, InstallStands, IsInstallStep, MayMake};
-ghost use Rattle.mvo_store.specs.declared.job.Job.TheVariants.{Checkpoint, Merge};
+ghost use Rattle.std.specs.Prelude.{◌≡◌, ◌≢◌, ◌<◌, ◌+◌, ◌^◌, IfSome, IsTrue};
+ghost use Rattle.mvo_disk.specs.Disk.{IsHonest};
+ghost use Rattle.mvo_store.specs.Safe.{IsSafeCheckpoint, IsSafeMerge, AreSafe};
+ghost use Rattle.mvo_store.specs.Jobs.{job_due, is_due};
+ghost use Rattle.mvo_store.specs.Jobs.Job.{Checkpoint, Merge};
+ghost use Rattle.mvo_store.specs.Writing.{StandsFor, IsJobStep, IsDueStep, InstallStands, IsInstallStep};
 ghost use Rattle.mvo_store.specs.declared.due.Due.TheVariants.{MergeDelta};
+ghost use Rattle.mvo_store.specs.declared.merge_stage.MergeStage.TheVariants.{Data as MergeAtData};
 ghost use Rattle.mvo_store.specs.declared.step.Step.TheVariants.{Close, Body, Open};
 
 use crate::checkpoint_stage::CheckpointStage;
 use crate::checkpointing::Checkpointing;
-use crate::job::Job;
-use crate::merge_planning::merged;
-use crate::merge_stage::MergeStage;
+use crate::due::Due;
+use crate::jobs::Jobs;
 use crate::merging::Merging;
 use crate::step::Step;
+use crate::stepping::is_of_merge;
 use crate::writing::write_next_delta;
 use mvo_disk::Disk;
 use mvo_format::{FIRST_FORMAT, VERSION};
 use mvo_manifest::{Manifest, close_slot, open_slot, write_slot};
-use mvo_pair::{write_data, write_delta};
+use mvo_pair::write_data;
 use mvo_types::Refusal;
-use std::alloc::{AllocError, Global};
+use std::alloc::Global;
 
 /// Closes the gate of the slot that a manifest is to have, and syncs.
 fn close_other<D: Disk>(disk: &mut D, next: &Manifest) -> Result<(), Refusal>
-    requires room { D.fault_count disk.old + 1 < 2 ^ 64 }
-    requires stands { InstallStands D.Disk disk.old next.now Close }
+    requires { D.fault_count disk.old + 1 < 2 ^ 64 }
     ensures { IsInstallStep D.Disk disk.old disk.new next.now Close result }
 {
     match close_slot(disk, next.slot()) {
@@ -44,8 +46,7 @@ fn write_other<D: Disk>(alloc: Global, disk: &mut D, next: &Manifest) -> Result<
 
 /// Opens the gate, and syncs.
 fn open_other<D: Disk>(disk: &mut D, next: &Manifest) -> Result<(), Refusal>
-    requires room { D.fault_count disk.old + 1 < 2 ^ 64 }
-    requires stands { InstallStands D.Disk disk.old next.now Open }
+    requires { D.fault_count disk.old + 1 < 2 ^ 64 }
     ensures { IsInstallStep D.Disk disk.old disk.new next.now Open result }
 {
     match open_slot(disk, next.slot()) {
@@ -80,8 +81,10 @@ fn write_checkpoint<D: Disk>(
     checkpoint: &Checkpointing,
 ) -> Result<(), Refusal>
     requires room { D.fault_count disk.old + 1 < 2 ^ 64 }
-    requires stands { StandsFor D.Disk disk.old manifest.now (Checkpoint checkpoint.now) }
-    ensures { IsJobStep D.Disk disk.old disk.new manifest.now (Checkpoint checkpoint.now) None
+    requires safe { IsSafeCheckpoint manifest.now checkpoint.now }
+    requires stands { IsHonest (D.moment disk.old) →
+        StandsFor D.Disk disk.old manifest.now (Checkpoint checkpoint.now) }
+    ensures { IsJobStep D.Disk disk.old disk.new manifest.now (Checkpoint checkpoint.now)
         result }
 {
     match checkpoint.stage {
@@ -96,67 +99,55 @@ fn write_checkpoint<D: Disk>(
     }
 }
 
-/// Writes the next file of a merge, and syncs it.
-fn write_merge<D: Disk>(
+/// Writes the data file of a merge, and syncs it.
+fn write_merge_data<D: Disk>(
     alloc: Global,
     disk: &mut D,
     manifest: &Manifest,
     merge: &Merging,
 ) -> Result<(), Refusal>
     requires room { D.fault_count disk.old + 1 < 2 ^ 64 }
-    requires stands { StandsFor D.Disk disk.old manifest.now (Merge merge.now) }
-    ensures { IsJobStep D.Disk disk.old disk.new manifest.now (Merge merge.now)
-        (merge_made_by manifest.now merge.now.seen merge.now.stage) result }
+    requires safe { IsSafeMerge manifest.now merge.now }
+    requires at { merge.now.stage ≡ MergeAtData }
+    ensures { IsJobStep D.Disk disk.old disk.new manifest.now (Merge merge.now) result }
 {
-    match merge.stage {
-        MergeStage::Data => {
-            let records = &merge.seen.made.records;
-            write_data(alloc, disk, FIRST_FORMAT, merge.seen.pair, records)
-        }
-        MergeStage::Delta => write_delta(alloc, disk, FIRST_FORMAT, merge.seen.pair, &[]),
-    }
+    let records = &merge.seen.made.records;
+    write_data(alloc, disk, FIRST_FORMAT, merge.seen.pair, records)
 }
 
-/// Writes the file of the next step of a job, and syncs it: a file of its own, the delta file of
-/// an older pair, or the other slot.
+/// Writes the file of this step of the job whose next it is, other than the last file of a merge,
+/// and syncs it: a file of its own, the delta file of an older pair, or the other slot.
 pub fn write_step<D: Disk>(
     alloc: Global,
     disk: &mut D,
     manifest: &Manifest,
-    job: &Job,
+    jobs: &Jobs,
+    step: Due,
 ) -> Result<(), Refusal>
     requires room { D.fault_count disk.old + 1 < 2 ^ 64 }
-    requires stands { StandsFor D.Disk disk.old manifest.now job.now }
-    ensures { IsJobStep D.Disk disk.old disk.new manifest.now job.now (made_by manifest.now job.now)
-        result }
+    requires safe { AreSafe manifest.now jobs.now }
+    requires stands { IsHonest (D.moment disk.old) →
+        IfSome (job_due step jobs.now) (StandsFor D.Disk disk.old manifest.now) }
+    requires due { IsTrue (is_due step jobs.now) }
+    requires file { step ≢ MergeDelta }
+    ensures { IsDueStep D.Disk disk.old disk.new manifest.now (job_due step jobs.now) result }
 {
-    match job {
-        Job::Rotation(_, install) => write_install(alloc, disk, &install.next, install.step),
-        Job::Checkpoint(checkpoint) => write_checkpoint(alloc, disk, manifest, checkpoint),
-        Job::Merge(merge) => write_merge(alloc, disk, manifest, merge),
-        Job::MergeInstall(_, install) => write_install(alloc, disk, &install.next, install.step),
-    }
-}
-
-/// The manifest that the next step of a job makes: that of a merge with its last file, and none
-/// else.
-pub fn made_next(
-    alloc: Global,
-    manifest: &Manifest,
-    job: &Job,
-) -> Result<Option<Manifest>, AllocError>
-    requires { MayMake manifest.now job.now }
-    ensures made { IfOk result (λ made. made ≡ made_by manifest.now job.now) }
-    ensures last { OnErr result (step_due job.now ≡ MergeDelta) }
-{
-    let Job::Merge(merge) = job else {
-        return Ok(None);
-    };
-    match merge.stage {
-        MergeStage::Data => Ok(None),
-        MergeStage::Delta => {
-            let next = merged(alloc, manifest, merge.seen.place, merge.seen.pair)?;
-            Ok(Some(next))
+    match jobs {
+        Jobs::Rotation(_, install) | Jobs::Merge(_, install) => {
+            write_install(alloc, disk, &install.next, install.step)
+        }
+        Jobs::Beside(checkpoint, merge) => {
+            if is_of_merge(step) {
+                match merge {
+                    Some(merge) => write_merge_data(alloc, disk, manifest, merge),
+                    None => Err(Refusal::NothingToDo),
+                }
+            } else {
+                match checkpoint {
+                    Some(checkpoint) => write_checkpoint(alloc, disk, manifest, checkpoint),
+                    None => Err(Refusal::NothingToDo),
+                }
+            }
         }
     }
 }

@@ -1,19 +1,36 @@
-//! Which step of a job comes next, and what a step makes of it.
-ghost use Rattle.std.specs.Prelude.{◌≡◌, ◌+◌, length};
-ghost use Rattle.mvo_store.specs.Jobs.{step_due, due_of, is_due, takes_file, job_takes_file};
-ghost use Rattle.mvo_store.specs.Jobs.{next_step, stage_behind, with_merge, after_step, brought_on};
-ghost use Rattle.mvo_store.specs.Jobs.{progress_at, progress_in, progress_of};
+//! The jobs that run, and what they keep out.
+ghost use Rattle.std.specs.Prelude.{◌≡◌, length, is_some};
+ghost use Rattle.std.specs.List.{list_any};
+ghost use Rattle.mvo_store.specs.Jobs.{no_jobs, keeps_all_out, keeps_checkpoint_out};
+ghost use Rattle.mvo_store.specs.Jobs.{keeps_merge_out, has_checkpoint, has_rotation};
+ghost use Rattle.mvo_store.specs.Jobs.{due_of, merge_due_of, is_due, job_takes_file, takes_file};
+ghost use Rattle.mvo_store.specs.Jobs.{checkpoint_pair, merge_pair, progress_at, progress_of};
+ghost use Rattle.mvo_store.specs.Jobs.{checkpoint_alone, merge_alone, first_due};
 
 use crate::checkpoint_stage::CheckpointStage;
 use crate::checkpointing::Checkpointing;
 use crate::due::Due;
 use crate::install::Install;
-use crate::job::Job;
 use crate::merge_stage::MergeStage;
 use crate::merging::Merging;
 use crate::progress::Progress;
-use crate::step::Step;
-use mvo_manifest::Manifest;
+use crate::seen::Seen;
+use mvo_frame::Segment;
+use mvo_pair::Pair;
+
+/// The jobs that run. Those that can't run beside one another can't be written down: there is one
+/// install at most, and a merge has a manifest only once it runs alone.
+#[derive(Drop)]
+pub enum Jobs {
+    /// A rotation of the log, alone: the fresh segment is written, and takes frames once the
+    /// manifest is installed.
+    Rotation(Segment, Install),
+    /// A merge whose files are written, alone.
+    Merge(Seen, Install),
+    /// A checkpoint of the oldest sealed segment, a merge of two neighbouring pairs whose files
+    /// aren't all written, both, or none.
+    Beside(Option<Checkpointing>, Option<Merging>),
+}
 
 /// The step of a checkpoint that comes next.
 fn due_of(stage: CheckpointStage) -> Due
@@ -26,158 +43,55 @@ fn due_of(stage: CheckpointStage) -> Due
     }
 }
 
-/// The step of a job that comes next.
-fn step_due(job: &Job) -> Due
-    ensures { result ≡ step_due job.now }
-{
-    match job {
-        Job::Rotation(_, install) => Due::Install(install.step),
-        Job::Checkpoint(checkpoint) => due_of(checkpoint.stage),
-        Job::Merge(merge) => match merge.stage {
-            MergeStage::Data => Due::MergeData,
-            MergeStage::Delta => Due::MergeDelta,
-        },
-        Job::MergeInstall(_, install) => Due::Install(install.step),
-    }
-}
-
-/// Whether this step of the job that runs is the next.
-pub fn is_due(step: Due, job: &Option<Job>) -> bool
-    ensures { result ≡ is_due step job.now }
-{
-    match job {
-        Some(job) => step_due(job) == step,
-        None => false,
-    }
-}
-
-/// Whether the job gives the file new content.
-fn job_takes_file(job: &Job, file: u16) -> bool
-    ensures { result ≡ job_takes_file job.now file }
-{
-    match job {
-        Job::Rotation(fresh, _) => fresh.file == file,
-        Job::Checkpoint(checkpoint) => {
-            checkpoint.pair.data_file == file || checkpoint.pair.delta_file == file
-        }
-        Job::Merge(merge) => {
-            merge.seen.pair.data_file == file || merge.seen.pair.delta_file == file
-        }
-        Job::MergeInstall(seen, _) => seen.pair.data_file == file || seen.pair.delta_file == file,
-    }
-}
-
-/// Whether the job that runs does.
-pub fn takes_file(job: &Option<Job>, file: u16) -> bool
-    ensures { result ≡ takes_file job.now file }
-{
-    match job {
-        Some(job) => job_takes_file(job, file),
-        None => false,
-    }
-}
-
-/// The step behind one. Opening the gate is the last.
-fn next_step(step: Step) -> Step
-    ensures { result ≡ next_step step }
-{
-    match step {
-        Step::Close => Step::Body,
-        Step::Body => Step::Open,
-        Step::Open => Step::Open,
-    }
-}
-
-/// The install with one step behind it.
-fn stepped(install: Install) -> Install
-    ensures { result ≡ record install { step = next_step install.step } }
-{
-    let Install { next, step } = install;
-    Install {
-        next,
-        step: next_step(step),
-    }
-}
-
-/// The stage behind one of a checkpoint with so many older delta files to write: they come behind
-/// the new pair's own.
-fn stage_behind(older: usize, stage: CheckpointStage) -> CheckpointStage
-    ensures { result ≡ stage_behind older stage }
+/// The step of a merge that comes next.
+fn merge_due_of(stage: MergeStage) -> Due
+    ensures { result ≡ merge_due_of stage }
 {
     match stage {
-        CheckpointStage::Data => CheckpointStage::Delta(0),
-        CheckpointStage::Delta(written) => {
-            if written < older {
-                CheckpointStage::Delta(written + 1)
-            } else {
-                CheckpointStage::Install(Step::Close)
-            }
+        MergeStage::Data => Due::MergeData,
+        MergeStage::Delta => Due::MergeDelta,
+    }
+}
+
+/// Whether this step is the next of the checkpoint, if one runs.
+fn checkpoint_is_due(step: Due, checkpoint: &Option<Checkpointing>) -> bool
+    ensures { result ≡ is_some (first_due step (checkpoint_alone checkpoint.now)) }
+{
+    match checkpoint {
+        Some(checkpoint) => due_of(checkpoint.stage) == step,
+        None => false,
+    }
+}
+
+/// Whether it is that of the merge, if one runs.
+fn merge_is_due(step: Due, merge: &Option<Merging>) -> bool
+    ensures { result ≡ is_some (first_due step (merge_alone merge.now)) }
+{
+    match merge {
+        Some(merge) => merge_due_of(merge.stage) == step,
+        None => false,
+    }
+}
+
+/// Whether the checkpoint, if one runs, gives the file new content.
+fn checkpoint_takes(checkpoint: &Option<Checkpointing>, file: u16) -> bool
+    ensures { result ≡ list_any (λ j. job_takes_file j file) (checkpoint_alone checkpoint.now) }
+{
+    match checkpoint {
+        Some(checkpoint) => {
+            checkpoint.pair.data_file == file || checkpoint.pair.delta_file == file
         }
-        CheckpointStage::Install(step) => CheckpointStage::Install(next_step(step)),
+        None => false,
     }
 }
 
-/// The checkpoint with one step behind it.
-fn checkpoint_behind(checkpoint: Checkpointing) -> Checkpointing
-    ensures { result ≡ record checkpoint {
-      stage = stage_behind (length checkpoint.made.deltas) checkpoint.stage;
-    } }
+/// Whether the merge, if one runs, does.
+fn merge_takes(merge: &Option<Merging>, file: u16) -> bool
+    ensures { result ≡ list_any (λ j. job_takes_file j file) (merge_alone merge.now) }
 {
-    let stage = stage_behind(checkpoint.made.deltas.as_slice().len(), checkpoint.stage);
-    let Checkpointing {
-        pair,
-        made,
-        next,
-        stage: _,
-    } = checkpoint;
-    Checkpointing {
-        pair,
-        made,
-        next,
-        stage,
-    }
-}
-
-/// The merge with one file more written: with the last it has the manifest that was made.
-fn merge_behind(merge: Merging, made: Option<Manifest>) -> Job
-    ensures { result ≡ with_merge made merge }
-{
-    let Merging { seen, stage: _ } = merge;
-    match made {
-        Some(next) => Job::MergeInstall(
-            seen,
-            Install {
-                next,
-                step: Step::Close,
-            },
-        ),
-        None => Job::Merge(Merging {
-            seen,
-            stage: MergeStage::Delta,
-        }),
-    }
-}
-
-/// The job with one step behind it, which has made a manifest where it was the last file of a
-/// merge.
-fn after_step(job: Job, made: Option<Manifest>) -> Job
-    ensures { result ≡ after_step made job }
-{
-    match job {
-        Job::Rotation(fresh, install) => Job::Rotation(fresh, stepped(install)),
-        Job::Checkpoint(checkpoint) => Job::Checkpoint(checkpoint_behind(checkpoint)),
-        Job::Merge(merge) => merge_behind(merge, made),
-        Job::MergeInstall(seen, install) => Job::MergeInstall(seen, stepped(install)),
-    }
-}
-
-/// The same of the job that runs.
-pub fn brought_on(job: Option<Job>, made: Option<Manifest>) -> Option<Job>
-    ensures { result ≡ brought_on made job }
-{
-    match job {
-        Some(job) => Some(after_step(job, made)),
-        None => None,
+    match merge {
+        Some(merge) => merge.seen.pair.data_file == file || merge.seen.pair.delta_file == file,
+        None => false,
     }
 }
 
@@ -197,12 +111,102 @@ fn progress_at(checkpoint: &Checkpointing) -> Progress
     }
 }
 
-/// The same of the job that runs.
-pub fn progress_of(job: &Option<Job>) -> Progress
-    ensures { result ≡ progress_of job.now }
-{
-    match job {
-        Some(Job::Checkpoint(checkpoint)) => progress_at(checkpoint),
-        _ => Progress::More,
+impl Jobs {
+    /// None.
+    pub fn none() -> Jobs
+        ensures { result ≡ no_jobs }
+    {
+        Jobs::Beside(None, None)
+    }
+
+    /// Whether they keep a rotation out: one runs.
+    pub fn keep_all_out(&self) -> bool
+        ensures { result ≡ keeps_all_out self.now }
+    {
+        !matches!(self, Jobs::Beside(None, None))
+    }
+
+    /// Whether they keep a checkpoint out: one runs, a rotation does, or a merge that is ready.
+    pub fn keep_checkpoint_out(&self) -> bool
+        ensures { result ≡ keeps_checkpoint_out self.now }
+    {
+        !matches!(self, Jobs::Beside(None, _))
+    }
+
+    /// Whether they keep a merge out: one runs, or a rotation does.
+    pub fn keep_merge_out(&self) -> bool
+        ensures { result ≡ keeps_merge_out self.now }
+    {
+        !matches!(self, Jobs::Beside(_, None))
+    }
+
+    /// Whether a checkpoint runs.
+    pub fn has_checkpoint(&self) -> bool
+        ensures { result ≡ has_checkpoint self.now }
+    {
+        matches!(self, Jobs::Beside(Some(_), _))
+    }
+
+    /// Whether a rotation runs.
+    pub fn has_rotation(&self) -> bool
+        ensures { result ≡ has_rotation self.now }
+    {
+        matches!(self, Jobs::Rotation(_, _))
+    }
+
+    /// Whether this step of one of them is the next.
+    pub fn is_due(&self, step: Due) -> bool
+        ensures { result ≡ is_due step self.now }
+    {
+        match self {
+            Jobs::Rotation(_, install) => Due::Install(install.step) == step,
+            Jobs::Merge(_, install) => Due::Install(install.step) == step,
+            Jobs::Beside(checkpoint, merge) => {
+                checkpoint_is_due(step, checkpoint) || merge_is_due(step, merge)
+            }
+        }
+    }
+
+    /// Whether one of them gives the file new content.
+    pub fn take_file(&self, file: u16) -> bool
+        ensures { result ≡ takes_file self.now file }
+    {
+        match self {
+            Jobs::Rotation(fresh, _) => fresh.file == file,
+            Jobs::Merge(seen, _) => seen.pair.data_file == file || seen.pair.delta_file == file,
+            Jobs::Beside(checkpoint, merge) => {
+                checkpoint_takes(checkpoint, file) || merge_takes(merge, file)
+            }
+        }
+    }
+
+    /// The pair that a checkpoint makes.
+    pub fn checkpoint_pair(&self) -> Option<Pair>
+        ensures { result ≡ checkpoint_pair self.now }
+    {
+        match self {
+            Jobs::Beside(Some(checkpoint), _) => Some(checkpoint.pair),
+            _ => None,
+        }
+    }
+
+    /// The pair that a merge makes whose files aren't all written.
+    pub fn merge_pair(&self) -> Option<Pair>
+        ensures { result ≡ merge_pair self.now }
+    {
+        match self {
+            Jobs::Beside(_, Some(merge)) => Some(merge.seen.pair),
+            _ => None,
+        }
+    }
+
+    /// Whether the next delta file of a checkpoint is the last one.
+    pub fn progress(&self) -> Progress
+        ensures { result ≡ progress_of self.now }
+    {
+        match self {
+            Jobs::Beside(Some(checkpoint), _) => progress_at(checkpoint),
+            _ => Progress::More,
+        }
     }
 }

@@ -1,6 +1,9 @@
 //! Opens a store over what is on its disk.
-ghost use Rattle.std.specs.Prelude.{◌≡◌, ◌<◌, Ok, OnOk, IfOk, IfErr};
+ghost use Rattle.std.specs.Prelude.{◌≡◌, ◌<◌, ◌≤◌, Ok, OnOk, IfOk, IfErr};
+ghost use Rattle.mvo_disk.specs.Disk.{IsHonest};
 ghost use Rattle.mvo_format.specs.declared.format.TheConstants.{FIRST_FORMAT};
+ghost use Rattle.mvo_types.specs.declared.limits.TheConstants.{MAX_SEGMENT_LEN, MAX_STAMP};
+ghost use Rattle.mvo_manifest.specs.Rules.{IsFile};
 ghost use Rattle.mvo_recovery.specs.Parts.{IsLastFile};
 ghost use Rattle.mvo_recovery.specs.Settled.{IsUsed};
 ghost use Rattle.mvo_load.specs.Loaded.{IsLoaded};
@@ -10,6 +13,7 @@ ghost use Rattle.mvo_store.specs.Standing.{IsUp, Gives, HasSlots, KeepsRows};
 ghost use Rattle.mvo_store.specs.Opening.{IsAnswer, HasBegun, KeepsContent, LeavesAsBefore};
 ghost use Rattle.mvo_store.specs.Opening.{HasSynced, IsNotOpened};
 
+use crate::jobs::Jobs;
 use crate::limits::MAX_FAULTS;
 use crate::store::Store;
 use crate::syncing::sync_used;
@@ -24,7 +28,8 @@ use std::thread::Threads;
 
 /// The file of the last segment.
 fn last_segment(manifest: &Manifest) -> u16
-    ensures { IsLastFile manifest.now result }
+    ensures last { IsLastFile manifest.now result }
+    ensures file { IsFile result }
 {
     let segments = manifest.segments();
     segments[segments.len() - 1]
@@ -37,13 +42,16 @@ fn load_synced<D: Disk>(
     seed: u64,
     disk: &mut D,
 ) -> Result<Loaded, Refusal>
-    ensures loaded { IfOk result (λ l. IsLoaded FIRST_FORMAT (D.content disk.old) l.manifest l.rows
-        l.mark.0 l.gate) }
-    ensures places { IfOk result (λ l. HavePlaces FIRST_FORMAT (D.content disk.old)
-        l.manifest.pairs l.places.at) }
-    ensures answer { IfOk result (λ l. IsAnswer (D.content disk.old) (Ok (l.rows, l.mark.0))) }
+    ensures loaded { IsHonest (D.moment disk.new) → IfOk result (λ l. IsLoaded FIRST_FORMAT
+        (D.content disk.old) l.manifest l.rows l.mark.0 l.gate) }
+    ensures places { IsHonest (D.moment disk.new) → IfOk result (λ l. HavePlaces FIRST_FORMAT
+        (D.content disk.old) l.manifest.pairs l.places.at) }
+    ensures answer { IsHonest (D.moment disk.new) → IfOk result (λ l.
+        IsAnswer (D.content disk.old) (Ok (l.rows, l.mark.0))) }
     ensures synced { IfOk result (λ l.
         HasSynced D.Disk (IsUsed l.manifest) 1024 disk.old disk.new) }
+    ensures gate { IfOk result (λ l. l.gate < MAX_SEGMENT_LEN) }
+    ensures stamp { IfOk result (λ l. l.mark.0 ≤ MAX_STAMP) }
     ensures few { OnOk result (D.fault_count disk.old < MAX_FAULTS) }
     ensures refused { IfErr result (λ e. IsNotOpened D.Disk disk.old e disk.new) }
     ensures content { KeepsContent D.Disk disk.old disk.new }
@@ -63,8 +71,9 @@ fn load_synced<D: Disk>(
 }
 
 impl<D: Disk> Store<D> {
-    /// Opens what is on the disk, and answers its rows and mark. It writes and cuts nothing, and
-    /// syncs what it read before it answers Ok: both slots and every file that the manifest names.
+    /// Opens what is on the disk, and answers its rows and mark, where the disk answers as written.
+    /// It writes and cuts nothing, and syncs what it read before it answers Ok: both slots and each
+    /// file that the manifest names.
     /// Refused, the disk comes back. The seed decides where the places of the records stand in
     /// memory; who chooses the keys must not know it.
     ///
@@ -77,11 +86,15 @@ impl<D: Disk> Store<D> {
         seed: u64,
         disk: D,
     ) -> Result<(Store<D>, Rows, Stamp), (Refusal, D)>
-        ensures answer { IfOk result (λ x. IsAnswer (D.content disk) (Ok (x.1, x.2.0))) }
-        ensures gives { IfOk result (λ x. Gives x.1 x.2.0 (D.content disk)) }
-        ensures up { IfOk result (λ x. IsUp D.Disk x.0 x.1) }
-        ensures keeps { IfOk result (λ x. HasSlots (D.content disk) → KeepsRows D.Disk x.0 x.1) }
+        ensures answer { IfOk result (λ x. IsHonest (D.moment x.0.disk) →
+            IsAnswer (D.content disk) (Ok (x.1, x.2.0))) }
+        ensures gives { IfOk result (λ x. IsHonest (D.moment x.0.disk) →
+            Gives x.1 x.2.0 (D.content disk)) }
+        ensures up { IfOk result (λ x. IsHonest (D.moment x.0.disk) → IsUp D.Disk x.0 x.1) }
+        ensures keeps { IfOk result (λ x. IsHonest (D.moment x.0.disk) →
+            HasSlots (D.content disk) → KeepsRows D.Disk x.0 x.1) }
         ensures begins { IfOk result (λ x. HasBegun D.Disk disk x.0 x.2.0) }
+        ensures stamp { IfOk result (λ x. x.2.0 ≤ MAX_STAMP) }
         ensures content { IfOk result (λ x. KeepsContent D.Disk disk x.0.disk) }
         ensures any_moment { IfOk result (λ x. LeavesAsBefore D.Disk disk x.0.disk) }
         ensures refused { IfErr result (λ e. IsNotOpened D.Disk disk e.0 e.1) }
@@ -113,7 +126,7 @@ impl<D: Disk> Store<D> {
             mark,
             pending: None,
             written: false,
-            job: None,
+            jobs: Jobs::none(),
             down: false,
         };
         Ok((store, rows, mark))

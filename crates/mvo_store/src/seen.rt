@@ -10,7 +10,7 @@ pub struct Seen {
     pub left: Pair,
     /// The second.
     pub right: Pair,
-    /// The pair that the two become.
+    /// The pair that the two become, without the numbers that come late.
     pub pair: Pair,
     /// The pair's records, and the numbers that they had in the two.
     pub made: Merged,

@@ -1,4 +1,4 @@
-use crate::job::Job;
+use crate::jobs::Jobs;
 use mvo_disk::Disk;
 use mvo_frame::Segment;
 use mvo_group::Group;
@@ -10,8 +10,9 @@ use std::marker::Model;
 
 /// A store of groups over the files of a disk: the installed manifest names them.
 ///
-/// Each image that a stop now may leave is well formed, and gives the rows up to a mark at least
-/// the store's. After DiskFault every step answers Down, until the disk is opened again.
+/// Where its disk has answered as written, each image that a stop now may leave is well formed, and
+/// gives the rows up to a mark at least the store's. After DiskFault, and after a file came back
+/// otherwise than it was written, every step answers Down, until the disk is opened again.
 pub struct Store<D: Disk> {
     pub(crate) alloc: Global,
     pub(crate) disk: D,
@@ -27,9 +28,9 @@ pub struct Store<D: Disk> {
     pub(crate) pending: Option<Group>,
     /// Whether its body stands behind the gate and is synced.
     pub(crate) written: bool,
-    /// The job that runs.
-    pub(crate) job: Option<Job>,
-    /// Whether the disk met a fault.
+    /// The jobs that run.
+    pub(crate) jobs: Jobs,
+    /// Whether the disk met a fault, or a file came back otherwise than it was written.
     pub(crate) down: bool,
 }
 
@@ -44,7 +45,7 @@ impl<D: Disk + Drop> Drop for Store<D> {
             mark: _,
             pending: _,
             written: _,
-            job: _,
+            jobs: _,
             down: _,
         } = self;
     }
@@ -53,10 +54,9 @@ impl<D: Disk + Drop> Drop for Store<D> {
 impl<D: Disk> Model for Store<D> {
     ghost use Rattle.std.specs.Prelude.{◌≡◌, false};
     ghost use Rattle.std.specs.Coded.{codes};
-    ghost use Rattle.mvo_types.specs.Keys.{Map};
     ghost use Rattle.mvo_places.specs.Places.{coded_places};
     ghost use Rattle.mvo_store.specs.StoreData.{StoreData};
-    ghost use Rattle.mvo_store.specs.Standing.{IsUp};
+    ghost use Rattle.mvo_store.specs.Safe.{IsSound};
 
     ghost Value = { StoreData D };
 
@@ -66,7 +66,7 @@ impl<D: Disk> Model for Store<D> {
 
     ghost view = { store_data };
 
-    ghost invariant = { λ s. s.down ≡ false → (rows : Map) × IsUp D.Disk (store_data s) rows };
+    ghost invariant = { λ s. s.down ≡ false → IsSound D.Disk (store_data s) };
 }
 
 impl<D: Disk> Store<D> {
@@ -88,7 +88,7 @@ impl<D: Disk> Store<D> {
             mark: _,
             pending: _,
             written: _,
-            job: _,
+            jobs: _,
             down: _,
         } = self;
         disk

@@ -184,7 +184,7 @@ const ONE_JOB: [(Step, Reply); 15] = [
     (Step::Mark, Marked(Stamp(6))),
 ];
 
-// One job runs at a time, and its steps have an order. Appends go on beside it.
+// One checkpoint runs at a time, and its steps have an order. Appends go on beside it.
 #[test]
 fn a_checkpoint_runs_alone(rt: HostRuntime) -> Result<(), Fail> {
     let alloc = rt.alloc();

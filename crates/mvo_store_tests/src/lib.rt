@@ -2,6 +2,8 @@
 #![tactic(auto)]
 
 #[cfg(test)]
+mod beside;
+#[cfg(test)]
 mod bodies;
 #[cfg(test)]
 mod checkpoints;
@@ -12,11 +14,17 @@ mod faults;
 #[cfg(test)]
 mod images;
 #[cfg(test)]
+mod lies;
+#[cfg(test)]
+mod lying_disk;
+#[cfg(test)]
 mod marks;
 #[cfg(test)]
 mod merges;
 #[cfg(test)]
 mod numbers;
+#[cfg(test)]
+mod refused;
 #[cfg(test)]
 mod reply;
 #[cfg(test)]

@@ -92,17 +92,14 @@ fn both_pairs_must_be_there(rt: HostRuntime) -> Result<(), Fail> {
     follow(&rt, alloc, &mut store, &NO_PAIR_BEHIND)
 }
 
-const BESIDE_A_CHECKPOINT: [(Step, Reply); 4] = [
+const ONE_SEALED: [(Step, Reply); 2] = [
     (Append(Round(3)), Marked(Stamp(6))),
     (Rotate, Installed(Generation(5))),
-    (CheckpointRead, Done),
-    (MergeRead(0), Refused(Refusal::Busy)),
 ];
 
-const ONE_JOB: [(Step, Reply); 17] = [
+const ONE_MERGE: [(Step, Reply); 17] = [
     (MergeRead(0), Done),
     (MergeRead(0), Refused(Refusal::Busy)),
-    (CheckpointRead, Refused(Refusal::Busy)),
     (RotateWrite, Refused(Refusal::Busy)),
     (MergeDelta, Refused(Refusal::NothingToDo)),
     (CheckpointData, Refused(Refusal::NothingToDo)),
@@ -113,20 +110,21 @@ const ONE_JOB: [(Step, Reply); 17] = [
     (InstallClose, Refused(Refusal::NothingToDo)),
     (MergeDelta, Done),
     (MergeDelta, Refused(Refusal::NothingToDo)),
+    (CheckpointRead, Refused(Refusal::Busy)),
     (InstallClose, Done),
     (InstallBody, Done),
     (Append(Write(5, 1, Some(0x61))), Marked(Stamp(10))),
     (InstallOpen, Installed(Generation(6))),
 ];
 
-// One job runs at a time, and its steps have an order. Appends go on beside it.
+// One merge runs at a time, and its steps have an order. Appends go on beside it, and no checkpoint
+// begins once its files are written.
 #[test]
-fn a_merge_runs_alone(rt: HostRuntime) -> Result<(), Fail> {
+fn a_merge_has_its_order(rt: HostRuntime) -> Result<(), Fail> {
     let alloc = rt.alloc();
     let mut store = following(&rt, alloc, &TWO_PAIRS)?;
-    follow(&rt, alloc, &mut store, &BESIDE_A_CHECKPOINT)?;
-    let mut store = store_on(&rt, alloc, store.into_disk())?;
-    follow(&rt, alloc, &mut store, &ONE_JOB)?;
+    follow(&rt, alloc, &mut store, &ONE_SEALED)?;
+    follow(&rt, alloc, &mut store, &ONE_MERGE)?;
     let rows = [(1, Some(1)), (3, Some(1)), (4, Some(1)), (5, Some(1))];
     gives(&rt, alloc, store.into_disk(), 10, &rows)
 }

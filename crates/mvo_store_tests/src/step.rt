@@ -37,8 +37,21 @@ pub(crate) enum Step {
     Checkpoint,
     /// All steps of a merge of the pair at this place and the one behind it.
     Merge(usize),
+    /// The step of a job that comes next, that of a merge first.
+    Due,
     Reclaim,
 }
+
+/// The steps of jobs that run.
+const DUE: [Step; 7] = [
+    Step::MergeData,
+    Step::MergeDelta,
+    Step::CheckpointData,
+    Step::CheckpointDelta,
+    Step::InstallClose,
+    Step::InstallBody,
+    Step::InstallOpen,
+];
 
 fn take(store: &mut Store<MemDisk>, alloc: Global, body: Body) -> Result<Reply, Fail> {
     let body = body.bytes(alloc)?;
@@ -98,6 +111,17 @@ fn merge(store: &mut Store<MemDisk>, place: usize) -> Result<Generation, Refusal
     install(store)
 }
 
+/// Makes the first step that is due. None runs on where none is.
+fn due(store: &mut Store<MemDisk>) -> Reply {
+    for step in DUE {
+        match step.of_job(store) {
+            Reply::Refused(Refusal::NothingToDo | Refusal::Busy) => {}
+            reply => return reply,
+        }
+    }
+    Reply::Refused(Refusal::NothingToDo)
+}
+
 impl Step {
     /// What the step is answered.
     pub(crate) fn of(self, store: &mut Store<MemDisk>, alloc: Global) -> Result<Reply, Fail> {
@@ -111,18 +135,26 @@ impl Step {
             Step::Append(body) => take_and_append(store, alloc, body)?,
             Step::RotateWrite => done(store.rotate_write()),
             Step::CheckpointRead => done(store.checkpoint_read()),
+            Step::MergeRead(place) => done(store.merge_read(place)),
+            Step::Rotate => installed(rotate(store)),
+            Step::Checkpoint => installed(checkpoint(store)),
+            Step::Merge(place) => installed(merge(store, place)),
+            Step::Due => due(store),
+            Step::Reclaim => emptied(store.reclaim()),
+            step => step.of_job(store),
+        })
+    }
+
+    /// What a step of a job that runs is answered.
+    fn of_job(self, store: &mut Store<MemDisk>) -> Reply {
+        match self {
             Step::CheckpointData => done(store.checkpoint_data()),
             Step::CheckpointDelta => written(store.checkpoint_delta()),
-            Step::MergeRead(place) => done(store.merge_read(place)),
             Step::MergeData => done(store.merge_data()),
             Step::MergeDelta => done(store.merge_delta()),
             Step::InstallClose => done(store.install_close()),
             Step::InstallBody => done(store.install_body()),
-            Step::InstallOpen => installed(store.install_open()),
-            Step::Rotate => installed(rotate(store)),
-            Step::Checkpoint => installed(checkpoint(store)),
-            Step::Merge(place) => installed(merge(store, place)),
-            Step::Reclaim => emptied(store.reclaim()),
-        })
+            _ => installed(store.install_open()),
+        }
     }
 }

@@ -15,6 +15,7 @@ use Rattle.mvo_types.specs.declared.op.Op.TheVariants as op
 use Rattle.mvo_types.specs.Keys.{Map}
 use Rattle.mvo_model.specs.Trace.{Step}
 use Rattle.mvo_disk.specs.declared.disk.Disk.{Ghosts}
+use Rattle.mvo_disk.specs.Disk.{IsHonest}
 use Rattle.mvo_disk.specs.Moments.{weaker}
 use Rattle.mvo_group.specs.Data.{GroupData}
 use Rattle.mvo_theory.specs.State.{State, Marks, opened}
@@ -53,7 +54,7 @@ use Rattle.mvo_rests.specs.Known.{KnowsRests}
 use Rattle.mvo_rests.proofs.Knowing.{known_opened, known_after_call, known_closed}
 use Rattle.mvo_world.specs.Past.{Past, course_of, happened, trimmed_by, acknowledged_by, closed_by, taken_by, with_event, opened_over}
 use Rattle.mvo_core.specs.Groups.{HaveRecordsOf}
-use Rattle.mvo_world.specs.Standing.{IsAfter, RecoversPrefix}
+use Rattle.mvo_world.specs.Standing.{IsAfter, HasHonestDisk, RecoversPrefix}
 use Rattle.mvo_world.specs.Ring.{oldest, IsClosingInto}
 use Rattle.mvo_world.specs.Replies.{IsReplyTo, IsAsked, IsStored, HasRow, operation_event, or_nothing, reply_to}
 use Rattle.mvo_world.specs.Justified.{IsJustifiedBy}
@@ -134,20 +135,21 @@ HasRoomFor took closed ring = (took + length ring ≡ length closed) × (length 
 
 module _ {D : Type 0} (d : Ghosts D) where
   -- ---- a step, by what it makes of the rows of the store
-  stepped : (IsReply : WorldData D → Event → Reply → WorldData D → Type 0) (Justifies : Past → Event → Reply → Type 0) (w w' : WorldData D) (e : Event) (r : Reply) (made : Map → Map) → IsReply w e r w' → ((p : Past) → IsAfter d p w → Justifies p e r) → IsKeeping d made w.store w'.store
-      → ((p : Past) (h : IsAfter d p w) → KeepsRows d w'.store (made (after_groups p.rows h.sent)) → IsAfter d (with_event p e r) w') → IsStepBy IsReply Justifies d w e r w'
-  stepped IsReply Justifies w w' e r made reply just keeps after = record {
+  stepped : (IsReply : WorldData D → Event → Reply → WorldData D → Type 0) (Justifies : Past → Event → Reply → Type 0) (w w' : WorldData D) (e : Event) (r : Reply) (made : Map → Map) → IsReply w e r w' → ((p : Past) → IsAfter d p w → Justifies p e r) → (HasHonestDisk d w' → HasHonestDisk d w) → (HasHonestDisk d w' → IsKeeping d made w.store w'.store)
+      → ((p : Past) (h : IsAfter d p w) → (HasHonestDisk d w' → KeepsRows d w'.store (made (after_groups p.rows h.sent))) → IsAfter d (with_event p e r) w') → IsStepBy IsReply Justifies d w e r w'
+  stepped IsReply Justifies w w' e r made reply just was keeps after = record {
     reply = reply;
     justified = just;
-    after = λ p h. after p h (keeps.keeps (after_groups p.rows h.sent) h.store);
-    any_moment = λ p h.
+    after = λ p h. after p h (λ now. (keeps now).keeps (after_groups p.rows h.sent) (h.store (was now)));
+    honest = was;
+    any_moment = λ p h now.
         let rows = after_groups p.rows h.sent in
-        weaker d.moment d.left_since (disk_of w.store) (disk_of w'.store) (MayBeLeft rows (mark_of w.store) (opening w.store)) (RecoversPrefix p) (prefix_image d p w h) (keeps.any_moment rows h.store);
+        weaker d.moment d.left_since (disk_of w.store) (disk_of w'.store) (MayBeLeft rows (mark_of w.store) (opening w.store)) (RecoversPrefix p) (prefix_image d p w h) ((keeps now).any_moment rows (h.store (was now)));
   }
 
   -- no group becomes durable and none is closed
   goes_on : (p : Past) (w w' : WorldData D) (h : IsAfter d p w) (steps : List Step) (trims : List (ℕ × ℕ)) (s : State) → StandsFor p.rows steps s w'.core → HasCounts p.mark steps s → KnowsRests (record { rows = p.rows; mark = p.mark; steps = steps; trims = trims }) s → IsClosedAt s.marks.closed s → StaysBelow h.state s
-      → waiting w' ≡ waiting w → mark_of w'.store ≡ mark_of w.store → KeepsRows d w'.store (after_groups p.rows h.sent)
+      → waiting w' ≡ waiting w → mark_of w'.store ≡ mark_of w.store → (HasHonestDisk d w' → KeepsRows d w'.store (after_groups p.rows h.sent))
       → (acked : List ℕ) → AllByRecursion (λ n. n ≤ mark_of w'.store) acked → (took : ℕ) → HasRoomFor took p.closed w'.ring → IsAfter d (record p { steps = steps; trims = trims; acknowledged = acked; taken = took }) w'
   goes_on p w w' h steps trims s core counted rests closed stays wait mark store acked covers took room = record {
     sent = h.sent;
@@ -169,15 +171,15 @@ module _ {D : Type 0} (d : Ghosts D) where
 
   -- nothing that the past remembers, over which the state stays
   pub moved : (IsReply : WorldData D → Event → Reply → WorldData D → Type 0) (Justifies : Past → Event → Reply → Type 0) (w w' : WorldData D) (e : Event) (r : Reply) → IsSilent e r → IsReply w e r w' → ((p : Past) → IsAfter d p w → Justifies p e r)
-      → ((p : Past) (h : IsAfter d p w) → StandsFor p.rows p.steps h.state w'.core) → w'.ring ≡ w.ring → waiting w' ≡ waiting w → mark_of w'.store ≡ mark_of w.store → Keeps d w.store w'.store → IsStepBy IsReply Justifies d w e r w'
-  moved IsReply Justifies w w' e r silent reply just core ring wait mark keeps =
-      stepped IsReply Justifies w w' e r (λ rows. rows) reply just keeps (λ p h store.
+      → ((p : Past) (h : IsAfter d p w) → StandsFor p.rows p.steps h.state w'.core) → w'.ring ≡ w.ring → waiting w' ≡ waiting w → mark_of w'.store ≡ mark_of w.store → (HasHonestDisk d w' → HasHonestDisk d w) → (HasHonestDisk d w' → Keeps d w.store w'.store) → IsStepBy IsReply Justifies d w e r w'
+  moved IsReply Justifies w w' e r silent reply just core ring wait mark was keeps =
+      stepped IsReply Justifies w w' e r (λ rows. rows) reply just was keeps (λ p h store.
       subst (λ (q : Past). IsAfter d q w') (silent_past p e r silent) (goes_on p w w' h p.steps p.trims h.state (core p h) h.counted h.rests h.closed (unchanged h.state) wait mark store p.acknowledged (subst (λ m. AllByRecursion (λ n. n ≤ m) p.acknowledged) (sym mark) h.covers) p.taken (subst (HasRoomFor p.taken p.closed) (sym ring) (h.untaken, h.room))))
 
   -- ---- a call of the store that takes no group and makes none durable
-  store_moved : (w : WorldData D) (store : StoreData D) (e : Event) (r : Reply) → IsSilent e r → IsReplyTo d w e r (record w { store = store }) → KeepsTaken w.store store → Keeps d w.store store → IsWorldStep d w e r (record w { store = store })
-  store_moved w store e r silent reply taken keeps =
-      moved (IsReplyTo d) IsJustifiedBy w (record w { store = store }) e r silent reply (λ p h. justified_reply d p w h e r (record w { store = store }) reply) (λ p h. h.core) refl (ap (λ (q : Option GroupData). option_to_list q ++ w.ring) taken.pending) taken.mark keeps
+  store_moved : (w : WorldData D) (store : StoreData D) (e : Event) (r : Reply) → IsSilent e r → IsReplyTo d w e r (record w { store = store }) → KeepsTaken w.store store → (IsHonest (d.moment (disk_of store)) → HasHonestDisk d w) → (IsHonest (d.moment (disk_of store)) → Keeps d w.store store) → IsWorldStep d w e r (record w { store = store })
+  store_moved w store e r silent reply taken was keeps =
+      moved (IsReplyTo d) IsJustifiedBy w (record w { store = store }) e r silent reply (λ p h. justified_reply d p w h e r (record w { store = store }) reply) (λ p h. h.core) refl (ap (λ (q : Option GroupData). option_to_list q ++ w.ring) taken.pending) taken.mark was keeps
 
   stored : {A : Type 0} (w : WorldData D) (store : StoreData D) (call : StoreCall) (a : A) → ComesTo d w.store call (Ok a) store → IsStored d w call (Ok tt) (record w { store = store })
   stored w store call a h = record { comes = accepted_by d w.store call a store h; rest = refl }
@@ -185,13 +187,13 @@ module _ {D : Type 0} (d : Ghosts D) where
   pub done : {A : Type 0} (w : WorldData D) {store : StoreData D} {call : StoreCall} {a : A} {e : Event} {r : Reply} → IsStoreStep d w.store call (Ok a) store → IsQuiet call → IsSilent e r
       → (IsStored d w call (Ok tt) (record w { store = store }) → IsReplyTo d w e r (record w { store = store })) → IsWorldStep d w e r (record w { store = store })
   done w {store} {call} {a} {e} {r} h quiet silent reply =
-      store_moved w store e r silent (reply (stored w store call a h.comes)) (quiet_taken d w.store call (Ok a) store quiet h.comes) (quiet_rows d w.store call (Ok a) store quiet h)
+      store_moved w store e r silent (reply (stored w store call a h.comes)) (quiet_taken d w.store call (Ok a) store quiet h.comes) h.honest (quiet_rows d w.store call (Ok a) store quiet h)
 
   -- and one that is refused
   pub refused : {A : Type 0} (w : WorldData D) {store : StoreData D} {call : StoreCall} {why : Refusal} {e : Event} → IsStoreStep {A = A} d w.store call (Err why) store → IsSilent e (Refused why)
       → (IsStored d w call (Err why) (record w { store = store }) → IsReplyTo d w e (Refused why) (record w { store = store })) → IsWorldStep d w e (Refused why) (record w { store = store })
   refused {A} w {store} {call} {why} {e} h silent reply =
-      store_moved w store e (Refused why) silent (reply (record { comes = refused_by A d w.store call why store h.comes; rest = refl })) (left_taken d call why w.store store h.comes.left) (refused_rows A d w.store call why store h)
+      store_moved w store e (Refused why) silent (reply (record { comes = refused_by A d w.store call why store h.comes; rest = refl })) (left_taken d call why w.store store h.comes.left) h.honest (refused_rows A d w.store call why store h)
 
   -- whatever it comes to
   pub called : (w : WorldData D) {store : StoreData D} {call : StoreCall} {e : Event} (result : Result (Unit {0}) Refusal) (r : Reply) → IsStoreStep d w.store call result store → IsQuiet call → IsSilent e r → ((why : Refusal) → IsSilent e (Refused why)) → (IsStored d w call (Ok tt) (record w { store = store }) → IsReplyTo d w e r (record w { store = store }))
@@ -208,7 +210,7 @@ module _ {D : Type 0} (d : Ghosts D) where
       let ends = ap (λ (gs : List GroupData). length gs) there in
       stepped (IsReplyTo d) IsJustifiedBy w (record w { ring = ring; store = store }) TakeGroup Taken (λ rows. rows)
       (ap (λ why. or_nothing why (oldest w.ring)) why ∙ ap (λ (gs : List GroupData). or_nothing None (oldest gs)) there, record { group = g; there = there; comes = h.comes; core = refl })
-      (λ p a. tt) h.keeps (λ p a rows.
+      (λ p a. tt) h.honest h.keeps (λ p a rows.
       let mark = ap (λ (s : StoreData D). mark_of s) made in
       let untaken = a.untaken in
       let room = a.room in
@@ -219,12 +221,12 @@ module _ {D : Type 0} (d : Ghosts D) where
   -- ---- a group becomes durable
   pub durable : {A : Type 0} (w : WorldData D) {store : StoreData D} {a : A} (mark : Stamp) → IsStoreStep d w.store AppendOpenCall (Ok a) store → mark.0 ≡ mark_of store → IsWorldStep d w AppendOpen (Durable mark) (record w { store = store })
   durable w {store} {a} mark h is =
-      stepped (IsReplyTo d) IsJustifiedBy w w' AppendOpen (Durable mark) (λ rows. after_taken rows (pending_of w.store)) (stored w store AppendOpenCall a h.comes, is) (λ p b. tt) h.keeps after
+      stepped (IsReplyTo d) IsJustifiedBy w w' AppendOpen (Durable mark) (λ rows. after_taken rows (pending_of w.store)) (stored w store AppendOpenCall a h.comes, is) (λ p b. tt) h.honest h.keeps after
     where
       w' : WorldData D
       w' = record w { store = store }
 
-      after : (p : Past) (b : IsAfter d p w) → KeepsRows d store (after_taken (after_groups p.rows b.sent) (pending_of w.store)) → IsAfter d (with_event p AppendOpen (Durable mark)) w'
+      after : (p : Past) (b : IsAfter d p w) → (IsHonest (d.moment (disk_of store)) → KeepsRows d store (after_taken (after_groups p.rows b.sent) (pending_of w.store))) → IsAfter d (with_event p AppendOpen (Durable mark)) w'
       after p b keeps =
           let made = h.comes.made.makes in
           let g = made.group in
@@ -246,7 +248,7 @@ module _ {D : Type 0} (d : Ghosts D) where
             closed = b.closed;
             before = b.before;
             none = b.none;
-            store = subst (KeepsRows d store) (ap (after_taken (after_groups p.rows b.sent)) pending ∙ sym (after_groups-append p.rows b.sent (g ∷ []))) keeps;
+            store = λ now. subst (KeepsRows d store) (ap (after_taken (after_groups p.rows b.sent)) pending ∙ sym (after_groups-append p.rows b.sent (g ∷ []))) (keeps now);
             mark = at ∙ sym (mark_after-append first b.sent (g ∷ []));
             groups = groups;
             marks = ap (map (λ x. x.mark)) (sym list) ∙ b.marks;
@@ -258,7 +260,7 @@ module _ {D : Type 0} (d : Ghosts D) where
   module _ (only_now : OnlyNow d) where
     -- nothing happens
     pub still : (IsReply : WorldData D → Event → Reply → WorldData D → Type 0) (Justifies : Past → Event → Reply → Type 0) (w : WorldData D) (e : Event) (r : Reply) → IsSilent e r → IsReply w e r w → ((p : Past) → IsAfter d p w → Justifies p e r) → IsStepBy IsReply Justifies d w e r w
-    still IsReply Justifies w e r silent reply just = moved IsReply Justifies w w e r silent reply just (λ p h. h.core) refl refl refl (refused_keeps d only_now w.store)
+    still IsReply Justifies w e r silent reply just = moved IsReply Justifies w w e r silent reply just (λ p h. h.core) refl refl refl (λ now. now) (λ now. refused_keeps d only_now w.store)
 
     -- a call of the core that closes no group
     pub told : (w : WorldData D) {core : CoreData} {c : Call} {result : CallResult} {e : Event} {r : Reply}
@@ -267,7 +269,7 @@ module _ {D : Type 0} (d : Ghosts D) where
         → ((opening : Map) (steps : List Step) (s : State) → StandsFor opening steps s w.core → happened e r ≡ steps_of s c result)
         → (acknowledged_by e r ≡ []) × (groups_by e r ≡ ([], 0, trimmed_to c result)) → IsWorldStep d w e r (record w { core = core })
     told w {core} {c} {result} {e} {r} leads reply is silent =
-        stepped (IsReplyTo d) IsJustifiedBy w w' e r (λ rows. rows) (reply (record { leads = leads; rest = refl })) (λ p h. justified_reply d p w h e r w' (reply (record { leads = leads; rest = refl }))) (refused_keeps d only_now w.store) (λ p h store.
+        stepped (IsReplyTo d) IsJustifiedBy w w' e r (λ rows. rows) (reply (record { leads = leads; rest = refl })) (λ p h. justified_reply d p w h e r w' (reply (record { leads = leads; rest = refl }))) (λ now. now) (λ now. refused_keeps d only_now w.store) (λ p h store.
         let l = leads p.rows p.steps h.state h.core in
         let kept = h.core.versions.kept in
         let next = after_call h.state c result in
@@ -293,17 +295,17 @@ module _ {D : Type 0} (d : Ghosts D) where
     collected w {core} c counts stands versions =
         moved (IsReplyTo d) IsJustifiedBy w (record w { core = core }) Collect (Collected c) (refl, refl, refl)
         (record { counts = counts; stands = stands; versions = versions; rest = refl }) (λ p h. tt)
-        (λ p h. stands p.rows p.steps h.state h.core) refl refl refl (refused_keeps d only_now w.store)
+        (λ p h. stands p.rows p.steps h.state h.core) refl refl refl (λ now. now) (λ now. refused_keeps d only_now w.store)
 
     -- a group is closed
     pub closed_step : (w : WorldData D) {core : CoreData} {ring : List GroupData} (c : closing.Closed) → IsLinked w → IsClosingInto w.core w.ring (Ok c) core ring → IsWorldStep d w CloseGroup (Closed c) (record w { core = core; ring = ring })
     closed_step w {core} {ring} c linked step =
-        stepped (IsReplyTo d) IsJustifiedBy w w' CloseGroup (Closed c) (λ rows. rows) (record { closing = step; store = refl }) (λ p h. closing_so d p w h (Closed c) w' (record { closing = step; store = refl })) (refused_keeps d only_now w.store) after
+        stepped (IsReplyTo d) IsJustifiedBy w w' CloseGroup (Closed c) (λ rows. rows) (record { closing = step; store = refl }) (λ p h. closing_so d p w h (Closed c) w' (record { closing = step; store = refl })) (λ now. now) (λ now. refused_keeps d only_now w.store) after
       where
         w' : WorldData D
         w' = record w { core = core; ring = ring }
 
-        after : (p : Past) (h : IsAfter d p w) → KeepsRows d w.store (after_groups p.rows h.sent) → IsAfter d (with_event p CloseGroup (Closed c)) w'
+        after : (p : Past) (h : IsAfter d p w) → (HasHonestDisk d w → KeepsRows d w.store (after_groups p.rows h.sent)) → IsAfter d (with_event p CloseGroup (Closed c)) w'
         after p h store =
             let first = p.mark in
             let s = h.state in
@@ -348,19 +350,19 @@ module _ {D : Type 0} (d : Ghosts D) where
         let same = (step i.core.opening i.core.steps i.core.state i.core.stands).1 in
         moved (IsReplyTo d) IsJustifiedBy w (record w { core = core; ring = ring }) CloseGroup (Refused r) (refl, refl, refl) (record { closing = step; store = refl })
         (λ p h. closing_so d p w h (Refused r) (record w { core = core; ring = ring }) (record { closing = step; store = refl }))
-        (λ p h. (step p.rows p.steps h.state h.core).0.stands) same (ap (λ (gs : List GroupData). option_to_list (pending_of w.store) ++ gs) same) refl (refused_keeps d only_now w.store)
+        (λ p h. (step p.rows p.steps h.state h.core).0.stands) same (ap (λ (gs : List GroupData). option_to_list (pending_of w.store) ++ gs) same) refl (λ now. now) (λ now. refused_keeps d only_now w.store)
 
     -- a poll
     pub polled_step : (w : WorldData D) (stamp : Stamp) (answer : Bool) → answer ≡ nat_le stamp.0 (mark_of w.store) → IsWorldStep d w (Poll stamp) (Polled answer) w
     polled_step w stamp false is = still (IsReplyTo d) IsJustifiedBy w (Poll stamp) (Polled false) (refl, refl, refl) (is, refl) (λ p h. tt)
     polled_step w stamp true is =
-        stepped (IsReplyTo d) IsJustifiedBy w w (Poll stamp) (Polled true) (λ rows. rows) (is, refl) (λ p h. tt) (refused_keeps d only_now w.store) (λ p h store.
+        stepped (IsReplyTo d) IsJustifiedBy w w (Poll stamp) (Polled true) (λ rows. rows) (is, refl) (λ p h. tt) (λ now. now) (λ now. refused_keeps d only_now w.store) (λ p h store.
         let acked = p.acknowledged ++ stamp.0 ∷ [] in
         subst (λ (q : Past). IsAfter d q w) (past_is p (Poll stamp) (Polled true) p.steps p.trims acked p.closed p.taken (append-nil p.steps) (append-nil p.trims) refl (append-nil p.closed) (none_more p.taken))
         (goes_on p w w h p.steps p.trims h.state h.core h.counted h.rests h.closed (unchanged h.state) refl refl store acked (each_append (λ m. m ≤ mark_of w.store) p.acknowledged (stamp.0 ∷ []) h.covers (leb-true stamp.0 (mark_of w.store) (sym is), tt)) p.taken (h.untaken, h.room)))
 
   -- ---- a world that was just opened
-  pub begun : (rows : Map) (w : WorldData D) → IsJustOpened rows w → KeepsRows d w.store rows → IsAfter d (opened_over rows (mark_of w.store)) w
+  pub begun : (rows : Map) (w : WorldData D) → IsJustOpened rows w → (HasHonestDisk d w → KeepsRows d w.store rows) → IsAfter d (opened_over rows (mark_of w.store)) w
   begun rows w is keeps =
       let wait : waiting w ≡ [] = ap (λ (q : Option GroupData). option_to_list q ++ w.ring) is.store.pending ∙ is.ring in
       let empty : length w.ring ≡ 0 = ap (λ (gs : List GroupData). length gs) is.ring in

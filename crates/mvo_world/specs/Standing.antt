@@ -4,7 +4,7 @@ use Rattle.std.specs.List.{AllByRecursion}
 use Rattle.mvo_types.specs.Keys.{Map}
 use Rattle.mvo_model.specs.Trace.{rows_up_to}
 use Rattle.mvo_disk.specs.declared.disk.Disk.{Ghosts}
-use Rattle.mvo_disk.specs.Disk.{Image, AllOf, LeavesOnly}
+use Rattle.mvo_disk.specs.Disk.{Image, AllOf, LeavesOnly, IsHonest}
 use Rattle.mvo_group.specs.Data.{GroupData}
 use Rattle.mvo_theory.specs.State.{State, timeline}
 use Rattle.mvo_theory.specs.Marks.{IsClosedAt, settled_to}
@@ -13,7 +13,7 @@ use Rattle.mvo_rests.specs.Known.{KnowsRests}
 use Rattle.mvo_core.specs.Standing.{StandsFor}
 use Rattle.mvo_store.specs.Frames.{mark_after}
 use Rattle.mvo_store.specs.Rows.{after_groups}
-use Rattle.mvo_store.specs.Seen.{mark_of}
+use Rattle.mvo_store.specs.Seen.{disk_of, mark_of}
 use Rattle.mvo_store.specs.Standing.{Gives, KeepsRows, HasSlots}
 use Rattle.mvo_world.specs.Past.{Past, course_of}
 use Rattle.mvo_types.specs.declared.limits.TheConstants.{RING_GROUPS}
@@ -40,7 +40,11 @@ pub record RecoversPrefix (p : Past) (image : Image) : Type 0 where
   pub gives : Gives rows mark image
   pub prefix : IsPrefix p rows mark
 
--- the world stands after this past
+-- its disk has answered as written so far
+abbrev pub HasHonestDisk : {D : Type 0} → Ghosts D → WorldData D → Type 0
+HasHonestDisk d w = IsHonest (d.moment (disk_of w.store))
+
+-- The world stands after this past. Only what a stop leaves of it rests on what its disk answered.
 pub record IsAfter {D : Type 0} (d : Ghosts D) (p : Past) (w : WorldData D) : Type 0 where
   -- the groups that are durable since the opening
   pub sent : List GroupData
@@ -56,7 +60,7 @@ pub record IsAfter {D : Type 0} (d : Ghosts D) (p : Past) (w : WorldData D) : Ty
   -- no commit ends at or below the opening mark
   pub before : IsClosedAt p.mark state
   pub none : settled_to p.mark (timeline state) ≡ []
-  pub store : KeepsRows d w.store (after_groups p.rows sent)
+  pub store : HasHonestDisk d w → KeepsRows d w.store (after_groups p.rows sent)
   pub mark : mark_of w.store ≡ mark_after p.mark sent
   pub groups : HaveRecordsOf state p.mark (sent ++ waiting w)
   pub marks : map (λ g. g.mark) (sent ++ waiting w) ≡ p.closed

@@ -4,22 +4,23 @@ use Rattle.mvo_disk.specs.declared.disk.Disk.{Ghosts}
 use Rattle.mvo_store.specs.Seen.{disk_of}
 use Rattle.mvo_world.specs.Past.{Past, with_event}
 use Rattle.mvo_world.specs.WorldData.{WorldData}
-use Rattle.mvo_world.specs.Standing.{IsAfter, LeavesPrefix}
+use Rattle.mvo_world.specs.Standing.{IsAfter, HasHonestDisk, LeavesPrefix}
 use Rattle.mvo_world.specs.Replies.{IsReplyTo, IsCopiedReplyTo}
 use Rattle.mvo_world.specs.Justified.{IsJustifiedBy, IsCopyJustifiedBy}
 use Rattle.mvo_world.specs.declared.event.Event.{Event}
 use Rattle.mvo_world.specs.declared.reply.Reply.{Reply}
 
 -- The event has its reply, which the past justifies, whatever it is. It leads from a world after a
--- past to one after that past and this event, and a stop at any moment of it leaves an image that
--- recovers a prefix of the past before.
+-- past to one after that past and this event. A disk that was not honest is not honest again; and
+-- while it is, a stop at any moment leaves an image that recovers a prefix of the past before.
 pub record IsStepBy {D : Type 0} (IsReply : WorldData D → Event → Reply → WorldData D → Type 0)
     (Justifies : Past → Event → Reply → Type 0)
     (d : Ghosts D) (w : WorldData D) (e : Event) (r : Reply) (w' : WorldData D) : Type 0 where
   pub reply : IsReply w e r w'
   pub justified : (p : Past) → IsAfter d p w → Justifies p e r
   pub after : (p : Past) → IsAfter d p w → IsAfter d (with_event p e r) w'
-  pub any_moment : (p : Past) → IsAfter d p w →
+  pub honest : HasHonestDisk d w' → HasHonestDisk d w
+  pub any_moment : (p : Past) → IsAfter d p w → HasHonestDisk d w' →
       LeavesPrefix d p (disk_of w.store) (disk_of w'.store)
 
 abbrev pub IsWorldStep : {D : Type 0} →

@@ -65,6 +65,7 @@ impl<D: Disk> Model for World<D> {
 impl<D: Disk> World<D> {
     ghost use Rattle.std.specs.Prelude.{◌≡◌, ◌<◌, ℕ, length, Ok, IfOk, IfErr, OnErr};
     ghost use Rattle.mvo_types.specs.Keys.{Map};
+    ghost use Rattle.mvo_disk.specs.Disk.{IsHonest};
     ghost use Rattle.mvo_store.specs.declared.limits.TheConstants.{MAX_FAULTS};
     ghost use Rattle.mvo_store.specs.Standing.{Gives, HasSlots};
     ghost use Rattle.mvo_store.specs.Opening.{IsAnswer, KeepsContent, LeavesAsBefore};
@@ -73,6 +74,8 @@ impl<D: Disk> World<D> {
     ghost use Rattle.mvo_world.specs.WorldData.{IsJustOpened};
     ghost use Rattle.mvo_world.specs.Past.{Past, opened_over, with_events, IsSerialPast};
     ghost use Rattle.mvo_world.specs.Standing.{IsAfter, IsPrefix, RecoversPrefix, MayLeavePrefix};
+    ghost use Rattle.mvo_world.specs.Standing.{HasHonestDisk};
+    ghost use Rattle.mvo_world.specs.Promise.{IsOpenedOver};
     ghost use Rattle.mvo_world.specs.Steps.{IsWorldStep, IsRunStep, AreSteps};
 
     /// A world over what is on the disk. It writes and cuts nothing. Refused as `Store::open` is,
@@ -80,24 +83,26 @@ impl<D: Disk> World<D> {
     /// seed, which decides where keys stand in memory.
     ///
     /// The world stands after its past where both manifest slots hold a byte (`HasSlots`), as
-    /// `format` leaves them.
+    /// `format` leaves them. Where the disk has answered as written until then, it is opened over
+    /// the rows that the disk gives; else over some rows.
     pub fn open(
         rt: &(impl Threads + Sync),
         alloc: Global,
         seed: u64,
         disk: D,
     ) -> Result<World<D>, (Refusal, D)>
-        ensures answer { IfOk result (λ w. (rows : Map) ×
+        ensures stands { IfOk result (λ w. (rows : Map) × IsOpenedOver D.Disk disk rows w) }
+        ensures answer { IfOk result (λ w. HasHonestDisk D.Disk w → (rows : Map) ×
             IsAnswer (D.content disk) (Ok (rows, mark_of w.store))) }
-        ensures gives { IfOk result (λ w. (rows : Map) ×
+        ensures gives { IfOk result (λ w. HasHonestDisk D.Disk w → (rows : Map) ×
             Gives rows (mark_of w.store) (D.content disk)) }
-        ensures after { IfOk result (λ w. (rows : Map) →
+        ensures after { IfOk result (λ w. HasHonestDisk D.Disk w → (rows : Map) →
             Gives rows (mark_of w.store) (D.content disk) → HasSlots (D.content disk) →
             IsAfter D.Disk (opened_over rows (mark_of w.store)) w) }
-        ensures prefix { IfOk result (λ w. (rows : Map) →
+        ensures prefix { IfOk result (λ w. HasHonestDisk D.Disk w → (rows : Map) →
             Gives rows (mark_of w.store) (D.content disk) → (past : Past) →
             RecoversPrefix past (D.content disk) → IsPrefix past rows (mark_of w.store)) }
-        ensures begins { IfOk result (λ w. (rows : Map) →
+        ensures begins { IfOk result (λ w. HasHonestDisk D.Disk w → (rows : Map) →
             Gives rows (mark_of w.store) (D.content disk) → IsJustOpened rows w) }
         ensures content { IfOk result (λ w. KeepsContent D.Disk disk (disk_of w.store)) }
         ensures any_moment { IfOk result (λ w. LeavesAsBefore D.Disk disk (disk_of w.store)) }
@@ -105,8 +110,8 @@ impl<D: Disk> World<D> {
         ensures count { IfOk result (λ w.
             D.fault_count (disk_of w.store) ≡ D.fault_count disk) }
         ensures refused { IfErr result (λ e. IsNotOpened D.Disk disk e.0 e.1) }
-        ensures well_formed { IfErr result (λ e. (rows : Map) (mark : ℕ) →
-            Gives rows mark (D.content disk) → IsNotOfFiles e.0) }
+        ensures well_formed { IfErr result (λ e. IsHonest (D.moment e.1) →
+            (rows : Map) (mark : ℕ) → Gives rows mark (D.content disk) → IsNotOfFiles e.0) }
         ensures content_err { IfErr result (λ e. KeepsContent D.Disk disk e.1) }
         ensures any_moment_err { IfErr result (λ e. LeavesAsBefore D.Disk disk e.1) }
     {
@@ -132,6 +137,7 @@ impl<D: Disk> World<D> {
     pub fn mark(&self) -> Stamp
         ensures value { result.0 ≡ mark_of self.now.store }
         ensures images { (past : Past) → IsAfter D.Disk past self.now →
+            HasHonestDisk D.Disk self.now →
             MayLeavePrefix D.Disk past (disk_of self.now.store) }
     {
         self.store.mark()
@@ -140,7 +146,7 @@ impl<D: Disk> World<D> {
     /// The disk, as it stands.
     pub fn into_disk(self) -> D
         ensures disk { result ≡ disk_of self.store }
-        ensures prefix { (past : Past) → IsAfter D.Disk past self →
+        ensures prefix { (past : Past) → IsAfter D.Disk past self → HasHonestDisk D.Disk self →
             RecoversPrefix past (D.content result) }
     {
         let World {
@@ -168,8 +174,8 @@ impl<D: Disk> World<D> {
     }
 
     /// One step. Its reply is the first refusal whose cause stands, and else the event's own
-    /// answer; a step of the store that is not refused so may still meet out of memory or a fault
-    /// of the disk.
+    /// answer; a step of the store that is not refused so may still meet out of memory, a fault of
+    /// the disk, or, where it reads for a checkpoint or a merge, a file that breaks a rule.
     ///
     /// The answer or the refusal of an event of a transaction is justified by what was asked and
     /// answered before it, whatever that was (`IsWorldStep`: `justified`).
@@ -225,6 +231,10 @@ impl<D: Disk> World<D> {
     /// Runs the events, one after another, each as `step` does. It takes room for its replies
     /// first: refused with OutOfMemory, it has run nothing. An event whose copy is refused, which
     /// has a row, is answered OutOfMemory and does nothing.
+    ///
+    /// What `after` says of rows and images has one premise: each length and each byte that the
+    /// disk answered since it was opened was what had been written there last, or, where nothing
+    /// was written since, what its file held as it was opened. All else holds whatever it answers.
     pub fn run(&mut self, events: &[Event]) -> Result<Vec<Reply>, Refusal>
         ensures each { IfOk result (λ replies.
             AreSteps (IsRunStep D.Disk) self.old events.now replies.items self.new) }

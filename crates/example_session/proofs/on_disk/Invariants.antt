@@ -1,4 +1,4 @@
-use Rattle.mvo_engine.specs.Opened.{image_of}
+use Rattle.mvo_engine.specs.Opened.{fresh_opening}
 use Rattle.mvo_engine.specs.Watching.{nothing_watched}
 use Rattle.example_session.proofs.on_disk.Given as goal
 
@@ -7,7 +7,7 @@ ghosts-run-L-Ledger g a = record { name = a.fresh.ledger; parts = a.fresh.parts 
 
 abbrev pub ghosts-run-L-Run : goal.ghosts-run-L-Run
 ghosts-run-L-Run g a = record {
-  image = image_of g.D.Disk a.fresh;
+  opening = fresh_opening g.D.Disk a.fresh;
   marks = a.fresh.marks;
   ring = a.fresh.ring;
   watched = nothing_watched;

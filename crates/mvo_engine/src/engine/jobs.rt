@@ -25,8 +25,9 @@ impl<L: Run, D: Disk, G: Gate + Drop> Engine<L, D, G> {
     /// All steps of a checkpoint of the oldest sealed segment, up to its installing, as `rotate`
     /// makes its own.
     ///
-    /// Refused as `rotate` is, but with NothingToDo where no segment is sealed, and with PairsFull
-    /// in place of SegmentsFull.
+    /// Refused as `rotate` is, but with Busy where a checkpoint or a rotation runs, or a merge of
+    /// which all files are written, with NothingToDo where no segment is sealed, and with PairsFull
+    /// in place of SegmentsFull. A merge in another thread goes on in between up to its last file.
     pub fn checkpoint<R: Wait>(&self, rt: &R) -> Result<Generation, Refusal> {
         self.lock_store(rt).checkpoint_read()?;
         self.lock_store(rt).checkpoint_data()?;
@@ -37,8 +38,12 @@ impl<L: Run, D: Disk, G: Gate + Drop> Engine<L, D, G> {
     /// All steps of a merge of the pair at a place, from 0 on, and the one behind it, up to its
     /// installing, as `rotate` makes its own.
     ///
-    /// Refused as `rotate` is, but with NothingToDo where the pair behind isn't there, and with
-    /// PairTooLarge in place of SegmentsFull.
+    /// Refused as `rotate` is, but with Busy where a merge or a rotation runs, with NothingToDo
+    /// where the pair behind isn't there, and with PairTooLarge in place of SegmentsFull.
+    /// Checkpoints in another thread are made in between. Where one runs when the last file is to
+    /// be written, this is Busy too, and the merge stays where it is: once the checkpoint is
+    /// installed it goes on under the guard of the store, by `merge_delta` and the steps of its
+    /// install. That call's NothingToDo tells that no merge waits.
     pub fn merge<R: Wait>(&self, rt: &R, place: usize) -> Result<Generation, Refusal> {
         self.lock_store(rt).merge_read(place)?;
         self.lock_store(rt).merge_data()?;

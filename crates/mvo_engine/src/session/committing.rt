@@ -3,12 +3,16 @@
 use super::Session;
 use crate::engine::Engine;
 use crate::gate::Gate;
+use crate::locked_core::LockedCore;
 use mvo_core::{Finishing, Settlement, Validation};
 use mvo_disk::Disk;
 use mvo_run::{Receipts, Run, Told};
 use mvo_types::{Refusal, Stamp, TxId};
 use std::sync::Wait;
 use std::thread;
+
+/// So many entries are checked, or words replaced, while the lock is taken once.
+const AT_ONCE: u32 = 64;
 
 /// Whether the transaction is Aborted by the refusal.
 pub(super) fn is_failure(refusal: Refusal) -> bool
@@ -33,10 +37,10 @@ impl<'e, L: Run, D: Disk, G: Gate + Drop> Session<'e, L, D, G> {
 
     /// Commits the transaction, and answers its end timestamp: makes room for its receipt, draws
     /// the end, checks what was read and scanned, waits until each transaction that it depends on
-    /// is settled, becomes Committed and is finished. Each step takes the lock anew, so that others
-    /// go on meanwhile. The receipt is one more of the session's: what its calls were answered,
-    /// which is compared with what the core holds. The commit is durable once a flush has answered
-    /// a mark that isn't below its end.
+    /// is settled, becomes Committed and is finished. Each step takes the lock anew, checks and
+    /// words for up to 64, so that others go on meanwhile. The receipt is one more of the
+    /// session's: what its calls were answered, which is compared with what the core holds. The
+    /// commit is durable once a flush has answered a mark that isn't below its end.
     ///
     /// Refused: NoSuchTransaction without a transaction, DependencyAborted, ClockSpent,
     /// OutOfMemory, ValidationFailed, and with Busy where the core holds other answers, which no
@@ -111,10 +115,10 @@ impl<'e, L: Run, D: Disk, G: Gate + Drop> Session<'e, L, D, G> {
         self.tx = None;
     }
 
-    // Replaces the words of the transaction, each under the lock anew.
+    // Replaces the words of the transaction, up to `AT_ONCE` while the lock is taken once.
     fn replace_words<R: Wait>(&self, rt: &R, tx: TxId) {
         for _ in rt.forever() {
-            match self.enter(rt).finish_one(tx) {
+            match finish_some(&mut self.enter(rt), tx) {
                 Ok(Finishing::More) => {}
                 Ok(Finishing::Done) | Err(_) => return,
             }
@@ -161,13 +165,35 @@ fn validate<L: Run, D: Disk, G: Gate + Drop, R: Wait>(
     tx: TxId,
 ) -> Result<(), Refusal> {
     for _ in rt.forever() {
-        match engine.enter_core(rt).validate_one(tx) {
+        match check_some(&mut engine.enter_core(rt), tx) {
             Ok(Validation::More) => {}
             Ok(Validation::Valid) => return Ok(()),
             Err(refusal) => return Err(refusal),
         }
     }
     unreachable!()
+}
+
+/// Checks up to `AT_ONCE` entries of the transaction.
+fn check_some<L: Run>(core: &mut LockedCore<L>, tx: TxId) -> Result<Validation, Refusal> {
+    for _ in 1..AT_ONCE {
+        match core.validate_one(tx) {
+            Ok(Validation::More) => {}
+            result => return result,
+        }
+    }
+    core.validate_one(tx)
+}
+
+/// Replaces up to `AT_ONCE` words of the transaction.
+fn finish_some<L: Run>(core: &mut LockedCore<L>, tx: TxId) -> Result<Finishing, Refusal> {
+    for _ in 1..AT_ONCE {
+        match core.finish_one(tx) {
+            Ok(Finishing::More) => {}
+            result => return result,
+        }
+    }
+    core.finish_one(tx)
 }
 
 fn settle<L: Run, D: Disk, G: Gate + Drop, R: Wait>(

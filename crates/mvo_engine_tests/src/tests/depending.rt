@@ -1,13 +1,15 @@
 //! A commit waits for another, which goes on meanwhile.
+ghost use Rattle.mvo_engine.specs.Opened.{IsNamedBy};
 
-use super::formatted;
 use super::rows::{KEY, byte_in, row};
-use super::trial::{Trial, all_right, has_come, tried};
+use super::trial::has_come;
+use super::{SEED, formatted};
 use crate::equal::same;
-use mvo_disk::{Disk, MemDisk};
-use mvo_engine::{Engine, Gate, Place, Run, Session};
+use mvo_disk::Disk;
+use mvo_engine::{Engine, Fresh, Gate, Place, Run, Session};
 use mvo_types::{Refusal, Stamp};
 use std::alloc::Global;
+use std::marker::Brand;
 use std::sync::Wait;
 use std::sync::atomic::{AtomicU64, Ordering};
 use std::test::*;
@@ -73,36 +75,78 @@ impl<'p> Gate for Holding<'p> {
     }
 }
 
-/// The first transaction puts the row and is held between its end and its first check. The second
-/// reads the row, and waits for the first with its commit.
+/// What the sessions were told: where the first ended, what the second read, and where it ended.
 #[derive(Drop)]
-struct Depending<'p> {
-    passes: &'p Passes,
+struct Told {
+    first: Stamp,
+    read: Option<u8>,
+    second: Stamp,
 }
 
-impl<'p> Trial<MemDisk, Holding<'p>> for Depending<'p> {
-    fn go<L: Run + Send + Sync, R: Threads + Wait + Sync>(
-        &self,
-        rt: &R,
-        alloc: Global,
-        engine: &Engine<L, MemDisk, Holding<'p>>,
-    ) -> Result<Vec<bool>, Refusal> {
-        let mut one = engine.session(rt)?;
-        let mut two = engine.session(rt)?;
-        one.begin_tx(rt)?;
-        one.insert(rt, row(alloc, 7)?)?;
-        let passes = self.passes;
-        passes.held_at.store(passes.behind(1), Ordering::SeqCst);
-        let (first, second) = join(
-            rt,
-            || one.commit_tx(rt),
-            || read_and_commit(rt, &mut two, passes),
-        );
-        let mut told = Vec::new(alloc);
-        told.push(first? == Stamp(2))?;
-        told.push(second? == (Some(7), Stamp(4)))?;
-        Ok(told)
+/// The first transaction puts the row and is held between its end and its first check. The second
+/// reads the row, and waits for the first with its commit.
+fn both<
+    L: Run + Send + Sync,
+    D: Disk + Send,
+    G: Gate + Drop + Send + Sync,
+    R: Threads + Wait + Sync,
+>(rt: &R, alloc: Global, engine: &Engine<L, D, G>, passes: &Passes) -> Result<Told, Refusal> {
+    let mut one = engine.session(rt)?;
+    let mut two = engine.session(rt)?;
+    one.begin_tx(rt)?;
+    one.insert(rt, row(alloc, 7)?)?;
+    passes.held_at.store(passes.behind(1), Ordering::SeqCst);
+    in_threads(rt, &mut one, &mut two, passes)
+}
+
+fn in_threads<
+    L: Run + Send + Sync,
+    D: Disk + Send,
+    G: Gate + Drop + Send + Sync,
+    R: Threads + Wait + Sync,
+>(
+    rt: &R,
+    one: &mut Session<'_, L, D, G>,
+    two: &mut Session<'_, L, D, G>,
+    passes: &Passes,
+) -> Result<Told, Refusal> {
+    let (first, second) = join(
+        rt,
+        || one.commit_tx(rt),
+        || read_and_commit(rt, two, passes),
+    );
+    let (read, second) = second?;
+    Ok(Told {
+        first: first?,
+        read,
+        second,
+    })
+}
+
+/// An engine over what is on the disk.
+fn depending<D: Disk + Drop + Send, G: Gate + Drop + Send + Sync, R: Threads + Wait + Sync>(
+    rt: &R,
+    alloc: Global,
+    disk: D,
+    gate: G,
+    passes: &Passes,
+) -> Result<Told, Refusal> {
+    match Fresh::open(rt, alloc, SEED, disk) {
+        Ok(fresh) => run_depending::<Brand, D, G, R>(rt, alloc, fresh, gate, passes),
+        Err((refusal, _)) => Err(refusal),
     }
+}
+
+fn run_depending<
+    L: Run + Send + Sync,
+    D: Disk + Drop + Send,
+    G: Gate + Drop + Send + Sync,
+    R: Threads + Wait + Sync,
+>(rt: &R, alloc: Global, fresh: Fresh<D>, gate: G, passes: &Passes) -> Result<Told, Refusal>
+    requires { IsNamedBy D.Disk L.opening L.marks L.ring L.name L.parts fresh }
+{
+    let engine = Engine::<L, D, G>::new(fresh, gate);
+    both(rt, alloc, &engine, passes)
 }
 
 // Reads the row once the other is held, and commits. The other may go on once this one has come to
@@ -125,9 +169,10 @@ fn a_commit_waits_for_another(rt: HostRuntime) -> Result<(), Fail> {
     let alloc = rt.alloc();
     let passes = Passes::new();
     let gate = Holding { passes: &passes };
-    let trial = Depending { passes: &passes };
-    let (told, _) = tried(&rt, alloc, formatted(alloc)?, gate, &trial)?;
-    all_right(&rt, &told, 2);
+    let told = depending(&rt, alloc, formatted(alloc)?, gate, &passes)?;
+    same(&rt, &told.first, &Stamp(2));
+    same(&rt, &told.read, &Some(7));
+    same(&rt, &told.second, &Stamp(4));
     same(&rt, &passes.held.load(Ordering::SeqCst), &1);
     same(&rt, &passes.late.load(Ordering::SeqCst), &0);
     Ok(())

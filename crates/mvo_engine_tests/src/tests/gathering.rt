@@ -162,7 +162,7 @@ fn run_seeing<L: Run + Send + Sync, D: Disk + Drop + Send, R: Threads + Wait + S
     alloc: Global,
     fresh: Fresh<D>,
 ) -> Result<(usize, usize, u64), Refusal>
-    requires { IsNamedBy D.Disk L.image L.marks L.ring L.name L.parts fresh }
+    requires { IsNamedBy D.Disk L.opening L.marks L.ring L.name L.parts fresh }
 {
     let engine = Engine::<L, D, OpenGate>::new(fresh, OpenGate);
     see(rt, alloc, &engine)

@@ -39,11 +39,11 @@ impl<'c> Trial<MemDisk, CountingStore<'c>> for Jobs<'c> {
     }
 }
 
-fn has_nothing<X: Drop>(answer: Result<X, Refusal>) -> bool {
+pub fn has_nothing<X: Drop>(answer: Result<X, Refusal>) -> bool {
     matches!(answer, Err(Refusal::NothingToDo))
 }
 
-fn is_busy<X: Drop>(answer: Result<X, Refusal>) -> bool {
+pub fn is_busy<X: Drop>(answer: Result<X, Refusal>) -> bool {
     matches!(answer, Err(Refusal::Busy))
 }
 
@@ -107,7 +107,7 @@ fn beside_a_job<L: Run, D: Disk, G: Gate + Drop, R: Wait>(
     engine.lock_store(rt).checkpoint_read()?;
     told.push(is_busy(engine.rotate(rt)))?;
     told.push(is_busy(engine.checkpoint(rt)))?;
-    told.push(is_busy(engine.merge(rt, 0)))?;
+    told.push(has_nothing(engine.merge(rt, 0)))?;
     told.push(has_nothing(engine.lock_store(rt).merge_data()))?;
     engine.lock_store(rt).checkpoint_data()?;
     told.push(engine.lock_store(rt).checkpoint_delta()? == Progress::More)?;
@@ -132,8 +132,8 @@ fn by_steps<L: Run, D: Disk, G: Gate + Drop, R: Wait>(
     Ok(())
 }
 
-// The steps of an install.
-fn installs<L: Run, D: Disk, G: Gate + Drop, R: Wait>(
+/// The steps of an install.
+pub fn installs<L: Run, D: Disk, G: Gate + Drop, R: Wait>(
     rt: &R,
     engine: &Engine<L, D, G>,
 ) -> Result<Generation, Refusal> {

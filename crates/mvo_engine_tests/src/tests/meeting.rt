@@ -72,7 +72,7 @@ fn run_meeting<L: Run + Send + Sync, D: Disk + Drop + Send, R: Threads + Wait + 
     alloc: Global,
     fresh: Fresh<D>,
 ) -> Result<(bool, D), Refusal>
-    requires { IsNamedBy D.Disk L.image L.marks L.ring L.name L.parts fresh }
+    requires { IsNamedBy D.Disk L.opening L.marks L.ring L.name L.parts fresh }
 {
     let engine = Engine::<L, D, OpenGate>::new(fresh, OpenGate);
     let told = both(rt, alloc, &engine)?;

@@ -67,7 +67,7 @@ fn run_freeing<L: Run + Send + Sync, D: Disk + Drop + Send, R: Threads + Wait + 
     fresh: Fresh<D>,
     hold: &Hold,
 ) -> Result<((Stamp, Option<u8>), D), Refusal>
-    requires { IsNamedBy D.Disk L.image L.marks L.ring L.name L.parts fresh }
+    requires { IsNamedBy D.Disk L.opening L.marks L.ring L.name L.parts fresh }
 {
     let engine = Engine::<L, D, OpenGate>::new(fresh, OpenGate);
     let told = flush_and_read(rt, alloc, &engine, hold)?;

@@ -45,7 +45,7 @@ fn run_going<L: Run + Send + Sync, D: Disk + Drop + Send, R: Threads + Wait + Sy
     alloc: Global,
     fresh: Fresh<D>,
 ) -> Result<(Vec<bool>, D), Refusal>
-    requires { IsNamedBy D.Disk L.image L.marks L.ring L.name L.parts fresh }
+    requires { IsNamedBy D.Disk L.opening L.marks L.ring L.name L.parts fresh }
 {
     let engine = Engine::<L, D, OpenGate>::new(fresh, OpenGate);
     let told = go(rt, alloc, &engine)?;

@@ -100,7 +100,7 @@ fn run_through<L: Run + Send + Sync, D: Disk + Drop + Send, R: Threads + Wait + 
     alloc: Global,
     fresh: Fresh<D>,
 ) -> Result<(Told, D), Refusal>
-    requires { IsNamedBy D.Disk L.image L.marks L.ring L.name L.parts fresh }
+    requires { IsNamedBy D.Disk L.opening L.marks L.ring L.name L.parts fresh }
 {
     let engine = Engine::<L, D, OpenGate>::new(fresh, OpenGate);
     let told = put_and_find(rt, alloc, &engine)?;
@@ -124,7 +124,7 @@ fn run_finding<L: Run + Send + Sync, D: Disk + Drop + Send, R: Threads + Wait + 
     _alloc: Global,
     fresh: Fresh<D>,
 ) -> Result<(Option<u8>, D), Refusal>
-    requires { IsNamedBy D.Disk L.image L.marks L.ring L.name L.parts fresh }
+    requires { IsNamedBy D.Disk L.opening L.marks L.ring L.name L.parts fresh }
 {
     let engine = Engine::<L, D, OpenGate>::new(fresh, OpenGate);
     let told = find(rt, &engine)?;
@@ -148,7 +148,7 @@ fn run_polling<L: Run + Send + Sync, D: Disk + Drop + Send, R: Threads + Wait + 
     alloc: Global,
     fresh: Fresh<D>,
 ) -> Result<((bool, bool), D), Refusal>
-    requires { IsNamedBy D.Disk L.image L.marks L.ring L.name L.parts fresh }
+    requires { IsNamedBy D.Disk L.opening L.marks L.ring L.name L.parts fresh }
 {
     let engine = Engine::<L, D, OpenGate>::new(fresh, OpenGate);
     let told = poll(rt, alloc, &engine)?;

@@ -67,7 +67,7 @@ fn run_transacting<L: Run + Send + Sync, D: Disk + Drop + Send, R: Threads + Wai
     alloc: Global,
     fresh: Fresh<D>,
 ) -> Result<Vec<bool>, Refusal>
-    requires { IsNamedBy D.Disk L.image L.marks L.ring L.name L.parts fresh }
+    requires { IsNamedBy D.Disk L.opening L.marks L.ring L.name L.parts fresh }
 {
     let engine = Engine::<L, D, OpenGate>::new(fresh, OpenGate);
     go(rt, alloc, &engine)

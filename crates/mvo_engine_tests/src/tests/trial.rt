@@ -49,7 +49,7 @@ fn run_tried<
     T: Trial<D, G>,
     R: Threads + Wait + Sync,
 >(rt: &R, alloc: Global, fresh: Fresh<D>, gate: G, trial: &T) -> Result<(Vec<bool>, D), Refusal>
-    requires { IsNamedBy D.Disk L.image L.marks L.ring L.name L.parts fresh }
+    requires { IsNamedBy D.Disk L.opening L.marks L.ring L.name L.parts fresh }
 {
     let engine = Engine::<L, D, G>::new(fresh, gate);
     let told = trial.go(rt, alloc, &engine)?;

@@ -72,7 +72,7 @@ fn run_going<L: Run + Send + Sync, D: Disk + Drop + Send, R: Threads + Wait + Sy
     fresh: Fresh<D>,
     passes: &AtomicU64,
 ) -> Result<(Vec<bool>, D), Refusal>
-    requires { IsNamedBy D.Disk L.image L.marks L.ring L.name L.parts fresh }
+    requires { IsNamedBy D.Disk L.opening L.marks L.ring L.name L.parts fresh }
 {
     let engine = Engine::<L, D, Counting<'_>>::new(fresh, Counting { passes });
     let told = go(rt, alloc, &engine, passes)?;

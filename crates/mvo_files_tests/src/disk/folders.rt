@@ -1,15 +1,16 @@
 //! A disk in a folder of the operating system.
 use crate::disk::guarded::{cut, len, put, read, read_two, sync, write};
 use crate::equal::{holds, same};
-use mvo_disk::{DirDisk, Disk, DiskFault, FolderRefusal, Progress, Silent, make_folder};
+use mvo_disk::{DirDisk, Disk, DiskFault, FolderRefusal, Progress, Silent, Unknown, make_folder};
 use std::alloc::Global;
 use std::fs::{self, File};
 use std::process::Abort;
 use std::rt::Files;
+use std::sync::atomic::{AtomicU64, Ordering};
 use std::test::Fail;
 use std::{env, process};
 
-type HostDisk = DirDisk<HostRuntime>;
+type HostDisk = DirDisk<HostRuntime, Unknown, Silent>;
 
 /// A path in the folder of temporary files that is this process's own.
 fn path_of(rt: &HostRuntime, name: &str) -> Result<String, Fail> {
@@ -26,16 +27,20 @@ fn folder_of(rt: &HostRuntime, name: &str) -> Result<String, Fail> {
 }
 
 fn open(rt: &HostRuntime, path: &str) -> Result<HostDisk, FolderRefusal> {
-    DirDisk::open(rt.clone()?, rt.alloc(), path, &mut Silent)
+    DirDisk::open(rt.clone()?, rt.alloc(), path, Unknown, Silent)
 }
 
-/// The last that was told.
+/// Keeps the last that was told.
 #[derive(Drop)]
-struct Told(u64, u64);
+struct Told<'a> {
+    read: &'a AtomicU64,
+    all: &'a AtomicU64,
+}
 
-impl Progress for Told {
+impl Progress for Told<'_> {
     fn tell(&mut self, read: u64, all: u64) {
-        *self = Told(read, all);
+        self.read.store(read, Ordering::SeqCst);
+        self.all.store(all, Ordering::SeqCst);
     }
 }
 
@@ -88,8 +93,13 @@ fn fills_its_files(
     file_is_long(rt, alloc, path, "1023", 0)
 }
 
-fn has_what_was_filled(rt: &impl Abort, alloc: Global, disk: &mut HostDisk) -> Result<(), Fail> {
-    same(rt, &read(alloc, disk, 3)?.as_slice(), &b"axydz".as_slice());
+fn has_what_was_filled<D: Disk>(rt: &impl Abort, alloc: Global, disk: &mut D) -> Result<(), Fail> {
+    same(
+        rt,
+        &read(alloc, disk, 3, 9)?.as_slice(),
+        &b"axydz".as_slice(),
+    );
+    same(rt, &read(alloc, disk, 3, 2)?.as_slice(), &b"ax".as_slice());
     same(rt, &read_two(disk, 3, 3)?, &(*b"dz"));
     same(rt, &disk.faults(), &0);
     Ok(())
@@ -101,10 +111,16 @@ fn fills(rt: &(impl Abort + Alloc + Files), host: &HostRuntime, path: &str) -> R
 }
 
 fn is_filled(rt: &impl Abort, host: &HostRuntime, path: &str) -> Result<(), Fail> {
-    let mut told = Told(0, 0);
-    let mut disk = DirDisk::open(host.clone()?, host.alloc(), path, &mut told)?;
-    same(rt, &(told.0, told.1), &(5, 5));
-    has_what_was_filled(rt, host.alloc(), &mut disk)
+    let (read, all) = (AtomicU64::new(0), AtomicU64::new(0));
+    let told = Told {
+        read: &read,
+        all: &all,
+    };
+    let mut disk = DirDisk::open(host.clone()?, host.alloc(), path, Unknown, told)?;
+    has_what_was_filled(rt, host.alloc(), &mut disk)?;
+    same(rt, &read.load(Ordering::SeqCst), &9);
+    same(rt, &all.load(Ordering::SeqCst), &5);
+    Ok(())
 }
 
 fn keeps(rt: &(impl Abort + Alloc + Files), host: &HostRuntime, path: &str) -> Result<(), Fail> {
@@ -178,7 +194,7 @@ fn refuses_what_is_no_folder(rt: HostRuntime) -> Result<(), Fail> {
     refuses(&rt, &rt, path.as_str(), inner.as_str())
 }
 
-/// A disk whose folder is removed takes nothing more, and still gives what it has.
+/// A disk whose folder is removed takes nothing more, and gives nothing.
 fn outlives_its_folder(
     rt: &(impl Abort + Alloc + Files),
     alloc: Global,
@@ -193,7 +209,8 @@ fn outlives_its_folder(
     same(rt, &cut(disk, 2, 0), &Err(DiskFault));
     same(rt, &sync(disk, 2), &Err(DiskFault));
     same(rt, &disk.faults(), &4);
-    same(rt, &read(alloc, disk, 2)?.as_slice(), &b"ab".as_slice());
+    holds(rt, read(alloc, disk, 2, 2).is_err());
+    same(rt, &disk.faults(), &5);
     Ok(())
 }
 

@@ -2,7 +2,7 @@
 ghost use Rattle.std.specs.Prelude.{◌<◌};
 ghost use Rattle.mvo_disk.specs.declared.limits.TheConstants.{FILE_COUNT};
 
-use mvo_disk::{Disk, DiskFault, ReadFailure, read_whole};
+use mvo_disk::{Disk, DiskFault, ReadFailure, read_up_to};
 use std::alloc::Global;
 
 /// How many faults are a few.
@@ -72,12 +72,17 @@ pub fn read_two<D: Disk>(disk: &mut D, file: u16, at: usize) -> Result<[u8; 2], 
     Ok(into)
 }
 
-/// The bytes of the file.
-pub fn read<D: Disk>(alloc: Global, disk: &mut D, file: u16) -> Result<Vec<u8>, ReadFailure>
+/// The first bytes of the file, so many at most.
+pub fn read<D: Disk>(
+    alloc: Global,
+    disk: &mut D,
+    file: u16,
+    most: usize,
+) -> Result<Vec<u8>, ReadFailure>
     requires { file < FILE_COUNT }
 {
     if disk.faults() > FEW_FAULTS {
         return Err(ReadFailure::Fault);
     }
-    read_whole(alloc, disk, file)
+    read_up_to(alloc, disk, file, most)
 }

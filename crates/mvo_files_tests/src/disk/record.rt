@@ -1,5 +1,5 @@
 use crate::equal::{holds, same};
-use mvo_disk::{Call, Disk, MemDisk, Work, read_whole, rewrite_synced, write_synced};
+use mvo_disk::{Call, Disk, MemDisk, Work, read_up_to, rewrite_synced, write_synced};
 use std::alloc::{AllocError, Global};
 use std::process::Abort;
 use std::test::Fail;
@@ -16,7 +16,7 @@ fn call(file: u16, work: Work) -> Call {
 fn rewrites_beside(rt: &impl Abort, alloc: Global, disk: &mut MemDisk) -> Result<(), Fail> {
     holds(rt, disk.faults() == 0);
     rewrite_synced(disk, 7, b"de")?;
-    let read = read_whole(alloc, disk, 2)?;
+    let read = read_up_to(alloc, disk, 2, 4)?;
     same(rt, &read.as_slice(), &b"abc".as_slice());
     same(rt, &disk.bytes(7), &b"de".as_slice());
     same(rt, &disk.faults(), &0);

@@ -107,3 +107,12 @@ const BROKEN: [Case; 9] = [
 fn the_first_broken_rule_decides(rt: HostRuntime) {
     are_counted(&rt, rt.alloc(), &BROKEN);
 }
+
+#[test]
+fn a_pair_reaches_as_far_as_it_counts(rt: HostRuntime) {
+    // A header has 8 bytes, a record 27 and at most 1,024 of data, a number 4.
+    same(&rt, &pair(0, 0).data_reach(FIRST_FORMAT), &8);
+    same(&rt, &pair(2, 3).data_reach(FIRST_FORMAT), &2_110);
+    same(&rt, &pair(0, 0).delta_reach(), &8);
+    same(&rt, &pair(2, 3).delta_reach(), &20);
+}

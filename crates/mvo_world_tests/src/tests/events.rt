@@ -1,7 +1,8 @@
 //! Random events: mostly those that are due, and at times any others.
 
 use super::draws::Draws;
-use super::observed::{Job, Known, Observed, Open, Phase};
+use super::jobs::{Job, Jobs, Merge};
+use super::observed::{Observed, Open, Phase};
 use mvo_types::{Row, RowKey, Stamp, TxId};
 use mvo_world::Event;
 use std::alloc::AllocError;
@@ -55,14 +56,21 @@ fn due_of_groups(observed: &Observed) -> Event {
     }
 }
 
-/// The step that the job waits for, or a rotation.
-fn due_of_job(known: &Known) -> Event {
-    match known.job {
+/// The step that the merge waits for, unless a checkpoint keeps it out.
+fn due_of_merge(jobs: Jobs) -> Option<Event> {
+    match jobs.merge {
+        Merge::Data => Some(Event::MergeData),
+        Merge::Delta if jobs.job == Job::None => Some(Event::MergeDelta),
+        _ => None,
+    }
+}
+
+/// The step that the other job waits for, or a rotation.
+fn due_of_job(job: Job) -> Event {
+    match job {
         Job::None => Event::RotateWrite,
         Job::Data => Event::CheckpointData,
         Job::Delta => Event::CheckpointDelta,
-        Job::MergeData => Event::MergeData,
-        Job::MergeDelta => Event::MergeDelta,
         Job::Close => Event::InstallClose,
         Job::Body => Event::InstallBody,
         Job::Open => Event::InstallOpen,
@@ -79,7 +87,7 @@ impl Draws {
             26 => Ok(self.event_of_memory(observed)),
             27 => self.any_step(observed, key),
             28 => Ok(Event::Poll(self.stamp(observed))),
-            29..=31 => Ok(self.event_of_jobs(&observed.known)),
+            29..=31 => Ok(self.event_of_jobs(observed.known.jobs)),
             _ => self.due_step(observed, key),
         }
     }
@@ -105,7 +113,7 @@ impl Draws {
         }
     }
 
-    fn event_of_jobs(&mut self, known: &Known) -> Event {
+    fn event_of_jobs(&mut self, jobs: Jobs) -> Event {
         match self.below(32) {
             0 => Event::RotateWrite,
             1 => Event::InstallClose,
@@ -118,10 +126,18 @@ impl Draws {
             8 => self.merge_read(),
             9 => Event::MergeData,
             10 => Event::MergeDelta,
-            11..=15 if known.job == Job::None => Event::Reclaim,
-            16..=22 if known.job == Job::None => Event::CheckpointRead,
-            23..=26 if known.job == Job::None => self.merge_read(),
-            _ => due_of_job(known),
+            11..=15 if !jobs.are_any() => Event::Reclaim,
+            16..=22 if jobs.job == Job::None => Event::CheckpointRead,
+            23..=26 if jobs.merge == Merge::None => self.merge_read(),
+            _ => self.due_of_jobs(jobs),
+        }
+    }
+
+    /// The step that one of the jobs waits for, or a rotation.
+    fn due_of_jobs(&mut self, jobs: Jobs) -> Event {
+        match due_of_merge(jobs) {
+            Some(event) if !jobs.are_two() || self.below(2) == 0 => event,
+            _ => due_of_job(jobs.job),
         }
     }
 

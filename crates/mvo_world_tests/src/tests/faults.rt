@@ -329,6 +329,7 @@ fn assert_met(rt: &impl Abort, counts: &Counts, met: &Met) {
         (counts.installed, 12),
         (counts.checkpoints, 5),
         (counts.merges, 3),
+        (counts.beside, 0),
         (counts.emptied, 5),
         (met.in_opening, 43),
         (met.in_append, 77),

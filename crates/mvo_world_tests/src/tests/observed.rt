@@ -1,8 +1,9 @@
 //! What happened in a run, as its events and their replies tell.
 
+use super::jobs::{Job, Jobs};
 use super::told::{op_of, tx_of};
 use mvo_core::{Finishing, Settlement, Validation};
-use mvo_store::{Progress, Reclaimed};
+use mvo_store::Reclaimed;
 use mvo_types::{Answer, Op, Refusal, Stamp, TxId};
 use mvo_world::{Event, Reply};
 use std::alloc::{AllocError, Global};
@@ -49,21 +50,7 @@ pub struct ClosedGroup {
     pub mark: Stamp,
 }
 
-/// The step of a rotation, of a checkpoint or of a merge that comes next.
-#[derive(Clone, Copy, PartialEq)]
-pub enum Job {
-    /// None runs.
-    None,
-    Data,
-    Delta,
-    MergeData,
-    MergeDelta,
-    Close,
-    Body,
-    Open,
-}
-
-/// What is known of the groups and of the job at a moment.
+/// What is known of the groups and of the jobs at a moment.
 #[derive(Clone, Copy)]
 pub struct Known {
     /// The greatest of the opening mark, those answered durable and those polled with yes.
@@ -73,9 +60,7 @@ pub struct Known {
     /// The mark of the group that the store took, and whether its body is written.
     pub taken: Option<Stamp>,
     pub written: bool,
-    pub job: Job,
-    /// So many files of checkpoints and of merges were written.
-    pub written_files: u64,
+    pub jobs: Jobs,
     /// So many files were emptied.
     pub emptied: u64,
 }
@@ -111,6 +96,8 @@ pub struct Counts {
     /// Runs in which several closed groups waited at once.
     pub queued: u64,
     pub installed: u64,
+    /// Of them, manifests of checkpoints beside a merge.
+    pub beside: u64,
     pub checkpoints: u64,
     pub merges: u64,
     pub emptied: u64,
@@ -144,6 +131,7 @@ impl Counts {
             beside_preparing: 0,
             queued: 0,
             installed: 0,
+            beside: 0,
             checkpoints: 0,
             merges: 0,
             emptied: 0,
@@ -197,8 +185,7 @@ impl Observed {
                 durable: mark,
                 taken: None,
                 written: false,
-                job: Job::None,
-                written_files: 0,
+                jobs: Jobs::none(),
                 emptied: 0,
             },
             counts,
@@ -226,13 +213,14 @@ impl Observed {
             Reply::Written => self.note_written(event),
             Reply::Durable(mark) => self.note_durable(mark),
             Reply::Polled(yes) => self.note_poll(event, yes),
-            Reply::Ready => self.known.job = Job::Close,
-            Reply::Progress(progress) => self.note_progress(event, progress),
-            Reply::Shut => self.known.job = Job::Body,
-            Reply::Installed(_) => {
-                count(&mut self.counts.installed);
-                self.known.job = Job::None;
+            Reply::Ready => self.known.jobs.job = Job::Close,
+            Reply::Progress(progress) => {
+                self.known
+                    .jobs
+                    .note_progress(event, progress, &mut self.counts)
             }
+            Reply::Shut => self.known.jobs.job = Job::Body,
+            Reply::Installed(_) => self.known.jobs.note_installed(&mut self.counts),
             Reply::Reclaimed(Reclaimed::More) => {
                 count(&mut self.counts.emptied);
                 count(&mut self.known.emptied);
@@ -271,41 +259,7 @@ impl Observed {
     fn note_written(&mut self, event: &Event) {
         match event {
             Event::AppendBody => self.known.written = true,
-            Event::InstallBody => self.known.job = Job::Open,
-            _ => count(&mut self.counts.strange),
-        }
-    }
-
-    fn note_progress(&mut self, event: &Event, progress: Progress) {
-        match event {
-            Event::CheckpointRead => self.known.job = Job::Data,
-            Event::CheckpointData => {
-                count(&mut self.known.written_files);
-                self.known.job = Job::Delta;
-            }
-            Event::CheckpointDelta => {
-                count(&mut self.known.written_files);
-                if progress == Progress::Ready {
-                    count(&mut self.counts.checkpoints);
-                    self.known.job = Job::Close;
-                }
-            }
-            _ => self.note_merge(event, progress),
-        }
-    }
-
-    fn note_merge(&mut self, event: &Event, progress: Progress) {
-        match (event, progress) {
-            (Event::MergeRead(_), Progress::More) => self.known.job = Job::MergeData,
-            (Event::MergeData, Progress::More) => {
-                count(&mut self.known.written_files);
-                self.known.job = Job::MergeDelta;
-            }
-            (Event::MergeDelta, Progress::Ready) => {
-                count(&mut self.known.written_files);
-                count(&mut self.counts.merges);
-                self.known.job = Job::Close;
-            }
+            Event::InstallBody => self.known.jobs.job = Job::Open,
             _ => count(&mut self.counts.strange),
         }
     }

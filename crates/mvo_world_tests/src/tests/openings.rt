@@ -5,7 +5,8 @@ use super::calls::{close, into_disk, stop};
 use super::checked::{Found, assert_floors, check_disk, check_world, with_pairs};
 use super::draws::Draws;
 use super::images::{disk_after, disk_in_part, is_look};
-use super::observed::{Counts, Job, count};
+use super::jobs::Merge;
+use super::observed::{Counts, count};
 use super::runs::{RUNS, Run, Start, all_keys, opened, try_open};
 use mvo_disk::{Call, Disk, FileImage, MemDisk};
 use mvo_types::{Refusal, RowKey, Stamp};
@@ -26,9 +27,11 @@ struct Met {
     openings: u64,
     /// Of a disk on which a group is there that wasn't answered durable.
     unanswered: u64,
-    rotating: u64,
-    /// Of a disk on which a file of a merge is written.
+    /// Beside a job, and of them while a file of a merge is to be written, and while a checkpoint
+    /// runs beside one.
+    working: u64,
     merging: u64,
+    beside: u64,
     /// Stops before and within an opening, and those behind it.
     stops: u64,
     ends: u64,
@@ -42,8 +45,9 @@ impl Met {
         Met {
             openings: 0,
             unanswered: 0,
-            rotating: 0,
+            working: 0,
             merging: 0,
+            beside: 0,
             stops: 0,
             ends: 0,
             faults: 0,
@@ -186,11 +190,14 @@ impl Trial {
         if known.durable < mark {
             count(&mut self.met.unanswered);
         }
-        if known.job != Job::None {
-            count(&mut self.met.rotating);
+        if known.jobs.are_any() {
+            count(&mut self.met.working);
         }
-        if matches!(known.job, Job::MergeData | Job::MergeDelta) {
+        if known.jobs.merge != Merge::None {
             count(&mut self.met.merging);
+        }
+        if known.jobs.are_two() {
+            count(&mut self.met.beside);
         }
     }
 
@@ -384,8 +391,9 @@ fn assert_met(rt: &impl Abort, counts: &Counts, met: &Met) {
         (counts.emptied, 6),
         (met.openings, 225),
         (met.unanswered, 38),
-        (met.rotating, 173),
+        (met.working, 173),
         (met.merging, 22),
+        (met.beside, 10),
         (met.stops, 2_500),
         (met.ends, 225),
         (met.faults, 450),

@@ -32,6 +32,8 @@ struct Met {
     in_rotate: u64,
     in_checkpoint: u64,
     in_merge: u64,
+    /// While a merge runs beside a checkpoint.
+    beside: u64,
     in_install: u64,
     slot_left_open: u64,
     slot_left_closed: u64,
@@ -75,6 +77,7 @@ impl Met {
             in_rotate: 0,
             in_checkpoint: 0,
             in_merge: 0,
+            beside: 0,
             in_install: 0,
             slot_left_open: 0,
             slot_left_closed: 0,
@@ -307,6 +310,9 @@ impl Trial {
         if drawn.is_torn {
             count(&mut self.met.torn);
         }
+        if run.has_two_jobs(answered) {
+            count(&mut self.met.beside);
+        }
         let files = drawn.images;
         let Found { mark, rows } = self.check_stopped(rt, run, answered, disk, &files)?;
         assert_eq!(rt; mark, wanted, "after {answered} events");
@@ -350,6 +356,7 @@ fn assert_met(rt: &impl Abort, counts: &Counts, met: &Met) {
         (counts.installed, 8),
         (counts.checkpoints, 2),
         (counts.merges, 4),
+        (counts.beside, 1),
         (met.between, 225),
         (met.in_body, 60),
         (met.after_body, 15),
@@ -359,6 +366,7 @@ fn assert_met(rt: &impl Abort, counts: &Counts, met: &Met) {
         (met.in_rotate, 27),
         (met.in_checkpoint, 61),
         (met.in_merge, 72),
+        (met.beside, 10),
         (met.in_install, 87),
         (met.slot_left_open, 36),
         (met.slot_left_closed, 6),

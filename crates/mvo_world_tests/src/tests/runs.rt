@@ -5,7 +5,7 @@ use super::checked::is_same;
 use super::draws::Draws;
 use super::events::{KEYS, key_at};
 use super::images::disk_of;
-use super::observed::{Commit, Counts, Job, Known, Observed};
+use super::observed::{Commit, Counts, Known, Observed};
 use mvo_disk::{FileImage, MemDisk};
 use mvo_model::Serial;
 use mvo_types::{Op, Refusal, Row, RowKey, Rows, Stamp};
@@ -209,8 +209,7 @@ impl Run {
         match (self.known.get(event), self.known.get(after)) {
             (Some(known), Some(later)) => {
                 known.written != later.written
-                    || known.job != later.job
-                    || known.written_files != later.written_files
+                    || known.jobs != later.jobs
                     || known.emptied != later.emptied
             }
             _ => false,
@@ -221,7 +220,14 @@ impl Run {
     pub fn has_job(&self, number: usize) -> bool {
         self.known
             .get(number)
-            .is_some_and(|known| known.job != Job::None)
+            .is_some_and(|known| known.jobs.are_any())
+    }
+
+    /// Whether a merge runs beside a checkpoint then.
+    pub fn has_two_jobs(&self, number: usize) -> bool {
+        self.known
+            .get(number)
+            .is_some_and(|known| known.jobs.are_two())
     }
 
     /// Compares what the committed transactions were told, by end timestamp. It answers how many of

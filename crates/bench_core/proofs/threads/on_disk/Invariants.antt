@@ -1,4 +1,4 @@
-use Rattle.mvo_engine.specs.Opened.{image_of}
+use Rattle.mvo_engine.specs.Opened.{fresh_opening}
 use Rattle.mvo_engine.specs.Watching.{nothing_watched}
 use Rattle.bench_core.proofs.threads.on_disk.Given as goal
 
@@ -7,7 +7,7 @@ ghosts-with_engine-L-Ledger g a = record { name = a.fresh.ledger; parts = a.fres
 
 abbrev pub ghosts-with_engine-L-Run : goal.ghosts-with_engine-L-Run
 ghosts-with_engine-L-Run g a = record {
-  image = image_of g.D.Disk a.fresh;
+  opening = fresh_opening g.D.Disk a.fresh;
   marks = a.fresh.marks;
   ring = a.fresh.ring;
   watched = nothing_watched;

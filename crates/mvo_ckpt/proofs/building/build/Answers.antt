@@ -1,4 +1,4 @@
-use Rattle.std.proofs.Common.{◌≡◌, List, ap, ◌∙◌}
+use Rattle.std.proofs.Common.{◌≡◌, ◌≤◌, List, length, ap, sym, subst, ◌∙◌}
 use Rattle.std.specs.Prelude.{reverse}
 use Rattle.std.specs.List.{filter_map}
 use Rattle.std.proofs.lemmas.List.{reverse-reverse}
@@ -9,6 +9,9 @@ use Rattle.mvo_ckpt.specs.Writes.{writes_of, last_writes, record_of, gone_at}
 use Rattle.mvo_ckpt.specs.Walk.{Walk, walk, walk_of, none_met, deltas_by}
 use Rattle.mvo_ckpt.proofs.AllMet.{all_met}
 use Rattle.mvo_ckpt.proofs.Parts.{deltas_are, sorted_written}
+use Rattle.mvo_ckpt.specs.Checkpoint.{DeltaData}
+use Rattle.mvo_ckpt.specs.Ended.{AreOfPairs}
+use Rattle.mvo_ckpt.proofs.Known.{are_of_pairs, are_few}
 use Rattle.mvo_ckpt.proofs.building.build.Goals as goal
 
 pub returns-clause-records : goal.returns-clause-records
@@ -43,3 +46,9 @@ returns-clause-deltas c lives are =
     c.in_ok-deltas.ensures
     ∙ ap (deltas_by ps) c.deref.ensures.value
     ∙ deltas_are gs ps lives at are c.seed.ensures ns written
+
+pub returns-clause-known : goal.returns-clause-known
+returns-clause-known c = subst (λ (ds : List DeltaData). AreOfPairs c.args.pairs.now ds) (sym c.in_ok-deltas.ensures) (are_of_pairs c.args.pairs.now c.deref.result.now)
+
+pub returns-clause-few : goal.returns-clause-few
+returns-clause-few c = subst (λ (ds : List DeltaData). length ds ≤ length c.args.pairs.now) (sym c.in_ok-deltas.ensures) (are_few c.args.pairs.now c.deref.result.now)

@@ -1,24 +1,32 @@
 use Rattle.std.proofs.Common.{◌≡◌, ◌-◌, ◌++◌, List, [], ◌∷◌, ap, subst, sym, ◌∙◌, append_assoc, get_or, take, drop, length}
 use Rattle.std.specs.Prelude.{map}
 use Rattle.std.specs.List.{AllByRecursion}
-use Rattle.std.proofs.lemmas.List.{append-nil}
+use Rattle.std.proofs.lemmas.List.{append-nil, map-append}
 use Rattle.std.proofs.lemmas.List.Elements.{recursion_from_All}
 use Rattle.mvo_pair.specs.declared.pair.Pair.{Pair}
 use Rattle.mvo_image.specs.Opens.{Image}
 use Rattle.mvo_load.specs.Files.{PairBytes, bytes_of}
 use Rattle.mvo_load.proofs.Slices.{first_and_rest, no_more}
-use Rattle.mvo_load.proofs.Unchanged.{same_image, unchanged_yet, then_unchanged}
+use Rattle.mvo_load.proofs.Unchanged.{same_image, unchanged_yet, then_unchanged, was_read, then_spent}
+use Rattle.mvo_disk.specs.Disk.{IsHonest}
 use Rattle.mvo_load.proofs.Gathering.{AreFiles}
 use Rattle.mvo_load.proofs.files.read_files.Goals as goal
 
 abbrev no_pair : Pair
 no_pair = record { data_file = 0; delta_file = 0; lo = record { 0 = 0 }; hi = record { 0 = 0 }; records = 0; entries = 0 }
 
+abbrev pair_in : PairBytes → Pair
+pair_in b = b.pair
+
 pub loop-rest-init : goal.loop-rest-init
 loop-rest-init g c =
     let image = g.D.Disk.content c.args.disk.now in
-    let none = ap (λ (l : List PairBytes). l ++ map (bytes_of image) c.args.pairs.now) (sym c.new-files.ensures.items) in
-    (none, recursion_from_All AreFiles c.args.pairs.now c.requires.pairs, unchanged_yet g.D.Disk g.met.D.Disk.only_now c.args.disk.now)
+    let none = ap (λ (l : List PairBytes). l ++ map (bytes_of c.args.format image) c.args.pairs.now) (sym c.new-files.ensures.items) in (
+      λ _. none,
+      recursion_from_All AreFiles c.args.pairs.now c.requires.pairs,
+      unchanged_yet g.D.Disk g.met.D.Disk.only_now c.args.disk.now,
+      ap (λ (l : List PairBytes). map pair_in l ++ c.args.pairs.now) (sym c.new-files.ensures.items),
+    )
 
 pub files_of-requires-clause-data_file : goal.files_of-requires-clause-data_file
 files_of-requires-clause-data_file g c =
@@ -37,16 +45,30 @@ loop-rest-preserved g c =
     let files = c.loop-rest.files.items in
     let whole = first_and_rest rest no_pair c.in-len1-up.len_at_least in
     let same = same_image g.D.Disk c.args.disk.now c.loop-rest.disk c.loop-rest.invariant.2.rest.content in
-    let one : c.in-Ok.of_pair ≡ bytes_of image p = c.in-Ok.ensures.bytes ∙ ap (λ (i : Image). bytes_of i p) same in
-    let more = c.loop-rest.invariant.0 ∙ ap (λ (l : List Pair). files ++ map (bytes_of image) l) whole ∙ sym (append_assoc files (bytes_of image p ∷ []) (map (bytes_of image) ps))
-    ∙ ap (λ (b : PairBytes). (files ++ b ∷ []) ++ map (bytes_of image) ps) (sym one) ∙ ap (λ (l : List PairBytes). l ++ map (bytes_of image) ps) (sym c.in_ok-push.ensures.items) in (
+    let one = λ (honest : IsHonest (g.D.Disk.moment c.files_of.new.disk)). c.in-Ok.ensures.bytes honest ∙ ap (λ (i : Image). bytes_of c.args.format i p) same in
+    let more = λ (honest : IsHonest (g.D.Disk.moment c.files_of.new.disk)). c.loop-rest.invariant.0 (c.in-Ok.ensures.read.any_moment.later.honest honest) ∙ ap (λ (l : List Pair). files ++ map (bytes_of c.args.format image) l) whole ∙ sym (append_assoc files (bytes_of c.args.format image p ∷ []) (map (bytes_of c.args.format image) ps))
+    ∙ ap (λ (b : PairBytes). (files ++ b ∷ []) ++ map (bytes_of c.args.format image) ps) (sym (one honest)) ∙ ap (λ (l : List PairBytes). l ++ map (bytes_of c.args.format image) ps) (sym c.in_ok-push.ensures.items) in
+    let pairs_more : c.args.pairs.now ≡ map pair_in c.push.new.self.items ++ ps =
+    c.loop-rest.invariant.3 ∙ ap (λ (l : List Pair). map pair_in files ++ l) whole ∙ sym (append_assoc (map pair_in files) (p ∷ []) ps)
+    ∙ ap (λ (q : Pair). (map pair_in files ++ q ∷ []) ++ ps) (sym c.in-Ok.ensures.pair) ∙ ap (λ (l : List Pair). l ++ ps) (sym (map-append pair_in files (c.in-Ok.of_pair ∷ [])))
+    ∙ ap (λ (l : List PairBytes). map pair_in l ++ ps) (sym c.in_ok-push.ensures.items) in (
       more,
       (subst (λ (l : List Pair). AllByRecursion AreFiles l) whole c.loop-rest.invariant.1).1,
       then_unchanged g.D.Disk c.args.disk.now c.loop-rest.disk c.files_of.new.disk c.loop-rest.invariant.2
           (record { rest = c.in-Ok.ensures.read.rest; any_moment = c.in-Ok.ensures.read.any_moment; count = c.in-Ok.ensures.read.count }),
+      pairs_more,
     )
 
 pub returns-clause-bytes : goal.returns-clause-bytes
-returns-clause-bytes g c =
+returns-clause-bytes g c = λ honest.
     let image = g.D.Disk.content c.args.disk.now in
-    sym (c.loop-rest.invariant.0 ∙ ap (λ (l : List Pair). c.loop-rest.files.items ++ map (bytes_of image) l) (no_more c.loop-rest.rest.now c.in_default.len_below) ∙ append-nil c.loop-rest.files.items)
+    sym (c.loop-rest.invariant.0 honest ∙ ap (λ (l : List Pair). c.loop-rest.files.items ++ map (bytes_of c.args.format image) l) (no_more c.loop-rest.rest.now c.in_default.len_below) ∙ append-nil c.loop-rest.files.items)
+
+pub returns-clause-pairs : goal.returns-clause-pairs
+returns-clause-pairs g c =
+    sym (c.loop-rest.invariant.3 ∙ ap (λ (l : List Pair). map pair_in c.loop-rest.files.items ++ l) (no_more c.loop-rest.rest.now c.in_default.len_below) ∙ append-nil (map pair_in c.loop-rest.files.items))
+
+pub returns-in_err-push-clause-read : goal.returns-in_err-push-clause-read
+returns-in_err-push-clause-read g c =
+    let one = was_read g.D.Disk c.loop-rest.disk c.files_of.new.disk c.in-Ok.of_pair c.in-Ok.ensures.read in
+    then_spent g.D.Disk c.args.disk.now c.files_of.new.disk c.from_residual.result c.from_residual.ensures.1 (then_unchanged g.D.Disk c.args.disk.now c.loop-rest.disk c.files_of.new.disk c.loop-rest.invariant.2 one)

@@ -1,6 +1,8 @@
 use Rattle.std.specs.Prelude.{All}
 use Rattle.mvo_types.specs.declared.limits.TheConstants.{MAX_PAIR_RECORDS}
-use Rattle.std.proofs.Common.{◌<◌, ap, ◌∙◌, get_or, take, drop, length, ◌-◌, ◌≡◌, List, inl, inr, ⊎_elim, subst, sym, Ok, Err, Bool}
+use Rattle.std.proofs.Common.{◌<◌, arith, ap, ◌∙◌, get_or, take, drop, length, ◌-◌, ◌≡◌, List, inl, inr, ⊎_elim, subst, sym, Ok, Err, Bool}
+use Rattle.std.specs.List.{AllByRecursion}
+use Rattle.std.proofs.lemmas.List.Elements.{All-weaker}
 use Rattle.mvo_pair.specs.Data.{Numbered, AreApart}
 use Rattle.mvo_pair.specs.declared.pair.Pair.{Pair}
 use Rattle.mvo_image.specs.Rows.{rows_of}
@@ -8,7 +10,7 @@ use Rattle.mvo_places.specs.Places.{PlaceMap, PlaceTable, with_live}
 use Rattle.mvo_load.specs.Parts.{Joins}
 use Rattle.mvo_load.proofs.Slices.{first_and_rest, no_more}
 use Rattle.mvo_load.proofs.Unchanged.{unchanged_yet, then_unchanged}
-use Rattle.mvo_load.proofs.Pairing.{PairsSoFar, loads_before, no_pair_yet, refused_here, numbers_here, second_here, pair_more, rest_leads}
+use Rattle.mvo_load.proofs.Pairing.{PairsSoFar, HasFiles, loads_before, no_pair_yet, refused_here, second_here, pair_more, rest_leads}
 use Rattle.mvo_load.proofs.pairs.load_in_turn.Goals as goal
 
 abbrev no_pair : Pair
@@ -20,11 +22,15 @@ loop-rest-init g c =
     let image = g.D.Disk.content c.args.disk.now in
     let m = c.args.manifest.now in
     let at = c.new-places.result.at in
-    let none : PairsSoFar f image m m.pairs c.new-rows.result at = no_pair_yet f image m c.new-rows.result at c.new-rows.ensures (ap (λ (t : PlaceTable). t.at) c.new-places.ensures) c.pairs-rest.ensures.manifest in
-    (subst (λ (l : List Pair). PairsSoFar f image m l c.new-rows.result at) (sym c.pairs-rest.ensures.value) none, unchanged_yet g.D.Disk g.met.D.Disk.only_now c.args.disk.now)
+    let none : PairsSoFar f image m m.pairs c.new-rows.result at = no_pair_yet f image m c.new-rows.result at c.new-rows.ensures (ap (λ (t : PlaceTable). t.at) c.new-places.ensures) c.pairs-rest.ensures.manifest in (
+      λ _. subst (λ (l : List Pair). PairsSoFar f image m l c.new-rows.result at) (sym c.pairs-rest.ensures.value) none,
+      unchanged_yet g.D.Disk g.met.D.Disk.only_now c.args.disk.now,
+      subst (λ (l : List Pair). AllByRecursion HasFiles l) (sym c.pairs-rest.ensures.value) none.files,
+    )
 
 pub returns-in-Err-clause-leads : goal.returns-in-Err-clause-leads
-returns-in-Err-clause-leads g c =
+returns-in-Err-clause-leads g c = λ honest.
+    let before = c.loop-rest.invariant.0 (c.in-Err.ensures.read.any_moment.later.honest honest) in
     let f = c.args.format in
     let image = g.D.Disk.content c.args.disk.now in
     let rest = c.loop-rest.rest.now in
@@ -34,11 +40,12 @@ returns-in-Err-clause-leads g c =
     let same = c.loop-rest.invariant.1.rest.content in
     let e = c.in-Err.e in
     ⊎_elim (λ m. inl m)
-    (λ h. inr (refused_here f image c.args.manifest.now p ps c.loop-rest.rest.now c.loop-rest.rows c.loop-rest.places.at c.loop-rest.invariant.0 whole e (loads_before f p (g.D.Disk.content c.loop-rest.disk) image same (Err e) h)))
-    c.in-Err.ensures.says
+    (λ h. inr (refused_here f image c.args.manifest.now p ps c.loop-rest.rest.now c.loop-rest.rows c.loop-rest.places.at before whole e (loads_before f p (g.D.Disk.content c.loop-rest.disk) image same (Err e) h)))
+    (c.in-Err.ensures.says honest)
 
 pub returns-then-not-branch-clause-leads : goal.returns-then-not-branch-clause-leads
-returns-then-not-branch-clause-leads g c =
+returns-then-not-branch-clause-leads g c = λ honest.
+    let before = c.loop-rest.invariant.0 (c.in-Ok.ensures.read.any_moment.later.honest honest) in
     let f = c.args.format in
     let image = g.D.Disk.content c.args.disk.now in
     let rest = c.loop-rest.rest.now in
@@ -48,8 +55,8 @@ returns-then-not-branch-clause-leads g c =
     let same = c.loop-rest.invariant.1.rest.content in
     let live = c.in-Ok.live.items in
     let two = λ (before : List (List Numbered)) (apart : AreApart before) (is : c.loop-rest.rows ≡ rows_of before). subst (λ (b : Bool). Joins before live b c.join.new.rows) c.if-not-branch.true (c.in_ok-join.ensures before apart is) in
-    inr (second_here f image c.args.manifest.now p ps c.loop-rest.rest.now c.loop-rest.rows c.loop-rest.places.at c.loop-rest.invariant.0 whole live
-    (loads_before f p (g.D.Disk.content c.loop-rest.disk) image same (Ok live) c.in-Ok.ensures.says) c.join.new.rows two)
+    inr (second_here f image c.args.manifest.now p ps c.loop-rest.rest.now c.loop-rest.rows c.loop-rest.places.at before whole live
+    (loads_before f p (g.D.Disk.content c.loop-rest.disk) image same (Ok live) (c.in-Ok.ensures.says honest)) c.join.new.rows two)
 
 pub loop-rest-preserved : goal.loop-rest-preserved
 loop-rest-preserved g c =
@@ -62,26 +69,22 @@ loop-rest-preserved g c =
     let same = c.loop-rest.invariant.1.rest.content in
     let live = c.in-Ok.live.items in
     let joined = λ (before : List (List Numbered)) (apart : AreApart before) (is : c.loop-rest.rows ≡ rows_of before). subst (λ (b : Bool). Joins before live b c.join.new.rows) c.if-not-branch.false (c.in_ok-join.ensures before apart is) in (
-      subst (λ (at : PlaceMap). PairsSoFar f image c.args.manifest.now ps c.join.new.rows at) (sym (c.in_ok-add_pair.ensures ∙ ap (λ (l : List Numbered). with_live p.data_file l c.loop-rest.places.at) c.deref.ensures.value))
-          (pair_more f image c.args.manifest.now p ps c.loop-rest.rest.now c.loop-rest.rows c.loop-rest.places.at c.loop-rest.invariant.0 whole live
-          (loads_before f p (g.D.Disk.content c.loop-rest.disk) image same (Ok live) c.in-Ok.ensures.says) c.join.new.rows c.pairs-rest.ensures.manifest joined),
+      λ honest. subst (λ (at : PlaceMap). PairsSoFar f image c.args.manifest.now ps c.join.new.rows at) (sym (c.in_ok-add_pair.ensures ∙ ap (λ (l : List Numbered). with_live p.data_file l c.loop-rest.places.at) c.deref.ensures.value))
+          (pair_more f image c.args.manifest.now p ps c.loop-rest.rest.now c.loop-rest.rows c.loop-rest.places.at (c.loop-rest.invariant.0 (c.in-Ok.ensures.read.any_moment.later.honest honest)) whole live
+          (loads_before f p (g.D.Disk.content c.loop-rest.disk) image same (Ok live) (c.in-Ok.ensures.says honest)) c.join.new.rows c.pairs-rest.ensures.manifest joined),
       then_unchanged g.D.Disk c.args.disk.now c.loop-rest.disk c.pair_on.new.disk c.loop-rest.invariant.1
           (record { rest = c.in-Ok.ensures.read.rest; any_moment = c.in-Ok.ensures.read.any_moment; count = c.in-Ok.ensures.read.count }),
+      (subst (λ (l : List Pair). AllByRecursion HasFiles l) whole c.loop-rest.invariant.2).1,
     )
 
 pub returns-clause-leads : goal.returns-clause-leads
-returns-clause-leads g c =
-    rest_leads c.args.format (g.D.Disk.content c.args.disk.now) c.args.manifest.now c.loop-rest.rest.now c.loop-rest.rows c.loop-rest.places.at c.loop-rest.invariant.0 (no_more c.loop-rest.rest.now c.in_default.len_below)
+returns-clause-leads g c = λ honest.
+    rest_leads c.args.format (g.D.Disk.content c.args.disk.now) c.args.manifest.now c.loop-rest.rest.now c.loop-rest.rows c.loop-rest.places.at (c.loop-rest.invariant.0 honest) (no_more c.loop-rest.rest.now c.in_default.len_below)
 
 pub add_pair-requires-clause-numbers : goal.add_pair-requires-clause-numbers
 add_pair-requires-clause-numbers g c =
-    let f = c.args.format in
-    let image = g.D.Disk.content c.args.disk.now in
-    let rest = c.loop-rest.rest.now in
-    let p = get_or rest 0 no_pair in
-    let ps = take (length rest - 1) (drop 1 rest) in
+    let p = get_or c.loop-rest.rest.now 0 no_pair in
     let whole = first_and_rest c.loop-rest.rest.now no_pair c.in-len1-up.len_at_least in
-    let live = c.in-Ok.live.items in
-    let only = loads_before f p (g.D.Disk.content c.loop-rest.disk) image c.loop-rest.invariant.1.rest.content (Ok live) c.in-Ok.ensures.says in
+    let fit = (subst (λ (l : List Pair). AllByRecursion HasFiles l) whole c.loop-rest.invariant.2).0 in
     subst (λ (l : List Numbered). All (λ x. x.0 < MAX_PAIR_RECORDS) l) (sym c.deref.ensures.value)
-    (numbers_here f image c.args.manifest.now p ps rest c.loop-rest.rows c.loop-rest.places.at c.loop-rest.invariant.0 whole live only.0)
+    (All-weaker (λ l. l.0 < p.records) (λ l. l.0 < MAX_PAIR_RECORDS) (λ l few. omega (arith, few, fit.records)) c.in-Ok.live.items c.in-Ok.ensures.numbers)

@@ -8,13 +8,14 @@ use Rattle.mvo_script.proofs.driver.fresh_world.Goals as goal
 pub returns-in-Ok-open-clause-fresh : goal.returns-in-Ok-open-clause-fresh
 returns-in-Ok-open-clause-fresh g c =
     let w = c.in-Ok-open.world in
-    let given = c.in-Ok-open.ensures.gives in
-    let begins = c.in-Ok-open.ensures.begins given.0 given.1 in
-    let found = c.in-Ok-open.ensures.prefix given.0 given.1 (opened_over map.empty 0) (record {
-      slots = c.in-Ok.ensures.formatted.slots;
+    let formatted = c.in-Ok.ensures.formatted refl in
+    let given = c.in-Ok-open.ensures.gives refl in
+    let begins = c.in-Ok-open.ensures.begins refl given.0 given.1 in
+    let found = c.in-Ok-open.ensures.prefix refl given.0 given.1 (opened_over map.empty 0) (record {
+      slots = formatted.slots;
       rows = map.empty;
       mark = 0;
-      gives = c.in-Ok.ensures.formatted.now;
+      gives = formatted.now;
       prefix = record { rows_are = refl; known = inl refl; covers = search arith };
     }) in
     let mark_is = only found.known in

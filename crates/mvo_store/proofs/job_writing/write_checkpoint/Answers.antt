@@ -1,8 +1,8 @@
-use Rattle.std.proofs.Common.{◌≡◌, ◌∙◌, None, ap, sym}
+use Rattle.std.proofs.Common.{◌≡◌, ◌∙◌, ap, sym}
 use Rattle.mvo_store.specs.declared.checkpoint_stage.CheckpointStage.TheVariants.{Install as AtInstall}
 use Rattle.mvo_store.specs.declared.checkpointing.Checkpointing.{Checkpointing}
-use Rattle.mvo_store.specs.declared.job.Job.TheVariants.{Checkpoint}
 use Rattle.mvo_store.specs.Jobs.{install_at}
+use Rattle.mvo_store.specs.Jobs.Job.{Checkpoint}
 use Rattle.mvo_store.proofs.Written.{fill_step, data_fills, records_hold}
 use Rattle.mvo_store.proofs.job_writing.write_checkpoint.Goals as goal
 
@@ -16,11 +16,11 @@ write_install-requires-clause-stands g c =
     let v = c.args.checkpoint.now in
     let at : v.stage ≡ AtInstall c.in-Install.step = ap (λ (k : Checkpointing). k.stage) (sym c.checkpoint.view_is) ∙ c.in-Install.is in
     let e = ap (install_at v.next) at ∙ ap (λ (k : Checkpointing). install_at k.next (AtInstall c.in-Install.step)) (sym c.checkpoint.view_is) in
-    (c.args.manifest.now, Checkpoint v, e, c.requires.stands)
+    λ honest. (c.args.manifest.now, Checkpoint v, e, c.requires.stands honest)
 
 pub returns-in-Install : goal.returns-in-Install
 returns-in-Install g c =
     let v = c.args.checkpoint.now in
     let at : v.stage ≡ AtInstall c.in-Install.step = ap (λ (k : Checkpointing). k.stage) (sym c.checkpoint.view_is) ∙ c.in-Install.is in
     let e = ap (install_at v.next) at ∙ ap (λ (k : Checkpointing). install_at k.next (AtInstall c.in-Install.step)) (sym c.checkpoint.view_is) in
-    c.write_install.ensures c.args.manifest.now (Checkpoint v) None e
+    c.write_install.ensures c.args.manifest.now (Checkpoint v) e

@@ -1,14 +1,14 @@
 use Rattle.std.proofs.Common.{ap, ◌∙◌}
-use Rattle.mvo_engine.specs.Opened.{FreshData, image_of}
+use Rattle.mvo_engine.specs.Opened.{FreshData, fresh_opening}
 use Rattle.mvo_engine.proofs.Begun.{renamed, sound_core, sound_store}
 use Rattle.mvo_engine.proofs.engine.Engine.new.Goals as goal
 
 pub new-requires-clause-sound : goal.new-requires-clause-sound
 new-requires-clause-sound g c =
-    let same = ap (λ (x : FreshData _). image_of g.D.Disk x) c.fresh.view_is ∙ c.requires.image_is in
+    let same = ap (λ (x : FreshData _). fresh_opening g.D.Disk x) c.fresh.view_is ∙ c.requires.opening_is in
     sound_core g.D.Disk (renamed g.D.Disk c.fresh.invariant.0 same) _ (c.new-sends.ensures.sent ∙ c.fresh.invariant.2.sent_is)
 
 pub new-requires-3-clause-sound : goal.new-requires-3-clause-sound
 new-requires-3-clause-sound g c =
-    let same = ap (λ (x : FreshData _). image_of g.D.Disk x) c.fresh.view_is ∙ c.requires.image_is in
+    let same = ap (λ (x : FreshData _). fresh_opening g.D.Disk x) c.fresh.view_is ∙ c.requires.opening_is in
     sound_store g.D.Disk (renamed g.D.Disk c.fresh.invariant.0 same) _ c.fresh.invariant.2.received_is

@@ -4,6 +4,4 @@ use Rattle.mvo_engine.proofs.fresh.Fresh.open.Goals as goal
 pub new-requires : goal.new-requires
 new-requires g c =
     let e = c.in-Ok.ensures in
-    let rows = e.gives.0 in
-    let gives = e.gives.1 in
-    opened_world g.D.Disk c.args.disk c.in-Ok.world e.content rows gives (e.begins rows gives) (e.after rows gives)
+    opened_world g.D.Disk c.args.disk c.in-Ok.world e.content e.stands.0 e.stands.1

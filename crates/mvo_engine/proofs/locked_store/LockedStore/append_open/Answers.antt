@@ -18,7 +18,7 @@ invariant_of-self g c =
     let p = i.2 in
     let old : c.self.inside.publisher.known.published ≤ mark_of t = omega (arith, p, up, at) in
     let now : c.in-Ok.durable ≤ mark_of t = omega (arith, mark) in (
-      appended g.D.Disk i.0 t made.group made.there at (ap (λ (y : StoreData _). pending_of y) made.after) e.step.keeps,
+      appended g.D.Disk i.0 t made.group made.there at (ap (λ (y : StoreData _). pending_of y) made.after) e.step.honest e.step.keeps,
       c.publish.ensures.marks ∙ i.1,
       rw c.publish.ensures.published (max-le old now),
       i.3,

@@ -22,7 +22,7 @@ invariant_of-self-2 g c =
     let mark = ap (λ (y : StoreData _). mark_of y) made in
     let p = i.2 in
     let got = c.in-Ok.ensures.ok in (
-      taken_in g.D.Disk i.0 t _ x c.mark.ensures.group none got.0 (ap (λ (y : StoreData _). pending_of y) made) mark (next_follows g.D.Disk i.0 none x got.2) step.keeps,
+      taken_in g.D.Disk i.0 t _ x c.mark.ensures.group none got.0 (ap (λ (y : StoreData _). pending_of y) made) mark (next_follows g.D.Disk i.0 none x got.2) step.honest step.keeps,
       i.1,
       omega (arith, p, mark),
       same_from f.ring c.pop.new.self c.in-Ok.ensures.ring ∙ i.3,

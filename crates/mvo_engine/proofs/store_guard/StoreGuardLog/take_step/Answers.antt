@@ -23,6 +23,7 @@ refused_alike : {D : Type 0} (d : Ghosts D) (old new : StoreState D) (e : Refusa
 refused_alike d old new e q = record {
   step = record {
     comes = refused_by Generation d old.store InstallOpen e new.store q.step.comes;
+    honest = q.step.honest;
     keeps = q.step.keeps;
     others = q.step.others;
   };

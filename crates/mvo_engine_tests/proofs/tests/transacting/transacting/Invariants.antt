@@ -1,4 +1,4 @@
-use Rattle.mvo_engine.specs.Opened.{image_of}
+use Rattle.mvo_engine.specs.Opened.{fresh_opening}
 use Rattle.mvo_engine.specs.Watching.{nothing_watched}
 use Rattle.mvo_engine_tests.proofs.tests.transacting.transacting.Given as goal
 
@@ -7,7 +7,7 @@ ghosts-run_transacting-L-Ledger g a = record { name = a.fresh.ledger; parts = a.
 
 abbrev pub ghosts-run_transacting-L-Run : goal.ghosts-run_transacting-L-Run
 ghosts-run_transacting-L-Run g a = record {
-  image = image_of g.D.Disk a.fresh;
+  opening = fresh_opening g.D.Disk a.fresh;
   marks = a.fresh.marks;
   ring = a.fresh.ring;
   watched = nothing_watched;

@@ -1,0 +1,13 @@
+-- What is known of the disk that a run was opened over.
+use Rattle.std.specs.Prelude.{ℕ, IsTrue}
+use Rattle.mvo_types.specs.Keys.{Map}
+use Rattle.mvo_run.specs.Opening.{Opening}
+use Rattle.mvo_store.specs.Standing.{Gives, HasSlots}
+
+-- it gave these rows and this mark, if it had answered as written
+abbrev pub GaveWhenOpened : Map → ℕ → Opening → Type 0
+GaveWhenOpened rows mark o = IsTrue o.honest → Gives rows mark o.image
+
+-- each slot of it had a gate
+abbrev pub WasFormatted : Opening → Type 0
+WasFormatted o = HasSlots o.image

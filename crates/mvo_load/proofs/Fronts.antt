@@ -1,0 +1,27 @@
+-- The one answer of the bytes that were read is that of the files on the disk.
+use Rattle.std.proofs.Common.{ℕ, List, take, Option, Result}
+use Rattle.mvo_types.specs.declared.refusal.Refusal.{Refusal}
+use Rattle.mvo_group.specs.Data.{GroupData}
+use Rattle.mvo_format.specs.declared.format.Format.{Format}
+use Rattle.mvo_format.specs.Found.{Found}
+use Rattle.mvo_frame.specs.declared.kind.Kind.{Kind}
+use Rattle.mvo_frame.proofs.Fronts.{segment_front}
+use Rattle.mvo_pair.specs.declared.pair.Pair.{Pair}
+use Rattle.mvo_pair.specs.Answers.{IsOnly}
+use Rattle.mvo_pair.specs.Data.{Numbered}
+use Rattle.mvo_pair.specs.Loading.{LoadsAs, data_reach, delta_reach}
+use Rattle.mvo_pair.proofs.Fronts.{loads_of_front, loads_in_front, only_alike}
+use Rattle.mvo_manifest.specs.Data.{ManifestData}
+use Rattle.mvo_manifest.specs.Slots.{SlotSays}
+use Rattle.mvo_manifest.proofs.Fronts.{slot_front, slot_of_front, slot_in_front}
+use Rattle.mvo_image.specs.Files.{SegmentIs}
+use Rattle.mvo_image.proofs.Fronts.{segment_says_of_front, segment_says_in_front}
+
+pub slot_on_disk : (version slot : ℕ) (bytes : List ℕ) (found : Found (Option ManifestData)) → IsOnly (SlotSays version slot (slot_front bytes)) found → IsOnly (SlotSays version slot bytes) found
+slot_on_disk version slot bytes = only_alike (SlotSays version slot (slot_front bytes)) (SlotSays version slot bytes) (slot_of_front version slot bytes) (slot_in_front version slot bytes)
+
+pub segment_on_disk : (f : Format) (file mark : ℕ) (kind : Kind) (bytes : List ℕ) (found : Found (List GroupData)) → IsOnly (SegmentIs f file mark kind (segment_front bytes)) found → IsOnly (SegmentIs f file mark kind bytes) found
+segment_on_disk f file mark kind bytes = only_alike (SegmentIs f file mark kind (segment_front bytes)) (SegmentIs f file mark kind bytes) (segment_says_of_front f file mark kind bytes) (segment_says_in_front f file mark kind bytes)
+
+pub pair_on_disk : (f : Format) (p : Pair) (a b : List ℕ) (out : Result (List Numbered) Refusal) → IsOnly (LoadsAs f p (take (data_reach f p) a) (take (delta_reach p) b)) out → IsOnly (LoadsAs f p a b) out
+pair_on_disk f p a b = only_alike (LoadsAs f p (take (data_reach f p) a) (take (delta_reach p) b)) (LoadsAs f p a b) (loads_of_front f p a b) (loads_in_front f p a b)

@@ -1,0 +1,160 @@
+-- What the first bytes of a pair's files say is what the files say, as many as its counts reach.
+use Rattle.std.proofs.Common.{◌≡◌, ℕ, suc, ◌+◌, ◌-◌, ◌*◌, ◌≤◌, List, [], ◌∷◌, ◌++◌, length, take, drop, Result, Ok, Err, refl, sym, ap, subst, ◌∙◌, length-append, arith}
+use Rattle.std.proofs.Math.Nat.{suc-mul}
+use Rattle.std.specs.List.{flat_map, AllByRecursion}
+use Rattle.std.proofs.lemmas.List.Concat.{flat_map-cons}
+use Rattle.std.proofs.lemmas.List.Elements.{recursion_from_All}
+use Rattle.mvo_types.specs.declared.refusal.Refusal.{Refusal}
+use Rattle.mvo_bytes.specs.Fields.{field}
+use Rattle.mvo_bytes.proofs.Fields.{length-field}
+use Rattle.mvo_format.specs.declared.format.Format.{Format}
+use Rattle.mvo_format.proofs.Fronts.{front_taken, front_back}
+use Rattle.mvo_pair.specs.declared.pair.Pair.{Pair}
+use Rattle.mvo_pair.specs.declared.unread.Unread.TheVariants.{Memory, Broken, OtherVersion}
+use Rattle.mvo_pair.specs.Data.{EntryData, Numbered, live_of}
+use Rattle.mvo_pair.specs.Answers.{Found, IsFound, Goes, After, IsOnly}
+use Rattle.mvo_pair.specs.Files.{header, data_magic, delta_magic, IsOtherVersion, entry_bytes, data_bytes, IsEntry, HasEntries, delta_bytes, HasNumbers}
+use Rattle.mvo_pair.specs.Loading.{DataSays, DeltaSays, LoadsAs, data_reach, delta_reach}
+use Rattle.mvo_pair.proofs.Appends.{length-delta}
+
+-- ---- headers
+
+length-header : (magic : List ℕ) (version : ℕ) → length magic ≡ 4 → length (header magic version) ≡ 8
+length-header magic version four = omega (arith, length-append magic (field 4 version), length-field 4 version, four)
+
+module _ (n : ℕ) (magic : List ℕ) (version : ℕ) (bytes : List ℕ) where
+  other_in_front : length magic ≡ 4 → 8 ≤ n → IsOtherVersion magic version bytes → IsOtherVersion magic version (take n bytes)
+  other_in_front four le o = record {
+    number = o.number;
+    rest = take (n - length (header magic o.number)) o.rest;
+    whole = front_taken n bytes (header magic o.number) o.rest (omega (arith, le, length-header magic o.number four)) o.whole;
+    fits = o.fits;
+    other = o.other;
+  }
+
+  other_of_front : IsOtherVersion magic version (take n bytes) → IsOtherVersion magic version bytes
+  other_of_front o = record {
+    number = o.number;
+    rest = o.rest ++ drop n bytes;
+    whole = front_back n bytes (header magic o.number) o.rest o.whole;
+    fits = o.fits;
+    other = o.other;
+  }
+
+-- where two files are of another version alike, and hold the same values, the same is found
+found_alike : {X : Type 0} (OtherA OtherB : Type 0) (A B : X → Type 0) → (OtherA → OtherB) → (OtherB → OtherA) → ((x : X) → A x → B x) → ((x : X) → B x → A x) → (found : Found X) → IsFound OtherA A found → IsFound OtherB B found
+found_alike OtherA OtherB A B over back holds held (Ok x) s = holds x s
+found_alike OtherA OtherB A B over back holds held (Err OtherVersion) s = over s
+found_alike OtherA OtherB A B over back holds held (Err Broken) s = (λ o. s.0 (back o), λ x h. s.1 x (held x h))
+found_alike OtherA OtherB A B over back holds held (Err Memory) s = absurd s
+
+-- ---- data files
+
+length-entry : (e : EntryData) → length (entry_bytes e) ≡ 27 + length e.row.bytes
+length-entry e = simp length-append (omega (arith, length-field 8 e.begin, length-field 1 e.row.key.table, length-field 8 e.row.key.key, length-field 8 e.row.sort, length-field 2 (length e.row.bytes)))
+
+length-entries : (f : Format) (lo hi : ℕ) (es : List EntryData) → AllByRecursion (IsEntry f lo hi) es → length (flat_map entry_bytes es) ≤ length es * (27 + f.max_data_len)
+length-entries f lo hi [] all = omega arith
+length-entries f lo hi (e ∷ es) all =
+    let more = length-entries f lo hi es all.1 in
+    let size = all.0.size in
+    let one : length (flat_map entry_bytes (e ∷ es)) ≡ length (entry_bytes e) + length (flat_map entry_bytes es) = ap (λ (l : List ℕ). length l) (flat_map-cons entry_bytes e es) ∙ length-append (entry_bytes e) (flat_map entry_bytes es) in
+    let next : suc (length es) * (27 + f.max_data_len) ≡ length es * (27 + f.max_data_len) + (27 + f.max_data_len) = suc-mul (length es) (27 + f.max_data_len) in
+    omega (arith, one, next, more, size, length-entry e)
+
+module _ (f : Format) (p : Pair) (bytes : List ℕ) where
+  abbrev n : ℕ
+  n = data_reach f p
+
+  length-data : (es : List EntryData) → HasEntries f p.lo.0 p.hi.0 p.records es bytes → length (data_bytes f.version es) ≤ n
+  length-data es h =
+      let whole : length (data_bytes f.version es) ≡ length (header data_magic f.version) + length (flat_map entry_bytes es) = length-append (header data_magic f.version) (flat_map entry_bytes es) in
+      let most = subst (λ (k : ℕ). length (flat_map entry_bytes es) ≤ k * (27 + f.max_data_len)) h.counted (length-entries f p.lo.0 p.hi.0 es (recursion_from_All (IsEntry f p.lo.0 p.hi.0) es h.are.each)) in
+      omega (arith, whole, most, length-header data_magic f.version refl)
+
+  entries_in_front : (es : List EntryData) → HasEntries f p.lo.0 p.hi.0 p.records es bytes → HasEntries f p.lo.0 p.hi.0 p.records es (take n bytes)
+  entries_in_front es h =
+      let front = data_bytes f.version es in
+      record { rest = take (n - length front) h.rest; whole = front_taken n bytes front h.rest (length-data es h) h.whole; counted = h.counted; are = h.are; words = h.words }
+
+  entries_of_front : (es : List EntryData) → HasEntries f p.lo.0 p.hi.0 p.records es (take n bytes) → HasEntries f p.lo.0 p.hi.0 p.records es bytes
+  entries_of_front es h = record { rest = h.rest ++ drop n bytes; whole = front_back n bytes (data_bytes f.version es) h.rest h.whole; counted = h.counted; are = h.are; words = h.words }
+
+  abbrev Holds : List ℕ → List EntryData → Type 0
+  Holds l es = HasEntries f p.lo.0 p.hi.0 p.records es l
+
+  abbrev Other : List ℕ → Type 0
+  Other l = IsOtherVersion data_magic f.version l
+
+  data_of_front : (found : Found (List EntryData)) → DataSays f p (take n bytes) found → DataSays f p bytes found
+  data_of_front = found_alike (Other (take n bytes)) (Other bytes) (Holds (take n bytes)) (Holds bytes) (other_of_front n data_magic f.version bytes) (other_in_front n data_magic f.version bytes refl (omega arith)) entries_of_front entries_in_front
+
+  data_in_front : (found : Found (List EntryData)) → DataSays f p bytes found → DataSays f p (take n bytes) found
+  data_in_front = found_alike (Other bytes) (Other (take n bytes)) (Holds bytes) (Holds (take n bytes)) (other_in_front n data_magic f.version bytes refl (omega arith)) (other_of_front n data_magic f.version bytes) entries_in_front entries_of_front
+
+-- ---- delta files
+
+module _ (f : Format) (p : Pair) (bytes : List ℕ) where
+  abbrev m : ℕ
+  m = delta_reach p
+
+  abbrev HoldsNumbers : List ℕ → List ℕ → Type 0
+  HoldsNumbers l ns = HasNumbers f.version p.records p.entries ns l
+
+  abbrev OtherDelta : List ℕ → Type 0
+  OtherDelta l = IsOtherVersion delta_magic f.version l
+
+  numbers_in_front : (ns : List ℕ) → HoldsNumbers bytes ns → HoldsNumbers (take m bytes) ns
+  numbers_in_front ns h =
+      let front = delta_bytes f.version ns in
+      let long = length-delta f.version ns p.entries h.counted in
+      record { rest = take (m - length front) h.rest; whole = front_taken m bytes front h.rest (omega (arith, long)) h.whole; counted = h.counted; are = h.are }
+
+  numbers_of_front : (ns : List ℕ) → HoldsNumbers (take m bytes) ns → HoldsNumbers bytes ns
+  numbers_of_front ns h = record { rest = h.rest ++ drop m bytes; whole = front_back m bytes (delta_bytes f.version ns) h.rest h.whole; counted = h.counted; are = h.are }
+
+  delta_of_front : (found : Found (List ℕ)) → DeltaSays f p (take m bytes) found → DeltaSays f p bytes found
+  delta_of_front = found_alike (OtherDelta (take m bytes)) (OtherDelta bytes) (HoldsNumbers (take m bytes)) (HoldsNumbers bytes) (other_of_front m delta_magic f.version bytes) (other_in_front m delta_magic f.version bytes refl (omega arith)) numbers_of_front numbers_in_front
+
+  delta_in_front : (found : Found (List ℕ)) → DeltaSays f p bytes found → DeltaSays f p (take m bytes) found
+  delta_in_front = found_alike (OtherDelta bytes) (OtherDelta (take m bytes)) (HoldsNumbers bytes) (HoldsNumbers (take m bytes)) (other_in_front m delta_magic f.version bytes refl (omega arith)) (other_of_front m delta_magic f.version bytes) numbers_in_front numbers_of_front
+
+-- ---- the pair
+
+-- where two files say the same, and the same comes next, the same is answered
+after_alike : {X Y : Type 0} (file : ℕ) (A B : Found X → Type 0) (first second : X → Result Y Refusal → Type 0) → ((found : Found X) → A found → B found) → ((x : X) (out : Result Y Refusal) → first x out → second x out) → (out : Result Y Refusal) → After file A first out → After file B second out
+after_alike {X} {Y} file A B first second over next out h = (h.0, over h.0 h.1, go h.0 h.2)
+  where
+    go : (found : Found X) → Goes {Y = Y} file first found out → Goes {Y = Y} file second found out
+    go (Ok x) goes = next x out goes
+    go (Err e) goes = goes
+
+module _ (f : Format) (p : Pair) (a b : List ℕ) where
+  abbrev Answer : Type 0
+  Answer = Result (List Numbered) Refusal
+
+  abbrev Behind : List ℕ → List EntryData → Answer → Type 0
+  Behind l es = After p.delta_file (DeltaSays f p l) (λ ns out. out ≡ Ok (live_of ns es))
+
+  abbrev live : List EntryData → List ℕ → Answer → Type 0
+  live es ns out = out ≡ Ok (live_of ns es)
+
+  abbrev data_front : List ℕ
+  data_front = take (data_reach f p) a
+
+  abbrev delta_front : List ℕ
+  delta_front = take (delta_reach p) b
+
+  pub loads_of_front : (out : Answer) → LoadsAs f p data_front delta_front out → LoadsAs f p a b out
+  loads_of_front =
+      after_alike p.data_file (DataSays f p data_front) (DataSays f p a) (Behind delta_front) (Behind b) (data_of_front f p a)
+      (λ es. after_alike p.delta_file (DeltaSays f p delta_front) (DeltaSays f p b) (live es) (live es) (delta_of_front f p b) (λ ns out is. is))
+
+  pub loads_in_front : (out : Answer) → LoadsAs f p a b out → LoadsAs f p data_front delta_front out
+  loads_in_front =
+      after_alike p.data_file (DataSays f p a) (DataSays f p data_front) (Behind b) (Behind delta_front) (data_in_front f p a)
+      (λ es. after_alike p.delta_file (DeltaSays f p b) (DeltaSays f p delta_front) (live es) (live es) (delta_in_front f p b) (λ ns out is. is))
+
+-- what is the one answer of some bytes is that of others which say the same
+pub only_alike : {Y : Type 0} (A B : Y → Type 0) → ((y : Y) → A y → B y) → ((y : Y) → B y → A y) → (y : Y) → IsOnly A y → IsOnly B y
+only_alike A B over back y only = (over y only.0, λ z h. only.1 z (back z h))

@@ -1,0 +1,100 @@
+//! The jobs that run, as the replies to their steps tell.
+
+use super::observed::{Counts, count};
+use mvo_store::Progress;
+use mvo_world::Event;
+
+/// The next step of what installs a manifest next: a rotation, a checkpoint, or a merge whose files
+/// are written.
+#[derive(Clone, Copy, PartialEq)]
+pub enum Job {
+    /// None runs.
+    None,
+    Data,
+    Delta,
+    Close,
+    Body,
+    Open,
+}
+
+/// The next file of a merge whose files aren't all written.
+#[derive(Clone, Copy, PartialEq)]
+pub enum Merge {
+    /// None runs.
+    None,
+    Data,
+    Delta,
+}
+
+/// The jobs that run.
+#[derive(Clone, Copy, PartialEq)]
+pub struct Jobs {
+    pub job: Job,
+    pub merge: Merge,
+    /// So many files of checkpoints and of merges were written.
+    pub written_files: u64,
+}
+
+impl Jobs {
+    pub fn none() -> Jobs {
+        Jobs {
+            job: Job::None,
+            merge: Merge::None,
+            written_files: 0,
+        }
+    }
+
+    /// Whether one runs.
+    pub fn are_any(&self) -> bool {
+        self.job != Job::None || self.merge != Merge::None
+    }
+
+    /// Whether a merge runs beside a checkpoint.
+    pub fn are_two(&self) -> bool {
+        self.job != Job::None && self.merge != Merge::None
+    }
+
+    /// A manifest is installed.
+    pub fn note_installed(&mut self, counts: &mut Counts) {
+        count(&mut counts.installed);
+        if self.are_two() {
+            count(&mut counts.beside);
+        }
+        self.job = Job::None;
+    }
+
+    /// A step of a checkpoint or of a merge is made.
+    pub fn note_progress(&mut self, event: &Event, progress: Progress, counts: &mut Counts) {
+        match (event, progress) {
+            (Event::CheckpointRead, Progress::More) => self.job = Job::Data,
+            (Event::CheckpointData, Progress::More) => {
+                count(&mut self.written_files);
+                self.job = Job::Delta;
+            }
+            (Event::CheckpointDelta, Progress::More) => count(&mut self.written_files),
+            (Event::CheckpointDelta, Progress::Ready) => {
+                count(&mut self.written_files);
+                count(&mut counts.checkpoints);
+                self.job = Job::Close;
+            }
+            _ => self.note_merge(event, progress, counts),
+        }
+    }
+
+    fn note_merge(&mut self, event: &Event, progress: Progress, counts: &mut Counts) {
+        match (event, progress) {
+            (Event::MergeRead(_), Progress::More) => self.merge = Merge::Data,
+            (Event::MergeData, Progress::More) => {
+                count(&mut self.written_files);
+                self.merge = Merge::Delta;
+            }
+            (Event::MergeDelta, Progress::Ready) => {
+                count(&mut self.written_files);
+                count(&mut counts.merges);
+                self.merge = Merge::None;
+                self.job = Job::Close;
+            }
+            _ => count(&mut counts.strange),
+        }
+    }
+}
