@@ -25,8 +25,8 @@ once slots lists h key n = let e = h.at key n in go (is_of_key key (Rattle.std.s
     go true e = omega (arith, e)
     go false e = omega (arith, e)
 
-counted : (m n : ℕ) → m ≡ n → cond (m == n) 1 0 ≡ 1
-counted m n e = ap (λ b. cond b 1 0) (eq-eqb m n e)
+counted : (m n : ℕ) → m ≡ n → ◌≡◌ {A = ℕ} (cond (m == n) 1 0) 1
+counted m n e = ap (λ (b : Bool). cond {A = ℕ} b 1 0) (eq-eqb m n e)
 
 pub among_counts : (n : ℕ) (ns : List ℕ) → is_among n ns ≡ true → 1 ≤ how_many (λ i. i == n) ns
 among_counts n [] a = absurd (true≢false (sym a))
