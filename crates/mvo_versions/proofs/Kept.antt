@@ -19,10 +19,11 @@ use Rattle.mvo_representation.specs.Indexes.{is_of_key, HasNumbers}
 use Rattle.mvo_representation.specs.Steps.{fresh}
 use Rattle.mvo_versions.specs.declared.skips.Post.{Post}
 use Rattle.mvo_versions.specs.declared.skip.Skip.{Skip}
-use Rattle.mvo_versions.specs.Data.{VersionsData}
+use Rattle.mvo_versions.specs.Data.{VersionsData, AreIndexed}
 use Rattle.mvo_versions.specs.Changes.{IsPut, IsRoomed, IsReworded, IsInFront, IsTakenOut}
-use Rattle.mvo_versions.specs.Skips.{begin_of_ended, is_ended_from, from_on, leads, skip_at, HasNoMore, IsForgotten, IsNoted, IsSkip, AreSkips, IsUnlessEnded}
+use Rattle.mvo_versions.specs.Skips.{begin_of_ended, is_ended_from, from_on, leads, skip_at, HasNoMore, IsForgotten, IsNoted, IsSkip, AreSkips, HasSkips, IsUnlessEnded}
 use Rattle.mvo_versions.proofs.Indexing.{number_among, numbers_with, none_of, room_same}
+use Rattle.mvo_versions.proofs.Going.{found}
 use Rattle.mvo_versions.proofs.Posts.{none_known}
 use Rattle.mvo_versions.proofs.Words.{not_ended}
 
@@ -282,3 +283,36 @@ front_skips v w n x old new there numbered i u h =
         (λ s is. (let ns = numbers_of v.lists key in
         ap (λ xs. leads w.slots r.least.0 r.to.0 (from_on p xs)) (e ∙ is)
         ∙ leads_past v.slots w.slots n.0 r.least.0 r.to.0 same f (from_on p ns) (skip key (sym (ap (is_among p) (e ∙ is)) ∙ a))))
+
+-- ---- versions with their skips
+-- no skip comes
+pub less_has : (v : VersionsData) (old new : List Post) → HasNoMore old new → HasSkips v old → HasSkips v new
+less_has v old new i h = record { numbers = h.numbers; skips = record { each = λ p r q. h.skips.each p r (i.was p r q) } }
+
+pub roomed_has : (v w : VersionsData) (ps : List Post) → IsRoomed v w → AreIndexed w → HasSkips v ps → HasSkips w ps
+roomed_has v w ps i x h = record { numbers = x.numbers; skips = roomed_skips v w ps i h.skips }
+
+pub put_has : (v w : VersionsData) (row : RowData) (t : ℕ) (n : VersionNo) (old new : List Post) → IsPut v w row t n → AreIndexed w → IsForgotten old new n.0 → HasSkips v old → HasSkips w new
+put_has v w row t n old new i x f h = record { numbers = x.numbers; skips = put_skips v w row t n old new i f h.skips }
+
+pub gone_has : (v w : VersionsData) (n : VersionNo) (old new : List Post) → IsSome (version_at v.slots n) → IsTakenOut v w n → AreIndexed w → IsForgotten old new n.0 → HasSkips v old → HasSkips w new
+gone_has v w n old new there i x f h =
+    let it = found v n there in
+    record { numbers = x.numbers; skips = gone_skips v w n it.0 old new it.1 h.numbers i f h.skips }
+
+pub reworded_has : (v w : VersionsData) (n : VersionNo) (change : Version → Version) (old new : List Post) → IsReworded v w n change → AreIndexed w → IsUnlessEnded v.slots old new n.0 → HasSkips v old → HasSkips w new
+reworded_has v w n change old new i x u h = record { numbers = x.numbers; skips = reworded_skips v w n change old new i u h.skips }
+
+pub front_has : (v w : VersionsData) (n : VersionNo) (old new : List Post) → IsSome (version_at v.slots n) → IsInFront v w n → AreIndexed w → IsUnlessEnded v.slots old new n.0 → HasSkips v old → HasSkips w new
+front_has v w n old new there i x u h =
+    let it = found v n there in
+    record { numbers = x.numbers; skips = front_skips v w n it.0 old new it.1 h.numbers i u h.skips }
+
+-- a skip is noted, by what is shown of the versions
+pub led_has : (v : VersionsData) (slots : Slots) (lists : Lists) (old new : List Post) → slots ≡ v.slots → lists ≡ v.lists → (AreSkips slots lists old → AreSkips slots lists new) → HasSkips v old → HasSkips v new
+led_has v slots lists old new e f led h = record {
+  numbers = h.numbers;
+  skips = subst (λ ss. AreSkips ss v.lists new) e
+      (subst (λ ls. AreSkips slots ls new) f
+      (led (subst (λ ls. AreSkips slots ls old) (sym f) (subst (λ ss. AreSkips ss v.lists old) (sym e) h.skips))));
+}

@@ -1,5 +1,6 @@
 -- A walk over the versions of a key, past those in front that tell nothing below a begin.
 use Rattle.std.proofs.Common.{◌≡◌, ℕ, ◌≤◌, Bool, true, false, eqb, ◌&&◌, ◌||◌, List, [], ◌∷◌, ◌++◌, map, Option, None, Some, refl, sym, ap, ◌∙◌, subst, append_assoc, append-nil, inl, inr}
+use Rattle.std.specs.Option.{MatchOption}
 use Rattle.std.proofs.lemmas.Bool.{cases_Bool, and_parts, eqb-true, true≢false}
 use Rattle.mvo_types.specs.declared.row.RowKey.{RowKey}
 use Rattle.mvo_chain.specs.declared.version.Version.{Version}
@@ -7,8 +8,12 @@ use Rattle.mvo_chain.specs.declared.version.VersionNo.{VersionNo}
 use Rattle.mvo_chain.specs.Slots.{Slots, version_at}
 use Rattle.mvo_hash.specs.Lists.{Lists, number, numbers_of, is_among, first_of, LeadsTo}
 use Rattle.mvo_hash.proofs.Passing.{plain, plain_numbers}
-use Rattle.mvo_visible.specs.Versions.{Numbered, and_version, versions_by}
+use Rattle.mvo_visible.specs.declared.outcome.Shown.{Shown}
+use Rattle.mvo_visible.specs.Words.{States}
+use Rattle.mvo_visible.specs.Versions.{Numbered, and_version, versions_by, versions_at}
+use Rattle.mvo_visible.specs.Shown.{IsInOrder, shown_to}
 use Rattle.mvo_visible.specs.Walked.{AreLater, is_later}
+use Rattle.mvo_visible.proofs.Passed.{shown_behind}
 use Rattle.mvo_visible.proofs.Walks.{versions_by-append}
 use Rattle.mvo_representation.specs.Indexes.{HasNumbers}
 use Rattle.mvo_versions.specs.declared.skip.Skip.{Skip}
@@ -101,3 +106,15 @@ past_skip slots lists key walk rest n r b h skip e le p =
 pub first_and_rest : (walk : List VersionNo) (n : VersionNo) → first_of walk ≡ Some n → (rest : List VersionNo) × (walk ≡ n ∷ rest)
 first_and_rest [] n e = cc
 first_and_rest (m ∷ ms) n e = let q : m ≡ n = cc in (ms, ap (λ i. i ∷ ms) q)
+
+-- and the next one asked for leaves the rest
+pub next_is : (walk left : List VersionNo) (r : Option VersionNo) (n : VersionNo) (rest : List VersionNo) → walk ≡ n ∷ rest → MatchOption r ((walk ≡ []) × (left ≡ [])) (λ x. walk ≡ x ∷ left) → walk ≡ n ∷ left
+next_is walk left None n rest e q = let none : walk ≡ [] = q.0 in cc
+next_is walk left (Some x) n rest e q = cc
+
+-- what is shown of the versions that are still to come is shown of all
+pub shown_past : (states : States) (r : ℕ) (slots : Slots) (lists : Lists) (key : RowKey) (walk : List VersionNo) (shown : Shown) → IsPast r slots (map number (numbers_of lists key)) walk → (IsInOrder states r r (versions_by slots walk) → shown ≡ shown_to states r r (versions_by slots walk)) → IsInOrder states r r (versions_at slots lists key) → shown ≡ shown_to states r r (versions_at slots lists key)
+shown_past states r slots lists key walk shown p is =
+    subst (λ vs. IsInOrder states r r vs → shown ≡ shown_to states r r vs)
+    (sym (ap (versions_by slots) p.split ∙ versions_by-append slots p.front walk))
+    (shown_behind states r r (versions_by slots p.front) (versions_by slots walk) shown p.later is)
