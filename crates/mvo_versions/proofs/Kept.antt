@@ -1,6 +1,6 @@
 -- Skips stay skips where a version is put, changes its words, comes to the front, or goes.
-use Rattle.std.proofs.Common.{◌≡◌, ◌≢◌, ℕ, ◌≤◌, ◌+◌, Bool, true, false, cond, not, eqb, ◌&&◌, ◌||◌, List, [], ◌∷◌, Option, None, Some, IsSome, refl, sym, ap, ◌∙◌, subst, arith, ◌⊎◌, inl, inr}
-use Rattle.std.specs.Prelude.{slice_index_or, slice_set}
+use Rattle.std.proofs.Common.{◌≡◌, ◌≢◌, ℕ, Bool, true, false, cond, not, eqb, ◌&&◌, ◌||◌, List, [], ◌∷◌, Option, None, Some, IsSome, refl, sym, ap, ◌∙◌, subst, inl, inr}
+use Rattle.std.specs.Prelude.{slice_index_or}
 use Rattle.std.specs.Option.{option_map}
 use Rattle.std.specs.Ordering.{eq_by_cmp}
 use Rattle.std.proofs.lemmas.Bool.{cases_Bool, cases_eq, cond-true, cond-false, eq-eqb, eqb-true, ne_eqb, and_parts, or_cases, or_left, or_right, or_parts, true≢false}
@@ -12,8 +12,8 @@ use Rattle.mvo_types.specs.declared.row.RowKey.{RowKey}
 use Rattle.mvo_types.specs.Keys.{key_cmp}
 use Rattle.mvo_chain.specs.declared.version.Version.{Version}
 use Rattle.mvo_chain.specs.declared.version.VersionNo.{VersionNo}
-use Rattle.mvo_chain.specs.Slots.{Slots, version_at, with_room, with_slot, with_change}
-use Rattle.mvo_hash.specs.Lists.{Lists, number, numbers_of, with_numbers, without, is_among, IsFresh}
+use Rattle.mvo_chain.specs.Slots.{Slots, version_at, with_room}
+use Rattle.mvo_hash.specs.Lists.{Lists, number, numbers_of, with_numbers, without, is_among}
 use Rattle.mvo_visible.specs.Fronts.{with_new, with_front, with_less}
 use Rattle.mvo_representation.specs.Indexes.{is_of_key, HasNumbers}
 use Rattle.mvo_representation.specs.Steps.{fresh}

@@ -1,5 +1,5 @@
 -- From a version to ever older ones of its key, which all have ended.
-use Rattle.std.proofs.Common.{◌≡◌, ◌≢◌, ℕ, ◌≤◌, ◌+◌, Bool, true, false, cond, eqb, ◌&&◌, ◌||◌, List, [], ◌∷◌, ◌++◌, Option, None, Some, refl, sym, ap, ◌∙◌, subst, arith, inl, inr}
+use Rattle.std.proofs.Common.{◌≡◌, ◌≢◌, ℕ, ◌≤◌, Bool, true, false, cond, eqb, ◌&&◌, ◌||◌, List, [], ◌∷◌, ◌++◌, Option, None, Some, refl, sym, ap, ◌∙◌, arith, inl, inr}
 use Rattle.std.specs.Prelude.{◌==◌, min}
 use Rattle.std.proofs.lemmas.Bool.{cases_Bool, cases_eq, cond-true, cond-false, eq-eqb, eqb-true, ne_eqb, or_cases, or_left, true≢false}
 use Rattle.mvo_types.specs.declared.ids.Stamp.{Stamp}
@@ -11,7 +11,6 @@ use Rattle.mvo_chain.specs.Slots.{Slots, version_at}
 use Rattle.mvo_hash.specs.Lists.{Lists, number, numbers_of, newest_of, older_of, is_among, IsHeld, IsOlder}
 use Rattle.mvo_hash.proofs.Walks.{older_among}
 use Rattle.mvo_representation.specs.Indexes.{is_of_key, HasNumbers}
-use Rattle.mvo_versions.specs.declared.skip.Skip.{Skip}
 use Rattle.mvo_versions.specs.Skips.{begin_of_ended, is_at_least, is_ended_from, from_on, leads, IsSkip}
 use Rattle.mvo_versions.proofs.Indexing.{number_among}
 use Rattle.mvo_versions.proofs.Words.{at_least_lower, began_at}

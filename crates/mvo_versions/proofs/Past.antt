@@ -1,5 +1,5 @@
 -- A walk over the versions of a key, past those in front that tell nothing below a begin.
-use Rattle.std.proofs.Common.{◌≡◌, ℕ, ◌≤◌, Bool, true, false, eqb, ◌&&◌, ◌||◌, List, [], ◌∷◌, ◌++◌, map, Option, None, Some, refl, sym, ap, ◌∙◌, subst, append_assoc, append-nil, inl, inr}
+use Rattle.std.proofs.Common.{◌≡◌, ℕ, ◌≤◌, true, eqb, ◌||◌, List, [], ◌∷◌, ◌++◌, map, Option, None, Some, refl, sym, ap, ◌∙◌, subst, append_assoc, inl, inr}
 use Rattle.std.specs.Option.{MatchOption}
 use Rattle.std.proofs.lemmas.Bool.{cases_Bool, and_parts, eqb-true, true≢false}
 use Rattle.mvo_types.specs.declared.row.RowKey.{RowKey}
@@ -12,7 +12,7 @@ use Rattle.mvo_visible.specs.declared.outcome.Shown.{Shown}
 use Rattle.mvo_visible.specs.Words.{States}
 use Rattle.mvo_visible.specs.Versions.{Numbered, and_version, versions_by, versions_at}
 use Rattle.mvo_visible.specs.Shown.{IsInOrder, shown_to}
-use Rattle.mvo_visible.specs.Walked.{AreLater, is_later}
+use Rattle.mvo_visible.specs.Walked.{AreLater}
 use Rattle.mvo_visible.proofs.Passed.{shown_behind}
 use Rattle.mvo_visible.proofs.Walks.{versions_by-append}
 use Rattle.mvo_representation.specs.Indexes.{HasNumbers}
