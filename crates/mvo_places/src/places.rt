@@ -51,6 +51,19 @@ impl Places {
         }
     }
 
+    /// The places of these keys, and no room for more. It takes no memory.
+    pub fn of_falling(alloc: Global, seed: u64, falling: Falling) -> Places
+        ensures at { result.at ≡ map.from_entries falling }
+        ensures room { result.room ≡ 0 }
+        ensures apart { AreDistinct falling }
+    {
+        Places {
+            settled: falling.into_settled(),
+            heads: OpenTable::new(alloc, seed),
+            seed,
+        }
+    }
+
     /// The seed that it was made with.
     pub fn seed(&self) -> u64
         ensures { AreSmall self.now.at }
