@@ -19,8 +19,8 @@ PlaceList = List (RowKey × Place)
 abbrev pub coded_place_list : Coded PlaceList
 coded_place_list = coded_list (coded× coded_key coded_place)
 
-abbrev pub first_of : {V : Type 0} → RowKey × V → RowKey
-first_of e = e.0
+abbrev pub keys : {V : Type 0} → List (RowKey × V) → List RowKey
+keys es = map (λ e. e.0) es
 
 -- the order in which a greater key comes first
 abbrev pub falling_cmp : RowKey → RowKey → Ordering
@@ -28,11 +28,11 @@ falling_cmp a b = key_cmp b a
 
 -- each key is below those before it
 abbrev pub Falls : {V : Type 0} → List (RowKey × V) → Type 0
-Falls es = IsStrictlySortedBy falling_cmp (map first_of es)
+Falls es = IsStrictlySortedBy falling_cmp (keys es)
 
--- the key is below the last one, where there is one
+-- the key is below the last of theirs, where there is one
 abbrev pub IsBelowLast : {V : Type 0} → List (RowKey × V) → RowKey → Type 0
-IsBelowLast es key = IfSome (last_or None es) (λ last. key_cmp key last.0 ≡ Less)
+IsBelowLast es key = IfSome (last_or None (keys es)) (λ last. key_cmp key last ≡ Less)
 
 -- the key has a table that there can be, and is below the last one
 abbrev pub MayFollow : {V : Type 0} → List (RowKey × V) → RowKey → Type 0
@@ -40,4 +40,4 @@ MayFollow es key = (key.table ≤ MAX_TABLE) × IsBelowLast es key
 
 -- no two keys are equal
 abbrev pub AreDistinct : {V : Type 0} → List (RowKey × V) → Type 0
-AreDistinct es = IsDistinct (eq_by_cmp key_cmp) (map first_of es)
+AreDistinct es = IsDistinct (eq_by_cmp key_cmp) (keys es)

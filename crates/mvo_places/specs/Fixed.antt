@@ -1,11 +1,11 @@
 -- Keys that were there at an opening, with their numbers, and those that came later beside them.
-use Rattle.std.specs.Prelude.{◌≡◌, ℕ, List, [], ◌∷◌, Bool, cond, ltb, All, Option, None, Some, map, IsSome}
+use Rattle.std.specs.Prelude.{ℕ, ◌%◌, List, [], ◌∷◌, cond, nat_lt, Option, None, Some, map, IsSome}
 use Rattle.std.specs.Option.{option_map}
-use Rattle.std.specs.List.{filter_map}
+use Rattle.std.specs.List.{AllByRecursion, filter_map}
 use Rattle.std.specs.Int.{w32, w64, from_le_bytes}
 use Rattle.std.specs.Ordering.{eq_by_cmp}
 use Rattle.std.specs.Coded.{Coded, coded×, coded_option, coded_list, coded_ℕ}
-use Rattle.std.specs.FinMap as map
+use Rattle.std.specs.FinMap as finite_map
 use Rattle.mvo_types.specs.declared.row.RowKey.{RowKey}
 use Rattle.mvo_types.specs.Keys.{key_cmp, coded_key}
 use Rattle.mvo_hash.specs.Table.{Map, Table}
@@ -20,7 +20,7 @@ use Rattle.mvo_places.specs.Falling.{PlaceList}
 abbrev pub key_and_number : ℕ → List ℕ → List ℕ → RowKey × Option ℕ
 key_and_number table key number =
     (record { table = table % GONE; key = from_le_bytes w64 key },
-    cond (ltb table GONE) (Some (from_le_bytes w32 number)) None)
+    cond (nat_lt table GONE) (Some (from_le_bytes w32 number)) None)
 
 -- ---- keys that stay, with numbers that may go
 
@@ -37,7 +37,7 @@ with_number es key number = map (λ e. (e.0, cond (eq_by_cmp key_cmp key e.0) nu
 
 -- each key has a number
 abbrev pub AllLive : Numbers → Type 0
-AllLive es = All (λ e. IsSome e.1) es
+AllLive es = AllByRecursion (λ e. IsSome e.1) es
 
 abbrev pub live_place : RowKey × Option ℕ → Option (RowKey × Place)
 live_place e = option_map (λ n. (e.0, place_of n)) e.1
@@ -49,8 +49,8 @@ places_of_live es = filter_map live_place es
 -- ---- beside keys that came later
 
 abbrev pub with_or_without : Map → RowKey → Option ℕ → Map
-with_or_without m key None = map.remove m key
-with_or_without m key (Some n) = map.insert m key n
+with_or_without m key None = finite_map.remove m key
+with_or_without m key (Some n) = finite_map.insert m key n
 
 -- the numbers of later keys, under those of the keys that were there
 abbrev pub numbers_over : Numbers → Map → Map
