@@ -1,17 +1,34 @@
-ghost use Rattle.std.specs.Prelude.{◌≡◌, ◌<◌, ◌≤◌, ◌↔◌, ◌++◌, ◌∷◌, [], cond, map, IsTrue, IfOk, OnErr};
-ghost use Rattle.mvo_places.specs.Settled.{MayFollow, AreDistinct};
+ghost use Rattle.std.specs.Prelude.{◌≡◌, ◌<◌, ◌≤◌, ◌↔◌, ◌++◌, ◌∷◌, [], cond, IsTrue, IfOk, OnErr};
+ghost use Rattle.mvo_places.specs.Falling.{MayFollow, AreDistinct};
+ghost use Rattle.mvo_places.specs.Fixed.{places_of_live, AllLive};
 
 use crate::place::Place;
-use crate::settled::Settled;
-use mvo_types::{MAX_FILE, MAX_PAIR_RECORDS, MAX_TABLE, RowKey};
+use crate::fixed_keys::FixedKeys;
+use mvo_types::{MAX_FILE, MAX_PAIR_RECORDS, RowKey};
 use std::alloc::{AllocError, Global};
 use std::marker::Model;
 
 /// Keys with their places, each key below the one before it. Contracts see their list.
 ///
 /// A key takes 13 bytes.
+#[derive(Drop)]
 pub struct Falling {
-    settled: Settled,
+    fixed: FixedKeys,
+}
+
+impl Model for Falling {
+    ghost use Rattle.mvo_places.specs.Falling.{PlaceList, coded_place_list};
+
+    ghost Value = { PlaceList };
+
+    ghost coded = { coded_place_list };
+
+    ghost use Rattle.mvo_places.specs.Falling.{Falls};
+    ghost use Rattle.mvo_places.specs.Fixed.{places_of_live, AllLive};
+
+    ghost view = { λ f. places_of_live f.fixed };
+
+    ghost invariant = { λ f. AllLive f.fixed × Falls f.fixed };
 }
 
 impl Falling {
@@ -20,13 +37,13 @@ impl Falling {
         ensures { IfOk result (λ falling. falling ≡ []) }
     {
         Ok(Falling {
-            settled: Settled::with_room(alloc, count)?,
+            fixed: FixedKeys::with_room(alloc, count)?,
         })
     }
 
-    /// Puts a key behind the others, and answers whether it may stand there: whether its table is
-    /// one that there can be, and it is below the last key. It takes no memory where there is some
-    /// for it.
+    /// Puts a key behind the others, where it may stand there, and answers that: whether its table
+    /// is one that there can be, and it is below the last key. It takes no memory where there is
+    /// some for it.
     pub fn push(&mut self, key: RowKey, place: Place) -> Result<bool, AllocError>
         requires file { place.data_file ≤ MAX_FILE }
         requires number { place.number < MAX_PAIR_RECORDS }
@@ -36,7 +53,15 @@ impl Falling {
         ensures err { OnErr result (self.new ≡ self.old) }
         ensures apart { AreDistinct self.new }
     {
-        let number = place.data_file as u32 * MAX_PAIR_RECORDS + place.number;
-        self.settled.push(key, number)
+        self.fixed.push(key, place.as_number())
+    }
+
+    /// The keys, with the numbers of their places.
+    pub(crate) fn into_fixed(self) -> FixedKeys
+        ensures places { places_of_live result ≡ self }
+        ensures live { AllLive result }
+        ensures apart { AreDistinct self }
+    {
+        self.fixed
     }
 }
