@@ -3,7 +3,7 @@ use Rattle.std.specs.Prelude.{All}
 use Rattle.std.specs.List.Sorted.{IsPermutation}
 use Rattle.std.proofs.lemmas.List.Sorted.{length_permutation}
 use Rattle.mvo_types.specs.Keys.{Map}
-use Rattle.mvo_places.specs.Settled.{AreDistinct}
+use Rattle.mvo_places.specs.Falling.{AreDistinct}
 use Rattle.mvo_load.specs.declared.part.Part.{Part}
 use Rattle.mvo_load.specs.Gathered.{Filed, MayLie, filed_in, keyed_place}
 use Rattle.mvo_load.proofs.Ordered.{changed_whole}
