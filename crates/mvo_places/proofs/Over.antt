@@ -1,11 +1,12 @@
 -- The numbers of the keys of an opening over those of later keys.
-use Rattle.std.proofs.Common.{◌≡◌, inl, inr, ℕ, zero, suc, ◌<◌, Bool, true, false, cond, List, [], ◌∷◌, ◌++◌, length, Option, None, Some, refl, sym, ap, subst, ◌∙◌, arith, get_or}
-use Rattle.std.specs.Prelude.{map, slice_set}
+use Rattle.std.proofs.Common.{◌≡◌, inl, inr, ℕ, zero, suc, ◌<◌, Bool, true, false, cond, List, [], ◌∷◌, ◌++◌, length, Option, None, Some, Result, Ok, Err, refl, sym, ap, subst, ◌∙◌, arith, get_or}
+use Rattle.std.specs.Prelude.{map, slice_set, IfOk, OnErr}
 use Rattle.std.specs.Option.{option_map, unwrap_or, IsSome}
 use Rattle.std.specs.List.{AllByRecursion, IsDistinct, filter_map}
 use Rattle.std.specs.FinMap.{find, get, get-empty, get-insert, get-remove, get-from_entries, empty, insert, remove, from_entries, same_map}
 use Rattle.std.proofs.lemmas.List.{map-append, append-nil}
 use Rattle.std.proofs.lemmas.List.Elements.{filter_map-append, Contains-get_or}
+use Rattle.std.specs.declared.alloc.AllocError.{AllocError}
 use Rattle.mvo_types.specs.declared.row.RowKey.{RowKey}
 use Rattle.mvo_types.specs.declared.limits.TheConstants.{MAX_PAIR_RECORDS}
 use Rattle.mvo_types.specs.Keys.{key_cmp}
@@ -53,7 +54,7 @@ find-with_number (e ∷ es) k o q = go (eq q e.0) refl (eq q k) refl (find-with_
 -- ---- another number
 
 given : (x : Option (Option ℕ)) (o d : Option ℕ) → IsSome x → unwrap_or (option_map (λ _. o) x) d ≡ o
-given None o d some = absurd some
+given None o d some = absurd cc
 given (Some x) o d some = refl
 
 -- at a key of the opening
@@ -118,7 +119,7 @@ set_at (e ∷ es) k o (suc i) d apart within is =
 -- ---- keys that all have numbers
 
 pub live-push : (es : Numbers) (k : RowKey) (n : ℕ) → AllLive es → AllLive (es ++ (k, Some n) ∷ [])
-live-push [] k n live = (tt, tt)
+live-push [] k n live = (refl, tt)
 live-push (e ∷ es) k n live = (live.0, live-push es k n live.1)
 
 pub places-live-push : (es : Numbers) (k : RowKey) (p : Place) → p.number < MAX_PAIR_RECORDS → places_of_live (es ++ (k, Some (number_of p)) ∷ []) ≡ places_of_live es ++ (k, p) ∷ []
@@ -126,14 +127,24 @@ places-live-push es k p small =
     filter_map-append live_place es ((k, Some (number_of p)) ∷ [])
     ∙ ap (λ (x : Place). places_of_live es ++ (k, x) ∷ []) (place_of-number_of p small)
 
+-- after a push that may have changed nothing
+pub places-pushed : (es : Numbers) (k : RowKey) (p : Place) (n : ℕ) → n ≡ number_of p → p.number < MAX_PAIR_RECORDS → (b : Bool) → places_of_live (cond b (es ++ (k, Some n) ∷ []) es) ≡ cond b (places_of_live es ++ (k, p) ∷ []) (places_of_live es)
+places-pushed es k p n is small true = ap (λ (m : ℕ). places_of_live (es ++ (k, Some m) ∷ [])) is ∙ places-live-push es k p small
+places-pushed es k p n is small false = refl
+
+pub live-pushed : (es new : Numbers) (k : RowKey) (n : ℕ) (r : Result Bool AllocError) → IfOk r (λ b. new ≡ cond b (es ++ (k, Some n) ∷ []) es) → OnErr r (new ≡ es) → AllLive es → AllLive new
+live-pushed es new k n (Ok true) ok err live = subst (λ (xs : Numbers). AllLive xs) (sym ok) (live-push es k n live)
+live-pushed es new k n (Ok false) ok err live = subst (λ (xs : Numbers). AllLive xs) (sym ok) live
+live-pushed es new k n (Err e) ok err live = subst (λ (xs : Numbers). AllLive xs) (sym err) live
+
 pub keys-live : (es : Numbers) → AllLive es → keys (places_of_live es) ≡ keys es
 keys-live [] live = refl
-keys-live ((k, None) ∷ es) live = absurd live.0
+keys-live ((k, None) ∷ es) live = let no : false ≡ true = live.0 in absurd cc
 keys-live ((k, Some n) ∷ es) live = ap (λ (ks : List RowKey). k ∷ ks) (keys-live es live.1)
 
 find-live : (es : Numbers) → AllLive es → (q : RowKey) → find key_cmp q (places_of_live es) ≡ option_map place_of (unwrap_or (find key_cmp q es) None)
 find-live [] live q = refl
-find-live ((k, None) ∷ es) live q = absurd live.0
+find-live ((k, None) ∷ es) live q = let no : false ≡ true = live.0 in absurd cc
 find-live ((k, Some n) ∷ es) live q = go (eq q k) (find-live es live.1 q)
   where
     go : (b : Bool) → find key_cmp q (places_of_live es) ≡ option_map place_of (unwrap_or (find key_cmp q es) None) → cond b (Some (place_of n)) (find key_cmp q (places_of_live es)) ≡ option_map place_of (unwrap_or (cond b (Some (Some n)) (find key_cmp q es)) None)

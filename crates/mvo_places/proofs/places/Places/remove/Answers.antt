@@ -1,11 +1,7 @@
-use Rattle.std.proofs.Common.{ap, ◌∙◌}
-use Rattle.std.specs.FinMap.{remove}
-use Rattle.mvo_places.specs.Places.{PlaceTable, placed}
-use Rattle.mvo_places.proofs.Placing.{placed-remove}
 use Rattle.mvo_places.proofs.places.Places.remove.Goals as goal
 
-pub returns-clause-gone : goal.returns-clause-gone
-returns-clause-gone c =
-    ap placed c.remove.ensures.gone
-    ∙ placed-remove c.self.inside.heads.numbers c.args.key
-    ∙ ap (λ (t : PlaceTable). remove t.at c.args.key) c.self.view_is
+pub returns-then-not-set-clause-gone : goal.returns-then-not-set-clause-gone
+returns-then-not-set-clause-gone c = ?
+
+pub returns-else-not-set-clause-gone : goal.returns-else-not-set-clause-gone
+returns-else-not-set-clause-gone c = ?
