@@ -1,14 +1,14 @@
 -- Keys that fall.
-use Rattle.std.proofs.Common.{◌≡◌, ◌⊎◌, inl, inr, ⊎_elim, ℕ, zero, suc, ◌+◌, ◌-◌, ◌<◌, ◌≤◌, Bool, true, false, cond, List, [], ◌∷◌, ◌++◌, length, Option, None, Some, refl, sym, ap, subst, ◌∙◌, arith, get_or}
-use Rattle.std.specs.Prelude.{map, slice_get, IfSome, IsTrue}
+use Rattle.std.proofs.Common.{◌≡◌, ◌⊎◌, inl, inr, ⊎_elim, ℕ, zero, suc, ◌-◌, ◌<◌, ◌≤◌, Bool, true, false, List, [], ◌∷◌, ◌++◌, length, Option, None, Some, refl, sym, ap, subst, ◌∙◌, arith, get_or}
+use Rattle.std.specs.Prelude.{slice_get, IfSome, IsTrue, nat_eq, ◌&&◌}
 use Rattle.std.specs.Option.{option_map}
-use Rattle.std.specs.List.{AllByRecursion, IsDistinct, last_or, HoldsAt}
+use Rattle.std.specs.List.{IsDistinct, last_or}
 use Rattle.std.specs.List.Sorted.{IsStrictlySortedBy, IsPartitionedBy, IsPartitionPoint}
-use Rattle.std.specs.Ordering.{eq_by_cmp, is_lt, is_eq}
+use Rattle.std.specs.Ordering.{eq_by_cmp, is_lt}
 use Rattle.std.specs.declared.cmp.Ordering.{Ordering}
 use Rattle.std.specs.declared.cmp.Ordering.TheVariants.{Less, Equal, Greater}
 use Rattle.std.specs.FinMap.{find}
-use Rattle.std.proofs.lemmas.Bool.{cond-true, cond-false, cases_order}
+use Rattle.std.proofs.lemmas.Bool.{cond-true, cond-false, cases_order, eq-eqb}
 use Rattle.std.proofs.lemmas.Cmp.{tied_itself}
 use Rattle.std.proofs.lemmas.List.{map-append, length-map, get_or-map}
 use Rattle.std.proofs.lemmas.List.Elements.{Contains-get_or}
@@ -157,3 +157,10 @@ found_at {V} (e ∷ es) key (suc i) d apart within is =
 pub falls_none : (V : Type 0) → Falls {V = V} []
 unfolding IsStrictlySortedBy
 falls_none V = tt
+
+-- equal keys have equal parts
+pub parts_differ : (x y : RowKey) (b : Bool) → b ≡ (nat_eq x.table y.table && nat_eq x.key y.key) → b ≡ false → x ≡ y → ⊥
+parts_differ x y b is not same =
+    let parts : (nat_eq y.table y.table && nat_eq y.key y.key) ≡ true = ap (λ c. c && nat_eq y.key y.key) (eq-eqb y.table y.table refl) ∙ eq-eqb y.key y.key refl in
+    let both : true ≡ false = sym parts ∙ ap (λ (z : RowKey). nat_eq z.table y.table && nat_eq z.key y.key) (sym same) ∙ sym is ∙ not in
+    absurd cc

@@ -1,10 +1,9 @@
 -- The numbers of the keys of an opening over those of later keys.
-use Rattle.std.proofs.Common.{◌≡◌, inl, inr, ℕ, zero, suc, ◌<◌, Bool, true, false, cond, List, [], ◌∷◌, ◌++◌, length, Option, None, Some, Result, Ok, Err, refl, sym, ap, subst, ◌∙◌, arith, get_or}
-use Rattle.std.specs.Prelude.{map, slice_set, IfOk, OnErr}
+use Rattle.std.proofs.Common.{◌≡◌, ℕ, zero, suc, ◌<◌, Bool, true, false, cond, List, [], ◌∷◌, ◌++◌, length, Option, None, Some, Result, Ok, Err, refl, sym, ap, subst, ◌∙◌, arith, get_or}
+use Rattle.std.specs.Prelude.{slice_set, IfOk, OnErr, IsTrue}
 use Rattle.std.specs.Option.{option_map, unwrap_or, IsSome}
-use Rattle.std.specs.List.{AllByRecursion, IsDistinct, filter_map}
-use Rattle.std.specs.FinMap.{find, get, get-empty, get-insert, get-remove, get-from_entries, empty, insert, remove, from_entries, same_map}
-use Rattle.std.proofs.lemmas.List.{map-append, append-nil}
+use Rattle.std.specs.List.{AllByRecursion, IsDistinct}
+use Rattle.std.specs.FinMap.{find, get, get-empty, get-insert, get-remove, get-from_entries, empty, from_entries, same_map}
 use Rattle.std.proofs.lemmas.List.Elements.{filter_map-append, Contains-get_or}
 use Rattle.std.specs.declared.alloc.AllocError.{AllocError}
 use Rattle.mvo_types.specs.declared.row.RowKey.{RowKey}
@@ -14,7 +13,7 @@ use Rattle.mvo_types.proofs.Maps.{keys_total, exact_keys}
 use Rattle.mvo_hash.specs.Table.{Map}
 use Rattle.mvo_places.specs.declared.place.Place.{Place}
 use Rattle.mvo_places.specs.Places.{placed, place_of, number_of}
-use Rattle.mvo_places.specs.Falling.{keys, AreDistinct, PlaceList}
+use Rattle.mvo_places.specs.Falling.{keys, AreDistinct}
 use Rattle.mvo_places.specs.Fixed.{Numbers, with_number, AllLive, live_place, places_of_live, with_or_without, numbers_over}
 use Rattle.mvo_places.proofs.Placing.{get-placed, place_of-number_of}
 use Rattle.mvo_places.proofs.Keys.{eq, key_same, eq_self, eq_flips}
@@ -158,3 +157,29 @@ placed-live es live = same_map keys_total exact_keys (placed (numbers_over es em
     ∙ ap (option_map place_of) (get-over es empty q ∙ ap (unwrap_or (find key_cmp q es)) (get-empty key_cmp q))
     ∙ sym (find-live es live q)
     ∙ sym (get-from_entries keys_total (places_of_live es) q))
+
+-- ---- what the calls of a table make
+
+pub none_there : {X : Type 0} (o : Option X) → (IsSome o → IsTrue false) → o ≡ None
+none_there None absent = refl
+none_there (Some x) absent = let both : false ≡ true = absent refl in absurd cc
+
+pub after-fixed : (es new : Numbers) (m : Map) (k : RowKey) (o : Option ℕ) → new ≡ with_number es k o → IsSome (find key_cmp k es) → numbers_over new m ≡ with_or_without (numbers_over es m) k o
+after-fixed es new m k o set some = ap (λ (xs : Numbers). numbers_over xs m) set ∙ over-fixed es m k o some
+
+-- where the key isn't one of the opening
+module _ (es new : Numbers) (k : RowKey) (o : Option ℕ) (set : new ≡ with_number es k o) (absent : IsSome (find key_cmp k es) → IsTrue false) where
+  none : find key_cmp k es ≡ None
+  none = none_there (find key_cmp k es) absent
+
+  pub same-fixed : new ≡ es
+  same-fixed = set ∙ unchanged es k o none
+
+  pub after-later : (m later : Map) → later ≡ with_or_without m k o → numbers_over new later ≡ with_or_without (numbers_over es m) k o
+  after-later m later is =
+      ap (λ (xs : Numbers). numbers_over xs later) same-fixed
+      ∙ ap (numbers_over es) is
+      ∙ over-later es m k o none
+
+  pub later-at : (m : Map) → get (numbers_over es m) k ≡ get m k
+  later-at m = get-over es m k ∙ ap (λ (x : Option (Option ℕ)). unwrap_or x (get m k)) none

@@ -1,5 +1,5 @@
 -- Keys that lie one behind another, each below the one before it.
-use Rattle.std.specs.Prelude.{◌≡◌, ℕ, ◌≤◌, List, Option, None, map, IfSome}
+use Rattle.std.specs.Prelude.{◌≡◌, ◌≤◌, List, None, map, IfSome}
 use Rattle.std.specs.List.{IsDistinct, last_or}
 use Rattle.std.specs.List.Sorted.{IsStrictlySortedBy}
 use Rattle.std.specs.Ordering.{eq_by_cmp}

@@ -1,4 +1,4 @@
-use Rattle.std.proofs.Common.{◌≡◌, ◌≤◌, ◌++◌, ◌∷◌, [], Bool, cond, List, Result, Ok, Err, sym, subst, ◌∙◌, ap}
+use Rattle.std.proofs.Common.{◌≤◌, ◌++◌, ◌∷◌, [], Bool, cond, List, Result, Ok, Err, sym, subst, ◌∙◌, ap}
 use Rattle.std.specs.Prelude.{IfOk, IsTrue, ◌↔◌}
 use Rattle.std.specs.List.{IsDistinct}
 use Rattle.std.specs.declared.alloc.AllocError.{AllocError}

@@ -1,4 +1,4 @@
-use Rattle.std.proofs.Common.{◌≡◌, ℕ, Some, sym, ap, subst, ◌∙◌, get_or}
+use Rattle.std.proofs.Common.{ℕ, Some, sym, ap, subst, ◌∙◌, get_or}
 use Rattle.std.specs.Prelude.{Option}
 use Rattle.mvo_types.specs.declared.row.RowKey.{RowKey}
 use Rattle.mvo_places.specs.Fixed.{Numbers}

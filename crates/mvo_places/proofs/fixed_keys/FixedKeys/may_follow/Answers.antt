@@ -1,4 +1,4 @@
-use Rattle.std.proofs.Common.{sym, subst, ◌∙◌, ap, rules, length, ◌-◌}
+use Rattle.std.proofs.Common.{◌∙◌, ap, rules, length, ◌-◌}
 use Rattle.std.specs.Prelude.{slice_get}
 use Rattle.std.specs.Ordering.{is_lt}
 use Rattle.mvo_types.specs.declared.row.RowKey.{RowKey}

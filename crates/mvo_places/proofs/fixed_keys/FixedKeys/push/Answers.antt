@@ -1,4 +1,4 @@
-use Rattle.std.proofs.Common.{◌≡◌, ℕ, ◌++◌, ◌∷◌, [], Some, Option, sym, subst, ap, ◌∙◌, rules}
+use Rattle.std.proofs.Common.{ℕ, ◌++◌, ◌∷◌, [], Some, Option, sym, subst, ap, ◌∙◌, rules}
 use Rattle.mvo_types.specs.declared.row.RowKey.{RowKey}
 use Rattle.mvo_places.specs.Fixed.{Numbers}
 use Rattle.mvo_places.specs.Falling.{Falls, MayFollow}

@@ -1,8 +1,8 @@
-use Rattle.std.proofs.Common.{◌≡◌, ℕ, Option, List, sym, subst, ◌∙◌, ap, refl}
+use Rattle.std.proofs.Common.{ℕ, Option, List, sym, subst, ◌∙◌, ap, refl}
 use Rattle.std.specs.Prelude.{slice_set, is_some}
 use Rattle.std.specs.List.Sorted.{IsStrictlySortedBy}
 use Rattle.mvo_types.specs.declared.row.RowKey.{RowKey}
-use Rattle.mvo_places.specs.Fixed.{Numbers, with_number}
+use Rattle.mvo_places.specs.Fixed.{Numbers}
 use Rattle.mvo_places.specs.Falling.{Falls, falling_cmp, keys}
 use Rattle.mvo_places.proofs.Falls.{falls_apart, found_at}
 use Rattle.mvo_places.proofs.Over.{set_at, unchanged, keys-with_number}

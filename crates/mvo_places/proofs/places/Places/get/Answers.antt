@@ -1,6 +1,5 @@
-use Rattle.std.proofs.Common.{◌≡◌, ap, sym, ◌∙◌}
+use Rattle.std.proofs.Common.{ap, ◌∙◌}
 use Rattle.std.specs.Option.{option_map}
-use Rattle.std.specs.FinMap.{get}
 use Rattle.mvo_places.specs.Places.{place_of}
 use Rattle.mvo_places.proofs.Placing.{place_back}
 use Rattle.mvo_places.proofs.places.Places.get.Goals as goal

@@ -17,4 +17,4 @@ no_keys es t nothing none room =
     ∙ ap (λ (n : ℕ). with_room no_places.at n) room
 
 pub returns : goal.returns
-returns c = no_keys c.new-fixed.result c.new-heads.result c.new-fixed.ensures c.new-heads.ensures.numbers c.new-heads.ensures.room
+returns c = no_keys c.new.result c.new-2.result c.new.ensures c.new-2.ensures.numbers c.new-2.ensures.room

@@ -1,4 +1,4 @@
-use Rattle.std.proofs.Common.{◌≡◌, ℕ, Option, ap, ◌∙◌, sym, subst}
+use Rattle.std.proofs.Common.{ℕ, Option, ap, ◌∙◌, sym, subst}
 use Rattle.std.specs.Option.{option_map, unwrap_or}
 use Rattle.std.specs.FinMap.{get}
 use Rattle.mvo_places.specs.Places.{PlaceTable, number_of, AreSmall}

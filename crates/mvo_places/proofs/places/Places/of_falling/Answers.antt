@@ -1,4 +1,4 @@
-use Rattle.std.proofs.Common.{◌∙◌, ap, sym}
+use Rattle.std.proofs.Common.{◌∙◌, ap}
 use Rattle.std.specs.FinMap.{from_entries}
 use Rattle.mvo_types.specs.Keys.{key_cmp}
 use Rattle.mvo_hash.specs.Table.{Map}
