@@ -80,9 +80,10 @@ less Greater is = absurd cc
 -- what stands at the last place tells whether a key is below it
 pub may_follow : {V : Type 0} (es : List (RowKey × V)) (key x : RowKey) (v : V) (b : Bool) → Some (x, v) ≡ slice_get es (length es - 1) → b ≡ is_lt (key_cmp key x) → key.table ≤ MAX_TABLE → (IsTrue b → MayFollow es key) × (MayFollow es key → IsTrue b)
 may_follow {V} es key x v b at test table =
-    let last : last_or None (keys es) ≡ Some x = last_key es ∙ ap (option_map (λ (e : RowKey × V). e.0)) (sym at) in
-    (λ t. (table, subst (λ (o : Option RowKey). IfSome o (λ last. key_cmp key last ≡ Less)) (sym last) (less (key_cmp key x) (sym test ∙ t))),
-    λ m. test ∙ ap is_lt (subst (λ (o : Option RowKey). IfSome o (λ last. key_cmp key last ≡ Less)) last m.1))
+    let last : last_or None (keys es) ≡ Some x = last_key es ∙ ap (option_map (λ (e : RowKey × V). e.0)) (sym at) in (
+      λ t. (table, subst (λ (o : Option RowKey). IfSome o (λ last. key_cmp key last ≡ Less)) (sym last) (less (key_cmp key x) (sym test ∙ t))),
+      λ m. test ∙ ap is_lt (subst (λ (o : Option RowKey). IfSome o (λ last. key_cmp key last ≡ Less)) last m.1),
+    )
 
 -- ---- a search
 
@@ -128,9 +129,9 @@ module _ {V : Type 0} (es : List (RowKey × V)) (falls : Falls es) (key : RowKey
     pub nowhere : ((d : RowKey × V) → i < length es → (get_or es i d).0 ≡ key → ⊥) → find key_cmp key es ≡ None
     nowhere other = absent es (λ e a.
         let c = contains_from es e a in
-        differs e.0 (λ same. 
-            let at = elsewhere c.0 e c.1 (same ∙ ap (λ (x : RowKey × V). x.0) (sym c.2)) in
-            other e at.0 at.1))
+        differs e.0 (λ same.
+        let at = elsewhere c.0 e c.1 (same ∙ ap (λ (x : RowKey × V). x.0) (sym c.2)) in
+        other e at.0 at.1))
       where
         differs : (x : RowKey) → (key ≡ x → ⊥) → eq key x ≡ false
         differs x not = go (eq key x) refl

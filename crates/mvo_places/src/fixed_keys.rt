@@ -8,7 +8,7 @@ ghost use Rattle.mvo_places.specs.declared.fixed_key.TheConstants.{GONE};
 ghost use Rattle.mvo_places.specs.Falling.{MayFollow, Falls};
 ghost use Rattle.mvo_places.specs.Fixed.{with_number};
 
-use crate::fixed_key::{GONE, FixedKey};
+use crate::fixed_key::{FixedKey, GONE};
 use mvo_types::{MAX_TABLE, RowKey};
 use std::alloc::{AllocError, Global};
 use std::marker::Model;
@@ -96,7 +96,9 @@ impl FixedKeys {
         ensures table { OnSome result (key.table < GONE) }
         ensures nowhere { IfNone result (find key_cmp key self.now ≡ None) }
     {
-        let at = self.keys.partition_point(|fixed| is_below(key, fixed.key()));
+        let at = self
+            .keys
+            .partition_point(|fixed| is_below(key, fixed.key()));
         if at < self.keys.len() && self.keys[at].key() == key {
             return Some(at);
         }

@@ -25,6 +25,7 @@ invariant_of-self c =
 
 pub returns-clause-stands : goal.returns-clause-stands
 returns-clause-stands c =
-    let falls : Falls c.args.self.now = subst (λ (xs : Numbers). Falls xs) c.self.view_is c.self.invariant in
-    (λ _. ap (λ (o : Option (Option ℕ)). is_some o) (found_at c.args.self.now c.args.key c.in-Some.at c.index_mut.result.now (falls_apart c.args.self.now falls) c.in-Some.ensures.within (c.in-Some.ensures.at c.index_mut.result.now)),
-    λ _. refl)
+    let falls : Falls c.args.self.now = subst (λ (xs : Numbers). Falls xs) c.self.view_is c.self.invariant in (
+      λ _. ap (λ (o : Option (Option ℕ)). is_some o) (found_at c.args.self.now c.args.key c.in-Some.at c.index_mut.result.now (falls_apart c.args.self.now falls) c.in-Some.ensures.within (c.in-Some.ensures.at c.index_mut.result.now)),
+      λ _. refl,
+    )
