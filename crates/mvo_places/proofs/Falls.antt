@@ -1,22 +1,23 @@
 -- Keys that fall.
-use Rattle.std.proofs.Common.{◌≡◌, ◌⊎◌, inl, inr, ⊎_elim, ℕ, zero, suc, ◌+◌, ◌-◌, ◌<◌, ◌≤◌, Bool, true, false, cond, List, [], ◌∷◌, ◌++◌, length, Option, None, Some, refl, sym, ap, subst, ◌∙◌, arith, get_or}
-use Rattle.std.specs.Prelude.{map, slice_get, IfSome}
+use Rattle.std.proofs.Common.{◌≡◌, ◌⊎◌, inl, inr, ⊎_elim, ℕ, zero, suc, ◌-◌, ◌<◌, ◌≤◌, Bool, true, false, List, [], ◌∷◌, ◌++◌, length, Option, None, Some, refl, sym, ap, subst, ◌∙◌, arith, get_or}
+use Rattle.std.specs.Prelude.{slice_get, IfSome, IsTrue, nat_eq, ◌&&◌}
 use Rattle.std.specs.Option.{option_map}
-use Rattle.std.specs.List.{AllByRecursion, IsDistinct, last_or, HoldsAt}
+use Rattle.std.specs.List.{IsDistinct, last_or}
 use Rattle.std.specs.List.Sorted.{IsStrictlySortedBy, IsPartitionedBy, IsPartitionPoint}
-use Rattle.std.specs.Ordering.{eq_by_cmp, is_lt, is_eq}
+use Rattle.std.specs.Ordering.{eq_by_cmp, is_lt}
 use Rattle.std.specs.declared.cmp.Ordering.{Ordering}
 use Rattle.std.specs.declared.cmp.Ordering.TheVariants.{Less, Equal, Greater}
 use Rattle.std.specs.FinMap.{find}
-use Rattle.std.proofs.lemmas.Bool.{cond-true, cond-false, cases_order}
+use Rattle.std.proofs.lemmas.Bool.{cond-true, cond-false, cases_order, eq-eqb}
 use Rattle.std.proofs.lemmas.Cmp.{tied_itself}
 use Rattle.std.proofs.lemmas.List.{map-append, length-map, get_or-map}
 use Rattle.std.proofs.lemmas.List.Elements.{Contains-get_or}
 use Rattle.std.proofs.lemmas.Map.Keys.{IsDistinct-from_sorted, Less-from_sorted}
 use Rattle.mvo_types.specs.declared.row.RowKey.{RowKey}
+use Rattle.mvo_types.specs.declared.limits.TheConstants.{MAX_TABLE}
 use Rattle.mvo_types.specs.Keys.{key_cmp}
 use Rattle.mvo_types.proofs.Maps.{keys_total}
-use Rattle.mvo_places.specs.Falling.{keys, falling_cmp, Falls, IsBelowLast, AreDistinct}
+use Rattle.mvo_places.specs.Falling.{keys, falling_cmp, Falls, IsBelowLast, MayFollow, AreDistinct}
 use Rattle.mvo_places.proofs.Members.{Among, among_append, among_map, all_among, all_from, among_from, contains_from}
 use Rattle.mvo_places.proofs.Keys.{eq, key_same, eq_self, eq_flips}
 
@@ -53,7 +54,7 @@ below_each o (y ∷ z ∷ ks) key sorted below x (inl e) =
     subst (λ v. key_cmp key v ≡ Less) e
     (keys_total.trans key z y (below_each (Some y) (z ∷ ks) key sorted.1 below z (inl refl)) (all_among (λ v. key_cmp v y ≡ Less) (z ∷ ks) z sorted.0 (inl refl)))
 
-pub falls_push : {V : Type 0} (es : List (RowKey × V)) (key : RowKey) (v : V) → Falls es → IsBelowLast es key → Falls (es ++ (key, v) ∷ [])
+pub falls_push : {V : Type 0} (es : List (RowKey × V)) (key : RowKey) (v : V) → Falls es → IsBelowLast (keys es) key → Falls (es ++ (key, v) ∷ [])
 falls_push {V} es key v falls below =
     subst (λ (ks : List RowKey). IsStrictlySortedBy falling_cmp ks) (sym (map-append (λ (e : RowKey × V). e.0) es ((key, v) ∷ [])))
     (sorted_push falling_cmp (keys es) key falls (λ x a. below_each None (keys es) key falls below x a))
@@ -62,26 +63,34 @@ falls_push {V} es key v falls below =
 pub last_key : {V : Type 0} (es : List (RowKey × V)) → last_or None (keys es) ≡ option_map (λ e. e.0) (slice_get es (length es - 1))
 last_key [] = refl
 last_key {V} (e ∷ es) =
-    behind e es ∙ ap (λ n. option_map (λ x. x.0) (slice_get (e ∷ es) n)) (omega arith)
+    let count : length es ≡ length (e ∷ es) - 1 = omega arith in
+    behind e es ∙ ap (λ n. option_map (λ x. x.0) (slice_get (e ∷ es) n)) count
   where
     behind : (x : RowKey × V) (xs : List (RowKey × V)) → last_or (Some x.0) (keys xs) ≡ option_map (λ y. y.0) (slice_get (x ∷ xs) (length xs))
     behind x [] = refl
-    behind x (y ∷ xs) = behind y xs ∙ ap (λ n. option_map (λ z. z.0) (slice_get (x ∷ y ∷ xs) n)) (omega arith)
+    behind x (y ∷ xs) =
+        let count : suc (length xs) ≡ length (y ∷ xs) = omega arith in
+        behind y xs ∙ ap (λ n. option_map (λ z. z.0) (slice_get (x ∷ y ∷ xs) n)) count
+
+less : (o : Ordering) → is_lt o ≡ true → o ≡ Less
+less Less is = refl
+less Equal is = absurd cc
+less Greater is = absurd cc
+
+-- what stands at the last place tells whether a key is below it
+pub may_follow : {V : Type 0} (es : List (RowKey × V)) (key x : RowKey) (v : V) (b : Bool) → Some (x, v) ≡ slice_get es (length es - 1) → b ≡ is_lt (key_cmp key x) → key.table ≤ MAX_TABLE → (IsTrue b → MayFollow es key) × (MayFollow es key → IsTrue b)
+may_follow {V} es key x v b at test table =
+    let last : last_or None (keys es) ≡ Some x = last_key es ∙ ap (option_map (λ (e : RowKey × V). e.0)) (sym at) in (
+      λ t. (table, subst (λ (o : Option RowKey). IfSome o (λ last. key_cmp key last ≡ Less)) (sym last) (less (key_cmp key x) (sym test ∙ t))),
+      λ m. test ∙ ap is_lt (subst (λ (o : Option RowKey). IfSome o (λ last. key_cmp key last ≡ Less)) last m.1),
+    )
 
 -- ---- a search
 
 module _ {V : Type 0} (es : List (RowKey × V)) (falls : Falls es) (key : RowKey) where
   -- whether the key is below that of an entry
-  pub below_entry : RowKey × V → Bool
+  abbrev pub below_entry : RowKey × V → Bool
   below_entry e = is_lt (key_cmp key e.0)
-
-  less : (x : RowKey) → is_lt (key_cmp key x) ≡ true → key_cmp key x ≡ Less
-  less x is = go (key_cmp key x) is
-    where
-      go : (o : Ordering) → is_lt o ≡ true → o ≡ Less
-      go Less is = refl
-      go Equal is = absurd cc
-      go Greater is = absurd cc
 
   -- the key of an entry is above those behind it
   above : (i j : ℕ) (d : RowKey × V) → i < j → j < length es → key_cmp (get_or es j d).0 (get_or es i d).0 ≡ Less
@@ -97,7 +106,7 @@ module _ {V : Type 0} (es : List (RowKey × V)) (falls : Falls es) (key : RowKey
   parted i j d upto within is = go (cases_order i j)
     where
       go : (i ≡ j) ⊎ ((i < j) ⊎ (j < i)) → below_entry (get_or es i d) ≡ true
-      go (inr (inl before)) = ap is_lt (keys_total.trans key (get_or es j d).0 (get_or es i d).0 (less (get_or es j d).0 is) (above i j d before within))
+      go (inr (inl before)) = ap is_lt (keys_total.trans key (get_or es j d).0 (get_or es i d).0 (less (key_cmp key (get_or es j d).0) is) (above i j d before within))
       go (inl same) = subst (λ n. below_entry (get_or es n d) ≡ true) (sym same) is
       go (inr (inr behind)) = absurd (omega (arith, behind, upto))
 
@@ -120,9 +129,9 @@ module _ {V : Type 0} (es : List (RowKey × V)) (falls : Falls es) (key : RowKey
     pub nowhere : ((d : RowKey × V) → i < length es → (get_or es i d).0 ≡ key → ⊥) → find key_cmp key es ≡ None
     nowhere other = absent es (λ e a.
         let c = contains_from es e a in
-        differs e.0 (λ same. 
-            let at = elsewhere c.0 e c.1 (same ∙ ap (λ (x : RowKey × V). x.0) (sym c.2)) in
-            other e at.0 at.1))
+        differs e.0 (λ same.
+        let at = elsewhere c.0 e c.1 (same ∙ ap (λ (x : RowKey × V). x.0) (sym c.2)) in
+        other e at.0 at.1))
       where
         differs : (x : RowKey) → (key ≡ x → ⊥) → eq key x ≡ false
         differs x not = go (eq key x) refl
@@ -144,3 +153,15 @@ found_at {V} (e ∷ es) key (suc i) d apart within is =
     let there : Among (keys es) key = subst (λ x. Among (keys es) x) is (among_map (λ (x : RowKey × V). x.0) es (get_or es i d) (among_from es (get_or es i d) (Contains-get_or es i d (omega (arith, within))))) in
     cond-false (eq key e.0) (Some e.1) (find key_cmp key es) (eq_flips key e.0 ∙ all_among (λ y. eq e.0 y ≡ false) (keys es) key apart.0 there)
     ∙ found_at es key i d apart.1 (omega (arith, within)) is
+
+-- no keys fall
+pub falls_none : (V : Type 0) → Falls {V = V} []
+unfolding IsStrictlySortedBy
+falls_none V = tt
+
+-- equal keys have equal parts
+pub parts_differ : (x y : RowKey) (b : Bool) → b ≡ (nat_eq x.table y.table && nat_eq x.key y.key) → b ≡ false → x ≡ y → ⊥
+parts_differ x y b is not same =
+    let parts : (nat_eq y.table y.table && nat_eq y.key y.key) ≡ true = ap (λ c. c && nat_eq y.key y.key) (eq-eqb y.table y.table refl) ∙ eq-eqb y.key y.key refl in
+    let both : true ≡ false = sym parts ∙ ap (λ (z : RowKey). nat_eq z.table y.table && nat_eq z.key y.key) (sym same) ∙ sym is ∙ not in
+    absurd cc

@@ -1,11 +1,11 @@
 -- The numbers of the keys of an opening over those of later keys.
-use Rattle.std.proofs.Common.{◌≡◌, inl, inr, ℕ, zero, suc, ◌<◌, Bool, true, false, cond, List, [], ◌∷◌, ◌++◌, length, Option, None, Some, refl, sym, ap, subst, ◌∙◌, arith, get_or}
-use Rattle.std.specs.Prelude.{map, slice_set}
+use Rattle.std.proofs.Common.{◌≡◌, ℕ, zero, suc, ◌<◌, Bool, true, false, cond, List, [], ◌∷◌, ◌++◌, length, Option, None, Some, Result, Ok, Err, refl, sym, ap, subst, ◌∙◌, arith, get_or}
+use Rattle.std.specs.Prelude.{slice_set, IfOk, OnErr, IsTrue}
 use Rattle.std.specs.Option.{option_map, unwrap_or, IsSome}
-use Rattle.std.specs.List.{AllByRecursion, IsDistinct, filter_map}
-use Rattle.std.specs.FinMap.{find, get, get-empty, get-insert, get-remove, get-from_entries, empty, insert, remove, from_entries, same_map}
-use Rattle.std.proofs.lemmas.List.{map-append, append-nil}
+use Rattle.std.specs.List.{AllByRecursion, IsDistinct}
+use Rattle.std.specs.FinMap.{find, get, get-empty, get-insert, get-remove, get-from_entries, empty, from_entries, same_map}
 use Rattle.std.proofs.lemmas.List.Elements.{filter_map-append, Contains-get_or}
+use Rattle.std.specs.declared.alloc.AllocError.{AllocError}
 use Rattle.mvo_types.specs.declared.row.RowKey.{RowKey}
 use Rattle.mvo_types.specs.declared.limits.TheConstants.{MAX_PAIR_RECORDS}
 use Rattle.mvo_types.specs.Keys.{key_cmp}
@@ -13,7 +13,7 @@ use Rattle.mvo_types.proofs.Maps.{keys_total, exact_keys}
 use Rattle.mvo_hash.specs.Table.{Map}
 use Rattle.mvo_places.specs.declared.place.Place.{Place}
 use Rattle.mvo_places.specs.Places.{placed, place_of, number_of}
-use Rattle.mvo_places.specs.Falling.{keys, AreDistinct, PlaceList}
+use Rattle.mvo_places.specs.Falling.{keys, AreDistinct}
 use Rattle.mvo_places.specs.Fixed.{Numbers, with_number, AllLive, live_place, places_of_live, with_or_without, numbers_over}
 use Rattle.mvo_places.proofs.Placing.{get-placed, place_of-number_of}
 use Rattle.mvo_places.proofs.Keys.{eq, key_same, eq_self, eq_flips}
@@ -53,7 +53,7 @@ find-with_number (e ∷ es) k o q = go (eq q e.0) refl (eq q k) refl (find-with_
 -- ---- another number
 
 given : (x : Option (Option ℕ)) (o d : Option ℕ) → IsSome x → unwrap_or (option_map (λ _. o) x) d ≡ o
-given None o d some = absurd some
+given None o d some = absurd cc
 given (Some x) o d some = refl
 
 -- at a key of the opening
@@ -118,7 +118,7 @@ set_at (e ∷ es) k o (suc i) d apart within is =
 -- ---- keys that all have numbers
 
 pub live-push : (es : Numbers) (k : RowKey) (n : ℕ) → AllLive es → AllLive (es ++ (k, Some n) ∷ [])
-live-push [] k n live = (tt, tt)
+live-push [] k n live = (refl, tt)
 live-push (e ∷ es) k n live = (live.0, live-push es k n live.1)
 
 pub places-live-push : (es : Numbers) (k : RowKey) (p : Place) → p.number < MAX_PAIR_RECORDS → places_of_live (es ++ (k, Some (number_of p)) ∷ []) ≡ places_of_live es ++ (k, p) ∷ []
@@ -126,14 +126,24 @@ places-live-push es k p small =
     filter_map-append live_place es ((k, Some (number_of p)) ∷ [])
     ∙ ap (λ (x : Place). places_of_live es ++ (k, x) ∷ []) (place_of-number_of p small)
 
+-- after a push that may have changed nothing
+pub places-pushed : (es : Numbers) (k : RowKey) (p : Place) (n : ℕ) → n ≡ number_of p → p.number < MAX_PAIR_RECORDS → (b : Bool) → places_of_live (cond b (es ++ (k, Some n) ∷ []) es) ≡ cond b (places_of_live es ++ (k, p) ∷ []) (places_of_live es)
+places-pushed es k p n is small true = ap (λ (m : ℕ). places_of_live (es ++ (k, Some m) ∷ [])) is ∙ places-live-push es k p small
+places-pushed es k p n is small false = refl
+
+pub live-pushed : (es new : Numbers) (k : RowKey) (n : ℕ) (r : Result Bool AllocError) → IfOk r (λ b. new ≡ cond b (es ++ (k, Some n) ∷ []) es) → OnErr r (new ≡ es) → AllLive es → AllLive new
+live-pushed es new k n (Ok true) ok err live = subst (λ (xs : Numbers). AllLive xs) (sym ok) (live-push es k n live)
+live-pushed es new k n (Ok false) ok err live = subst (λ (xs : Numbers). AllLive xs) (sym ok) live
+live-pushed es new k n (Err e) ok err live = subst (λ (xs : Numbers). AllLive xs) (sym err) live
+
 pub keys-live : (es : Numbers) → AllLive es → keys (places_of_live es) ≡ keys es
 keys-live [] live = refl
-keys-live ((k, None) ∷ es) live = absurd live.0
+keys-live ((k, None) ∷ es) live = let no : false ≡ true = live.0 in absurd cc
 keys-live ((k, Some n) ∷ es) live = ap (λ (ks : List RowKey). k ∷ ks) (keys-live es live.1)
 
 find-live : (es : Numbers) → AllLive es → (q : RowKey) → find key_cmp q (places_of_live es) ≡ option_map place_of (unwrap_or (find key_cmp q es) None)
 find-live [] live q = refl
-find-live ((k, None) ∷ es) live q = absurd live.0
+find-live ((k, None) ∷ es) live q = let no : false ≡ true = live.0 in absurd cc
 find-live ((k, Some n) ∷ es) live q = go (eq q k) (find-live es live.1 q)
   where
     go : (b : Bool) → find key_cmp q (places_of_live es) ≡ option_map place_of (unwrap_or (find key_cmp q es) None) → cond b (Some (place_of n)) (find key_cmp q (places_of_live es)) ≡ option_map place_of (unwrap_or (cond b (Some (Some n)) (find key_cmp q es)) None)
@@ -147,3 +157,29 @@ placed-live es live = same_map keys_total exact_keys (placed (numbers_over es em
     ∙ ap (option_map place_of) (get-over es empty q ∙ ap (unwrap_or (find key_cmp q es)) (get-empty key_cmp q))
     ∙ sym (find-live es live q)
     ∙ sym (get-from_entries keys_total (places_of_live es) q))
+
+-- ---- what the calls of a table make
+
+pub none_there : {X : Type 0} (o : Option X) → (IsSome o → IsTrue false) → o ≡ None
+none_there None absent = refl
+none_there (Some x) absent = let both : false ≡ true = absent refl in absurd cc
+
+pub after-fixed : (es new : Numbers) (m : Map) (k : RowKey) (o : Option ℕ) → new ≡ with_number es k o → IsSome (find key_cmp k es) → numbers_over new m ≡ with_or_without (numbers_over es m) k o
+after-fixed es new m k o set some = ap (λ (xs : Numbers). numbers_over xs m) set ∙ over-fixed es m k o some
+
+-- where the key isn't one of the opening
+module _ (es new : Numbers) (k : RowKey) (o : Option ℕ) (set : new ≡ with_number es k o) (absent : IsSome (find key_cmp k es) → IsTrue false) where
+  none : find key_cmp k es ≡ None
+  none = none_there (find key_cmp k es) absent
+
+  pub same-fixed : new ≡ es
+  same-fixed = set ∙ unchanged es k o none
+
+  pub after-later : (m later : Map) → later ≡ with_or_without m k o → numbers_over new later ≡ with_or_without (numbers_over es m) k o
+  after-later m later is =
+      ap (λ (xs : Numbers). numbers_over xs later) same-fixed
+      ∙ ap (numbers_over es) is
+      ∙ over-later es m k o none
+
+  pub later-at : (m : Map) → get (numbers_over es m) k ≡ get m k
+  later-at m = get-over es m k ∙ ap (λ (x : Option (Option ℕ)). unwrap_or x (get m k)) none

@@ -1,5 +1,5 @@
 -- Keys that lie one behind another, each below the one before it.
-use Rattle.std.specs.Prelude.{◌≡◌, ℕ, ◌≤◌, List, Option, None, map, IfSome}
+use Rattle.std.specs.Prelude.{◌≡◌, ◌≤◌, List, None, map, IfSome}
 use Rattle.std.specs.List.{IsDistinct, last_or}
 use Rattle.std.specs.List.Sorted.{IsStrictlySortedBy}
 use Rattle.std.specs.Ordering.{eq_by_cmp}
@@ -30,13 +30,13 @@ falling_cmp a b = key_cmp b a
 abbrev pub Falls : {V : Type 0} → List (RowKey × V) → Type 0
 Falls es = IsStrictlySortedBy falling_cmp (keys es)
 
--- the key is below the last of theirs, where there is one
-abbrev pub IsBelowLast : {V : Type 0} → List (RowKey × V) → RowKey → Type 0
-IsBelowLast es key = IfSome (last_or None (keys es)) (λ last. key_cmp key last ≡ Less)
+-- the key is below the last one, where there is one
+abbrev pub IsBelowLast : List RowKey → RowKey → Type 0
+IsBelowLast ks key = IfSome (last_or None ks) (λ last. key_cmp key last ≡ Less)
 
 -- the key has a table that there can be, and is below the last one
 abbrev pub MayFollow : {V : Type 0} → List (RowKey × V) → RowKey → Type 0
-MayFollow es key = (key.table ≤ MAX_TABLE) × IsBelowLast es key
+MayFollow es key = (key.table ≤ MAX_TABLE) × IsBelowLast (keys es) key
 
 -- no two keys are equal
 abbrev pub AreDistinct : {V : Type 0} → List (RowKey × V) → Type 0

@@ -18,9 +18,10 @@ use Rattle.mvo_places.specs.Falling.{PlaceList}
 
 -- the key, and its number where the byte of the table says that it has one
 abbrev pub key_and_number : ℕ → List ℕ → List ℕ → RowKey × Option ℕ
-key_and_number table key number =
-    (record { table = table % GONE; key = from_le_bytes w64 key },
-    cond (nat_lt table GONE) (Some (from_le_bytes w32 number)) None)
+key_and_number table key number = (
+  record { table = table % GONE; key = from_le_bytes w64 key },
+  cond (nat_lt table GONE) (Some (from_le_bytes w32 number)) None,
+)
 
 -- ---- keys that stay, with numbers that may go
 

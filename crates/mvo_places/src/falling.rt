@@ -2,8 +2,8 @@ ghost use Rattle.std.specs.Prelude.{◌≡◌, ◌<◌, ◌≤◌, ◌↔◌, �
 ghost use Rattle.mvo_places.specs.Falling.{MayFollow, AreDistinct};
 ghost use Rattle.mvo_places.specs.Fixed.{places_of_live, AllLive};
 
-use crate::place::Place;
 use crate::fixed_keys::FixedKeys;
+use crate::place::Place;
 use mvo_types::{MAX_FILE, MAX_PAIR_RECORDS, RowKey};
 use std::alloc::{AllocError, Global};
 use std::marker::Model;

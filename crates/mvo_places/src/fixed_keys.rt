@@ -2,15 +2,23 @@ ghost use Rattle.std.specs.Prelude.{◌≡◌, ◌<◌, ◌≤◌, ◌↔◌, �
 ghost use Rattle.std.specs.Prelude.{IsTrue, IsSome, IfSome, OnSome, IfNone, IfOk, OnErr, None, Some};
 ghost use Rattle.std.specs.List.{HoldsAt};
 ghost use Rattle.std.specs.FinMap.{find};
+ghost use Rattle.std.specs.Ordering.{is_lt};
 ghost use Rattle.mvo_types.specs.Keys.{key_cmp};
 ghost use Rattle.mvo_places.specs.declared.fixed_key.TheConstants.{GONE};
 ghost use Rattle.mvo_places.specs.Falling.{MayFollow, Falls};
 ghost use Rattle.mvo_places.specs.Fixed.{with_number};
 
-use crate::fixed_key::{GONE, FixedKey};
+use crate::fixed_key::{FixedKey, GONE};
 use mvo_types::{MAX_TABLE, RowKey};
 use std::alloc::{AllocError, Global};
 use std::marker::Model;
+
+// Whether the key is below the other.
+fn is_below(key: RowKey, other: RowKey) -> bool
+    ensures { result ≡ is_lt (key_cmp key other) }
+{
+    key < other
+}
 
 /// Keys that were there at an opening, each below the one before it, with their numbers. No key
 /// comes or goes, but a number may. Contracts see their list.
@@ -61,7 +69,7 @@ impl FixedKeys {
             return false;
         }
         match self.keys.last() {
-            Some(last) => key < last.key(),
+            Some(last) => is_below(key, last.key()),
             None => true,
         }
     }
@@ -88,7 +96,9 @@ impl FixedKeys {
         ensures table { OnSome result (key.table < GONE) }
         ensures nowhere { IfNone result (find key_cmp key self.now ≡ None) }
     {
-        let at = self.keys.partition_point(|fixed| key < fixed.key());
+        let at = self
+            .keys
+            .partition_point(|fixed| is_below(key, fixed.key()));
         if at < self.keys.len() && self.keys[at].key() == key {
             return Some(at);
         }

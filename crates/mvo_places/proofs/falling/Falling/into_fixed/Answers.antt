@@ -5,7 +5,7 @@ use Rattle.mvo_types.specs.declared.row.RowKey.{RowKey}
 use Rattle.mvo_places.specs.Falling.{keys, PlaceList}
 use Rattle.mvo_places.proofs.Keys.{eq}
 use Rattle.mvo_places.proofs.Falls.{falls_apart}
-use Rattle.mvo_places.proofs.Over.{keys-live, set_at}
+use Rattle.mvo_places.proofs.Over.{keys-live}
 use Rattle.mvo_places.proofs.falling.Falling.into_fixed.Goals as goal
 
 pub returns-clause-apart : goal.returns-clause-apart
