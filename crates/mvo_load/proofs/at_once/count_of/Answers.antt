@@ -1,4 +1,4 @@
-use Rattle.std.proofs.Common.{◌≡◌, ◌<◌, length, take, arith}
+use Rattle.std.proofs.Common.{◌≡◌, length, take, arith}
 use Rattle.mvo_load.specs.declared.part.Part.{Part}
 use Rattle.mvo_load.specs.Gathered.{filed_in}
 use Rattle.mvo_load.proofs.Taken.{OneMore, one_more}
