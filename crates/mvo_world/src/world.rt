@@ -122,7 +122,7 @@ impl<D: Disk> World<D> {
         let Ok(ring) = Ring::new(alloc) else {
             return Err((Refusal::OutOfMemory, store.into_disk()));
         };
-        let Ok(core) = Core::open(alloc, seed, rows, mark) else {
+        let Ok(core) = Core::open(rt, alloc, seed, rows, mark) else {
             return Err((Refusal::OutOfMemory, store.into_disk()));
         };
         Ok(World {
