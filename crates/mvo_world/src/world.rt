@@ -80,7 +80,7 @@ impl<D: Disk> World<D> {
 
     /// A world over what is on the disk. It writes and cuts nothing. Refused as `Store::open` is,
     /// or with OutOfMemory; the disk comes back. Who chooses the keys of rows must not know the
-    /// seed, which decides where keys stand in memory.
+    /// seed, which decides where keys stand in memory. Many rows are read and indexed in threads.
     ///
     /// The world stands after its past where both manifest slots hold a byte (`HasSlots`), as
     /// `format` leaves them. Where the disk has answered as written until then, it is opened over
