@@ -1,5 +1,5 @@
 -- Versions that are loaded one after another.
-use Rattle.std.proofs.Common.{◌≡◌, ℕ, ◌<◌, ◌≤◌, ◌^◌, ◌||◌, T, suc, zero, List, [], ◌∷◌, ◌++◌, map, length, Option, None, Some, refl, sym, ap, ◌∙◌, subst, arith}
+use Rattle.std.proofs.Common.{◌≡◌, ℕ, ◌<◌, ◌≤◌, ◌^◌, ◌||◌, T, suc, zero, List, [], ◌∷◌, ◌++◌, map, length, None, Some, refl, sym, ap, ◌∙◌, subst, arith}
 use Rattle.std.specs.Prelude.{◌&&◌, slice_get, slice_set, slice_index_or, fold, ◌==◌, cond, Bool, true, false}
 use Rattle.std.specs.List.{list_any}
 use Rattle.std.specs.Ordering.{is_lt, is_eq}
@@ -20,46 +20,21 @@ use Rattle.mvo_word.specs.declared.held.Held.TheVariants.{At}
 use Rattle.mvo_chain.specs.declared.version.Version.{Version}
 use Rattle.mvo_chain.specs.declared.version.VersionNo.{VersionNo}
 use Rattle.mvo_chain.specs.Slots.{Slots, with_room, with_slot, hole_count, IsHole, added}
-use Rattle.mvo_hash.specs.Lists.{Lists, or_empty, numbers_of, is_among}
-use Rattle.mvo_theory.specs.Sound.{how_many}
+use Rattle.mvo_hash.specs.Lists.{Lists, numbers_of, is_among}
 use Rattle.mvo_types.specs.Keys.{key_cmp}
 use Rattle.mvo_range.specs.declared.place.Place.{Place}
 use Rattle.mvo_range.specs.Place.{Map as Places, all_added, place_cmp}
 use Rattle.mvo_range.proofs.Places.{places_total}
 use Rattle.mvo_validate.specs.Entries.{key_at}
-use Rattle.mvo_visible.specs.Fronts.{with_new}
 use Rattle.mvo_representation.specs.Indexes.{all_versions, place_of, is_at_place, is_of_key, HasNumbers}
 use Rattle.mvo_representation.specs.Versions.{loaded_from, loaded}
-use Rattle.mvo_representation.proofs.Numbers.{numbers_added}
 use Rattle.mvo_versions.specs.Changes.{is_number_at}
+use Rattle.mvo_versions.specs.Loading.{put_at, entry_for, AreListed}
 use Rattle.mvo_versions.specs.Runs.{runs_at, entry_of, AreCounted}
 use Rattle.mvo_versions.proofs.Counting.{one, one_run}
 use Rattle.mvo_versions.proofs.Counted.{once_each, key_number}
-use Rattle.mvo_versions.proofs.Indexing.{hole_inside, hole_empty, room_numbers, found_at}
+use Rattle.mvo_versions.proofs.Indexing.{found_at}
 use Rattle.mvo_versions.proofs.Putting.{small_room}
-
--- the row as a version that was put at the mark
-abbrev pub put_at : Held → RowData → Option Version
-put_at mark row = Some (added row mark)
-
--- the entry of a row's place: one run, for no other row has its key
-abbrev pub entry_for : Held → RowData → Place × ℕ
-entry_for mark row = (place_of (added row mark), 1)
-
--- so many of the rows are loaded
-pub record AreLoading (mark : Held) (done : List RowData) (slots : Slots) (lists : Lists) (es : List (Place × ℕ)) : Type 0 where
-  pub slots_are : slots ≡ map (put_at mark) done
-  pub numbers : HasNumbers slots lists
-  pub entries : es ≡ map (entry_for mark) done
-  pub small : length slots ≤ 2 ^ 32
-
-pub none_loaded : (mark : Held) → AreLoading mark [] [] fin.empty []
-none_loaded mark = record {
-  slots_are = refl;
-  numbers = record { at = λ k n. ap (λ (o : Option (List ℕ)). how_many (λ m. m == n) (or_empty o)) (fin.get-empty key_cmp k) };
-  entries = refl;
-  small = omega arith;
-}
 
 -- ---- slots without a hole
 no_holes : (mark : Held) (rows : List RowData) → hole_count (map (put_at mark) rows) ≡ 0
@@ -84,17 +59,13 @@ entry_behind mark [] r = refl
 entry_behind mark (q ∷ rows) r = ap (λ xs. entry_for mark q ∷ xs) (entry_behind mark rows r)
 
 -- one more
-pub one_loaded : (mark : Held) (done : List RowData) (slots new : Slots) (lists lists' : Lists) (es : List (Place × ℕ)) (row : RowData) (n : VersionNo) (place : Place) → n.0 < 2 ^ 32 → AreLoading mark done slots lists es → IsHole (with_room slots) n → new ≡ with_slot (with_room slots) n (Some (added row mark)) → lists' ≡ with_new lists row.key n.0 → place ≡ place_of (added row mark) → AreLoading mark (done ++ row ∷ []) new lists' (es ++ (place, 1) ∷ [])
-one_loaded mark done slots new lists lists' es row n place few h hole s l p = record {
+pub one_listed : (mark : Held) (done : List RowData) (slots new : Slots) (es : List (Place × ℕ)) (row : RowData) (n : VersionNo) (place : Place) → n.0 < 2 ^ 32 → AreListed mark done slots es → IsHole (with_room slots) n → new ≡ with_slot (with_room slots) n (Some (added row mark)) → place ≡ place_of (added row mark) → AreListed mark (done ++ row ∷ []) new (es ++ (place, 1) ∷ [])
+one_listed mark done slots new es row n place few h hole s p = record {
   slots_are =
       s ∙ ap (λ (x : Slots). slice_set x n.0 (Some (added row mark))) room_is
       ∙ only_hole mark done n.0 (added row mark) (subst (λ (x : Slots). slice_get x n.0 ≡ Some None) room_is hole)
       ∙ map_behind mark done row;
-  numbers =
-      subst (λ (x : Slots). HasNumbers x lists') (sym s)
-      (subst (λ (x : Lists). HasNumbers (slice_set (with_room slots) n.0 (Some (added row mark))) x) (sym l)
-      (numbers_added (with_room slots) lists n.0 (added row mark) (hole_inside (with_room slots) n.0 hole) (hole_empty (with_room slots) n.0 hole) (room_numbers slots lists h.numbers)));
-  entries = ap (λ (x : List (Place × ℕ)). x ++ (place, 1) ∷ []) h.entries ∙ ap (λ q. map (entry_for mark) done ++ (q, 1) ∷ []) p ∙ entry_behind mark done row;
+  entries_are = ap (λ (x : List (Place × ℕ)). x ++ (place, 1) ∷ []) h.entries_are ∙ ap (λ q. map (entry_for mark) done ++ (q, 1) ∷ []) p ∙ entry_behind mark done row;
   small = subst (λ (x : Slots). length x ≤ 2 ^ 32) (sym s) (subst (λ m. m ≤ 2 ^ 32) (sym (length-set (with_room slots) n.0 (Some (added row mark)))) (small_room slots n hole few h.small));
 }
   where
@@ -173,13 +144,13 @@ loaded_runs mark rows slots lists p s h =
         (ap (λ (x : Slots). is_of_key (key_at p) (slice_index_or x j None)) (sym s) ∙ key_number slots lists (key_at p) j h b)
 
 -- as the loop has it at first
-pub loading_begins : (mark : Held) (slots : Slots) (lists : Lists) (es : List (Place × ℕ)) → slots ≡ [] → lists ≡ fin.empty → es ≡ [] → AreLoading mark [] slots lists es
-loading_begins mark slots lists es s l e = subst (λ (x : Slots). AreLoading mark [] x lists es) (sym s) (subst (λ (x : Lists). AreLoading mark [] [] x es) (sym l) (subst (λ (x : List (Place × ℕ)). AreLoading mark [] [] fin.empty x) (sym e) (none_loaded mark)))
+pub none_listed : (mark : Held) (slots : Slots) (es : List (Place × ℕ)) → slots ≡ [] → es ≡ [] → AreListed mark [] slots es
+none_listed mark slots es s e = record { slots_are = s; entries_are = e; small = subst (λ (x : Slots). length x ≤ 2 ^ 32) (sym s) (omega arith) }
 
--- and at last
-pub loading_ends : (mark : Held) (rows : Map) (done : List RowData) (slots : Slots) (lists : Lists) (es : List (Place × ℕ)) (places : Places) → AreLoading mark done slots lists es → done ≡ rows_by_key rows → places ≡ all_added es → AreCounted (record { slots = slots; lists = lists; places = places })
-loading_ends mark rows done slots lists es places h d p = record {
-  numbers = h.numbers;
-  runs = λ q. ap (λ (x : Places). fin.get x q) (p ∙ ap all_added (h.entries ∙ ap (map (entry_for mark)) d)) ∙ loaded_runs mark rows slots lists q (h.slots_are ∙ ap (map (put_at mark)) d) h.numbers;
+-- with both indexes
+pub loaded_counted : (mark : Held) (rows : Map) (slots : Slots) (lists : Lists) (es : List (Place × ℕ)) (places : Places) → AreListed mark (rows_by_key rows) slots es → HasNumbers slots lists → places ≡ all_added es → AreCounted (record { slots = slots; lists = lists; places = places })
+loaded_counted mark rows slots lists es places h numbers p = record {
+  numbers = numbers;
+  runs = λ q. ap (λ (x : Places). fin.get x q) (p ∙ ap all_added h.entries_are) ∙ loaded_runs mark rows slots lists q h.slots_are numbers;
   small = h.small;
 }
