@@ -8,8 +8,8 @@ use Rattle.mvo_range.specs.declared.place.Place.{Place}
 use Rattle.mvo_representation.specs.Indexes.{place_of}
 
 -- the row as a version that was put at the mark
-abbrev pub put_at : Held → RowData → Option Version
-put_at mark row = Some (added row mark)
+abbrev pub as_loaded : Held → RowData → Option Version
+as_loaded mark row = Some (added row mark)
 
 -- the entry of a row's place: one run, for no other row has its key
 abbrev pub entry_for : Held → RowData → Place × ℕ
@@ -19,6 +19,6 @@ entry_for mark row = (place_of (added row mark), 1)
 -- slots than numbers
 pub record AreListed (mark : Held) (rows : List RowData) (slots : Slots)
     (entries : List (Place × ℕ)) : Type 0 where
-  pub slots_are : slots ≡ map (put_at mark) rows
+  pub slots_are : slots ≡ map (as_loaded mark) rows
   pub entries_are : entries ≡ map (entry_for mark) rows
   pub small : length slots ≤ 2 ^ 32
