@@ -1,4 +1,5 @@
 pub mod Data
 pub mod Changes
 pub mod Runs
+pub mod Loading
 pub mod Skips

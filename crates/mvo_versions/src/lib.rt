@@ -3,7 +3,9 @@
 
 mod ended;
 mod indexed;
+mod indexes;
 mod leading;
+mod listing;
 mod looking;
 mod runs;
 mod skip;

@@ -6,6 +6,7 @@ use mvo_types::{Row, Rows, Stamp, TxId};
 use mvo_word::Word;
 use std::alloc::{AllocError, Global};
 use std::marker::Model;
+use std::thread::Threads;
 
 /// The versions of all rows. Contracts see them by number, the numbers of each key, newest first,
 /// and the places in the order of sorts.
@@ -54,14 +55,21 @@ impl Versions {
     ghost use Rattle.mvo_versions.specs.Changes.{AreLoaded, IsPut, IsRoomed, IsReworded};
     ghost use Rattle.mvo_versions.specs.Changes.{IsInFront, IsTakenOut};
 
-    /// The versions of these rows, put at the mark. Both indexes are built in one go. The seed
-    /// decides where keys stand in memory: who chooses the keys must not know it.
-    pub fn load(alloc: Global, seed: u64, rows: Rows, mark: Stamp) -> Result<Versions, AllocError>
+    /// The versions of these rows, put at the mark. The indexes of 8,192 rows or more are made in
+    /// two threads, each index beside the other. The seed decides where keys stand in memory: who
+    /// chooses the keys must not know it.
+    pub fn load(
+        rt: &(impl Threads + Sync),
+        alloc: Global,
+        seed: u64,
+        rows: Rows,
+        mark: Stamp,
+    ) -> Result<Versions, AllocError>
         requires { mark.0 ≤ LIMIT }
         ensures loaded { IfOk result (AreLoaded rows mark.0) }
         ensures indexed { IfOk result AreIndexed }
     {
-        let indexed = Indexed::load(alloc, seed, rows, mark)?;
+        let indexed = Indexed::load(rt, alloc, seed, rows, mark)?;
         Ok(Versions {
             indexed,
             skips: Skips::new(alloc),
