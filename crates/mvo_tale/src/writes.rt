@@ -1,4 +1,4 @@
-ghost use Rattle.std.specs.Prelude.{◌≡◌, IfOk, None, length, map};
+ghost use Rattle.std.specs.Prelude.{◌≡◌, IfOk, None, length, map, replicate};
 ghost use Rattle.std.specs.List.Sorted.{IsStrictlySortedBy};
 ghost use Rattle.std.specs.Option.{option_map};
 ghost use Rattle.std.specs.Ordering.{eq_by_cmp};
@@ -61,27 +61,28 @@ pub fn last_write<'a>(operations: &'a [(Op, Answer)], key: RowKey) -> Option<Eff
     last
 }
 
-/// No write yet to any of the keys.
-fn no_writes<'a>(alloc: Global, keys: &[RowKey]) -> Result<Vec<Option<Effect<'a>>>, AllocError>
-    ensures { IfOk result (λ lasts. effects_data lasts.items ≡ map (λ _. None) keys.now) }
+/// No write yet to so many keys.
+fn no_writes<'a>(alloc: Global, count: usize) -> Result<Vec<Option<Effect<'a>>>, AllocError>
+    ensures { IfOk result (λ lasts. lasts.items ≡ replicate count None) }
 {
-    keys.iter().map(|_| None).collect(alloc)
+    vec![in alloc; None; count]
 }
 
 /// Puts the write in the place of its key, where that is one of the keys, which rise.
 fn note<'a>(
-    lasts: &mut [Option<Effect<'a>>],
+    lasts: &mut Vec<Option<Effect<'a>>>,
     keys: &[RowKey],
     write: Option<(RowKey, Effect<'a>)>,
 )
-    requires len { length lasts.old ≡ length keys.now }
+    requires len { length lasts.old.items ≡ length keys.now }
     requires rise { IsStrictlySortedBy key_cmp keys.now }
-    ensures { effects_data lasts.new
-        ≡ with_write (option_map write_as write.entry) keys.now (effects_data lasts.old) }
+    ensures { effects_data lasts.new.items
+        ≡ with_write (option_map write_as write.entry) keys.now (effects_data lasts.old.items) }
 {
-    if let Some((key, effect)) = write
-        && let Ok(place) = keys.binary_search(&key)
-    {
+    let Some((key, effect)) = write else {
+        return;
+    };
+    if let Ok(place) = keys.binary_search(&key) {
         lasts[place] = Some(effect);
     }
 }
@@ -97,7 +98,7 @@ pub fn last_writes<'a>(
     ensures { IfOk result (λ lasts. effects_data lasts.items
         ≡ map (λ k. net_write k (history_told operations.now)) keys.now) }
 {
-    let mut lasts = no_writes(alloc, keys)?;
+    let mut lasts = no_writes(alloc, keys.len())?;
     for told in operations {
         let (op, answer) = told;
         note(&mut lasts, keys, write_by(op, answer));
