@@ -117,7 +117,7 @@ IsUnlessEnded slots old new n =
     (new ≡ []) ⊎ ((new ≡ old) × (begin_of_ended (version_at slots (number n)) ≡ None))
 
 -- a walk over the versions of a key, past some that tell nothing below b
-pub record IsPast (b : ℕ) (slots : Slots) (all walk : List VersionNo) : Type 0 where
+pub record IsRest (b : ℕ) (slots : Slots) (all walk : List VersionNo) : Type 0 where
   pub front : List VersionNo
   pub split : all ≡ front ++ walk
   pub later : AreLater b (versions_by slots front)
