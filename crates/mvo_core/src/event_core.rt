@@ -114,7 +114,10 @@ impl Core {
             return Err(refusal);
         }
         let alloc = self.alloc;
-        let work = self.spares.take()?;
+        let mut work = self.spares.take()?;
+        if let Some(list) = self.tale.spare_list() {
+            work.keep_list(list);
+        }
         self.table.begin(begun(alloc, work))
     }
 }
