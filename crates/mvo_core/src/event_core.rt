@@ -1,4 +1,4 @@
-use crate::spares::Spares;
+use crate::spares::{Spares, give_list};
 use crate::transaction::{Table, begun};
 use mvo_collect::Waiting;
 use mvo_tale::Tale;
@@ -115,9 +115,7 @@ impl Core {
         }
         let alloc = self.alloc;
         let mut work = self.spares.take()?;
-        if let Some(list) = self.tale.spare_list() {
-            work.keep_list(list);
-        }
+        give_list(&mut self.tale, &mut work);
         self.table.begin(begun(alloc, work))
     }
 }
