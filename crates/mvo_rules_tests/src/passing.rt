@@ -17,6 +17,7 @@ const KEY: RowKey = RowKey { table: 2, key: 5 };
 const LATEST: u64 = 1000;
 
 /// When a version begins, and when it ends, if it does.
+#[derive(Clone, Copy)]
 struct Plain {
     number: VersionNo,
     begin: u32,
@@ -108,7 +109,8 @@ fn commit(both: &mut Both, number: VersionNo, at: u32) -> Result<(), AllocError>
         number,
         begin: at,
         end: None,
-    })
+    })?;
+    Ok(())
 }
 
 fn update(alloc: Global, both: &mut Both, at: u32) -> Result<(), AllocError> {
@@ -126,8 +128,9 @@ fn update_twice(alloc: Global, both: &mut Both, at: u32) -> Result<(), AllocErro
         both.versions.bring_to_front(newest);
     }
     commit(both, number, at)?;
-    end_last(both, at.saturating_add(1));
-    commit(both, newest, at.saturating_add(1))
+    let later = at.saturating_add(2);
+    end_last(both, later);
+    commit(both, newest, later)
 }
 
 /// A version that has ended comes to the front, and goes from there.
@@ -149,13 +152,13 @@ fn take_out(both: &mut Both, at: usize) {
     }
 }
 
-/// Whether a reader that began then is shown the version.
+/// Whether the version begins before the reader, and doesn't end before it.
 fn is_shown(plain: &Plain, reader: u64) -> bool {
     let ended = match plain.end {
-        Some(end) => u64::from(end) <= reader,
+        Some(end) => u64::from(end) < reader,
         None => false,
     };
-    u64::from(plain.begin) <= reader && !ended
+    u64::from(plain.begin) < reader && !ended
 }
 
 fn plain_shown(list: &[Plain], reader: u64) -> Option<VersionNo> {
@@ -167,9 +170,10 @@ fn plain_shown(list: &[Plain], reader: u64) -> Option<VersionNo> {
     None
 }
 
-/// Each reader is shown what the list says.
+/// Each reader is shown what the list says. No two times are one: versions have even ones.
 fn agree(rt: &impl Abort, both: &Both) {
-    for reader in 0..LATEST {
+    for half in 0..LATEST / 2 {
+        let reader = half.saturating_mul(2).saturating_add(1);
         let shown = both.versions.shown(&both.table, TxId(reader), KEY);
         let wanted = plain_shown(both.list.as_slice(), reader);
         same_at(rt, &shown.version, &wanted, reader);
@@ -234,7 +238,7 @@ fn old_readers_are_shown_the_same_as_one_comes_to_the_front(rt: HostRuntime) -> 
         update_twice(
             rt.alloc(),
             &mut both,
-            step.saturating_mul(2).saturating_add(600),
+            step.saturating_mul(4).saturating_add(600),
         )?;
         agree(&rt, &both);
     }
