@@ -4,7 +4,7 @@ use Rattle.std.proofs.lemmas.Bool.{cond-true, cond-false, cases_Bool, eqb-true, 
 use Rattle.std.specs.Option.{option_map}
 use Rattle.mvo_chain.specs.declared.version.VersionNo.{VersionNo}
 use Rattle.mvo_hash.specs.declared.link.Link.{Link}
-use Rattle.mvo_hash.specs.Lists.{number, first_of, LeadsTo}
+use Rattle.mvo_hash.specs.Lists.{number, foremost, LeadsTo}
 use Rattle.mvo_hash.specs.Links.{no_number, link, some_unless_none, walk, to_come, IsWalk}
 use Rattle.mvo_hash.proofs.Walking.{steps, walk_done, behind_last}
 
@@ -75,13 +75,13 @@ pub passed_to : (ls : List Link) (at : ℕ) (began : Bool) (n : VersionNo) (rest
 passed_to ls at began n rest w l = ap (map number) (passed ls at began n rest w l).comes ∙ ap (λ ms. n ∷ ms) (numbers_plain rest)
 
 -- ---- what comes next
-pub first_comes : (ls : List Link) (at : ℕ) → IsWalk ls at → first_of (map number (walk ls (length ls) at)) ≡ option_map number (some_unless_none at)
+pub first_comes : (ls : List Link) (at : ℕ) → IsWalk ls at → foremost (map number (walk ls (length ls) at)) ≡ option_map number (some_unless_none at)
 first_comes ls at w =
     elim (cases_Bool (eqb at no_number)) [
       | inl t ↦
-          ap (λ ns. first_of (map number ns)) (walk_done ls at w (eqb-true at no_number t))
+          ap (λ ns. foremost (map number ns)) (walk_done ls at w (eqb-true at no_number t))
           ∙ sym (ap (option_map number) (cond-true (eqb at no_number) None (Some at) t))
       | inr f ↦
-          ap (λ ns. first_of (map number ns)) (steps ls at w (eqb-false at no_number f)).first
+          ap (λ ns. foremost (map number ns)) (steps ls at w (eqb-false at no_number f)).first
           ∙ sym (ap (option_map number) (cond-false (eqb at no_number) None (Some at) f))
     ]

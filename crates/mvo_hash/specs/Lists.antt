@@ -47,9 +47,9 @@ abbrev pub number : ℕ → VersionNo
 number n = record { 0 = n }
 
 -- the first of a list of versions
-abbrev pub first_of : List VersionNo → Option VersionNo
-first_of [] = None
-first_of (n ∷ ns) = Some n
+abbrev pub foremost : List VersionNo → Option VersionNo
+foremost [] = None
+foremost (n ∷ ns) = Some n
 
 -- the version stands in the list, in front of the rest
 abbrev pub LeadsTo : List VersionNo → VersionNo → List VersionNo → Type 0

@@ -34,7 +34,7 @@ impl<'a> Versions<'a> {
     ghost use Rattle.std.specs.Prelude.{◌≡◌, length, map};
     ghost use Rattle.std.specs.Prelude.{◌∷◌, List};
     ghost use Rattle.mvo_chain.specs.declared.version.VersionNo.{VersionNo as Number};
-    ghost use Rattle.mvo_hash.specs.Lists.{number, first_of, LeadsTo};
+    ghost use Rattle.mvo_hash.specs.Lists.{number, foremost, LeadsTo};
     ghost use Rattle.mvo_hash.specs.Links.{walk, IsWalk};
 
     /// A walk along the links from a number on.
@@ -51,7 +51,7 @@ impl<'a> Versions<'a> {
 
     /// The version that comes next, if there is one.
     pub fn peek(&self) -> Option<VersionNo>
-        ensures { result ≡ first_of self.now }
+        ensures { result ≡ foremost self.now }
     {
         if self.at == NONE {
             return None;

@@ -23,7 +23,7 @@ use Rattle.mvo_representation.specs.Indexes.{is_of_key, HasNumbers, place_of}
 use Rattle.mvo_representation.proofs.Numbers.{without_same}
 use Rattle.mvo_versions.specs.Data.{VersionsData, AreIndexed}
 use Rattle.mvo_versions.specs.Changes.{is_slot_at, is_number_at}
-use Rattle.mvo_versions.specs.Runs.{runs_behind, runs_at, one_passes, count_at, is_newest_at, place_at, AreCounted}
+use Rattle.mvo_versions.specs.Runs.{runs_behind, runs_at, passes, count_at, is_newest_at, place_at, AreCounted}
 use Rattle.mvo_versions.proofs.Counting.{one, runs_alike, in_front, passed_over, few_runs, any_runs, newer_among, newest_stays}
 use Rattle.mvo_versions.proofs.Entries.{same, same_is, count_is, stands, one_at_place, one_at_passes, fewer}
 use Rattle.mvo_versions.proofs.Indexing.{numbers_with, hole_inside, hole_empty, room_same, inside_of, none_of, empty_fresh, key_of_itself, at_key, found_at}
@@ -98,7 +98,7 @@ others_same slots n o q m d = ap (is_slot_at q) (get_or-set_other slots n m o No
 not_itself : (n : ℕ) (ns : List ℕ) (m : ℕ) → is_among n ns ≡ false → is_among m ns ≡ true → m ≡ n → ⊥
 not_itself n ns m f a e = true≢false (sym a ∙ ap (λ i. is_among i ns) e ∙ f)
 
-newest_alike : (p q : ℕ → Bool) (ns : List ℕ) → ((n : ℕ) → is_among n ns ≡ true → p n ≡ q n) → one_passes p (newest_of ns) ≡ one_passes q (newest_of ns)
+newest_alike : (p q : ℕ → Bool) (ns : List ℕ) → ((n : ℕ) → is_among n ns ≡ true → p n ≡ q n) → passes p (newest_of ns) ≡ passes q (newest_of ns)
 newest_alike p q [] alike = refl
 newest_alike p q (n ∷ ns) alike = alike n (or_left (eqb n n) (is_among n ns) (eq-eqb n n refl))
 
@@ -141,14 +141,14 @@ comes_runs slots lists n w q hole h =
     itself : is_number_at filled q n.0 ≡ same q (place_of w)
     itself = ap (is_slot_at q) (get_or-set_same (with_room slots) n.0 (Some w) None (hole_inside (with_room slots) n.0 hole))
 
-    joins : same q (place_of w) ≡ true → one_passes (at_place slots q) (newest_of (numbers_of lists w.row.key)) ≡ is_newest_at slots lists (place_of w)
-    joins e = ap (λ i. one_passes (at_place slots i) (newest_of (numbers_of lists w.row.key))) (same_is q (place_of w) e)
+    joins : same q (place_of w) ≡ true → passes (at_place slots q) (newest_of (numbers_of lists w.row.key)) ≡ is_newest_at slots lists (place_of w)
+    joins e = ap (λ i. passes (at_place slots i) (newest_of (numbers_of lists w.row.key))) (same_is q (place_of w) e)
 
     go : (b : Bool) → eq_by_cmp key_cmp (key_at q) w.row.key ≡ b → runs_behind false (at_place filled q) (cond b (n.0 ∷ numbers_of lists w.row.key) (numbers_of lists (key_at q))) ≡ runs_at slots lists q + cond (is_newest_at slots lists (place_of w)) 0 (one (same q (place_of w)))
     go true e =
         let ns = numbers_of lists w.row.key in
-        new_runs (same q (place_of w)) (one_passes (at_place slots q) (newest_of ns)) (is_newest_at slots lists (place_of w)) (runs_at slots lists q) _ joins
-        (ap (λ b. runs_behind false (at_place filled q) (n.0 ∷ ns) + one (b && one_passes (at_place slots q) (newest_of ns))) (sym itself)
+        new_runs (same q (place_of w)) (passes (at_place slots q) (newest_of ns)) (is_newest_at slots lists (place_of w)) (runs_at slots lists q) _ joins
+        (ap (λ b. runs_behind false (at_place filled q) (n.0 ∷ ns) + one (b && passes (at_place slots q) (newest_of ns))) (sym itself)
         ∙ ap (λ b. runs_behind false (at_place filled q) (n.0 ∷ ns) + one (is_number_at filled q n.0 && b)) (sym (newest_alike (at_place filled q) (at_place slots q) ns (alike w.row.key)))
         ∙ in_front (at_place filled q) n.0 ns
         ∙ ap (λ b. one b + runs_behind false (at_place filled q) ns) itself
@@ -198,18 +198,18 @@ pub record AreNeighbours (lists : Lists) (k : RowKey) (n : ℕ) (newer older : O
   pub front : option_map (λ (m : VersionNo). m.0) newer ≡ newer_of n (numbers_of lists k)
   pub back : option_map (λ (m : VersionNo). m.0) older ≡ older_of n (numbers_of lists k)
 
-stands_as : (slots : Slots) (q : Place) (o : Option VersionNo) (i : Option ℕ) → option_map (λ (m : VersionNo). m.0) o ≡ i → one_passes (at_place slots q) i ≡ stands q (place_at slots o)
-stands_as slots q o i e = ap (one_passes (at_place slots q)) (sym e) ∙ sym (one_at_passes slots q o) ∙ one_at_place slots q o
+stands_as : (slots : Slots) (q : Place) (o : Option VersionNo) (i : Option ℕ) → option_map (λ (m : VersionNo). m.0) o ≡ i → passes (at_place slots q) i ≡ stands q (place_at slots o)
+stands_as slots q o i e = ap (passes (at_place slots q)) (sym e) ∙ sym (one_at_passes slots q o) ∙ one_at_place slots q o
 
 -- a newer neighbour stands at no place of another key
-other_newer : (slots : Slots) (lists : Lists) (k : RowKey) (n : ℕ) (q : Place) → HasNumbers slots lists → eq_by_cmp key_cmp (key_at q) k ≡ false → one_passes (at_place slots q) (newer_of n (numbers_of lists k)) ≡ false
+other_newer : (slots : Slots) (lists : Lists) (k : RowKey) (n : ℕ) (q : Place) → HasNumbers slots lists → eq_by_cmp key_cmp (key_at q) k ≡ false → passes (at_place slots q) (newer_of n (numbers_of lists k)) ≡ false
 other_newer slots lists k n q h d = go (newer_of n (numbers_of lists k)) refl
   where
     at : (m : ℕ) → is_among m (numbers_of lists k) ≡ true → (b : Bool) → is_number_at slots q m ≡ b → b ≡ false
     at m a false e = refl
     at m a true e = absurd (true≢false (sym (ap (λ i. eq_by_cmp key_cmp i k) (number_key slots lists k q m h a e) ∙ key_of_itself k) ∙ d))
 
-    go : (o : Option ℕ) → newer_of n (numbers_of lists k) ≡ o → one_passes (at_place slots q) o ≡ false
+    go : (o : Option ℕ) → newer_of n (numbers_of lists k) ≡ o → passes (at_place slots q) o ≡ false
     go None e = refl
     go (Some m) e = elim (newer_among n None (numbers_of lists k) m e) [
       | inl c ↦ absurd cc
@@ -230,7 +230,7 @@ module _ (slots : Slots) (lists : Lists) (n : VersionNo) (w : Version) (newer ol
       let rest = runs_behind false (at_place slots q) (without n.0 ns) in
       subst (λ x. rest + (one (x && not (stands q (place_at slots newer))) + one (stands q (place_at slots older) && not x)) ≡ r + one (stands q (place_at slots older) && not (stands q (place_at slots newer)))) itself_at
       (subst (λ a. rest + (one (is_number_at slots q n.0 && not a) + one (stands q (place_at slots older) && not (is_number_at slots q n.0))) ≡ r + one (stands q (place_at slots older) && not a)) (stands_as slots q newer (newer_of n.0 ns) near.front)
-      (subst (λ b. rest + (one (is_number_at slots q n.0 && not (one_passes (at_place slots q) (newer_of n.0 ns))) + one (b && not (is_number_at slots q n.0))) ≡ r + one (b && not (one_passes (at_place slots q) (newer_of n.0 ns)))) (stands_as slots q older (older_of n.0 ns) near.back)
+      (subst (λ b. rest + (one (is_number_at slots q n.0 && not (passes (at_place slots q) (newer_of n.0 ns))) + one (b && not (is_number_at slots q n.0))) ≡ r + one (b && not (passes (at_place slots q) (newer_of n.0 ns)))) (stands_as slots q older (older_of n.0 ns) near.back)
       (passed_over (at_place slots q) n.0 None ns once_there)))
 
   -- none fewer at a place of another key
@@ -272,18 +272,18 @@ module _ (slots : Slots) (lists : Lists) (n : VersionNo) (w : Version) (newer ol
       stays : newest_of (without n.0 ns) ≡ newest_of ns
       stays = newest_stays n.0 None ns refl (ap is_some (sym near.front) ∙ some_number newer there)
 
-      joins : same q (place_of w) ≡ true → one_passes (at_place slots q) (newest_of ns) ≡ is_newest_at slots lists (place_of w)
-      joins s = ap (λ i. one_passes (at_place slots i) (newest_of ns)) (same_is q (place_of w) s)
+      joins : same q (place_of w) ≡ true → passes (at_place slots q) (newest_of ns) ≡ is_newest_at slots lists (place_of w)
+      joins s = ap (λ i. passes (at_place slots i) (newest_of ns)) (same_is q (place_of w) s)
 
-      first : runs_behind false (at_place slots q) (n.0 ∷ without n.0 ns) + one (same q (place_of w) && one_passes (at_place slots q) (newest_of ns)) ≡ one (same q (place_of w)) + runs_behind false (at_place slots q) (without n.0 ns)
+      first : runs_behind false (at_place slots q) (n.0 ∷ without n.0 ns) + one (same q (place_of w) && passes (at_place slots q) (newest_of ns)) ≡ one (same q (place_of w)) + runs_behind false (at_place slots q) (without n.0 ns)
       first =
-          subst (λ x. runs_behind false (at_place slots q) (n.0 ∷ without n.0 ns) + one (x && one_passes (at_place slots q) (newest_of ns)) ≡ one x + runs_behind false (at_place slots q) (without n.0 ns)) itself_at
-          (subst (λ o. runs_behind false (at_place slots q) (n.0 ∷ without n.0 ns) + one (is_number_at slots q n.0 && one_passes (at_place slots q) o) ≡ one (is_number_at slots q n.0) + runs_behind false (at_place slots q) (without n.0 ns)) stays
+          subst (λ x. runs_behind false (at_place slots q) (n.0 ∷ without n.0 ns) + one (x && passes (at_place slots q) (newest_of ns)) ≡ one x + runs_behind false (at_place slots q) (without n.0 ns)) itself_at
+          (subst (λ o. runs_behind false (at_place slots q) (n.0 ∷ without n.0 ns) + one (is_number_at slots q n.0 && passes (at_place slots q) o) ≡ one (is_number_at slots q n.0) + runs_behind false (at_place slots q) (without n.0 ns)) stays
           (in_front (at_place slots q) n.0 (without n.0 ns)))
 
       go : (b : Bool) → eq_by_cmp key_cmp (key_at q) w.row.key ≡ b → runs_behind false (at_place slots q) (cond b (n.0 ∷ without n.0 ns) (numbers_of lists (key_at q))) ≡ (runs_at slots lists q + cond (is_newest_at slots lists (place_of w)) 0 (one (same q (place_of w)))) - fewer (place_of w) (place_at slots newer) (place_at slots older) q
       go true t =
-          front_sum (same q (place_of w)) (stands q (place_at slots newer)) (stands q (place_at slots older)) (one_passes (at_place slots q) (newest_of ns)) (is_newest_at slots lists (place_of w)) (runs_behind false (at_place slots q) ns) (runs_behind false (at_place slots q) (without n.0 ns)) (runs_behind false (at_place slots q) (n.0 ∷ without n.0 ns)) joins rest_sum first
+          front_sum (same q (place_of w)) (stands q (place_at slots newer)) (stands q (place_at slots older)) (passes (at_place slots q) (newest_of ns)) (is_newest_at slots lists (place_of w)) (runs_behind false (at_place slots q) ns) (runs_behind false (at_place slots q) (without n.0 ns)) (runs_behind false (at_place slots q) (n.0 ∷ without n.0 ns)) joins rest_sum first
           ∙ ap (λ k. (runs_behind false (at_place slots q) (numbers_of lists k) + cond (is_newest_at slots lists (place_of w)) 0 (one (same q (place_of w)))) - fewer (place_of w) (place_at slots newer) (place_at slots older) q) (sym (tells_apart exact_keys (key_at q) w.row.key t))
       go false d =
           let z = none_elsewhere d in

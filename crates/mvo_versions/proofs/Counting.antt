@@ -5,7 +5,7 @@ use Rattle.std.specs.List.{list_any}
 use Rattle.std.proofs.lemmas.Bool.{eq-eqb, eqb-true, ne_eqb, cases_eq, true≢false, or_left, or_right}
 use Rattle.mvo_theory.specs.Sound.{how_many}
 use Rattle.mvo_hash.specs.Lists.{newest_of, is_among, without, older_of, newer_behind}
-use Rattle.mvo_versions.specs.Runs.{runs_behind, entry_of, or_none, one_passes}
+use Rattle.mvo_versions.specs.Runs.{runs_behind, entry_of, or_none, passes}
 
 abbrev pub one : Bool → ℕ
 one b = cond b 1 0
@@ -18,7 +18,7 @@ runs_alike p q b (n ∷ ns) same =
     ∙ ap (λ m. one (q n && not b) + m) (runs_alike p q (q n) ns (λ m a. same m (or_right (eqb m n) (is_among m ns) a)))
 
 -- a run that goes on isn't counted again
-pub behind : (p : ℕ → Bool) (b : Bool) (ns : List ℕ) → runs_behind b p ns + one (b && one_passes p (newest_of ns)) ≡ runs_behind false p ns
+pub behind : (p : ℕ → Bool) (b : Bool) (ns : List ℕ) → runs_behind b p ns + one (b && passes p (newest_of ns)) ≡ runs_behind false p ns
 behind p true [] = refl
 behind p false [] = refl
 behind p b (n ∷ ns) = go b (p n) (runs_behind (p n) p ns)
@@ -30,8 +30,8 @@ behind p b (n ∷ ns) = go b (p n) (runs_behind (p n) p ns)
     go false false r = omega arith
 
 -- one more in front begins a run, or joins that of the next
-pub in_front : (p : ℕ → Bool) (n : ℕ) (ns : List ℕ) → runs_behind false p (n ∷ ns) + one (p n && one_passes p (newest_of ns)) ≡ one (p n) + runs_behind false p ns
-in_front p n ns = go (p n) (runs_behind (p n) p ns) (one (p n && one_passes p (newest_of ns))) (runs_behind false p ns) (behind p (p n) ns)
+pub in_front : (p : ℕ → Bool) (n : ℕ) (ns : List ℕ) → runs_behind false p (n ∷ ns) + one (p n && passes p (newest_of ns)) ≡ one (p n) + runs_behind false p ns
+in_front p n ns = go (p n) (runs_behind (p n) p ns) (one (p n && passes p (newest_of ns))) (runs_behind false p ns) (behind p (p n) ns)
   where
     go : (c : Bool) (r j all : ℕ) → r + j ≡ all → (one (c && not false) + r) + j ≡ one c + all
     go true r j all e = omega (arith, e)
@@ -48,11 +48,11 @@ without_absent n (m ∷ ns) e = go (cases_eq n m) (without_absent n ns)
         ap (λ b. cond (not b) (m ∷ without n ns) (without n ns)) (ne_eqb n m d) ∙ ap (λ ms. m ∷ ms) (again z)
 
 abbrev pub IsPassed : (ℕ → Bool) → ℕ → Option ℕ → List ℕ → Type 0
-IsPassed p n front ns = runs_behind (one_passes p front) p (without n ns) + (one (p n && not (one_passes p (newer_behind front n ns))) + one (one_passes p (older_of n ns) && not (p n))) ≡ runs_behind (one_passes p front) p ns + one (one_passes p (older_of n ns) && not (one_passes p (newer_behind front n ns)))
+IsPassed p n front ns = runs_behind (passes p front) p (without n ns) + (one (p n && not (passes p (newer_behind front n ns))) + one (passes p (older_of n ns) && not (p n))) ≡ runs_behind (passes p front) p ns + one (passes p (older_of n ns) && not (passes p (newer_behind front n ns)))
 
 -- what is due of one that goes, where the first is it or isn't
 abbrev Over : (ℕ → Bool) → ℕ → ℕ → Option ℕ → List ℕ → Bool → Type 0
-Over p n m front ns b = runs_behind (one_passes p front) p (cond (not b) (m ∷ without n ns) (without n ns)) + (one (p n && not (one_passes p (cond b front (newer_behind (Some m) n ns)))) + one (one_passes p (cond b (newest_of ns) (older_of n ns)) && not (p n))) ≡ runs_behind (one_passes p front) p (m ∷ ns) + one (one_passes p (cond b (newest_of ns) (older_of n ns)) && not (one_passes p (cond b front (newer_behind (Some m) n ns))))
+Over p n m front ns b = runs_behind (passes p front) p (cond (not b) (m ∷ without n ns) (without n ns)) + (one (p n && not (passes p (cond b front (newer_behind (Some m) n ns)))) + one (passes p (cond b (newest_of ns) (older_of n ns)) && not (p n))) ≡ runs_behind (passes p front) p (m ∷ ns) + one (passes p (cond b (newest_of ns) (older_of n ns)) && not (passes p (cond b front (newer_behind (Some m) n ns))))
 
 -- One that goes from between its neighbours ends a run where neither passes as it does, and joins
 -- theirs where they pass and it doesn't.
@@ -74,9 +74,9 @@ passed_over p n front (m ∷ ns) e = go (cases_eq n m) (passed_over p n (Some m)
     go (inl q) again =
         let z : how_many (λ i. i == n) ns ≡ 0 = let c : one (m == n) ≡ 1 = ap one (eq-eqb m n (sym q)) in omega (arith, e, c) in
         subst (Over p n m front ns) (sym (eq-eqb n m q))
-        (ap (λ ms. runs_behind (one_passes p front) p ms + (one (p n && not (one_passes p front)) + one (one_passes p (newest_of ns) && not (p n)))) (without_absent n ns z)
-        ∙ here (one_passes p front) (p n) (one_passes p (newest_of ns)) (runs_behind (one_passes p front) p ns) (runs_behind (p n) p ns) (runs_behind false p ns) (behind p (one_passes p front) ns) (behind p (p n) ns)
-        ∙ ap (λ i. (one (p i && not (one_passes p front)) + runs_behind (p i) p ns) + one (one_passes p (newest_of ns) && not (one_passes p front))) q)
+        (ap (λ ms. runs_behind (passes p front) p ms + (one (p n && not (passes p front)) + one (passes p (newest_of ns) && not (p n)))) (without_absent n ns z)
+        ∙ here (passes p front) (p n) (passes p (newest_of ns)) (runs_behind (passes p front) p ns) (runs_behind (p n) p ns) (runs_behind false p ns) (behind p (passes p front) ns) (behind p (p n) ns)
+        ∙ ap (λ i. (one (p i && not (passes p front)) + runs_behind (p i) p ns) + one (passes p (newest_of ns) && not (passes p front))) q)
     go (inr d) again =
         let z : how_many (λ i. i == n) ns ≡ 1 = let c : one (m == n) ≡ 0 = ap one (ne_eqb m n (λ q. d (sym q))) in omega (arith, e, c) in
         let rest = again z in

@@ -15,7 +15,7 @@ use Rattle.mvo_range.specs.Place.{Map as Places, place_cmp}
 use Rattle.mvo_range.proofs.Places.{places_total, exact_places}
 use Rattle.mvo_representation.specs.Indexes.{place_of}
 use Rattle.mvo_versions.specs.Changes.{is_slot_at, is_number_at, is_one_at}
-use Rattle.mvo_versions.specs.Runs.{entry_of, or_none, one_passes, count_at, with_count, one_more, one_less, place_at, if_at, joined_place, less_joined, left, entered}
+use Rattle.mvo_versions.specs.Runs.{entry_of, or_none, passes, count_at, with_count, one_more, one_less, place_at, if_at, joined_place, less_joined, left, entered}
 use Rattle.mvo_versions.proofs.Counting.{one, entry_back}
 
 abbrev pub same : Place → Place → Bool
@@ -82,7 +82,7 @@ one_at_place slots q (Some n) = go (slice_index_or slots n.0 None)
     go None = refl
     go (Some v) = refl
 
-pub one_at_passes : (slots : Slots) (q : Place) (o : Option VersionNo) → is_one_at slots q o ≡ one_passes (is_number_at slots q) (option_map (λ (n : VersionNo). n.0) o)
+pub one_at_passes : (slots : Slots) (q : Place) (o : Option VersionNo) → is_one_at slots q o ≡ passes (is_number_at slots q) (option_map (λ (n : VersionNo). n.0) o)
 one_at_passes slots q None = refl
 one_at_passes slots q (Some n) = refl
 

@@ -21,7 +21,7 @@ use Rattle.mvo_versions.specs.declared.skips.Post.{Post}
 use Rattle.mvo_versions.specs.declared.skip.Skip.{Skip}
 use Rattle.mvo_versions.specs.Data.{VersionsData, AreIndexed}
 use Rattle.mvo_versions.specs.Changes.{IsPut, IsRoomed, IsReworded, IsInFront, IsTakenOut}
-use Rattle.mvo_versions.specs.Skips.{begin_of_ended, is_ended_from, from_on, leads, skip_at, HasNoMore, IsForgotten, HasNoMoreBut, IsSkip, AreSkips, HasSkips, IsUnlessEnded}
+use Rattle.mvo_versions.specs.Skips.{begin_of_ended, is_ended_from, from_on, leads, skip_at, HasNoMore, IsForgotten, IsNoted, IsSkip, AreSkips, HasSkips, IsUnlessEnded}
 use Rattle.mvo_versions.proofs.Indexing.{number_among, numbers_with, none_of, room_same}
 use Rattle.mvo_versions.proofs.Going.{found}
 use Rattle.mvo_versions.proofs.Posts.{none_known}
@@ -230,7 +230,7 @@ pub no_skips : (slots : Slots) (lists : Lists) (ps : List Post) → ps ≡ [] �
 no_skips slots lists ps e = record { each = λ p r q. none_known p r (sym (ap (λ xs. skip_at xs p) e) ∙ q) }
 
 -- a skip is noted
-pub noted_skips : (slots : Slots) (lists : Lists) (old new : List Post) (n : ℕ) (skip : Skip) → HasNoMoreBut old new n skip → IsSkip slots lists n skip → AreSkips slots lists old → AreSkips slots lists new
+pub noted_skips : (slots : Slots) (lists : Lists) (old new : List Post) (n : ℕ) (skip : Skip) → IsNoted old new n skip → IsSkip slots lists n skip → AreSkips slots lists old → AreSkips slots lists new
 noted_skips slots lists old new n skip i is h = record {
   each = λ p r q. elim (i.was p r q) [
     | inl e ↦ h.each p r e

@@ -6,7 +6,7 @@ use Rattle.mvo_types.specs.declared.row.RowKey.{RowKey}
 use Rattle.mvo_chain.specs.declared.version.Version.{Version}
 use Rattle.mvo_chain.specs.declared.version.VersionNo.{VersionNo}
 use Rattle.mvo_chain.specs.Slots.{Slots, version_at}
-use Rattle.mvo_hash.specs.Lists.{Lists, number, numbers_of, is_among, first_of, LeadsTo}
+use Rattle.mvo_hash.specs.Lists.{Lists, number, numbers_of, is_among, foremost, LeadsTo}
 use Rattle.mvo_hash.proofs.Passing.{plain, plain_numbers}
 use Rattle.mvo_visible.specs.declared.outcome.Shown.{Shown}
 use Rattle.mvo_visible.specs.Words.{States}
@@ -17,7 +17,7 @@ use Rattle.mvo_visible.proofs.Passed.{shown_behind}
 use Rattle.mvo_visible.proofs.Walks.{versions_by-append}
 use Rattle.mvo_representation.specs.Indexes.{HasNumbers}
 use Rattle.mvo_versions.specs.declared.skip.Skip.{Skip}
-use Rattle.mvo_versions.specs.Skips.{begin_of_ended, is_ended_from, is_later_one, leads, from_on, IsSkip, IsPastLater}
+use Rattle.mvo_versions.specs.Skips.{begin_of_ended, is_ended_from, is_later_one, leads, from_on, IsSkip, IsRest}
 use Rattle.mvo_versions.proofs.Words.{at_least_lower, ended_later}
 use Rattle.mvo_versions.proofs.Older.{among_split, from_split, once}
 
@@ -41,11 +41,11 @@ pub later_append : (b : ℕ) (slots : Slots) (ms ns : List VersionNo) → AreLat
 later_append b slots ms ns l k = subst (AreLater b) (sym (versions_by-append slots ms ns)) (later_both b (versions_by slots ms) (versions_by slots ns) l k)
 
 -- ---- the walk
-pub past_none : (b : ℕ) (slots : Slots) (all walk : List VersionNo) → walk ≡ all → IsPastLater b slots all walk
+pub past_none : (b : ℕ) (slots : Slots) (all walk : List VersionNo) → walk ≡ all → IsRest b slots all walk
 past_none b slots all walk e = record { front = []; split = sym e; later = tt }
 
 -- past one more
-pub past_one : (b : ℕ) (slots : Slots) (all walk rest : List VersionNo) (n : VersionNo) → walk ≡ n ∷ rest → is_later_one b (version_at slots n) ≡ true → IsPastLater b slots all walk → IsPastLater b slots all rest
+pub past_one : (b : ℕ) (slots : Slots) (all walk rest : List VersionNo) (n : VersionNo) → walk ≡ n ∷ rest → is_later_one b (version_at slots n) ≡ true → IsRest b slots all walk → IsRest b slots all rest
 past_one b slots all walk rest n e l p = record {
   front = p.front ++ n ∷ [];
   split = p.split ∙ ap (λ ns. p.front ++ ns) e ∙ sym (append_assoc p.front (n ∷ []) rest);
@@ -76,7 +76,7 @@ goes_past b c to slots le (n ∷ ns) h =
     ]
 
 -- the skip that begins where the walk stands, as the walk has it
-skip_ahead : (slots : Slots) (lists : Lists) (key : RowKey) (walk rest : List VersionNo) (n : VersionNo) (r : Skip) (b : ℕ) → HasNumbers slots lists → IsSkip slots lists n.0 r → walk ≡ n ∷ rest → IsPastLater b slots (map number (numbers_of lists key)) walk → leads slots r.least.0 r.to.0 (plain walk) ≡ true
+skip_ahead : (slots : Slots) (lists : Lists) (key : RowKey) (walk rest : List VersionNo) (n : VersionNo) (r : Skip) (b : ℕ) → HasNumbers slots lists → IsSkip slots lists n.0 r → walk ≡ n ∷ rest → IsRest b slots (map number (numbers_of lists key)) walk → leads slots r.least.0 r.to.0 (plain walk) ≡ true
 skip_ahead slots lists key walk rest n r b h skip e p =
     let split : numbers_of lists key ≡ plain p.front ++ n.0 ∷ plain rest = sym (plain_numbers (numbers_of lists key)) ∙ ap plain (p.split ∙ ap (λ ns. p.front ++ ns) e) ∙ plain_split p.front n rest in
     ap (λ ns. leads slots r.least.0 r.to.0 (plain ns)) e
@@ -87,9 +87,9 @@ skip_ahead slots lists key walk rest n r b h skip e p =
 pub record Passes (b : ℕ) (slots : Slots) (all walk : List VersionNo) (to : VersionNo) : Type 0 where
   pub rest : List VersionNo
   pub leads : LeadsTo walk to rest
-  pub past : IsPastLater b slots all (to ∷ rest)
+  pub past : IsRest b slots all (to ∷ rest)
 
-pub past_skip : (slots : Slots) (lists : Lists) (key : RowKey) (walk rest : List VersionNo) (n : VersionNo) (r : Skip) (b : ℕ) → HasNumbers slots lists → IsSkip slots lists n.0 r → walk ≡ n ∷ rest → b ≤ r.least.0 → IsPastLater b slots (map number (numbers_of lists key)) walk → Passes b slots (map number (numbers_of lists key)) walk r.to
+pub past_skip : (slots : Slots) (lists : Lists) (key : RowKey) (walk rest : List VersionNo) (n : VersionNo) (r : Skip) (b : ℕ) → HasNumbers slots lists → IsSkip slots lists n.0 r → walk ≡ n ∷ rest → b ≤ r.least.0 → IsRest b slots (map number (numbers_of lists key)) walk → Passes b slots (map number (numbers_of lists key)) walk r.to
 past_skip slots lists key walk rest n r b h skip e le p =
     let it = goes_past b r.least.0 r.to.0 slots le walk (skip_ahead slots lists key walk rest n r b h skip e p) in
     record {
@@ -103,7 +103,7 @@ past_skip slots lists key walk rest n r b h skip e le p =
     }
 
 -- what comes first is in front of the rest
-pub first_and_rest : (walk : List VersionNo) (n : VersionNo) → first_of walk ≡ Some n → (rest : List VersionNo) × (walk ≡ n ∷ rest)
+pub first_and_rest : (walk : List VersionNo) (n : VersionNo) → foremost walk ≡ Some n → (rest : List VersionNo) × (walk ≡ n ∷ rest)
 first_and_rest [] n e = cc
 first_and_rest (m ∷ ms) n e = let q : m ≡ n = cc in (ms, ap (λ i. i ∷ ms) q)
 
@@ -113,7 +113,7 @@ next_is walk left None n rest e q = let none : walk ≡ [] = q.0 in cc
 next_is walk left (Some x) n rest e q = cc
 
 -- what is shown of the versions that are still to come is shown of all
-pub shown_past : (states : States) (r : ℕ) (slots : Slots) (lists : Lists) (key : RowKey) (walk : List VersionNo) (shown : Shown) → IsPastLater r slots (map number (numbers_of lists key)) walk → (IsInOrder states r r (versions_by slots walk) → shown ≡ shown_to states r r (versions_by slots walk)) → IsInOrder states r r (versions_at slots lists key) → shown ≡ shown_to states r r (versions_at slots lists key)
+pub shown_past : (states : States) (r : ℕ) (slots : Slots) (lists : Lists) (key : RowKey) (walk : List VersionNo) (shown : Shown) → IsRest r slots (map number (numbers_of lists key)) walk → (IsInOrder states r r (versions_by slots walk) → shown ≡ shown_to states r r (versions_by slots walk)) → IsInOrder states r r (versions_at slots lists key) → shown ≡ shown_to states r r (versions_at slots lists key)
 shown_past states r slots lists key walk shown p is =
     subst (λ vs. IsInOrder states r r vs → shown ≡ shown_to states r r vs)
     (sym (ap (versions_by slots) p.split ∙ versions_by-append slots p.front walk))

@@ -6,7 +6,7 @@ use Rattle.std.proofs.lemmas.Option.{slice_get_within}
 use Rattle.mvo_chain.specs.declared.version.VersionNo.{VersionNo}
 use Rattle.mvo_versions.specs.declared.skips.Post.{Post}
 use Rattle.mvo_versions.specs.declared.skip.Skip.{Skip}
-use Rattle.mvo_versions.specs.Skips.{is_post, post_at, skip_up_to, skip_from, skip_at, IsEmpty, HasNoMore, IsForgotten, HasNoMoreBut}
+use Rattle.mvo_versions.specs.Skips.{is_post, post_at, skip_up_to, skip_from, skip_at, IsEmpty, HasNoMore, IsForgotten, IsNoted}
 
 -- ---- a skip that is known
 pub some_is : {A : Type 0} (x y : A) → ◌≡◌ {A = Option A} (Some x) (Some y) → x ≡ y
@@ -170,7 +170,7 @@ no_post_at ps n f = cond-false (is_post n) (slice_get ps (n / 128)) None f
 
 -- ---- a skip is noted
 -- its first post says so
-pub said : (ps : List Post) (n : ℕ) (p : Post) (skip : Skip) → post_at ps n ≡ Some p → n / 128 < length ps → HasNoMoreBut ps (slice_set ps (n / 128) (record { least = skip.least; to = skip.to; from = p.from })) n skip
+pub said : (ps : List Post) (n : ℕ) (p : Post) (skip : Skip) → post_at ps n ≡ Some p → n / 128 < length ps → IsNoted ps (slice_set ps (n / 128) (record { least = skip.least; to = skip.to; from = p.from })) n skip
 said ps n p skip there within = record { was = λ m r q. go m r (known new m r q) }
   where
     said_so : Post
@@ -214,7 +214,7 @@ pub post_within : (ps : List Post) (n : ℕ) (p : Post) → post_at ps n ≡ Som
 post_within ps n p e = slice_get_within ps (n / 128) p (at_post ps n p e).1
 
 -- and its last one agrees, where none but this skip began at the first
-pub agreed_to : (ps : List Post) (n : ℕ) (l : Post) (skip : Skip) (from : VersionNo) → post_at ps skip.to.0 ≡ Some l → skip.to.0 / 128 < length ps → from.0 ≡ n → ((p : Post) → post_at ps n ≡ Some p → record { to = p.to; least = p.least } ≡ skip) → (old : List Post) → HasNoMoreBut old ps n skip → HasNoMoreBut old (slice_set ps (skip.to.0 / 128) (record { least = l.least; to = l.to; from = from })) n skip
+pub agreed_to : (ps : List Post) (n : ℕ) (l : Post) (skip : Skip) (from : VersionNo) → post_at ps skip.to.0 ≡ Some l → skip.to.0 / 128 < length ps → from.0 ≡ n → ((p : Post) → post_at ps n ≡ Some p → record { to = p.to; least = p.least } ≡ skip) → (old : List Post) → IsNoted old ps n skip → IsNoted old (slice_set ps (skip.to.0 / 128) (record { least = l.least; to = l.to; from = from })) n skip
 agreed_to ps n l skip from there within is_from only old led = record { was = λ m r q. go m r (known new m r q) }
   where
     agrees : Post

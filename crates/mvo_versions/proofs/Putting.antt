@@ -17,7 +17,7 @@ use Rattle.mvo_representation.specs.Indexes.{HasNumbers, place_of}
 use Rattle.mvo_representation.proofs.Numbers.{numbers_added}
 use Rattle.mvo_versions.specs.Data.{VersionsData}
 use Rattle.mvo_versions.specs.Changes.{IsRoomed, is_slot_at, is_number_at, is_one_at}
-use Rattle.mvo_versions.specs.Runs.{runs_at, entry_of, one_passes, one_less, is_newest_at, entered, AreCounted}
+use Rattle.mvo_versions.specs.Runs.{runs_at, entry_of, passes, one_less, is_newest_at, entered, AreCounted}
 use Rattle.mvo_versions.proofs.Counting.{runs_alike, newest_is}
 use Rattle.mvo_versions.proofs.Entries.{entered_has, given_back, one_at_passes}
 use Rattle.mvo_versions.proofs.Indexing.{hole_inside, hole_empty, room_same, room_numbers, emptied_again, empty_fresh, number_among, at_key}
@@ -117,11 +117,11 @@ like_held slots lists p n h t = (key_at p, like_among slots lists p n h t)
 pub joins_like : (slots : Slots) (lists : Lists) (p : Place) (n : VersionNo) (newer : Option VersionNo) → HasNumbers slots lists → is_number_at slots p n.0 ≡ true → IsNewer lists n.0 (option_map (λ (m : VersionNo). m.0) newer) → is_none newer ≡ true → true ≡ is_newest_at slots lists p
 joins_like slots lists p n newer h t front none =
     let a = like_among slots lists p n h t in
-    sym (ap (one_passes (is_number_at slots p)) (newest_is n.0 (numbers_of lists (key_at p)) a (sym (front.at (key_at p) a) ∙ no_number newer none)) ∙ t)
+    sym (ap (passes (is_number_at slots p)) (newest_is n.0 (numbers_of lists (key_at p)) a (sym (front.at (key_at p) a) ∙ no_number newer none)) ∙ t)
   where
     no_number : (o : Option VersionNo) → is_none o ≡ true → option_map (λ (m : VersionNo). m.0) o ≡ None
     no_number None q = refl
     no_number (Some m) q = absurd (true≢false (sym q))
 
 pub joins_newest : (slots : Slots) (lists : Lists) (p : Place) (newest : Option VersionNo) (b : Bool) → b ≡ is_one_at slots p newest → option_map (λ (m : VersionNo). m.0) newest ≡ newest_of (numbers_of lists (key_at p)) → b ≡ is_newest_at slots lists p
-joins_newest slots lists p newest b e n = e ∙ one_at_passes slots p newest ∙ ap (one_passes (is_number_at slots p)) n
+joins_newest slots lists p newest b e n = e ∙ one_at_passes slots p newest ∙ ap (passes (is_number_at slots p)) n

@@ -18,9 +18,9 @@ runs_behind front p [] = 0
 runs_behind front p (n ∷ ns) = cond (p n && not front) 1 0 + runs_behind (p n) p ns
 
 -- whether there is a number, and it passes
-abbrev pub one_passes : (ℕ → Bool) → Option ℕ → Bool
-one_passes p None = false
-one_passes p (Some n) = p n
+abbrev pub passes : (ℕ → Bool) → Option ℕ → Bool
+passes p None = false
+passes p (Some n) = p n
 
 -- how many runs of versions at the place there are among those of its key
 abbrev pub runs_at : Slots → Lists → Place → ℕ
@@ -60,7 +60,7 @@ one_less places p = with_count places p (count_at places p - 1)
 -- whether the newest version of its key stands at the place
 abbrev pub is_newest_at : Slots → Lists → Place → Bool
 is_newest_at slots lists p =
-    one_passes (is_number_at slots p) (newest_of (numbers_of lists (key_at p)))
+    passes (is_number_at slots p) (newest_of (numbers_of lists (key_at p)))
 
 -- where the version with the number stands, if there is one
 abbrev pub place_at : Slots → Option VersionNo → Option Place

@@ -55,7 +55,7 @@ pub record IsForgotten (old new : List Post) (n : ℕ) : Type 0 where
   pub ends : (m : ℕ) (r : Skip) → skip_at new m ≡ Some r → r.to.0 ≢ n
 
 -- no skip comes but this one
-pub record HasNoMoreBut (old new : List Post) (n : ℕ) (skip : Skip) : Type 0 where
+pub record IsNoted (old new : List Post) (n : ℕ) (skip : Skip) : Type 0 where
   pub was : (m : ℕ) (r : Skip) → skip_at new m ≡ Some r
       → (skip_at old m ≡ Some r) ⊎ ((m ≡ n) × (r ≡ skip))
 
@@ -117,7 +117,7 @@ IsUnlessEnded slots old new n =
     (new ≡ []) ⊎ ((new ≡ old) × (begin_of_ended (version_at slots (number n)) ≡ None))
 
 -- a walk over the versions of a key, past some that tell nothing below b
-pub record IsPastLater (b : ℕ) (slots : Slots) (all walk : List VersionNo) : Type 0 where
+pub record IsRest (b : ℕ) (slots : Slots) (all walk : List VersionNo) : Type 0 where
   pub front : List VersionNo
   pub split : all ≡ front ++ walk
   pub later : AreLater b (versions_by slots front)

@@ -1,7 +1,7 @@
 //! What is found among the versions.
 ghost use Rattle.std.specs.Prelude.{map};
 ghost use Rattle.mvo_hash.specs.Lists.{number, numbers_of};
-ghost use Rattle.mvo_versions.specs.Skips.{HasSkips, IsPastLater};
+ghost use Rattle.mvo_versions.specs.Skips.{HasSkips, IsRest};
 
 use crate::ended::is_later_one;
 use crate::indexed::Indexed;
@@ -76,8 +76,7 @@ impl Versions {
 /// A walk over the versions of a key, past those in front that tell nothing below a begin.
 fn walk_past<'a>(indexed: &'a Indexed, skips: &Skips, key: RowKey, at: Stamp) -> Numbers<'a>
     requires { HasSkips indexed.now skips.now }
-    ensures { let all = map number (numbers_of indexed.now.lists key) in
-        IsPastLater at.0 indexed.now.slots all result }
+    ensures { IsRest at.0 indexed.now.slots (map number (numbers_of indexed.now.lists key)) result }
 {
     let mut walk = indexed.index().walk(key);
     for _ in 0..u64::MAX {

@@ -1,6 +1,6 @@
 ghost use Rattle.std.specs.Prelude.{◌≡◌, ◌<◌, ◌/◌, [], length, slice_set};
 ghost use Rattle.mvo_versions.specs.Skips.{is_post, post_at, skip_at, IsEmpty};
-ghost use Rattle.mvo_versions.specs.Skips.{HasNoMore, IsForgotten, HasNoMoreBut};
+ghost use Rattle.mvo_versions.specs.Skips.{HasNoMore, IsForgotten, IsNoted};
 
 use crate::skip::Skip;
 use mvo_chain::{Pieces, VersionNo};
@@ -133,7 +133,7 @@ impl Skips {
 
     /// Notes a skip from a post to another one.
     pub fn lead(&mut self, number: VersionNo, skip: Skip)
-        ensures { HasNoMoreBut self.old self.new number.0 skip }
+        ensures { IsNoted self.old self.new number.0 skip }
     {
         let Some(first) = self.post(number) else {
             return;

@@ -1,6 +1,6 @@
 use Rattle.std.proofs.Common.{◌≡◌, ◌<◌, ◌/◌, Some, length, refl, sym, ap, ◌∙◌, subst}
 use Rattle.std.specs.Prelude.{slice_set}
-use Rattle.mvo_versions.specs.Skips.{post_at, HasNoMoreBut}
+use Rattle.mvo_versions.specs.Skips.{post_at, IsNoted}
 use Rattle.mvo_versions.proofs.Posts.{said, said_there, agreed_to, post_within}
 use Rattle.mvo_versions.proofs.skips.Skips.lead.Goals as goal
 
@@ -9,7 +9,7 @@ returns-in_default-post c =
     let ps = c.args.self.now in
     let n = c.args.number.0 in
     let there = sym c.post.ensures ∙ c.in-Some.is in
-    subst (λ new. HasNoMoreBut ps new n c.args.skip) (sym (c.set.ensures ∙ ap (λ i. slice_set ps i (record { least = c.args.skip.least; to = c.args.skip.to; from = c.in-Some.first.from })) c.place_of.ensures))
+    subst (λ new. IsNoted ps new n c.args.skip) (sym (c.set.ensures ∙ ap (λ i. slice_set ps i (record { least = c.args.skip.least; to = c.args.skip.to; from = c.in-Some.first.from })) c.place_of.ensures))
     (said ps n c.in-Some.first c.args.skip there (post_within ps n c.in-Some.first there))
 
 pub set-requires-2 : goal.set-requires-2
@@ -27,7 +27,7 @@ returns c =
     let within = post_within ps n first there in
     let is_mid : mid ≡ slice_set ps (n / 128) (record { least = c.args.skip.least; to = c.args.skip.to; from = first.from }) = c.set.ensures ∙ ap (λ i. slice_set ps i (record { least = c.args.skip.least; to = c.args.skip.to; from = first.from })) c.place_of.ensures in
     let there-2 = sym c.post-2.ensures ∙ c.in-Some-post.is in
-    subst (λ new. HasNoMoreBut ps new n c.args.skip) (sym (c.set-2.ensures ∙ ap (λ i. slice_set mid i (record { least = last.least; to = last.to; from = c.args.number })) c.place_of-2.ensures))
+    subst (λ new. IsNoted ps new n c.args.skip) (sym (c.set-2.ensures ∙ ap (λ i. slice_set mid i (record { least = last.least; to = last.to; from = c.args.number })) c.place_of-2.ensures))
     (agreed_to mid n last c.args.skip c.args.number there-2 (post_within mid c.args.skip.to.0 last there-2) refl
     (λ q e. said_there ps n first c.args.skip within q (subst (λ xs. post_at xs n ≡ Some q) is_mid e))
-    ps (subst (λ new. HasNoMoreBut ps new n c.args.skip) (sym is_mid) (said ps n first c.args.skip there within)))
+    ps (subst (λ new. IsNoted ps new n c.args.skip) (sym is_mid) (said ps n first c.args.skip there within)))
