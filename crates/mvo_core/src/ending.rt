@@ -26,7 +26,7 @@ ghost use Rattle.mvo_core.specs.Fronts.{passes, comes_at_draw, IsInFrontIf, AreI
 use crate::answers::{Settlement, Validation};
 use crate::collecting::await_ends;
 use crate::event_core::Core;
-use crate::readiness::{Readiness, readiness};
+use crate::readiness::{Readiness, readiness_of};
 use crate::refusing::{active, is_failure, not_undone, preparing};
 use crate::transaction::{Table, Transaction};
 use mvo_chain::VersionNo;
@@ -97,7 +97,7 @@ impl Core {
         ensures step { IsStep self.old (Settle tx.0) result self.new }
         ensures answer { IfOk result (IsSettlement self.old tx.0) }
     {
-        let has_dependents = match readiness(&self.table, tx) {
+        let has_dependents = match readiness_of(&self.table, tx) {
             Readiness::Refused(refusal) => return Err(self.give_up(tx, refusal)),
             Readiness::NotValidated => return Err(Refusal::NotValidated),
             Readiness::WaitsFor(other) => return Ok(Settlement::Waiting(other)),

@@ -21,7 +21,7 @@ pub enum Readiness {
 
 /// Whether the transaction may be settled, by one look at it.
 #[inline(always)]
-pub fn readiness(table: &Table, tx: TxId) -> Readiness
+pub fn readiness_of(table: &Table, tx: TxId) -> Readiness
     ensures { IsReadiness table.now tx result }
 {
     let Some(seat) = table.get(tx) else {
