@@ -10,6 +10,7 @@ use mvo_word::Held;
 
 /// The begin of the version, if both its words are timestamps, and the end isn't the lesser. No
 /// word of such a version changes any more.
+#[inline(always)]
 pub fn begin_of_ended(chains: &Chains, number: VersionNo) -> Option<Stamp>
     ensures { result ≡ begin_of_ended (version_at chains.now number) }
 {
@@ -21,6 +22,7 @@ pub fn begin_of_ended(chains: &Chains, number: VersionNo) -> Option<Stamp>
 }
 
 /// Whether there is such a version, and it tells nothing below a begin.
+#[inline(always)]
 pub fn is_later_one(chains: &Chains, number: VersionNo, at: Stamp) -> bool
     ensures { result ≡ is_later_one at.0 (version_at chains.now number) }
 {

@@ -15,6 +15,7 @@ const MOST: usize = 1024;
 
 /// A word of the version is about to change, or its place among those of its key. No skip has it
 /// then: words of ended versions stay, and where one doesn't, all skips are forgotten.
+#[inline(always)]
 pub fn unless_ended(skips: &mut Skips, chains: &Chains, number: VersionNo)
     ensures { IsUnlessEnded chains.now skips.old skips.new number.0 }
 {

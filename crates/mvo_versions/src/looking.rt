@@ -83,13 +83,13 @@ fn walk_past<'a>(indexed: &'a Indexed, skips: &Skips, key: RowKey, at: Stamp) ->
         let Some(number) = walk.peek() else {
             break;
         };
+        if !is_later_one(indexed.chains(), number, at) {
+            break;
+        }
         // All of a skip are passed over without a look at them.
         match skips.skip(number) {
             Some(skip) if at.0 <= skip.least.0 => walk.pass_to(skip.to),
             _ => {
-                if !is_later_one(indexed.chains(), number, at) {
-                    break;
-                }
                 walk.next();
             }
         }

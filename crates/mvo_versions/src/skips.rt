@@ -60,6 +60,7 @@ impl Model for Skips {
 
 /// Whether the number is that of a post. They don't stand at regular distances, so that keys whose
 /// versions are put in turn have posts each.
+#[inline(always)]
 pub fn is_post(number: VersionNo) -> bool
     ensures { result ≡ is_post number.0 }
 {
@@ -106,6 +107,7 @@ impl Skips {
     }
 
     /// A version gets the number, or loses it: no skip begins there, and none ends there.
+    #[inline(always)]
     pub fn forget(&mut self, number: VersionNo)
         ensures { IsForgotten self.old self.new number.0 }
     {
