@@ -12,7 +12,7 @@ ghost use Rattle.mvo_tale.specs.Records.{IsRecordOf, net_writes, commit_len};
 
 use crate::effect::Effect;
 use crate::tale_entry::TaleEntry;
-use crate::writes::{last_write, last_writes};
+use crate::writes::last_writes;
 use mvo_group::{Record, Write};
 use mvo_types::{Answer, Op, RowKey};
 use std::alloc::{AllocError, Global};
@@ -50,45 +50,8 @@ fn copy_keys(keys: &Vec<RowKey>) -> Result<Vec<RowKey>, AllocError>
     keys.clone()
 }
 
-// Of so few keys each is looked for in all operations: that is as fast, and takes no memory.
-const FEW_KEYS: usize = 3;
-
 /// The last write to each of the keys, where there is one.
 fn writes_at(
-    alloc: Global,
-    operations: &[(Op, Answer)],
-    keys: &[RowKey],
-) -> Result<Vec<Write>, AllocError>
-    requires { IsStrictlySortedBy key_cmp keys.now }
-    ensures { IfOk result (λ ws. map write_data ws.items
-        ≡ net_writes (history_told operations.now) keys.now) }
-{
-    if keys.len() <= FEW_KEYS {
-        return writes_at_few(alloc, operations, keys);
-    }
-    writes_at_many(alloc, operations, keys)
-}
-
-/// The same: one walk over the operations for each key.
-fn writes_at_few(
-    alloc: Global,
-    operations: &[(Op, Answer)],
-    keys: &[RowKey],
-) -> Result<Vec<Write>, AllocError>
-    ensures { IfOk result (λ ws. map write_data ws.items
-        ≡ net_writes (history_told operations.now) keys.now) }
-{
-    let mut writes = Vec::with_capacity(alloc, keys.len())?;
-    for key in keys {
-        if let Some(effect) = last_write(operations, *key) {
-            writes.push(left_at(*key, effect)?)?;
-        }
-    }
-    Ok(writes)
-}
-
-/// The same: one walk over the operations for all keys.
-fn writes_at_many(
     alloc: Global,
     operations: &[(Op, Answer)],
     keys: &[RowKey],

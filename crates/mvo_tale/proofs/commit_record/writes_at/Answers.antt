@@ -10,8 +10,8 @@ use Rattle.mvo_tale.specs.Records.{net_writes}
 use Rattle.mvo_tale.specs.Stored.{effect_data}
 use Rattle.mvo_tale.proofs.NetWrites.{writes_more, writes_same}
 use Rattle.mvo_tale.proofs.Noting.{at_place}
-use Rattle.mvo_tale.proofs.commit_record.writes_at_many.Goals as goal
-use Rattle.mvo_tale.proofs.commit_record.writes_at_many.Goals.{in-Some+in_ok-left_at+in_ok-push, in_default}
+use Rattle.mvo_tale.proofs.commit_record.writes_at.Goals as goal
+use Rattle.mvo_tale.proofs.commit_record.writes_at.Goals.{in-Some+in_ok-left_at+in_ok-push, in_default}
 
 pub loop-place-preserved : goal.loop-place-preserved
 loop-place-preserved c =
