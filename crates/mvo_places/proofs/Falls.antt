@@ -17,7 +17,7 @@ use Rattle.mvo_types.specs.declared.row.RowKey.{RowKey}
 use Rattle.mvo_types.specs.declared.limits.TheConstants.{MAX_TABLE}
 use Rattle.mvo_types.specs.Keys.{key_cmp}
 use Rattle.mvo_types.proofs.Maps.{keys_total}
-use Rattle.mvo_places.specs.Falling.{keys, falling_cmp, Falls, IsBelowLast, MayFollow, AreDistinct}
+use Rattle.mvo_places.specs.Falling.{keys, falling_cmp, Falls, IsBelowLast, MayStandLast, AreDistinct}
 use Rattle.mvo_places.proofs.Members.{Among, among_append, among_map, all_among, all_from, among_from, contains_from}
 use Rattle.mvo_places.proofs.Keys.{eq, key_same, eq_self, eq_flips}
 
@@ -78,7 +78,7 @@ less Equal is = absurd cc
 less Greater is = absurd cc
 
 -- what stands at the last place tells whether a key is below it
-pub may_follow : {V : Type 0} (es : List (RowKey × V)) (key x : RowKey) (v : V) (b : Bool) → Some (x, v) ≡ slice_get es (length es - 1) → b ≡ is_lt (key_cmp key x) → key.table ≤ MAX_TABLE → (IsTrue b → MayFollow es key) × (MayFollow es key → IsTrue b)
+pub may_follow : {V : Type 0} (es : List (RowKey × V)) (key x : RowKey) (v : V) (b : Bool) → Some (x, v) ≡ slice_get es (length es - 1) → b ≡ is_lt (key_cmp key x) → key.table ≤ MAX_TABLE → (IsTrue b → MayStandLast es key) × (MayStandLast es key → IsTrue b)
 may_follow {V} es key x v b at test table =
     let last : last_or None (keys es) ≡ Some x = last_key es ∙ ap (option_map (λ (e : RowKey × V). e.0)) (sym at) in (
       λ t. (table, subst (λ (o : Option RowKey). IfSome o (λ last. key_cmp key last ≡ Less)) (sym last) (less (key_cmp key x) (sym test ∙ t))),

@@ -35,8 +35,8 @@ abbrev pub IsBelowLast : List RowKey → RowKey → Type 0
 IsBelowLast ks key = IfSome (last_or None ks) (λ last. key_cmp key last ≡ Less)
 
 -- the key has a table that there can be, and is below the last one
-abbrev pub MayFollow : {V : Type 0} → List (RowKey × V) → RowKey → Type 0
-MayFollow es key = (key.table ≤ MAX_TABLE) × IsBelowLast (keys es) key
+abbrev pub MayStandLast : {V : Type 0} → List (RowKey × V) → RowKey → Type 0
+MayStandLast es key = (key.table ≤ MAX_TABLE) × IsBelowLast (keys es) key
 
 -- no two keys are equal
 abbrev pub AreDistinct : {V : Type 0} → List (RowKey × V) → Type 0

@@ -1,5 +1,5 @@
 ghost use Rattle.std.specs.Prelude.{◌≡◌, ◌<◌, ◌≤◌, ◌↔◌, ◌++◌, ◌∷◌, [], cond, IsTrue, IfOk, OnErr};
-ghost use Rattle.mvo_places.specs.Falling.{MayFollow, AreDistinct};
+ghost use Rattle.mvo_places.specs.Falling.{MayStandLast, AreDistinct};
 ghost use Rattle.mvo_places.specs.Fixed.{places_of_live, AllLive};
 
 use crate::fixed_keys::FixedKeys;
@@ -47,7 +47,7 @@ impl Falling {
     pub fn push(&mut self, key: RowKey, place: Place) -> Result<bool, AllocError>
         requires file { place.data_file ≤ MAX_FILE }
         requires number { place.number < MAX_PAIR_RECORDS }
-        ensures answer { IfOk result (λ pushed. IsTrue pushed ↔ MayFollow self.old key) }
+        ensures answer { IfOk result (λ pushed. IsTrue pushed ↔ MayStandLast self.old key) }
         ensures ok { IfOk result (λ pushed.
             self.new ≡ cond pushed (self.old ++ (key, place) ∷ []) self.old) }
         ensures err { OnErr result (self.new ≡ self.old) }

@@ -5,7 +5,7 @@ ghost use Rattle.std.specs.FinMap.{find};
 ghost use Rattle.std.specs.Ordering.{is_lt};
 ghost use Rattle.mvo_types.specs.Keys.{key_cmp};
 ghost use Rattle.mvo_places.specs.declared.fixed_key.TheConstants.{GONE};
-ghost use Rattle.mvo_places.specs.Falling.{MayFollow, Falls};
+ghost use Rattle.mvo_places.specs.Falling.{MayStandLast, Falls};
 ghost use Rattle.mvo_places.specs.Fixed.{with_number};
 
 use crate::fixed_key::{FixedKey, GONE};
@@ -63,7 +63,7 @@ impl FixedKeys {
 
     // Whether the key may stand behind the others.
     fn may_follow(&self, key: RowKey) -> bool
-        ensures { IsTrue result ↔ MayFollow self.now key }
+        ensures { IsTrue result ↔ MayStandLast self.now key }
     {
         if key.table > MAX_TABLE {
             return false;
@@ -76,7 +76,7 @@ impl FixedKeys {
 
     /// Puts a key with its number behind the others, where it may stand there, and answers that.
     pub fn push(&mut self, key: RowKey, number: u32) -> Result<bool, AllocError>
-        ensures answer { IfOk result (λ pushed. IsTrue pushed ↔ MayFollow self.old key) }
+        ensures answer { IfOk result (λ pushed. IsTrue pushed ↔ MayStandLast self.old key) }
         ensures ok { IfOk result (λ pushed.
             self.new ≡ cond pushed (self.old ++ (key, Some number) ∷ []) self.old) }
         ensures err { OnErr result (self.new ≡ self.old) }
