@@ -3,7 +3,7 @@ use Rattle.std.specs.Prelude.{All}
 use Rattle.std.specs.List.Sorted.{IsPermutation}
 use Rattle.std.proofs.lemmas.List.Sorted.{length_permutation}
 use Rattle.mvo_types.specs.Keys.{Map}
-use Rattle.mvo_places.specs.Falling.{AreDistinct}
+use Rattle.mvo_places.specs.Falling.{HaveDistinctKeys}
 use Rattle.mvo_load.specs.declared.part.Part.{Part}
 use Rattle.mvo_load.specs.Gathered.{Filed, MayLie, filed_in, keyed_place}
 use Rattle.mvo_load.proofs.Ordered.{changed_whole}
@@ -41,7 +41,7 @@ loop-data_file-preserved c =
     let taken : IsPermutation (filed_in left) (one ∷ filed_in rest) = subst (λ (l : List Part). IsPermutation (filed_in l) (one ∷ filed_in rest)) c.as_mut_slice.ensures.value c.in-Some.ensures in
     let rows_are = c.in_ok-put.ensures.rows c.if-not-branch.false in
     let places_are : places ≡ c.loop-data_file.places ++ keyed_place one ∷ [] = c.in_ok-put.ensures.places c.if-not-branch.false in
-    let merged = one_merged all (filed_in left) (filed_in rest) one c.loop-data_file.rows c.loop-data_file.places c.loop-data_file.invariant.0 taken (subst (λ (es : Placed). AreDistinct es) places_are c.put.ensures.apart) in
+    let merged = one_merged all (filed_in left) (filed_in rest) one c.loop-data_file.rows c.loop-data_file.places c.loop-data_file.invariant.0 taken (subst (λ (es : Placed). HaveDistinctKeys es) places_are c.put.ensures.apart) in
     let put : IsMerged all (filed_in rest) rows places =
     subst (λ (es : Placed). IsMerged all (filed_in rest) rows es) (sym places_are)
     (subst (λ (m : Map). IsMerged all (filed_in rest) m (c.loop-data_file.places ++ keyed_place one ∷ [])) (sym rows_are) merged) in
