@@ -56,7 +56,7 @@ fn main(rt: HostRuntime) -> Result<()> {
 
 /// What runs on one core, which is loaded first.
 fn run_on(rt: &HostRuntime, config: &Config) -> Result<()> {
-    let mut session = Session::new(rt.alloc(), config.upkeep)?;
+    let mut session = Session::new(rt, rt.alloc(), config.upkeep)?;
     load::run(rt, config, &mut session)?;
     run_plain(rt, config, &mut session)?;
     run_beside_old(rt, config, &mut session)

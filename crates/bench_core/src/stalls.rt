@@ -21,7 +21,7 @@ pub fn run(rt: &HostRuntime, config: &Config) -> Result<()> {
     let mut times = Times::new(rt.alloc());
     for _ in 0..ROUNDS {
         times.restart();
-        let mut session = Session::new(rt.alloc(), config.upkeep)?;
+        let mut session = Session::new(rt, rt.alloc(), config.upkeep)?;
         insert_all(rt, config, &mut session, &mut times)?;
     }
     Figure::start(rt, config, "longest_call")?.tell_nanos(rt, times.calls(), times.longest())

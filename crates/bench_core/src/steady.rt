@@ -17,7 +17,7 @@ const PARTS: u64 = 10;
 /// Updates few rows again and again, and prints how much memory there is after each part: it is to
 /// stay what it was after the first.
 pub fn run(rt: &HostRuntime, config: &Config) -> Result<()> {
-    let mut session = Session::new(rt.alloc(), config.upkeep)?;
+    let mut session = Session::new(rt, rt.alloc(), config.upkeep)?;
     let mut sum = insert_all(&mut session, KEYS, config.data)?;
     let figure = Figure::start(rt, config, "steady_update")?;
     let each = config.steady / PARTS;

@@ -17,7 +17,7 @@ use Rattle.mvo_types.specs.declared.row.RowKey.{RowKey}
 use Rattle.mvo_types.specs.declared.limits.TheConstants.{MAX_TABLE}
 use Rattle.mvo_types.specs.Keys.{key_cmp}
 use Rattle.mvo_types.proofs.Maps.{keys_total}
-use Rattle.mvo_places.specs.Falling.{keys, falling_cmp, Falls, IsBelowLast, MayStandLast, AreDistinct}
+use Rattle.mvo_places.specs.Falling.{keys, falling_cmp, Falls, IsBelowLast, MayStandLast, HaveDistinctKeys}
 use Rattle.mvo_places.proofs.Members.{Among, among_append, among_map, all_among, all_from, among_from, contains_from}
 use Rattle.mvo_places.proofs.Keys.{eq, key_same, eq_self, eq_flips}
 
@@ -28,7 +28,7 @@ unfolding IsDistinct
 flipped [] differ = tt
 flipped (x ∷ xs) differ = (all_from (λ y. eq x y ≡ false) xs (λ y a. eq_flips x y ∙ all_among (λ z. eq z x ≡ false) xs y differ.0 a), flipped xs differ.1)
 
-pub falls_apart : {V : Type 0} (es : List (RowKey × V)) → Falls es → AreDistinct es
+pub falls_apart : {V : Type 0} (es : List (RowKey × V)) → Falls es → HaveDistinctKeys es
 falls_apart es falls = flipped (keys es) (IsDistinct-from_sorted falling_cmp (keys es) falls)
 
 -- ---- one more key
@@ -145,7 +145,7 @@ module _ {V : Type 0} (es : List (RowKey × V)) (falls : Falls es) (key : RowKey
         absent (x ∷ xs) each = cond-false (eq key x.0) (Some x.1) (find key_cmp key xs) (each x (inl refl)) ∙ absent xs (λ e a. each e (inr a))
 
 -- what stands at the place of a key
-pub found_at : {V : Type 0} (es : List (RowKey × V)) (key : RowKey) (i : ℕ) (d : RowKey × V) → AreDistinct es → i < length es → (get_or es i d).0 ≡ key → find key_cmp key es ≡ Some (get_or es i d).1
+pub found_at : {V : Type 0} (es : List (RowKey × V)) (key : RowKey) (i : ℕ) (d : RowKey × V) → HaveDistinctKeys es → i < length es → (get_or es i d).0 ≡ key → find key_cmp key es ≡ Some (get_or es i d).1
 unfolding IsDistinct
 found_at [] key i d apart within is = absurd (omega (arith, within))
 found_at (e ∷ es) key zero d apart within is = cond-true (eq key e.0) (Some e.1) (find key_cmp key es) (ap (eq key) is ∙ eq_self key)

@@ -13,7 +13,7 @@ use Rattle.mvo_types.proofs.Maps.{keys_total, exact_keys}
 use Rattle.mvo_hash.specs.Table.{Map}
 use Rattle.mvo_places.specs.declared.place.Place.{Place}
 use Rattle.mvo_places.specs.Places.{placed, place_of, number_of}
-use Rattle.mvo_places.specs.Falling.{keys, AreDistinct}
+use Rattle.mvo_places.specs.Falling.{keys, HaveDistinctKeys}
 use Rattle.mvo_places.specs.Fixed.{Numbers, with_number, AllLive, live_place, places_of_live, with_or_without, numbers_over}
 use Rattle.mvo_places.proofs.Placing.{get-placed, place_of-number_of}
 use Rattle.mvo_places.proofs.Keys.{eq, key_same, eq_self, eq_flips}
@@ -100,7 +100,7 @@ apart_same (e ∷ es) k o all =
     ap (λ b. (e.0, cond b o e.1) ∷ with_number es k o) all.0 ∙ ap (λ (xs : Numbers). e ∷ xs) (apart_same es k o all.1)
 
 -- at the place of the key
-pub set_at : (es : Numbers) (k : RowKey) (o : Option ℕ) (i : ℕ) (d : RowKey × Option ℕ) → AreDistinct es → i < length es → (get_or es i d).0 ≡ k → slice_set es i (k, o) ≡ with_number es k o
+pub set_at : (es : Numbers) (k : RowKey) (o : Option ℕ) (i : ℕ) (d : RowKey × Option ℕ) → HaveDistinctKeys es → i < length es → (get_or es i d).0 ≡ k → slice_set es i (k, o) ≡ with_number es k o
 unfolding IsDistinct
 set_at [] k o i d apart within is = absurd (omega (arith, within))
 set_at (e ∷ es) k o zero d apart within is =

@@ -39,5 +39,5 @@ abbrev pub MayStandLast : {V : Type 0} → List (RowKey × V) → RowKey → Typ
 MayStandLast es key = (key.table ≤ MAX_TABLE) × IsBelowLast (keys es) key
 
 -- no two keys are equal
-abbrev pub AreDistinct : {V : Type 0} → List (RowKey × V) → Type 0
-AreDistinct es = IsDistinct (eq_by_cmp key_cmp) (keys es)
+abbrev pub HaveDistinctKeys : {V : Type 0} → List (RowKey × V) → Type 0
+HaveDistinctKeys es = IsDistinct (eq_by_cmp key_cmp) (keys es)

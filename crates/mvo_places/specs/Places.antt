@@ -7,7 +7,7 @@ use Rattle.std.specs.FinMap as map
 use Rattle.mvo_types.specs.declared.row.RowKey.{RowKey}
 use Rattle.mvo_types.specs.declared.limits.TheConstants.{MAX_PAIR_RECORDS}
 use Rattle.mvo_types.specs.Keys.{key_cmp, coded_key}
-use Rattle.mvo_hash.specs.Table.{Map}
+use Rattle.mvo_hash.specs.Table.{Map, Table}
 use Rattle.mvo_pair.specs.Data.{EntryData, Numbered, key_of, AreApart}
 use Rattle.mvo_pair.specs.declared.pair.Pair.{Pair}
 use Rattle.mvo_places.specs.declared.place.Place.{Place}
@@ -55,6 +55,9 @@ placed_by e = (e.0, place_of e.1)
 -- the numbers of a map as places
 abbrev pub placed : Map → PlaceMap
 placed numbers = map.from_entries (map placed_by (map.entries numbers))
+
+abbrev pub table_of : Table → PlaceTable
+table_of t = record { at = placed t.numbers; room = t.room }
 
 -- each number is one that a pair may have
 pub record AreSmall (places : PlaceMap) : Type 0 where

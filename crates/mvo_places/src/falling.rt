@@ -1,5 +1,5 @@
 ghost use Rattle.std.specs.Prelude.{◌≡◌, ◌<◌, ◌≤◌, ◌↔◌, ◌++◌, ◌∷◌, [], cond, IsTrue, IfOk, OnErr};
-ghost use Rattle.mvo_places.specs.Falling.{MayStandLast, AreDistinct};
+ghost use Rattle.mvo_places.specs.Falling.{MayStandLast, HaveDistinctKeys};
 ghost use Rattle.mvo_places.specs.Fixed.{places_of_live, AllLive};
 
 use crate::fixed_keys::FixedKeys;
@@ -51,7 +51,7 @@ impl Falling {
         ensures ok { IfOk result (λ pushed.
             self.new ≡ cond pushed (self.old ++ (key, place) ∷ []) self.old) }
         ensures err { OnErr result (self.new ≡ self.old) }
-        ensures apart { AreDistinct self.new }
+        ensures apart { HaveDistinctKeys self.new }
     {
         self.fixed.push(key, place.as_number())
     }
@@ -60,7 +60,7 @@ impl Falling {
     pub(crate) fn into_fixed(self) -> FixedKeys
         ensures places { places_of_live result ≡ self }
         ensures live { AllLive result }
-        ensures apart { AreDistinct self }
+        ensures apart { HaveDistinctKeys self }
     {
         self.fixed
     }

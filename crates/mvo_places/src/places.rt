@@ -3,7 +3,7 @@ ghost use Rattle.std.specs.Option.{option_map};
 ghost use Rattle.std.specs.FinMap as map;
 ghost use Rattle.mvo_places.specs.Places.{no_places, number_of, AreSmall, with_live};
 ghost use Rattle.mvo_places.specs.Places.{without_keys, taken_over};
-ghost use Rattle.mvo_places.specs.Falling.{AreDistinct};
+ghost use Rattle.mvo_places.specs.Falling.{HaveDistinctKeys};
 
 use crate::falling::Falling;
 use crate::fixed_keys::FixedKeys;
@@ -67,7 +67,7 @@ impl Places {
     pub fn of_falling(alloc: Global, seed: u64, falling: Falling) -> Places
         ensures at { result.at ≡ map.from_entries falling }
         ensures room { result.room ≡ 0 }
-        ensures apart { AreDistinct falling }
+        ensures apart { HaveDistinctKeys falling }
     {
         Places {
             fixed: falling.into_fixed(),

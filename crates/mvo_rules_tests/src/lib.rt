@@ -16,6 +16,8 @@ mod equal;
 #[cfg(test)]
 mod hash;
 #[cfg(test)]
+mod loading;
+#[cfg(test)]
 mod numbers;
 #[cfg(test)]
 mod open;

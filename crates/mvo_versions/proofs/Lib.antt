@@ -6,3 +6,4 @@ pub mod Putting
 pub mod Going
 pub mod Walked
 pub mod Loading
+pub mod Numbering

@@ -1,3 +1,4 @@
 pub mod Data
 pub mod Changes
 pub mod Runs
+pub mod Loading

@@ -1,6 +1,8 @@
 ghost use Rattle.std.specs.Prelude.{◌≡◌, IsSome, IfSome};
 ghost use Rattle.mvo_chain.specs.Slots.{version_at};
 
+use crate::indexes::indexes_of;
+use crate::listing::chains_of;
 use crate::runs::{enter, fits, give_back, joins, leave, place_of};
 use mvo_chain::{Chains, Version, VersionNo};
 use mvo_hash::HashIndex;
@@ -9,6 +11,7 @@ use mvo_types::{Row, Rows, Stamp, TxId};
 use mvo_word::Word;
 use std::alloc::{AllocError, Global};
 use std::marker::Model;
+use std::thread::Threads;
 
 /// The versions of all rows. Contracts see them by number, the numbers of each key, newest first,
 /// and the places in the order of sorts.
@@ -62,29 +65,22 @@ impl Versions {
     ghost use Rattle.mvo_versions.specs.Changes.{AreLoaded, IsPut, IsRoomed, IsReworded};
     ghost use Rattle.mvo_versions.specs.Changes.{IsInFront, IsTakenOut};
 
-    /// The versions of these rows, put at the mark. Both indexes are built in one go. The seed
-    /// decides where keys stand in memory: who chooses the keys must not know it.
-    pub fn load(alloc: Global, seed: u64, rows: Rows, mark: Stamp) -> Result<Versions, AllocError>
+    /// The versions of these rows, put at the mark. The indexes of 8,192 rows or more are made in
+    /// two threads, each index beside the other. The seed decides where keys stand in memory: who
+    /// chooses the keys must not know it.
+    pub fn load(
+        rt: &(impl Threads + Sync),
+        alloc: Global,
+        seed: u64,
+        rows: Rows,
+        mark: Stamp,
+    ) -> Result<Versions, AllocError>
         requires { mark.0 ≤ LIMIT }
         ensures loaded { IfOk result (AreLoaded rows mark.0) }
         ensures indexed { IfOk result AreIndexed }
     {
-        let rows = rows.into_rows(alloc)?;
-        let mut chains = Chains::new(alloc);
-        let mut index = HashIndex::new(alloc, seed);
-        let mut places = Vec::new(alloc);
-        index.reserve(rows.len())?;
-        places.reserve(rows.len())?;
-        for row in rows {
-            let key = row.row_key();
-            let place = Place::new(key, row.sort);
-            let number = chains.add(row, Word::stamp(mark))?;
-            fits(number);
-            index.add(key, number)?;
-            // No other row has this key, so the version is a run by itself.
-            places.push((place, 1))?;
-        }
-        let order = RangeIndex::from_entries(alloc, places)?;
+        let (chains, places) = chains_of(alloc, rows, mark)?;
+        let (index, order) = indexes_of(rt, alloc, seed, &chains, places)?;
         Ok(Versions {
             chains,
             index,
