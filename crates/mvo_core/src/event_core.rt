@@ -1,4 +1,4 @@
-use crate::spares::Spares;
+use crate::spares::{Spares, give_list};
 use crate::transaction::{Table, begun};
 use mvo_collect::Waiting;
 use mvo_tale::Tale;
@@ -122,7 +122,8 @@ impl Core {
             return Err(refusal);
         }
         let alloc = self.alloc;
-        let work = self.spares.take()?;
+        let mut work = self.spares.take()?;
+        give_list(&mut self.tale, &mut work);
         self.table.begin(begun(alloc, work))
     }
 }

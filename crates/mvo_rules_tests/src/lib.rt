@@ -22,6 +22,8 @@ mod numbers;
 #[cfg(test)]
 mod open;
 #[cfg(test)]
+mod passing;
+#[cfg(test)]
 mod plain;
 #[cfg(test)]
 mod ranges;

@@ -5,3 +5,4 @@ mod cuts;
 mod entries;
 mod plain;
 mod random;
+mod spare;

@@ -1,4 +1,4 @@
--- The last write to a key, as a loop finds it.
+-- The last write to a key, after one operation more.
 use Rattle.std.proofs.Common.{◌≡◌, ℕ, ◌+◌, ◌<◌, List, [], ◌∷◌, ◌++◌, take, length, get_or, Option, sym, ap, ◌∙◌}
 use Rattle.std.proofs.lemmas.List.{take_more, map-append}
 use Rattle.mvo_types.specs.declared.row.RowKey.{RowKey}

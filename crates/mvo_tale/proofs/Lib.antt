@@ -1,4 +1,5 @@
 pub mod NetWrites
+pub mod Noting
 pub mod LastWrites
 pub mod Rising
 pub mod Backs

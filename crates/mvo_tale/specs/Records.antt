@@ -6,7 +6,7 @@ use Rattle.mvo_types.specs.declared.limits.TheConstants.{MAX_BODY_LEN, MAX_RECOR
 use Rattle.mvo_types.specs.declared.row.RowKey.{RowKey}
 use Rattle.mvo_types.specs.Keys.{key_cmp}
 use Rattle.mvo_types.specs.Write.{Write, Effect}
-use Rattle.mvo_model.specs.History.{History, net_write}
+use Rattle.mvo_model.specs.History.{History, net_write, write_at, later}
 use Rattle.mvo_theory.specs.Entries.{written_keys}
 use Rattle.mvo_theory.specs.Marks.{Commit}
 use Rattle.mvo_theory.specs.Groups.{Limits}
@@ -32,6 +32,12 @@ AreRecordsOf [] [] = ⊤
 AreRecordsOf [] (r ∷ rs) = ⊥
 AreRecordsOf (c ∷ cs) [] = ⊥
 AreRecordsOf (c ∷ cs) (r ∷ rs) = IsRecordOf c r × AreRecordsOf cs rs
+
+-- what the last writes to these keys leave, after one write more
+abbrev pub with_newer : Option Write → List RowKey → List (Option Effect) → List (Option Effect)
+with_newer w [] es = []
+with_newer w (k ∷ ks) [] = []
+with_newer w (k ∷ ks) (e ∷ es) = later (write_at k w) e ∷ with_newer w ks es
 
 -- ---- lengths, in bytes
 abbrev pub and_write : RowKey → Option Effect → List Write → List Write

@@ -1,5 +1,6 @@
 -- A stored commit, apart from where it lies in memory.
-use Rattle.std.specs.Prelude.{ℕ}
+use Rattle.std.specs.Prelude.{ℕ, List, Option, map}
+use Rattle.std.specs.Option.{option_map}
 use Rattle.mvo_types.specs.declared.row.RowKey.{RowKey}
 use Rattle.mvo_types.specs.RowData.{content_of}
 use Rattle.mvo_types.specs.Write.{Write, Effect}
@@ -23,6 +24,9 @@ commit_of x = (x.end, x.history)
 abbrev pub effect_data : EffectAt → Effect
 effect_data (effect.Put row) = Put (content_of row.now)
 effect_data effect.Delete = Delete
+
+abbrev pub effects_data : List (Option EffectAt) → List (Option Effect)
+effects_data es = map (option_map effect_data) es
 
 abbrev pub write_as : RowKey × EffectAt → Write
 write_as w = (w.0, effect_data w.1)

@@ -12,7 +12,7 @@ ghost use Rattle.mvo_tale.specs.Records.{IsRecordOf, net_writes, commit_len};
 
 use crate::effect::Effect;
 use crate::tale_entry::TaleEntry;
-use crate::writes::last_write;
+use crate::writes::last_writes;
 use mvo_group::{Record, Write};
 use mvo_types::{Answer, Op, RowKey};
 use std::alloc::{AllocError, Global};
@@ -56,12 +56,14 @@ fn writes_at(
     operations: &[(Op, Answer)],
     keys: &[RowKey],
 ) -> Result<Vec<Write>, AllocError>
+    requires { IsStrictlySortedBy key_cmp keys.now }
     ensures { IfOk result (λ ws. map write_data ws.items
         ≡ net_writes (history_told operations.now) keys.now) }
 {
-    let mut writes = Vec::new(alloc);
-    for key in keys {
-        if let Some(effect) = last_write(operations, *key) {
+    let lasts = last_writes(alloc, operations, keys)?;
+    let mut writes = Vec::with_capacity(alloc, keys.len())?;
+    for (place, key) in keys.iter().enumerate() {
+        if let Some(effect) = lasts[place] {
             writes.push(left_at(*key, effect)?)?;
         }
     }

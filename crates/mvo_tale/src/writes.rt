@@ -1,15 +1,16 @@
-ghost use Rattle.std.specs.Prelude.{◌≡◌};
+ghost use Rattle.std.specs.Prelude.{◌≡◌, IfOk, None, length, map, replicate};
+ghost use Rattle.std.specs.List.Sorted.{IsStrictlySortedBy};
 ghost use Rattle.std.specs.Option.{option_map};
-ghost use Rattle.std.specs.Ordering.{eq_by_cmp};
 ghost use Rattle.mvo_types.specs.Keys.{key_cmp};
 ghost use Rattle.mvo_types.specs.AnswerData.{answer_data};
-ghost use Rattle.mvo_model.specs.History.{write_of, net_write, write_at, later};
+ghost use Rattle.mvo_model.specs.History.{write_of, net_write};
 ghost use Rattle.mvo_theory.specs.Told.{history_told};
-ghost use Rattle.mvo_tale.specs.Stored.{write_as, effect_data};
+ghost use Rattle.mvo_tale.specs.Stored.{write_as, effects_data};
+ghost use Rattle.mvo_tale.specs.Records.{with_newer};
 
 use crate::effect::Effect;
 use mvo_types::{Answer, Op, RowKey};
-use std::cmp::Ordering;
+use std::alloc::{AllocError, Global};
 
 /// What the operation wrote: the key, and what it left there.
 fn write_by<'a>(op: &'a Op, answer: &Answer) -> Option<(RowKey, Effect<'a>)>
@@ -23,37 +24,47 @@ fn write_by<'a>(op: &'a Op, answer: &Answer) -> Option<(RowKey, Effect<'a>)>
     }
 }
 
-/// Whether the keys are the same.
-fn is_key(key: RowKey, other: RowKey) -> bool
-    ensures { result ≡ eq_by_cmp key_cmp key other }
+/// No write yet to so many keys.
+fn no_writes<'a>(alloc: Global, count: usize) -> Result<Vec<Option<Effect<'a>>>, AllocError>
+    ensures { IfOk result (λ lasts. lasts.items ≡ replicate count None) }
 {
-    key.cmp(&other) == Ordering::Equal
+    vec![in alloc; None; count]
 }
 
-/// The write, if it is of the key, and else the one before.
-fn newer<'a>(
-    last: Option<Effect<'a>>,
+/// Puts the write in the place of its key, where that is one of the keys, which rise.
+fn note<'a>(
+    lasts: &mut Vec<Option<Effect<'a>>>,
+    keys: &[RowKey],
     write: Option<(RowKey, Effect<'a>)>,
-    key: RowKey,
-) -> Option<Effect<'a>>
-    ensures { option_map effect_data result
-        ≡ later (write_at key (option_map write_as write.entry))
-        (option_map effect_data last.entry) }
+)
+    requires len { length lasts.old.items ≡ length keys.now }
+    requires rise { IsStrictlySortedBy key_cmp keys.now }
+    ensures { effects_data lasts.new.items
+        ≡ with_newer (option_map write_as write.entry) keys.now (effects_data lasts.old.items) }
 {
-    match write {
-        Some((at, effect)) if is_key(key, at) => Some(effect),
-        _ => last,
+    let Some((key, effect)) = write else {
+        return;
+    };
+    if let Ok(place) = keys.binary_search(&key) {
+        lasts[place] = Some(effect);
     }
 }
 
-/// The last write to a key, if there is one.
-pub fn last_write<'a>(operations: &'a [(Op, Answer)], key: RowKey) -> Option<Effect<'a>>
-    ensures { option_map effect_data result ≡ net_write key (history_told operations.now) }
+/// The last write to each of the keys, which rise: what it left at the first, at the second, and
+/// so on, or nothing where there is none. Each operation takes one search in the keys.
+pub fn last_writes<'a>(
+    alloc: Global,
+    operations: &'a [(Op, Answer)],
+    keys: &[RowKey],
+) -> Result<Vec<Option<Effect<'a>>>, AllocError>
+    requires { IsStrictlySortedBy key_cmp keys.now }
+    ensures { IfOk result (λ lasts. effects_data lasts.items
+        ≡ map (λ k. net_write k (history_told operations.now)) keys.now) }
 {
-    let mut last = None;
+    let mut lasts = no_writes(alloc, keys.len())?;
     for told in operations {
         let (op, answer) = told;
-        last = newer(last, write_by(op, answer), key);
+        note(&mut lasts, keys, write_by(op, answer));
     }
-    last
+    Ok(lasts)
 }
