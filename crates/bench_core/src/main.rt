@@ -48,7 +48,7 @@ fn main(rt: HostRuntime) -> Result<()> {
     run_apart(&rt, &rt, &config)?;
     for part in PARTS {
         if config.has_part(part) {
-            parts::run(&rt, &config, part)?;
+            parts::run(&rt, &rt, &config, part)?;
         }
     }
     Ok(())

@@ -28,7 +28,12 @@ struct Look<'a> {
 }
 
 /// Makes the part for all rows, and prints how many bytes a row it took.
-pub fn run(rt: &HostRuntime, config: &Config, part: Part) -> Result<()> {
+pub fn run(
+    rt: &HostRuntime,
+    threads: &(impl Threads + Sync),
+    config: &Config,
+    part: Part,
+) -> Result<()> {
     let (alloc, rows, data) = (rt.alloc(), config.rows, config.data);
     let figure = Figure::start(rt, config, part.name())?;
     let before = resident(rt);
@@ -47,8 +52,8 @@ pub fn run(rt: &HostRuntime, config: &Config, part: Part) -> Result<()> {
         Part::Order => look.tell(&order(alloc, rows)?),
         Part::Rising => look.tell(&rising(alloc, rows)?),
         Part::Built => look.tell(&built(alloc, rows)?),
-        Part::All => look.tell(&versions(rt, alloc, rows, data)?),
-        Part::Loaded => look.tell(&at_once(rt, alloc, rows, data)?),
+        Part::All => look.tell(&versions(threads, alloc, rows, data)?),
+        Part::Loaded => look.tell(&at_once(threads, alloc, rows, data)?),
     }
 }
 
