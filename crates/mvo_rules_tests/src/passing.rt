@@ -203,8 +203,11 @@ fn come(
 fn go(rt: &impl Abort, both: &mut Both, from: usize, apart: usize, count: usize) {
     for step in 0..count {
         take_out(both, from.saturating_add(step.saturating_mul(apart)));
-        agree(rt, both);
+        if step % 8 == 0 {
+            agree(rt, both);
+        }
     }
+    agree(rt, both);
 }
 
 #[test]
