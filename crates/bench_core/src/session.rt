@@ -33,6 +33,7 @@ impl Session {
         self.alloc
     }
 
+    #[inline(always)]
     pub fn begin(&mut self) -> Result<TxId, Stopped> {
         let tx = self.core.begin_tx()?;
         self.upkeep.begun(tx)?;
@@ -40,6 +41,7 @@ impl Session {
     }
 
     /// The row at a key, which has one.
+    #[inline(always)]
     pub fn read(&mut self, tx: TxId, key: u64) -> Result<Row, Stopped> {
         self.upkeep.count(1);
         match self.core.read(tx, key_of(key))? {
@@ -56,6 +58,7 @@ impl Session {
         }
     }
 
+    #[inline(always)]
     pub fn update(&mut self, tx: TxId, row: Row) -> Result<(), Stopped> {
         self.upkeep.count(1);
         match self.core.update(tx, row)? {
@@ -75,6 +78,7 @@ impl Session {
     }
 
     /// The whole end of a transaction, and what is due then.
+    #[inline(always)]
     pub fn commit(&mut self, tx: TxId) -> Result<(), Stopped> {
         self.precommit(tx)?;
         self.validate(tx)?;
@@ -83,16 +87,19 @@ impl Session {
         self.keep_up()
     }
 
+    #[inline(always)]
     pub fn precommit(&mut self, tx: TxId) -> Result<(), Stopped> {
         self.core.precommit(tx)?;
         Ok(())
     }
 
     /// One check, and whether it was the last.
+    #[inline(always)]
     pub fn validate_one(&mut self, tx: TxId) -> Result<bool, Stopped> {
         Ok(self.core.validate_one(tx)? == Validation::Valid)
     }
 
+    #[inline(always)]
     pub fn settle(&mut self, tx: TxId) -> Result<(), Stopped> {
         match self.core.settle(tx)? {
             Settlement::Committed(_) => Ok(()),
@@ -101,6 +108,7 @@ impl Session {
     }
 
     /// One word, and whether it was the last.
+    #[inline(always)]
     pub fn finish_one(&mut self, tx: TxId) -> Result<bool, Stopped> {
         let is_done = self.core.finish_one(tx)? == Finishing::Done;
         if is_done {
@@ -142,10 +150,16 @@ impl Session {
     }
 
     /// A turn of the upkeep, if one is due.
+    #[inline(always)]
     fn keep_up(&mut self) -> Result<(), Stopped> {
         if !self.is_due() {
             return Ok(());
         }
+        self.take_turn()
+    }
+
+    #[inline(never)]
+    fn take_turn(&mut self) -> Result<(), Stopped> {
         self.close_group()?;
         self.trim()?;
         for _ in 0..MOST_COLLECTED {
@@ -156,6 +170,7 @@ impl Session {
         Ok(())
     }
 
+    #[inline(always)]
     fn validate(&mut self, tx: TxId) -> Result<(), Stopped> {
         for _ in 0..MOST {
             if self.validate_one(tx)? {
@@ -165,6 +180,7 @@ impl Session {
         Err(Stopped::Unexpected)
     }
 
+    #[inline(always)]
     fn finish(&mut self, tx: TxId) -> Result<(), Stopped> {
         for _ in 0..MOST {
             if self.finish_one(tx)? {

@@ -41,17 +41,20 @@ impl Upkeep {
     }
 
     /// A transaction began.
+    #[inline(always)]
     pub fn begun(&mut self, tx: TxId) -> Result<(), AllocError> {
         self.open.push(tx)?;
         Ok(())
     }
 
     /// So many rows were read or put.
+    #[inline(always)]
     pub fn count(&mut self, rows: u64) {
         self.done = self.done.saturating_add(rows);
     }
 
     /// A transaction is over.
+    #[inline(always)]
     pub fn ended(&mut self, tx: TxId) {
         self.count(1);
         if self.open.last().copied() == Some(tx) {
@@ -67,6 +70,7 @@ impl Upkeep {
     }
 
     /// Whether a turn is due. Then the next one is after as many rows again.
+    #[inline(always)]
     pub fn is_due(&mut self) -> bool {
         let is_due = self.every > 0 && self.done >= self.every;
         if is_due {
