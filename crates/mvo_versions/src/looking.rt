@@ -73,8 +73,25 @@ impl Versions {
     }
 }
 
-/// A walk over the versions of a key, past those in front that tell nothing below a begin.
+/// A walk over the versions of a key, past those in front that tell nothing below a begin. Most
+/// readers are told something by the newest one.
+#[inline(always)]
 fn walk_past<'a>(indexed: &'a Indexed, skips: &Skips, key: RowKey, at: Stamp) -> Numbers<'a>
+    requires { HasSkips indexed.now skips.now }
+    ensures { IsRest at.0 indexed.now.slots (map number (numbers_of indexed.now.lists key)) result }
+{
+    let walk = indexed.index().walk(key);
+    match walk.peek() {
+        Some(newest) if is_later_one(indexed.chains(), newest, at) => {
+            walk_far(indexed, skips, key, at)
+        }
+        _ => walk,
+    }
+}
+
+/// The same, where the newest tells nothing: skips are asked for.
+#[inline(never)]
+fn walk_far<'a>(indexed: &'a Indexed, skips: &Skips, key: RowKey, at: Stamp) -> Numbers<'a>
     requires { HasSkips indexed.now skips.now }
     ensures { IsRest at.0 indexed.now.slots (map number (numbers_of indexed.now.lists key)) result }
 {
@@ -83,13 +100,13 @@ fn walk_past<'a>(indexed: &'a Indexed, skips: &Skips, key: RowKey, at: Stamp) ->
         let Some(number) = walk.peek() else {
             break;
         };
-        if !is_later_one(indexed.chains(), number, at) {
-            break;
-        }
         // All of a skip are passed over without a look at them.
         match skips.skip(number) {
             Some(skip) if at.0 <= skip.least.0 => walk.pass_to(skip.to),
             _ => {
+                if !is_later_one(indexed.chains(), number, at) {
+                    break;
+                }
                 walk.next();
             }
         }
