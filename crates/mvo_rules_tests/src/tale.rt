@@ -3,5 +3,6 @@
 mod checked;
 mod cuts;
 mod entries;
+mod many_keys;
 mod plain;
 mod random;
