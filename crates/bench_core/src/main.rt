@@ -43,20 +43,20 @@ use std::thread::Threads;
 fn main(rt: HostRuntime) -> Result<()> {
     let config = Config::given(&rt)?;
     if config.loads() {
-        run_on(&rt, &config)?;
+        run_on(&rt, &rt, &config)?;
     }
     run_apart(&rt, &rt, &config)?;
     for part in PARTS {
         if config.has_part(part) {
-            parts::run(&rt, &config, part)?;
+            parts::run(&rt, &rt, &config, part)?;
         }
     }
     Ok(())
 }
 
 /// What runs on one core, which is loaded first.
-fn run_on(rt: &HostRuntime, config: &Config) -> Result<()> {
-    let mut session = Session::new(rt.alloc(), config.upkeep)?;
+fn run_on(rt: &HostRuntime, threads: &(impl Threads + Sync), config: &Config) -> Result<()> {
+    let mut session = Session::new(threads, rt.alloc(), config.upkeep)?;
     load::run(rt, config, &mut session)?;
     run_plain(rt, config, &mut session)?;
     run_beside_old(rt, config, &mut session)
@@ -69,16 +69,16 @@ fn run_apart<R: Runtime + Threads + Wait + Sync>(
     config: &Config,
 ) -> Result<()> {
     if config.has(Work::Stalls) {
-        stalls::run(rt, config)?;
+        stalls::run(rt, threads, config)?;
     }
     if config.has(Work::Threads) {
         threads::run(threads, rt.alloc(), config)?;
     }
     if config.has(Work::Steady) {
-        steady::run(rt, config)?;
+        steady::run(rt, threads, config)?;
     }
     if config.has(Work::Worn) {
-        worn::run(rt, config)?;
+        worn::run(rt, threads, config)?;
     }
     Ok(())
 }

@@ -13,6 +13,7 @@ use mvo_types::{Row, Rows, Stamp, TxId};
 use mvo_versions::Versions;
 use mvo_word::Word;
 use std::alloc::{AllocError, Global};
+use std::thread::Threads;
 
 /// The seed of the core's key index.
 const SEED: u64 = 7;
@@ -27,7 +28,12 @@ struct Look<'a> {
 }
 
 /// Makes the part for all rows, and prints how many bytes a row it took.
-pub fn run(rt: &HostRuntime, config: &Config, part: Part) -> Result<()> {
+pub fn run(
+    rt: &HostRuntime,
+    threads: &(impl Threads + Sync),
+    config: &Config,
+    part: Part,
+) -> Result<()> {
     let (alloc, rows, data) = (rt.alloc(), config.rows, config.data);
     let figure = Figure::start(rt, config, part.name())?;
     let before = resident(rt);
@@ -46,8 +52,8 @@ pub fn run(rt: &HostRuntime, config: &Config, part: Part) -> Result<()> {
         Part::Order => look.tell(&order(alloc, rows)?),
         Part::Rising => look.tell(&rising(alloc, rows)?),
         Part::Built => look.tell(&built(alloc, rows)?),
-        Part::All => look.tell(&versions(alloc, rows, data)?),
-        Part::Loaded => look.tell(&at_once(alloc, rows, data)?),
+        Part::All => look.tell(&versions(threads, alloc, rows, data)?),
+        Part::Loaded => look.tell(&at_once(threads, alloc, rows, data)?),
     }
 }
 
@@ -133,18 +139,28 @@ fn built(alloc: Global, rows: u64) -> Result<RangeIndex, AllocError> {
     RangeIndex::from_entries(alloc, places)
 }
 
-fn versions(alloc: Global, rows: u64, data: u64) -> Result<Versions, AllocError> {
-    let mut versions = Versions::load(alloc, SEED, Rows::new(alloc), Stamp(1))?;
+fn versions(
+    rt: &(impl Threads + Sync),
+    alloc: Global,
+    rows: u64,
+    data: u64,
+) -> Result<Versions, AllocError> {
+    let mut versions = Versions::load(rt, alloc, SEED, Rows::new(alloc), Stamp(1))?;
     for key in 0..rows {
         versions.put(loaded(alloc, key, data)?, TxId(3), None)?;
     }
     Ok(versions)
 }
 
-fn at_once(alloc: Global, rows: u64, data: u64) -> Result<Versions, AllocError> {
+fn at_once(
+    rt: &(impl Threads + Sync),
+    alloc: Global,
+    rows: u64,
+    data: u64,
+) -> Result<Versions, AllocError> {
     let mut list = Rows::new(alloc);
     for key in 0..rows {
         list.put(loaded(alloc, key, data)?)?;
     }
-    Versions::load(alloc, SEED, list, Stamp(1))
+    Versions::load(rt, alloc, SEED, list, Stamp(1))
 }

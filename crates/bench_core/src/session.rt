@@ -4,6 +4,7 @@ use crate::upkeep::{MOST as MOST_COLLECTED, Upkeep};
 use mvo_core::{Core, Finishing, Settlement, Validation};
 use mvo_types::{Answer, Row, Rows, Stamp, TxId};
 use std::alloc::Global;
+use std::thread::Threads;
 
 /// More checks and more words than a transaction has.
 pub const MOST: u64 = 10_000;
@@ -19,8 +20,8 @@ pub struct Session {
 
 impl Session {
     /// No rows yet. The upkeep has its turn after every so many rows that are read or put.
-    pub fn new(alloc: Global, every: u64) -> Result<Session, Stopped> {
-        let core = Core::open(alloc, 7, Rows::new(alloc), Stamp(0))?;
+    pub fn new(rt: &(impl Threads + Sync), alloc: Global, every: u64) -> Result<Session, Stopped> {
+        let core = Core::open(rt, alloc, 7, Rows::new(alloc), Stamp(0))?;
         Ok(Session {
             alloc,
             core,

@@ -6,6 +6,7 @@ use crate::times::Times;
 use crate::upkeep::MOST as MOST_COLLECTED;
 use anyhow::{Result, bail};
 use mvo_types::{Row, TxId};
+use std::thread::Threads;
 use std::time::Instant;
 
 /// Each call is made in so many rounds, and the least of its times counts: other programs stop a
@@ -17,11 +18,11 @@ const EACH: u64 = 100;
 
 /// The longest single call of the core while the rows are inserted into one that has none, those of
 /// the upkeep among them.
-pub fn run(rt: &HostRuntime, config: &Config) -> Result<()> {
+pub fn run(rt: &HostRuntime, threads: &(impl Threads + Sync), config: &Config) -> Result<()> {
     let mut times = Times::new(rt.alloc());
     for _ in 0..ROUNDS {
         times.restart();
-        let mut session = Session::new(rt.alloc(), config.upkeep)?;
+        let mut session = Session::new(threads, rt.alloc(), config.upkeep)?;
         insert_all(rt, config, &mut session, &mut times)?;
     }
     Figure::start(rt, config, "longest_call")?.tell_nanos(rt, times.calls(), times.longest())

@@ -7,6 +7,7 @@ use crate::mixed::update_one;
 use crate::resident::anonymous;
 use crate::session::Session;
 use anyhow::Result;
+use std::thread::Threads;
 
 /// So many rows, of which each update takes one.
 pub const KEYS: u64 = 1_000;
@@ -16,8 +17,8 @@ const PARTS: u64 = 10;
 
 /// Updates few rows again and again, and prints how much memory there is after each part: it is to
 /// stay what it was after the first.
-pub fn run(rt: &HostRuntime, config: &Config) -> Result<()> {
-    let mut session = Session::new(rt.alloc(), config.upkeep)?;
+pub fn run(rt: &HostRuntime, threads: &(impl Threads + Sync), config: &Config) -> Result<()> {
+    let mut session = Session::new(threads, rt.alloc(), config.upkeep)?;
     let mut sum = insert_all(&mut session, KEYS, config.data)?;
     let figure = Figure::start(rt, config, "steady_update")?;
     let each = config.steady / PARTS;

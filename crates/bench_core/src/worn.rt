@@ -7,6 +7,7 @@ use crate::session::Session;
 use crate::steady::KEYS;
 use crate::stopped::Stopped;
 use anyhow::Result;
+use std::thread::Threads;
 
 const KEY: u64 = 7;
 
@@ -15,8 +16,8 @@ const ROUNDS: u64 = 5;
 
 /// What an update and a new read of a key and collecting one of its versions take, after none, a
 /// tenth and all of so many of its versions were written and collected.
-pub fn run(rt: &HostRuntime, config: &Config) -> Result<()> {
-    let mut session = Session::new(rt.alloc(), config.upkeep)?;
+pub fn run(rt: &HostRuntime, threads: &(impl Threads + Sync), config: &Config) -> Result<()> {
+    let mut session = Session::new(threads, rt.alloc(), config.upkeep)?;
     insert_all(&mut session, KEYS, config.data)?;
     let mut written = 0;
     for upto in [0, config.steady / 10, config.steady] {

@@ -5,6 +5,7 @@ use mvo_types::{Row, RowKey, Rows, Stamp, TxId};
 use mvo_versions::Versions;
 use std::alloc::{AllocError, Global};
 use std::rt::Clock;
+use std::thread::Threads;
 use std::time::Instant;
 
 const SIZES: [u64; 3] = [2_000, 4_000, 8_000];
@@ -15,7 +16,7 @@ const HOT: RowKey = RowKey { table: 3, key: 7 };
 
 /// Versions of one key, put newest last and taken out oldest first, whose sort stays, is one of two
 /// in turn, or changes with each.
-pub fn run<R: AllocGlobal + Clock + Eprint + Print>(rt: &R) -> Result<()> {
+pub fn run<R: AllocGlobal + Clock + Eprint + Print + Threads + Sync>(rt: &R) -> Result<()> {
     for count in SIZES {
         let stays = hot(rt, "sort stays", count, 1)?;
         let turns = hot(rt, "sort of two in turn", count, 2)?;
@@ -25,9 +26,14 @@ pub fn run<R: AllocGlobal + Clock + Eprint + Print>(rt: &R) -> Result<()> {
     Ok(())
 }
 
-fn hot<R: AllocGlobal + Clock + Eprint>(rt: &R, name: &str, count: u64, sorts: u64) -> Result<u64> {
+fn hot<R: AllocGlobal + Clock + Eprint + Threads + Sync>(
+    rt: &R,
+    name: &str,
+    count: u64,
+    sorts: u64,
+) -> Result<u64> {
     let alloc = rt.alloc();
-    let mut versions = Versions::load(alloc, 1, Rows::new(alloc), Stamp(1))?;
+    let mut versions = Versions::load(rt, alloc, 1, Rows::new(alloc), Stamp(1))?;
     let mut numbers = Vec::new(alloc);
     let mut sum = 0u64;
     let mut taking = 0u128;

@@ -26,7 +26,7 @@ const PARTS: [Part; 8] = [
 ];
 
 fn main(rt: HostRuntime) -> Result<(), anyhow::Error> {
-    let mut session = Session::new(rt.alloc())?;
+    let mut session = Session::new(&rt, rt.alloc())?;
     run(&rt, &mut session)
 }
 

@@ -5,6 +5,7 @@ use mvo_group::Group;
 use mvo_types::{Answer, Refusal, Row, RowKey, Rows, Stamp, TxId};
 use rtrb::{Consumer, Producer, RingBuffer};
 use std::alloc::Global;
+use std::thread::Threads;
 
 /// More checks, words, groups and versions than there are.
 const MOST: u64 = 10_000_000;
@@ -30,8 +31,8 @@ impl Drop for Session {
 
 impl Session {
     /// No rows yet.
-    pub fn new(alloc: Global) -> Result<Session, Wrong> {
-        let core = Core::open(alloc, 7, Rows::new(alloc), Stamp(0))?;
+    pub fn new(rt: &(impl Threads + Sync), alloc: Global) -> Result<Session, Wrong> {
+        let core = Core::open(rt, alloc, 7, Rows::new(alloc), Stamp(0))?;
         let (producer, consumer) = RingBuffer::new(alloc, 1)?;
         Ok(Session {
             alloc,

@@ -4,6 +4,7 @@ pub mod CausesTold
 pub mod Laws
 pub mod TakenBack
 pub mod Written
+pub mod Alone
 pub mod FinishLaws
 pub mod BesideWords
 pub mod Passed

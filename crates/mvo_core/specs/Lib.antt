@@ -19,6 +19,7 @@ pub mod Fronts
 pub mod Ending
 pub mod Inserting
 pub mod Checking
+pub mod Settling
 pub mod Collecting
 pub mod Scanning
 pub mod Spare

@@ -1,5 +1,5 @@
 //! What is kept of a transaction that does something.
-ghost use Rattle.std.specs.Prelude.{◌≡◌, OnOk, OnErr, IsSome, IfSome, ◌<◌};
+ghost use Rattle.std.specs.Prelude.{◌≡◌, ◌∷◌, [], OnOk, OnErr, IsSome, IfSome, ◌<◌};
 ghost use Rattle.std.specs.Option.{option_to_list};
 ghost use Rattle.mvo_types.specs.AnswerData.{answer_data};
 ghost use Rattle.mvo_deps.specs.Nodes.{after_register_all};
@@ -85,10 +85,47 @@ pub fn record_answer(
         (IsRecorded table.old table.new tx (option_to_list on) op (answer_data answer)) }
     ensures err { OnErr result (IsWritten table.old table.new tx.0 HasDoneAsMuch) }
 {
+    match on {
+        Some(on) => record_depending(table, tx, on, op, answer),
+        None => record_alone(table, tx, op, answer),
+    }
+}
+
+/// Tells the transaction an answer, and lets it depend on the other; or does neither.
+#[inline(never)]
+fn record_depending(
+    table: &mut Table,
+    tx: TxId,
+    on: TxId,
+    op: Op,
+    answer: Answer,
+) -> Result<(), AllocError>
+    requires there { IsSome (own_of table.old tx.0) }
+    requires limits { IfSome (own_of table.old tx.0) (λ own.
+        MayFollow own.work.history op (answer_data answer)) }
+    ensures ok { OnOk result
+        (IsRecorded table.old table.new tx (on ∷ []) op (answer_data answer)) }
+    ensures err { OnErr result (IsWritten table.old table.new tx.0 HasDoneAsMuch) }
+{
     make_room(table, tx)?;
-    depend(table, tx, on)?;
+    register(table, tx, on)?;
     tell(table, tx, op, answer);
     Ok(())
+}
+
+/// Tells the transaction an answer, or does nothing, by one look at it.
+#[inline(always)]
+fn record_alone(table: &mut Table, tx: TxId, op: Op, answer: Answer) -> Result<(), AllocError>
+    requires there { IsSome (own_of table.old tx.0) }
+    requires limits { IfSome (own_of table.old tx.0) (λ own.
+        MayFollow own.work.history op (answer_data answer)) }
+    ensures ok { OnOk result (IsRecorded table.old table.new tx [] op (answer_data answer)) }
+    ensures err { OnErr result (IsWritten table.old table.new tx.0 HasDoneAsMuch) }
+{
+    match table.get_mut(tx) {
+        Some(node) => node.own.record(op, answer),
+        None => unreachable!(),
+    }
 }
 
 /// Tells the transaction an answer, and lets it depend on the others; or does neither.

@@ -1,10 +1,13 @@
 //! How a transaction ends.
-ghost use Rattle.std.specs.Prelude.{◌≡◌, Some, IsSome, is_none, length, slice_get};
+ghost use Rattle.std.specs.Prelude.{◌≡◌, [], false, Some, IsSome, is_none, length, slice_get};
 ghost use Rattle.std.specs.Option.{option_map};
 ghost use Rattle.mvo_theory.specs.Entries.{written_keys};
 ghost use Rattle.mvo_theory.specs.Told.{history_told};
 ghost use Rattle.mvo_theory.specs.Limits.{AreLimited};
 ghost use Rattle.mvo_txn.specs.Txns.{state_of};
+ghost use Rattle.mvo_deps.specs.Data.{after_commit};
+ghost use Rattle.mvo_deps.specs.Nodes.{data_of, IsReported};
+ghost use Rattle.mvo_deps.specs.Graph.{KeepsGraphAtCommit};
 ghost use Rattle.mvo_chain.specs.Slots.{version_at};
 ghost use Rattle.mvo_visible.specs.Shown.{AllHaveFallingStamps};
 ghost use Rattle.mvo_representation.specs.Words.{ends_of, stamp_in};
@@ -23,10 +26,11 @@ ghost use Rattle.mvo_core.specs.Fronts.{passes, comes_at_draw, IsInFrontIf, AreI
 use crate::answers::{Settlement, Validation};
 use crate::collecting::await_ends;
 use crate::event_core::Core;
+use crate::readiness::{Readiness, readiness_of};
 use crate::refusing::{active, is_failure, not_undone, preparing};
 use crate::transaction::{Table, Transaction};
 use mvo_chain::VersionNo;
-use mvo_deps::{report_abort, report_commit, waiting_for};
+use mvo_deps::{report_abort, report_commit};
 use mvo_tale::{Tale, TaleEntry};
 use mvo_txn::TxState;
 use mvo_types::{Entry, MAX_STAMP, Refusal, Stamp, TxId};
@@ -93,18 +97,14 @@ impl Core {
         ensures step { IsStep self.old (Settle tx.0) result self.new }
         ensures answer { IfOk result (IsSettlement self.old tx.0) }
     {
-        let (refusal, valid) = preparing(&self.table, tx);
-        if let Some(refusal) = refusal {
-            return Err(self.give_up(tx, refusal));
-        }
-        if !valid {
-            return Err(Refusal::NotValidated);
-        }
-        if let Some(other) = waiting_for(&self.table, tx) {
-            return Ok(Settlement::Waiting(other));
-        }
+        let has_dependents = match readiness_of(&self.table, tx) {
+            Readiness::Refused(refusal) => return Err(self.give_up(tx, refusal)),
+            Readiness::NotValidated => return Err(Refusal::NotValidated),
+            Readiness::WaitsFor(other) => return Ok(Settlement::Waiting(other)),
+            Readiness::Ready(has_dependents) => has_dependents,
+        };
         let end = self.table.commit(tx);
-        report_commit(&mut self.table, tx);
+        report_settled(&mut self.table, tx, has_dependents);
         let (place, operations) = take_operations(&mut self.table, tx);
         let Operations { told, written } = operations;
         let entry = TaleEntry {
@@ -240,6 +240,18 @@ fn count_check(table: &mut Table, tx: TxId) -> Validation
     match table.get_mut(tx) {
         Some(node) => node.own.count_check(),
         None => unreachable!(),
+    }
+}
+
+/// Tells those that depend on the transaction that it is committed. Where nobody does, it isn't
+/// looked up.
+fn report_settled(table: &mut Table, tx: TxId, has_dependents: bool)
+    requires { has_dependents ≡ false → (data_of table.old tx).dependents ≡ [] }
+    ensures told { IsReported after_commit table.old table.new tx }
+    ensures graph { KeepsGraphAtCommit table.old table.new tx }
+{
+    if has_dependents {
+        report_commit(table, tx);
     }
 }
 

@@ -1,4 +1,4 @@
-use crate::spares::Spares;
+use crate::spares::{Spares, give_list};
 use crate::transaction::{Table, begun};
 use mvo_collect::Waiting;
 use mvo_tale::Tale;
@@ -7,6 +7,7 @@ use mvo_types::{MAX_STAMP, Refusal, Rows, Stamp, TxId};
 use mvo_versions::Versions;
 use std::alloc::Global;
 use std::marker::Model;
+use std::thread::Threads;
 
 /// The event core. A call is one step: none waits for another, and none goes over all
 /// transactions, versions or commits.
@@ -73,15 +74,22 @@ impl Core {
     ghost use Rattle.mvo_core.specs.Standing.{OpensAs};
     ghost use Rattle.mvo_core.specs.Steps.{IsStep};
 
-    /// A core over these rows, with the clock at their mark. Who chooses the keys of rows must not
-    /// know the seed, which decides where keys stand in memory. Refused with OutOfMemory alone.
-    pub fn open(alloc: Global, seed: u64, rows: Rows, mark: Stamp) -> Result<Core, Refusal>
+    /// A core over these rows, with the clock at their mark. The two indexes of 8,192 rows or more
+    /// are made in two threads. Who chooses the keys of rows must not know the seed, which decides
+    /// where keys stand in memory. Refused with OutOfMemory alone.
+    pub fn open(
+        rt: &(impl Threads + Sync),
+        alloc: Global,
+        seed: u64,
+        rows: Rows,
+        mark: Stamp,
+    ) -> Result<Core, Refusal>
         requires { mark.0 ≤ LIMIT }
         ensures ok { IfOk result (λ c. OpensAs rows mark.0 c) }
         ensures err { IfErr result (λ r. r ≡ Refusal.OutOfMemory) }
     {
         let table = TxnTable::new(alloc, mark)?;
-        let versions = Versions::load(alloc, seed, rows, mark)?;
+        let versions = Versions::load(rt, alloc, seed, rows, mark)?;
         let spares = Spares::new(alloc)?;
         Ok(Core {
             alloc,
@@ -114,7 +122,8 @@ impl Core {
             return Err(refusal);
         }
         let alloc = self.alloc;
-        let work = self.spares.take()?;
+        let mut work = self.spares.take()?;
+        give_list(&mut self.tale, &mut work);
         self.table.begin(begun(alloc, work))
     }
 }

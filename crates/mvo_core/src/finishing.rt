@@ -1,5 +1,6 @@
 //! How a transaction's words are replaced, one after another.
 ghost use Rattle.std.specs.Prelude.{◌≡◌, [], IsSome, IfOk, IfErr, None, Some, slice_get};
+ghost use Rattle.std.specs.Prelude.{length, nat_lt};
 ghost use Rattle.mvo_chain.specs.Slots.{version_at};
 ghost use Rattle.mvo_txn.specs.Txns.{state_of};
 ghost use Rattle.mvo_representation.specs.WordLists.{number_at, names_at, with_word};
@@ -34,8 +35,8 @@ impl Core {
         ensures step { IsStep self.old (Finish tx.0) result self.new }
         ensures answer { IfOk result (IsFinishing self.old tx.0) }
     {
-        let word = final_word(&self.table, tx)?;
-        let replaced = replace_next(&mut self.versions, &mut self.table, tx, word);
+        let (word, has_words) = final_word(&self.table, tx)?;
+        let replaced = replace_next(&mut self.versions, &mut self.table, tx, word, has_words);
         count_off(&mut self.waiting, &self.versions, replaced);
         if next_left(&self.versions, &mut self.table, tx, replaced).is_some() {
             return Ok(Finishing::More);
@@ -46,37 +47,47 @@ impl Core {
     }
 }
 
-/// What the words of a Committed or Aborted transaction say in the end. Refused:
-/// NoSuchTransaction, NotEnded.
-fn final_word(table: &Table, tx: TxId) -> Result<Word, Refusal>
+/// What the words of a Committed or Aborted transaction say in the end, and whether words are left
+/// on its list. Refused: NoSuchTransaction, NotEnded.
+fn final_word(table: &Table, tx: TxId) -> Result<(Word, bool), Refusal>
     requires { HasDrawnEnd table.now.clock (state_of table.now tx.0) }
-    ensures ok { IfOk result (IsFinalWord (state_of table.now tx.0)) }
+    ensures ok { IfOk result (λ r. IsFinalWord (state_of table.now tx.0) r.0) }
+    ensures words { IfOk result (λ r. r.1 ≡ nat_lt 0 (length (words_in table.now tx.0))) }
     ensures err { IfErr result (λ r. why_not_finished (state_of table.now tx.0) ≡ Some r) }
 {
     // An end is at most the clock, and so a word can hold it.
     let _clock = table.clock();
-    match table.state(tx) {
-        None => Err(Refusal::NoSuchTransaction),
-        Some(TxState::Active) => Err(Refusal::NotEnded),
-        Some(TxState::Preparing(_)) => Err(Refusal::NotEnded),
-        Some(TxState::Committed(end)) => Ok(Word::stamp(end)),
-        Some(TxState::Aborted) => Ok(Word::INFINITY),
+    let Some(seat) = table.get(tx) else {
+        return Err(Refusal::NoSuchTransaction);
+    };
+    let has_words = seat.kept.own.work.word_count() > 0;
+    match seat.state {
+        TxState::Active => Err(Refusal::NotEnded),
+        TxState::Preparing(_) => Err(Refusal::NotEnded),
+        TxState::Committed(end) => Ok((Word::stamp(end), has_words)),
+        TxState::Aborted => Ok((Word::INFINITY, has_words)),
     }
 }
 
 /// Replaces the first word of the transaction's list that still names it, if there is one, and
-/// takes it off the list, with those before it, which others took over. Answers which it was.
+/// takes it off the list, with those before it, which others took over. Answers which it was. A
+/// list without words isn't looked up.
 fn replace_next(
     versions: &mut Versions,
     table: &mut Table,
     tx: TxId,
     word: Word,
+    has_words: bool,
 ) -> Option<WordPlace>
-    requires { IsSome (own_of table.old tx.0) }
+    requires there { IsSome (own_of table.old tx.0) }
+    requires words { has_words ≡ nat_lt 0 (length (words_in table.old tx.0)) }
     ensures replaced { IsNextReplaced versions.old versions.new table.old table.new tx.0 word }
     ensures first { result ≡
         slice_get (from_own versions.old.slots tx.0 (words_in table.old tx.0)) 0 }
 {
+    if !has_words {
+        return None;
+    }
     let Some(place) = next_own(versions, table, tx) else {
         return None;
     };

@@ -11,6 +11,7 @@ mod event_core;
 mod finishing;
 mod holding;
 mod operating;
+mod readiness;
 mod refusing;
 mod scanning;
 mod spares;

@@ -71,7 +71,7 @@ pub fn preparing(table: &Table, tx: TxId) -> (Option<Refusal>, bool)
 }
 
 /// Why one that is unfinished may not be called as a Preparing one.
-fn not_preparing_in(seat: &Seat<Node<Transaction>>) -> Option<Refusal>
+pub fn not_preparing_in(seat: &Seat<Node<Transaction>>) -> Option<Refusal>
     ensures { result ≡
         unless_preparing_as (Some seat.now.state) seat.now.kept.dependencies.aborted }
 {

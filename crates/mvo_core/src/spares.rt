@@ -1,3 +1,6 @@
+ghost use Rattle.std.specs.Prelude.{◌≡◌};
+
+use mvo_tale::Tale;
 use mvo_work::Work;
 use std::alloc::{AllocError, Global};
 use std::marker::Model;
@@ -52,5 +55,17 @@ impl Spares {
             work.clear();
             let _ = self.works.push(work);
         }
+    }
+}
+
+/// Gives the work the memory of a commit's operations, where the tale keeps some.
+#[inline(always)]
+pub fn give_list(tale: &mut Tale, work: &mut Work)
+    ensures tale { tale.new ≡ tale.old }
+    ensures history { work.new.history ≡ work.old.history }
+    ensures words { work.new.words ≡ work.old.words }
+{
+    if let Some(list) = tale.spare_list() {
+        work.keep_list(list);
     }
 }

@@ -4,8 +4,9 @@ ghost use Rattle.mvo_deps.specs.Data.{no_dependencies};
 use crate::answers::Validation;
 use mvo_deps::{Dependencies, Node};
 use mvo_txn::TxnTable;
+use mvo_types::{Answer, Op};
 use mvo_work::Work;
-use std::alloc::Global;
+use std::alloc::{AllocError, Global};
 
 /// The unfinished transactions.
 pub type Table = TxnTable<Node<Transaction>>;
@@ -24,9 +25,11 @@ pub struct Transaction {
 }
 
 impl Transaction {
-    ghost use Rattle.std.specs.Prelude.{◌≡◌};
+    ghost use Rattle.std.specs.Prelude.{◌≡◌, OnOk, OnErr};
+    ghost use Rattle.mvo_types.specs.AnswerData.{answer_data};
+    ghost use Rattle.mvo_work.specs.Limits.{MayFollow};
     ghost use Rattle.mvo_core.specs.Own.{is_last_check, checked_as};
-    ghost use Rattle.mvo_core.specs.Keeping.{IsPlaced, IsCounted};
+    ghost use Rattle.mvo_core.specs.Keeping.{IsPlaced, IsCounted, IsTold, HasDoneAsMuch};
 
     /// It has this place in the tale, and none of its entries is checked yet.
     pub fn keep_place(&mut self, place: usize)
@@ -35,6 +38,18 @@ impl Transaction {
         self.place = place;
         self.checked = 0;
         self.valid = false;
+    }
+
+    /// It is told the answer to its operation, or there is no more of it than before.
+    #[inline(always)]
+    pub fn record(&mut self, op: Op, answer: Answer) -> Result<(), AllocError>
+        requires { MayFollow self.old.work.history op (answer_data answer) }
+        ensures ok { OnOk result (IsTold op (answer_data answer) self.old self.new) }
+        ensures err { OnErr result (HasDoneAsMuch self.old self.new) }
+    {
+        self.work.make_room()?;
+        self.work.tell(op, answer);
+        Ok(())
     }
 
     /// Counts a check, and says whether an entry is left. The last one isn't counted.

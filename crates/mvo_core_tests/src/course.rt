@@ -9,6 +9,7 @@ use mvo_types::{Answer, Op, Refusal, Row, RowKey, Rows, Stamp, TxId};
 use std::alloc::{AllocError, Global};
 use std::mem;
 use std::test::Fail;
+use std::thread::Threads;
 
 const STEPS: u64 = 20_000;
 
@@ -133,8 +134,8 @@ impl Drop for Course {
 
 impl Course {
     /// A core over the opening rows, and no call yet.
-    pub fn new(alloc: Global, seed: u64) -> Result<Course, Fail> {
-        let session = opened(alloc)?;
+    pub fn new(rt: &(impl Threads + Sync), alloc: Global, seed: u64) -> Result<Course, Fail> {
+        let session = opened(rt, alloc)?;
         let replayed = opening_rows(alloc)?;
         Ok(Course::of(alloc, session, replayed, seed))
     }
@@ -443,8 +444,8 @@ impl Course {
 }
 
 /// A session over the opening rows.
-fn opened(alloc: Global) -> Result<Session, Fail> {
-    Ok(Session::over(alloc, opening_rows(alloc)?, MARK)?)
+fn opened(rt: &(impl Threads + Sync), alloc: Global) -> Result<Session, Fail> {
+    Ok(Session::over(rt, alloc, opening_rows(alloc)?, MARK)?)
 }
 
 /// A row at every third of the keys.

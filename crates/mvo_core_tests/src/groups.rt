@@ -12,6 +12,7 @@ use mvo_types::{Refusal, Stamp};
 use std::alloc::Global;
 use std::process::Abort;
 use std::test::Fail;
+use std::thread::Threads;
 
 /// It leaves no row, where none was.
 const INSERTS_AND_DELETES: [(Call, &str); 6] = [
@@ -124,7 +125,7 @@ fn check_net_writes(rt: &impl Abort, session: &mut Session) -> Result<(), Fail> 
 
 #[test]
 fn a_group_has_the_net_writes(rt: HostRuntime) -> Result<(), Fail> {
-    let mut session = Session::new(rt.alloc())?;
+    let mut session = Session::new(&rt, rt.alloc())?;
     let checked = check_net_writes(&rt, &mut session);
     session.end();
     checked
@@ -139,7 +140,7 @@ fn check_low_water(rt: &impl Abort, session: &mut Session) -> Result<(), Fail> {
 
 #[test]
 fn a_group_ends_below_one_that_is_preparing(rt: HostRuntime) -> Result<(), Fail> {
-    let mut session = Session::new(rt.alloc())?;
+    let mut session = Session::new(&rt, rt.alloc())?;
     let checked = check_low_water(&rt, &mut session);
     session.end();
     checked
@@ -162,12 +163,12 @@ fn check_two(
 
 /// They are these in a fresh session.
 fn closes_two(
-    rt: &impl Abort,
+    rt: &(impl Abort + Threads + Sync),
     alloc: Global,
     lines: &[(Call, &str)],
     turns: &[Turn],
 ) -> Result<(), Fail> {
-    let mut session = Session::new(alloc)?;
+    let mut session = Session::new(rt, alloc)?;
     let checked = check_two(rt, &mut session, lines, turns);
     session.end();
     checked
@@ -237,7 +238,7 @@ fn check_ring(rt: &impl Abort, session: &mut Session) -> Result<(), Fail> {
 
 #[test]
 fn as_many_groups_wait_as_the_ring_has_room_for(rt: HostRuntime) -> Result<(), Fail> {
-    let mut session = Session::new(rt.alloc())?;
+    let mut session = Session::new(&rt, rt.alloc())?;
     let checked = check_ring(&rt, &mut session);
     session.end();
     checked

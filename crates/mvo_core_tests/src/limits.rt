@@ -42,7 +42,7 @@ fn begin_all(rt: &impl Abort, session: &mut Session) -> Result<(), Fail> {
 
 #[test]
 fn transactions_are_1024(rt: HostRuntime) -> Result<(), Fail> {
-    let mut session = Session::new(rt.alloc())?;
+    let mut session = Session::new(&rt, rt.alloc())?;
     let checked = begin_all(&rt, &mut session);
     session.end();
     checked
@@ -63,7 +63,7 @@ fn write_keys(rt: &impl Abort, alloc: Global, session: &mut Session) -> Result<(
 
 #[test]
 fn written_keys_are_256(rt: HostRuntime) -> Result<(), Fail> {
-    let mut session = Session::new(rt.alloc())?;
+    let mut session = Session::new(&rt, rt.alloc())?;
     let checked = write_keys(&rt, rt.alloc(), &mut session);
     session.end();
     checked
@@ -88,7 +88,7 @@ fn read_keys(rt: &impl Abort, alloc: Global, session: &mut Session) -> Result<()
 
 #[test]
 fn entries_are_4096(rt: HostRuntime) -> Result<(), Fail> {
-    let mut session = Session::new(rt.alloc())?;
+    let mut session = Session::new(&rt, rt.alloc())?;
     let checked = read_keys(&rt, rt.alloc(), &mut session);
     session.end();
     checked
@@ -143,7 +143,7 @@ fn check_lens(rt: &impl Abort, alloc: Global, session: &mut Session) -> Result<(
 
 #[test]
 fn data_has_1024_bytes_and_tables_are_16(rt: HostRuntime) -> Result<(), Fail> {
-    let mut session = Session::new(rt.alloc())?;
+    let mut session = Session::new(&rt, rt.alloc())?;
     let checked = check_lens(&rt, rt.alloc(), &mut session);
     session.end();
     checked

@@ -10,6 +10,7 @@ use std::alloc::Global;
 use std::mem;
 use std::process::Abort;
 use std::test::Fail;
+use std::thread::Threads;
 
 /// Whether it tells of a row.
 fn has_row(answer: &Answer) -> bool {
@@ -101,8 +102,8 @@ fn check_course(rt: &impl Abort, alloc: Global, course: &mut Course) -> Result<(
     check_rows(rt, alloc, course, &left)
 }
 
-fn follow(rt: &impl Abort, alloc: Global, seed: u64) -> Result<(), Fail> {
-    let mut course = Course::new(alloc, seed)?;
+fn follow(rt: &(impl Abort + Threads + Sync), alloc: Global, seed: u64) -> Result<(), Fail> {
+    let mut course = Course::new(rt, alloc, seed)?;
     check_course(rt, alloc, &mut course)
 }
 

@@ -8,6 +8,7 @@ use mvo_types::{Answer, MAX_STAMP, RING_GROUPS, Refusal, Row, RowKey, Rows, Stam
 use rtrb::{Consumer, Producer, RingBuffer};
 use std::alloc::{AllocError, Global};
 use std::process::Abort;
+use std::thread::Threads;
 
 /// Enough for the entries of a transaction, and for the words.
 const MOST: usize = 5_000;
@@ -68,24 +69,34 @@ impl Session {
     }
 
     /// A fresh core.
-    pub fn new(alloc: Global) -> Result<Session, Refusal> {
+    pub fn new(rt: &(impl Threads + Sync), alloc: Global) -> Result<Session, Refusal> {
         let ring = RingBuffer::new(alloc, RING_GROUPS)?;
-        let core = Core::open(alloc, 7, Rows::new(alloc), Stamp(0))?;
+        let core = Core::open(rt, alloc, 7, Rows::new(alloc), Stamp(0))?;
         Ok(Session::of(alloc, core, ring))
     }
 
     /// A core over these rows, with the clock at their mark.
-    pub fn over(alloc: Global, rows: Rows, mark: u8) -> Result<Session, Refusal> {
+    pub fn over(
+        rt: &(impl Threads + Sync),
+        alloc: Global,
+        rows: Rows,
+        mark: u8,
+    ) -> Result<Session, Refusal> {
         let ring = RingBuffer::new(alloc, FEW_GROUPS)?;
-        let core = Core::open(alloc, 7, rows, Stamp(u64::from(mark)))?;
+        let core = Core::open(rt, alloc, 7, rows, Stamp(u64::from(mark)))?;
         Ok(Session::of(alloc, core, ring))
     }
 
     /// A core over these rows that has so many timestamps left.
-    pub fn late(alloc: Global, rows: Rows, left: u8) -> Result<Session, Refusal> {
+    pub fn late(
+        rt: &(impl Threads + Sync),
+        alloc: Global,
+        rows: Rows,
+        left: u8,
+    ) -> Result<Session, Refusal> {
         let mark = Stamp(MAX_STAMP - u64::from(left));
         let ring = RingBuffer::new(alloc, FEW_GROUPS)?;
-        let core = Core::open(alloc, 7, rows, mark)?;
+        let core = Core::open(rt, alloc, 7, rows, mark)?;
         Ok(Session::of(alloc, core, ring))
     }
 

@@ -5,6 +5,7 @@ use mvo_core::Core;
 use mvo_types::{Answer, Op, Refusal, Row, RowKey, Rows, Stamp, TxId};
 use std::alloc::{AllocError, Global};
 use std::test::*;
+use std::thread::Threads;
 
 const KEY: RowKey = RowKey { table: 0, key: 7 };
 
@@ -89,8 +90,8 @@ fn is_as_wanted(alloc: Global, core: &Core, tx: TxId) -> Result<bool, AllocError
 }
 
 /// Of a transaction that is Active, and then of the same that is Preparing.
-fn asked(alloc: Global) -> Result<(bool, bool), Refusal> {
-    let mut core = Core::open(alloc, 1, Rows::new(alloc), Stamp(0))?;
+fn asked(rt: &(impl Threads + Sync), alloc: Global) -> Result<(bool, bool), Refusal> {
+    let mut core = Core::open(rt, alloc, 1, Rows::new(alloc), Stamp(0))?;
     let tx = work(alloc, &mut core)?;
     let active = is_as_wanted(alloc, &core, tx)?;
     core.precommit(tx)?;
@@ -99,6 +100,6 @@ fn asked(alloc: Global) -> Result<(bool, bool), Refusal> {
 
 #[test]
 fn just_what_was_told_is_held(rt: HostRuntime) -> Result<(), Fail> {
-    same(&rt, &asked(rt.alloc()), &Ok((true, true)));
+    same(&rt, &asked(&rt, rt.alloc()), &Ok((true, true)));
     Ok(())
 }

@@ -8,6 +8,7 @@ use crate::session::{Call, Session};
 use std::alloc::Global;
 use std::process::Abort;
 use std::test::Fail;
+use std::thread::Threads;
 
 /// Rows at the keys 1 and 2, by a transaction that commits.
 const SETUP: [(Call, &str); 4] = [
@@ -99,8 +100,12 @@ fn follow_parts(
 }
 
 /// So they are in a fresh session.
-fn follow(rt: &impl Abort, alloc: Global, parts: &[&[(Call, &str)]]) -> Result<(), Fail> {
-    let mut session = Session::new(alloc)?;
+fn follow(
+    rt: &(impl Abort + Threads + Sync),
+    alloc: Global,
+    parts: &[&[(Call, &str)]],
+) -> Result<(), Fail> {
+    let mut session = Session::new(rt, alloc)?;
     let followed = follow_parts(rt, &mut session, parts);
     session.end();
     followed

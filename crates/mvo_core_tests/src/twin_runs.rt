@@ -14,6 +14,7 @@ use mvo_types::{Op, Row, RowKey};
 use std::alloc::Global;
 use std::process::Abort;
 use std::test::Fail;
+use std::thread::Threads;
 
 const STEPS: u64 = 20_000;
 
@@ -80,8 +81,8 @@ fn follow(
     Ok(())
 }
 
-fn follow_young(rt: &impl Abort, alloc: Global, seed: u64) -> Result<(), Fail> {
-    let mut twins = Twins::young(alloc, seed)?;
+fn follow_young(rt: &(impl Abort + Threads + Sync), alloc: Global, seed: u64) -> Result<(), Fail> {
+    let mut twins = Twins::young(rt, alloc, seed)?;
     let followed = follow(rt, &mut twins, STEPS, &FLOORS);
     twins.end();
     followed
@@ -121,8 +122,12 @@ fn trim_by_the_way(rt: &impl Abort, twins: &mut Twins) -> Result<(), Fail> {
     Ok(())
 }
 
-fn follow_trimmed(rt: &impl Abort, alloc: Global, seed: u64) -> Result<(), Fail> {
-    let mut twins = Twins::young(alloc, seed)?;
+fn follow_trimmed(
+    rt: &(impl Abort + Threads + Sync),
+    alloc: Global,
+    seed: u64,
+) -> Result<(), Fail> {
+    let mut twins = Twins::young(rt, alloc, seed)?;
     let followed = trim_by_the_way(rt, &mut twins);
     twins.end();
     followed
@@ -140,7 +145,7 @@ fn replies_stay_those_of_the_plain_model_beside_trims_and_collections(
 
 #[test]
 fn the_clock_ends(rt: HostRuntime) -> Result<(), Fail> {
-    let mut twins = Twins::old(rt.alloc(), 100, 5)?;
+    let mut twins = Twins::old(&rt, rt.alloc(), 100, 5)?;
     let followed = follow(&rt, &mut twins, 2_000, &LATE_FLOORS);
     twins.end();
     followed
@@ -197,7 +202,7 @@ fn ask_past_limits(rt: &impl Abort, twins: &mut Twins) -> Result<(), Fail> {
 
 #[test]
 fn limits_are_those_of_the_plain_model(rt: HostRuntime) -> Result<(), Fail> {
-    let mut twins = Twins::young(rt.alloc(), 3)?;
+    let mut twins = Twins::young(&rt, rt.alloc(), 3)?;
     let asked = ask_past_limits(&rt, &mut twins);
     twins.end();
     asked
@@ -227,7 +232,7 @@ fn close_many(rt: &impl Abort, twins: &mut Twins) -> Result<(), Fail> {
 
 #[test]
 fn a_group_holds_1024_commits(rt: HostRuntime) -> Result<(), Fail> {
-    let mut twins = Twins::young(rt.alloc(), 4)?;
+    let mut twins = Twins::young(&rt, rt.alloc(), 4)?;
     let closed = close_many(&rt, &mut twins);
     twins.end();
     closed

@@ -22,6 +22,7 @@ use std::alloc::{AllocError, Global};
 use std::collections::VecDeque;
 use std::process::Abort;
 use std::test::Fail;
+use std::thread::Threads;
 
 /// So many transactions are unfinished at most, but for those begun by the way.
 const MOST_AT_ONCE: u64 = 8;
@@ -85,15 +86,15 @@ fn plain_at(alloc: Global, mark: u64) -> Result<Plain, Fail> {
     Ok(Plain::over(alloc, rows, mark)?)
 }
 
-fn young_session(alloc: Global) -> Result<Session, Fail> {
+fn young_session(rt: &(impl Threads + Sync), alloc: Global) -> Result<Session, Fail> {
     let rows = opening_rows(alloc)?;
-    Ok(Session::over(alloc, rows, MARK)?)
+    Ok(Session::over(rt, alloc, rows, MARK)?)
 }
 
 /// One that has so many timestamps left.
-fn old_session(alloc: Global, left: u8) -> Result<Session, Fail> {
+fn old_session(rt: &(impl Threads + Sync), alloc: Global, left: u8) -> Result<Session, Fail> {
     let rows = opening_rows(alloc)?;
-    Ok(Session::late(alloc, rows, left)?)
+    Ok(Session::late(rt, alloc, rows, left)?)
 }
 
 impl Drop for Twins {
@@ -123,18 +124,23 @@ impl Twins {
         }
     }
 
-    pub fn young(alloc: Global, seed: u64) -> Result<Twins, Fail> {
+    pub fn young(rt: &(impl Threads + Sync), alloc: Global, seed: u64) -> Result<Twins, Fail> {
         let met = Met::new(alloc)?;
         let plain = plain_at(alloc, u64::from(MARK))?;
-        let session = young_session(alloc)?;
+        let session = young_session(rt, alloc)?;
         Ok(Twins::of(alloc, session, plain, met, seed))
     }
 
     /// So many timestamps are left.
-    pub fn old(alloc: Global, left: u8, seed: u64) -> Result<Twins, Fail> {
+    pub fn old(
+        rt: &(impl Threads + Sync),
+        alloc: Global,
+        left: u8,
+        seed: u64,
+    ) -> Result<Twins, Fail> {
         let met = Met::new(alloc)?;
         let plain = plain_at(alloc, MAX_STAMP - u64::from(left))?;
-        let session = old_session(alloc, left)?;
+        let session = old_session(rt, alloc, left)?;
         Ok(Twins::of(alloc, session, plain, met, seed))
     }
 

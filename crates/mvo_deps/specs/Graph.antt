@@ -9,7 +9,7 @@ use Rattle.mvo_txn.specs.declared.state.TxState.TheVariants.{Active, Preparing, 
 use Rattle.mvo_txn.specs.Txns.{Txns, state_of, IsPreparing, IsUnended, after_change}
 use Rattle.mvo_txn.specs.Queue.{open_end}
 use Rattle.mvo_deps.specs.declared.node.Node.{Node}
-use Rattle.mvo_deps.specs.Data.{is_among, IsApart}
+use Rattle.mvo_deps.specs.Data.{DependencyData, is_among, IsApart}
 use Rattle.mvo_deps.specs.Nodes.{data_of}
 
 abbrev pub is_preparing : {P : Type 0} → Txns P → TxId → Bool
@@ -94,7 +94,7 @@ KeepsGraphAtAbort {P} old new on = (before : Txns (Node P)) (aborted : List TxId
     → IsUnended (state_of before on.0) → old ≡ after_change before on.0 Aborted
     → IsDependencyGraph before aborted → IsDependencyGraph new (aborted ++ on ∷ [])
 
--- it waits for somebody where its counter isn't 0
-abbrev pub WaitsByCounter : {P : Type 0} → Txns (Node P) → TxId → Option TxId → Type 0
-WaitsByCounter t tx whom = (aborted : List TxId)
-    → IsDependencyGraph t aborted → is_some whom ≡ nat_lt 0 (data_of t tx).unsettled
+-- one with these dependencies waits for somebody where its counter isn't 0
+abbrev pub WaitsByCounter : {P : Type 0} → Txns (Node P) → DependencyData → Option TxId → Type 0
+WaitsByCounter t d whom = (aborted : List TxId) (tx : TxId)
+    → IsDependencyGraph t aborted → data_of t tx ≡ d → is_some whom ≡ nat_lt 0 d.unsettled

@@ -1,4 +1,4 @@
-ghost use Rattle.std.specs.Prelude.{◌≡◌, ◌≤◌, length, false, OnOk, OnErr, MatchOption};
+ghost use Rattle.std.specs.Prelude.{◌≡◌, ◌≤◌, length, nat_lt, false, OnOk, OnErr, MatchOption};
 ghost use Rattle.mvo_deps.specs.Data.{no_dependencies, is_among, IsApart, IsLastBeyond};
 ghost use Rattle.mvo_deps.specs.Data.{with_dependency, with_dependent, without_dependents};
 ghost use Rattle.mvo_deps.specs.Data.{without_last_dependency, without_last_dependent, noted};
@@ -67,6 +67,13 @@ impl Dependencies {
         ensures { result ≡ is_among id self.now.on }
     {
         self.on.contains(&id)
+    }
+
+    /// Whether somebody depends on it.
+    pub fn has_dependents(&self) -> bool
+        ensures { result ≡ nat_lt 0 (length self.now.dependents) }
+    {
+        !self.dependents.is_empty()
     }
 
     /// Whether the transaction depends on it.

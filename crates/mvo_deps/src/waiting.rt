@@ -1,27 +1,26 @@
 ghost use Rattle.std.specs.Prelude.{◌≡◌, MatchOption};
-ghost use Rattle.mvo_deps.specs.Nodes.{data_of};
 ghost use Rattle.std.specs.Option.{option_map};
 ghost use Rattle.mvo_txn.specs.Txns.{state_of};
 ghost use Rattle.mvo_txn.specs.Queue.{open_end};
 ghost use Rattle.mvo_deps.specs.Graph.{WaitsByCounter};
 ghost use Rattle.mvo_deps.specs.Waiting.{IsLeastOpen, HasNoneOpen, StaysLeast};
 
+use crate::dependencies::Dependencies;
 use crate::node::Node;
 use mvo_txn::{TxState, TxnTable};
 use mvo_types::{Stamp, TxId};
 
-/// Of those that the transaction depends on, the Preparing one with the least end.
+/// Of those that a transaction with these dependencies depends on, the Preparing one with the
+/// least end.
 ///
 /// Takes time by the number of those that it depends on.
-pub fn waiting_for<P>(table: &TxnTable<Node<P>>, tx: TxId) -> Option<TxId>
-    ensures least { MatchOption result (HasNoneOpen table.now (data_of table.now tx).on)
-        (IsLeastOpen table.now (data_of table.now tx).on) }
-    ensures counter { WaitsByCounter table.now tx result }
+#[inline(always)]
+pub fn waiting_for<P>(table: &TxnTable<Node<P>>, dependencies: &Dependencies) -> Option<TxId>
+    ensures least { MatchOption result (HasNoneOpen table.now dependencies.now.on)
+        (IsLeastOpen table.now dependencies.now.on) }
+    ensures counter { WaitsByCounter table.now dependencies.now result }
 {
-    match table.get(tx) {
-        Some(seat) => least_open(table, seat.kept.dependencies.on()),
-        None => None,
-    }
+    least_open(table, dependencies.on())
 }
 
 fn least_open<P>(table: &TxnTable<Node<P>>, ids: &[TxId]) -> Option<TxId>

@@ -1,5 +1,6 @@
 //! Checkpoints.
 
+mod falling;
 mod making;
 mod places;
 mod plain;

@@ -6,6 +6,7 @@ pub mod Fronts
 pub mod HeadsPut
 pub mod Homes
 pub mod Joins
+pub mod Passing
 pub mod Puts
 pub mod Rooms
 pub mod Shared

@@ -1,5 +1,5 @@
 -- The numbers of each key, newest first.
-use Rattle.std.specs.Prelude.{◌≡◌, ℕ, ◌≤◌, List, [], ◌∷◌, Bool, true, false, not, cond, eqb, IsTrue, Option, None, Some, refl}
+use Rattle.std.specs.Prelude.{◌≡◌, ℕ, ◌≤◌, List, [], ◌∷◌, ◌++◌, Bool, true, false, not, cond, eqb, IsTrue, Option, None, Some, refl}
 use Rattle.std.specs.List.{filter, list_any}
 use Rattle.std.specs.Coded.{Coded, code_by, coded×, coded_ℕ, coded_list}
 use Rattle.std.specs.FinMap as map
@@ -45,6 +45,15 @@ with_numbers lists key (n ∷ ns) = map.insert lists key (n ∷ ns)
 -- the number of a version as the code has it
 abbrev pub number : ℕ → VersionNo
 number n = record { 0 = n }
+
+-- the first of a list of versions
+abbrev pub foremost : List VersionNo → Option VersionNo
+foremost [] = None
+foremost (n ∷ ns) = Some n
+
+-- the version stands in the list, in front of the rest
+abbrev pub LeadsTo : List VersionNo → VersionNo → List VersionNo → Type 0
+LeadsTo ns n rest = (front : List VersionNo) × (ns ≡ front ++ n ∷ rest)
 
 abbrev pub newest_of : List ℕ → Option ℕ
 newest_of [] = None

@@ -32,7 +32,9 @@ impl<'a> Model for Versions<'a> {
 
 impl<'a> Versions<'a> {
     ghost use Rattle.std.specs.Prelude.{◌≡◌, length, map};
-    ghost use Rattle.mvo_hash.specs.Lists.{number};
+    ghost use Rattle.std.specs.Prelude.{◌∷◌, List};
+    ghost use Rattle.mvo_chain.specs.declared.version.VersionNo.{VersionNo as Number};
+    ghost use Rattle.mvo_hash.specs.Lists.{number, foremost, LeadsTo};
     ghost use Rattle.mvo_hash.specs.Links.{walk, IsWalk};
 
     /// A walk along the links from a number on.
@@ -45,6 +47,30 @@ impl<'a> Versions<'a> {
             at,
             began: false,
         }
+    }
+
+    /// The version that comes next, if there is one.
+    pub fn peek(&self) -> Option<VersionNo>
+        ensures { result ≡ foremost self.now }
+    {
+        if self.at == NONE {
+            return None;
+        }
+        if !self.began {
+            return Some(VersionNo(self.at));
+        }
+        shown(self.links[self.at as usize].older)
+    }
+
+    /// Passes over the versions in front of one that is still to come, which comes next. It takes
+    /// constant time, however many these are.
+    pub fn pass_to(&mut self, version: VersionNo)
+        requires { (rest : List Number) × LeadsTo self.old version rest }
+        ensures { (rest : List Number) → LeadsTo self.old version rest →
+            self.new ≡ version ∷ rest }
+    {
+        self.at = version.0;
+        self.began = false;
     }
 }
 

@@ -1,15 +1,15 @@
 -- The pairs of a manifest, gathered one after another.
-use Rattle.std.proofs.Common.{◌≡◌, ℕ, ◌<◌, List, [], ◌∷◌, ◌++◌, length, true, false, Option, None, Some, Ok, refl, sym, ap, subst, ◌∙◌, append_assoc, arith, length-append}
+use Rattle.std.proofs.Common.{◌≡◌, ℕ, ◌<◌, List, [], ◌∷◌, ◌++◌, length, Ok, refl, sym, ap, subst, ◌∙◌, append_assoc, arith, length-append}
 use Rattle.std.specs.Prelude.{map, nat_eq, All}
-use Rattle.std.specs.List.{AllByRecursion, AllZip, IsDistinct, flat_map}
+use Rattle.std.specs.List.{AllByRecursion, AllZip, IsDistinct}
 use Rattle.std.specs.List.Sorted.{IsPermutation}
-use Rattle.std.specs.FinMap.{find, from_entries, empty, from_entries_push}
+use Rattle.std.specs.FinMap.{from_entries}
 use Rattle.std.proofs.lemmas.List.{append-nil, map-append}
 use Rattle.std.proofs.lemmas.List.Elements.{All-append, All-from_recursion, recursion_from_All}
 use Rattle.std.proofs.lemmas.List.Concat.{flat_map-cons, flat_map-append}
-use Rattle.std.proofs.lemmas.List.Sorted.{IsPermutation-refl, IsPermutation-append}
+use Rattle.std.proofs.lemmas.List.Sorted.{IsPermutation-refl, IsPermutation-append, IsPermutation-map, All-permutation}
 use Rattle.mvo_types.specs.declared.row.RowKey.{RowKey}
-use Rattle.mvo_types.specs.Keys.{Map, key_cmp}
+use Rattle.mvo_types.specs.Keys.{Map}
 use Rattle.mvo_format.specs.declared.format.Format.{Format}
 use Rattle.mvo_pair.specs.Data.{Numbered, AreApart, key_of, keys_of}
 use Rattle.mvo_pair.specs.Answers.{IsOnly}
@@ -24,30 +24,68 @@ use Rattle.mvo_image.proofs.Apart.{distinct_front}
 use Rattle.mvo_places.specs.declared.place.Place.{Place}
 use Rattle.mvo_places.specs.Places.{PlaceMap, ArePlaces, file_of, places_in, places_of}
 use Rattle.mvo_places.proofs.Rising.{live_numbers_rise}
-use Rattle.mvo_places.proofs.Growing.{no_places, places_grow, places-push, differs_before}
-use Rattle.mvo_places.proofs.Keys.{eq, eq_self}
-use Rattle.mvo_places.proofs.Members.{among_map}
-use Rattle.mvo_places.proofs.Held.{first_of, found_among, keys-places_of}
-use Rattle.mvo_types.proofs.Maps.{keys_total, exact_keys}
+use Rattle.mvo_places.proofs.Growing.{no_places, places_grow}
+use Rattle.mvo_places.proofs.Keys.{eq}
+use Rattle.mvo_places.proofs.Held.{first_of, keys-places_of}
 use Rattle.mvo_load.specs.Leading.{Leads}
 use Rattle.mvo_load.specs.Parts.{HaveRows, HavePlaces}
-use Rattle.mvo_load.specs.Gathered.{AreGathered, AreMade, MayLie, with_places}
+use Rattle.mvo_load.specs.Gathered.{Filed, filed_of, filed_in, filed_by, unfiled, keyed_place, AreGathered, AreMade, MayLie}
 use Rattle.mvo_load.specs.Files.{PairBytes, bytes_of, IsPart}
 use Rattle.mvo_load.specs.declared.part.Part.{Part}
 use Rattle.mvo_load.proofs.Fronts.{pair_on_disk}
-use Rattle.mvo_load.proofs.Ordered.{all_of, apart_each, rows_each, made_in_order}
+use Rattle.mvo_load.proofs.Ordered.{AreRows, all_of, same_entries, apart_each, rows_each, made_in_order}
 use Rattle.mvo_load.proofs.Pairing.{HasFiles, front_of, pair_files_fit, data_files_differ, live_push, none_alone, one_more_alone, Behind, Whole}
 use Rattle.mvo_load.proofs.Steps.{pair_leads}
 
 abbrev Placed : Type 0
 Placed = List (RowKey × Place)
 
+-- live records that lie in one data file
+abbrev pub file_all : ℕ → List Numbered → List Filed
+file_all file live = map (λ l. (file, l)) live
+
 keys-push : (lives : List (List Numbered)) (live : List Numbered) → keys_of (lives ++ live ∷ []) ≡ keys_of lives ++ map key_of live
 keys-push lives live =
     flat_map-append (λ l. map key_of l) lives (live ∷ [])
     ∙ ap (λ (ks : List RowKey). keys_of lives ++ ks) (flat_map-cons (λ l. map key_of l) live [] ∙ append-nil (map key_of live))
 
-may_lie : (p : Pair) (live : List Numbered) → HasFiles p → AllByRecursion (λ l. l.0 < p.records) live → AllByRecursion MayLie (places_in p.data_file live)
+-- ---- live records of pairs with their data files
+
+filed-push : (ps : List Pair) (lives : List (List Numbered)) (p : Pair) (live : List Numbered) → length ps ≡ length lives → filed_by (ps ++ p ∷ []) (lives ++ live ∷ []) ≡ filed_by ps lives ++ file_all p.data_file live
+filed-push [] [] p live same = append-nil (file_all p.data_file live)
+filed-push [] (m ∷ lives) p live same = absurd (omega (arith, same))
+filed-push (q ∷ ps) [] p live same = absurd (omega (arith, same))
+filed-push (q ∷ ps) (m ∷ lives) p live same =
+    ap (λ (all : List Filed). file_all q.data_file m ++ all) (filed-push ps lives p live (omega (arith, same)))
+    ∙ sym (append_assoc (file_all q.data_file m) (filed_by ps lives) (file_all p.data_file live))
+
+unfiled-all : (file : ℕ) (live : List Numbered) → unfiled (file_all file live) ≡ live
+unfiled-all file [] = refl
+unfiled-all file (l ∷ live) = ap (λ (ls : List Numbered). l ∷ ls) (unfiled-all file live)
+
+unfiled-by : (ps : List Pair) (lives : List (List Numbered)) → length ps ≡ length lives → unfiled (filed_by ps lives) ≡ all_of lives
+unfiled-by [] [] same = refl
+unfiled-by [] (live ∷ lives) same = absurd (omega (arith, same))
+unfiled-by (p ∷ ps) [] same = absurd (omega (arith, same))
+unfiled-by (p ∷ ps) (live ∷ lives) same =
+    map-append (λ (x : Filed). x.1) (file_all p.data_file live) (filed_by ps lives)
+    ∙ ap (λ (l : List Numbered). l ++ unfiled (filed_by ps lives)) (unfiled-all p.data_file live)
+    ∙ ap (λ (l : List Numbered). live ++ l) (unfiled-by ps lives (omega (arith, same)))
+    ∙ sym (flat_map-cons (λ of_pair. of_pair) live lives)
+
+placed-all : (file : ℕ) (live : List Numbered) → map keyed_place (file_all file live) ≡ places_in file live
+placed-all file [] = refl
+placed-all file (l ∷ live) = ap (λ (es : Placed). keyed_place (file, l) ∷ es) (placed-all file live)
+
+placed-by : (ps : List Pair) (lives : List (List Numbered)) → map keyed_place (filed_by ps lives) ≡ places_of ps lives
+placed-by [] lives = refl
+placed-by (p ∷ ps) [] = refl
+placed-by (p ∷ ps) (live ∷ lives) =
+    map-append keyed_place (file_all p.data_file live) (filed_by ps lives)
+    ∙ ap (λ (es : Placed). es ++ map keyed_place (filed_by ps lives)) (placed-all p.data_file live)
+    ∙ ap (λ (es : Placed). places_in p.data_file live ++ es) (placed-by ps lives)
+
+may_lie : (p : Pair) (live : List Numbered) → HasFiles p → AllByRecursion (λ l. l.0 < p.records) live → AllByRecursion MayLie (file_all p.data_file live)
 may_lie p [] fits few = tt
 may_lie p (l ∷ live) fits few = ((omega (arith, fits.«data»), omega (arith, few.0, fits.records)), may_lie p live fits few.1)
 
@@ -58,26 +96,26 @@ pub all_files : (ps : List Pair) → AllByRecursion HasFiles ps → AllByRecursi
 all_files [] fit = tt
 all_files (p ∷ ps) fit = ((fit.0.«data», fit.0.delta), all_files ps fit.1)
 
+-- ---- the pairs of a manifest
+
 module _ (f : Format) (image : Image) (m : ManifestData) where
   abbrev next : List (List Numbered) → Outcome → Type 0
   next lives = Behind f image m (rows_of lives)
 
   -- the pairs in front of these are gathered
-  pub record GatheredSoFar (rest : List Pair) (live : List Numbered) (placed : Placed) : Type 0 where
+  pub record GatheredSoFar (rest : List Pair) (gathered : List Filed) : Type 0 where
     pub done : List Pair
     pub whole : m.pairs ≡ done ++ rest
     pub lives : List (List Numbered)
     pub have : HaveLive f image done lives
     pub files : AllByRecursion HasFiles rest
     pub alone : (ls : List (List Numbered)) → HaveLive f image done ls → ls ≡ lives
-    pub all : IsPermutation (all_of lives) live
-    pub each : placed ≡ places_of done lives
+    pub all : IsPermutation (filed_by done lives) gathered
     pub long : length done ≡ length lives
-    pub small : All MayLie placed
     pub leads : AreApart lives → Leads (Pairs f image next rest lives) (Whole f image m)
-    pub places : AreApart lives → ArePlaces done lives (from_entries placed)
+    pub places : AreApart lives → ArePlaces done lives (from_entries (places_of done lives))
 
-  pub none_gathered : IsManifest m → GatheredSoFar m.pairs [] []
+  pub none_gathered : IsManifest m → GatheredSoFar m.pairs []
   none_gathered good = record {
     done = [];
     whole = refl;
@@ -86,26 +124,18 @@ module _ (f : Format) (image : Image) (m : ManifestData) where
     files = pair_files_fit m good;
     alone = none_alone f image;
     all = IsPermutation-refl [];
-    each = refl;
     long = refl;
-    small = All-from_recursion MayLie [] tt;
     leads = λ apart out only. only;
     places = λ apart. no_places;
   }
 
-  module _ (p : Pair) (ps : List Pair) (before : List Numbered) (placed : Placed) (here : GatheredSoFar (p ∷ ps) before placed) (live sorted : List Numbered) (moved : IsPermutation live sorted) (only : IsOnly (LoadsAs f p (image p.data_file) (image p.delta_file)) (Ok live)) (good : IsManifest m) where
+  module _ (p : Pair) (ps : List Pair) (before : List Filed) (here : GatheredSoFar (p ∷ ps) before) (live sorted : List Numbered) (moved : IsPermutation live sorted) (only : IsOnly (LoadsAs f p (image p.data_file) (image p.delta_file)) (Ok live)) (good : IsManifest m) where
     front : AreApart (here.lives ++ live ∷ []) → AreApart here.lives
     front apart = distinct_front eq (keys_of here.lives) (map key_of live) (subst (λ (ks : List RowKey). IsDistinct eq ks) (keys-push here.lives live) apart)
 
-    all_more : IsPermutation (all_of (here.lives ++ live ∷ [])) (before ++ sorted)
-    all_more =
-        let whole : all_of here.lives ++ live ≡ all_of (here.lives ++ live ∷ []) =
-        ap (λ (l : List Numbered). all_of here.lives ++ l) (sym (flat_map-cons (λ of_pair. of_pair) live [] ∙ append-nil live))
-        ∙ sym (flat_map-append (λ of_pair. of_pair) here.lives (live ∷ [])) in
-        subst (λ (l : List Numbered). IsPermutation l (before ++ sorted)) whole (IsPermutation-append (all_of here.lives) before live sorted here.all moved)
-
-    each_more : placed ++ places_in p.data_file live ≡ places_of (here.done ++ p ∷ []) (here.lives ++ live ∷ [])
-    each_more = ap (λ (es : Placed). es ++ places_in p.data_file live) here.each ∙ sym (places-push here.done here.lives p live here.long)
+    all_more : IsPermutation (filed_by (here.done ++ p ∷ []) (here.lives ++ live ∷ [])) (before ++ file_all p.data_file sorted)
+    all_more = subst (λ (l : List Filed). IsPermutation l (before ++ file_all p.data_file sorted)) (sym (filed-push here.done here.lives p live here.long))
+        (IsPermutation-append (filed_by here.done here.lives) before (file_all p.data_file live) (file_all p.data_file sorted) here.all (IsPermutation-map (λ (l : Numbered). (p.data_file, l)) live sorted moved))
 
     whole_more : m.pairs ≡ (here.done ++ p ∷ []) ++ ps
     whole_more = here.whole ∙ sym (append_assoc here.done (p ∷ []) ps)
@@ -115,18 +145,12 @@ module _ (f : Format) (image : Image) (m : ManifestData) where
         distinct_front nat_eq (map file_of (here.done ++ p ∷ [])) (map file_of ps)
         (subst (λ (l : List ℕ). IsDistinct nat_eq l) (ap (λ (l : List Pair). map file_of l) whole_more ∙ map-append file_of (here.done ++ p ∷ []) ps) (data_files_differ m good))
 
-    places_more : AreApart (here.lives ++ live ∷ []) → ArePlaces (here.done ++ p ∷ []) (here.lives ++ live ∷ []) (from_entries (placed ++ places_in p.data_file live))
+    places_more : AreApart (here.lives ++ live ∷ []) → ArePlaces (here.done ++ p ∷ []) (here.lives ++ live ∷ []) (from_entries (places_of (here.done ++ p ∷ []) (here.lives ++ live ∷ [])))
     places_more apart =
-        let grown = places_grow here.done here.lives (from_entries placed) p live (here.places (front apart)) files_differ apart (live_numbers_rise f p (image p.data_file) (image p.delta_file) live only.0).0 in
-        subst (λ (at : PlaceMap). ArePlaces (here.done ++ p ∷ []) (here.lives ++ live ∷ []) at)
-        (grown.are ∙ ap (λ (es : Placed). from_entries {R = key_cmp} es) (sym each_more)) grown
+        let grown = places_grow here.done here.lives (from_entries (places_of here.done here.lives)) p live (here.places (front apart)) files_differ apart (live_numbers_rise f p (image p.data_file) (image p.delta_file) live only.0).0 in
+        subst (λ (at : PlaceMap). ArePlaces (here.done ++ p ∷ []) (here.lives ++ live ∷ []) at) grown.are grown
 
-    small_here : All MayLie (places_in p.data_file live)
-    small_here =
-        All-from_recursion MayLie (places_in p.data_file live)
-        (may_lie p live here.files.0 (recursion_from_All (λ l. l.0 < p.records) live (live_numbers_rise f p (image p.data_file) (image p.delta_file) live only.0).1))
-
-    pub one_gathered : GatheredSoFar ps (before ++ sorted) (placed ++ places_in p.data_file live)
+    pub one_gathered : GatheredSoFar ps (before ++ file_all p.data_file sorted)
     one_gathered = record {
       done = here.done ++ p ∷ [];
       whole = whole_more;
@@ -135,89 +159,54 @@ module _ (f : Format) (image : Image) (m : ManifestData) where
       files = here.files.1;
       alone = one_more_alone f image here.done here.lives p live here.alone only;
       all = all_more;
-      each = each_more;
       long = omega (arith, length-append here.done (p ∷ []), length-append here.lives (live ∷ []), here.long);
-      small = All-append MayLie placed (places_in p.data_file live) here.small small_here;
       leads = λ apart out n. here.leads (front apart) out (pair_leads f image next p ps here.lives live only apart out n);
       places = places_more;
     }
 
   -- the files that the first of these pairs name
-  pub front_files : (ps qs : List Pair) (live : List Numbered) (placed : Placed) → GatheredSoFar (ps ++ qs) live placed → All AreFiles ps
-  front_files ps qs live placed here = All-from_recursion AreFiles ps (all_files ps (front_of HasFiles ps qs here.files).0)
-
-  abbrev live_of : Part → List Numbered
-  live_of part = part.live.items
-
-  abbrev placed_of : Part → Placed
-  placed_of part = part.placed.items
+  pub front_files : (ps qs : List Pair) (gathered : List Filed) → GatheredSoFar (ps ++ qs) gathered → All AreFiles ps
+  front_files ps qs gathered here = All-from_recursion AreFiles ps (all_files ps (front_of HasFiles ps qs here.files).0)
 
   abbrev pub ArePartsOf : List Pair → List Part → Type 0
-  ArePartsOf ps parts = AllZip (λ of part. IsPart f of part.live.items part.placed.items) (map (bytes_of f image) ps) parts
+  ArePartsOf ps parts = AllZip (IsPart f) (map (bytes_of f image) ps) parts
 
   -- the parts of some more pairs, one after another
-  pub more_gathered : IsManifest m → (ps qs : List Pair) (parts : List Part) (before : List Numbered) (placed : Placed) → GatheredSoFar (ps ++ qs) before placed → ArePartsOf ps parts
-      → GatheredSoFar qs (before ++ flat_map live_of parts) (placed ++ flat_map placed_of parts)
-  more_gathered good [] qs [] before placed here are =
-      subst (λ (l : List Numbered). GatheredSoFar qs l (placed ++ [])) (sym (append-nil before)) (subst (λ (es : Placed). GatheredSoFar qs before es) (sym (append-nil placed)) here)
-  more_gathered good [] qs (part ∷ parts) before placed here are = absurd are
-  more_gathered good (p ∷ ps) qs [] before placed here are = absurd are
-  more_gathered good (p ∷ ps) qs (part ∷ parts) before placed here are =
+  pub more_gathered : IsManifest m → (ps qs : List Pair) (parts : List Part) (before : List Filed) → GatheredSoFar (ps ++ qs) before → ArePartsOf ps parts → GatheredSoFar qs (before ++ filed_in parts)
+  more_gathered good [] qs [] before here are = subst (λ (l : List Filed). GatheredSoFar qs l) (sym (append-nil before)) here
+  more_gathered good [] qs (part ∷ parts) before here are = absurd are
+  more_gathered good (p ∷ ps) qs [] before here are = absurd are
+  more_gathered good (p ∷ ps) qs (part ∷ parts) before here are =
       let only = pair_on_disk f p (image p.data_file) (image p.delta_file) (Ok are.0.live) are.0.only in
-      let one = one_gathered p (ps ++ qs) before placed here are.0.live (live_of part) are.0.moved only good in
-      let next = subst (λ (es : Placed). GatheredSoFar (ps ++ qs) (before ++ live_of part) (placed ++ es)) (sym are.0.each) one in
-      let all = more_gathered good ps qs parts (before ++ live_of part) (placed ++ placed_of part) next are.1 in
-      let live_is : (before ++ live_of part) ++ flat_map live_of parts ≡ before ++ flat_map live_of (part ∷ parts) =
-      append_assoc before (live_of part) (flat_map live_of parts) ∙ ap (λ (l : List Numbered). before ++ l) (sym (flat_map-cons live_of part parts)) in
-      let placed_is : (placed ++ placed_of part) ++ flat_map placed_of parts ≡ placed ++ flat_map placed_of (part ∷ parts) =
-      append_assoc placed (placed_of part) (flat_map placed_of parts) ∙ ap (λ (es : Placed). placed ++ es) (sym (flat_map-cons placed_of part parts)) in
-      subst (λ (l : List Numbered). GatheredSoFar qs l (placed ++ flat_map placed_of (part ∷ parts))) live_is
-      (subst (λ (es : Placed). GatheredSoFar qs ((before ++ live_of part) ++ flat_map live_of parts) es) placed_is all)
+      let one = one_gathered p (ps ++ qs) before here are.0.live part.live.items are.0.moved only good in
+      let next = subst (λ (n : ℕ). GatheredSoFar (ps ++ qs) (before ++ file_all n part.live.items)) (sym are.0.file) one in
+      let all = more_gathered good ps qs parts (before ++ filed_of part) next are.1 in
+      let all_is : (before ++ filed_of part) ++ filed_in parts ≡ before ++ filed_in (part ∷ parts) =
+      append_assoc before (filed_of part) (filed_in parts) ∙ ap (λ (l : List Filed). before ++ l) (sym (flat_map-cons filed_of part parts)) in
+      subst (λ (l : List Filed). GatheredSoFar qs l) all_is all
 
-  module _ (live : List Numbered) (placed : Placed) (all : GatheredSoFar [] live placed) where
+  module _ (gathered : List Filed) (all : GatheredSoFar [] gathered) where
     pairs_are : m.pairs ≡ all.done
     pairs_are = all.whole ∙ append-nil all.done
 
-    places_all : AreApart all.lives → HavePlaces f image m.pairs (from_entries placed)
+    places_all : AreApart all.lives → HavePlaces f image m.pairs (from_entries (places_of m.pairs all.lives))
     places_all apart = record {
       are = λ lives have.
           let same : lives ≡ all.lives = all.alone lives (subst (λ (ps : List Pair). HaveLive f image ps lives) pairs_are have) in
-          subst (λ (ps : List Pair). ArePlaces ps lives (from_entries placed)) (sym pairs_are)
-          (subst (λ (ls : List (List Numbered)). ArePlaces all.done ls (from_entries placed)) (sym same) (all.places apart));
+          subst (λ (ps : List Pair). ArePlaces ps lives (from_entries (places_of ps all.lives))) (sym pairs_are)
+          (subst (λ (ls : List (List Numbered)). ArePlaces all.done ls (from_entries (places_of all.done all.lives))) (sym same) (all.places apart));
     }
 
-    pub all_gathered : AreGathered f image m live placed
+    pub all_gathered : AreGathered f image m gathered
     all_gathered = record {
       lives = all.lives;
       have = subst (λ (ps : List Pair). HaveLive f image ps all.lives) (sym pairs_are) all.have;
-      whole = all.all;
-      each = all.each ∙ ap (λ (ps : List Pair). places_of ps all.lives) (sym pairs_are);
-      small = all.small;
+      whole = subst (λ (ps : List Pair). IsPermutation (filed_by ps all.lives) gathered) (sym pairs_are) all.all;
       leads = all.leads;
       places = places_all;
     }
 
--- ---- the table of the places
-
-not_found : (es : Placed) (k : RowKey) (ys : List RowKey) → IsDistinct eq (map first_of es ++ k ∷ ys) → find key_cmp k es ≡ None
-not_found es k ys differ = go (find key_cmp k es) refl
-  where
-    go : (o : Option Place) → find key_cmp k es ≡ o → o ≡ None
-    go None is = refl
-    go (Some v) is =
-        let same : eq k k ≡ false = differs_before (map first_of es) k ys k differ (among_map first_of es (k, v) (found_among es k v is)) in
-        let both : true ≡ false = sym (eq_self k) ∙ same in
-        absurd cc
-
-put_in_order : (rest es : Placed) → IsDistinct eq (map first_of es ++ map first_of rest) → with_places (from_entries es) rest ≡ from_entries {R = key_cmp} (es ++ rest)
-put_in_order [] es differ = ap (λ (l : Placed). from_entries {R = key_cmp} l) (sym (append-nil es))
-put_in_order (e ∷ rest) es differ =
-    let more : Placed = es ++ e ∷ [] in
-    let keys : map first_of more ++ map first_of rest ≡ map first_of es ++ e.0 ∷ map first_of rest =
-    ap (λ (ks : List RowKey). ks ++ map first_of rest) (map-append first_of es (e ∷ [])) ∙ append_assoc (map first_of es) (e.0 ∷ []) (map first_of rest) in
-    ap (λ (m : PlaceMap). with_places m rest) (sym (from_entries_push keys_total exact_keys es e.0 e.1 (not_found es e.0 (map first_of rest) differ)))
-    ∙ put_in_order rest more (subst (λ (ks : List RowKey). IsDistinct eq ks) (sym keys) differ)
-    ∙ ap (λ (x : Placed). from_entries {R = key_cmp} x) (append_assoc es (e ∷ []) rest)
+-- ---- what is made of them
 
 long_as : (f : Format) (image : Image) (ps : List Pair) (ls : List (List Numbered)) → HaveLive f image ps ls → length ps ≡ length ls
 long_as f image [] [] have = refl
@@ -225,18 +214,26 @@ long_as f image [] (l ∷ ls) have = absurd have
 long_as f image (p ∷ ps) [] have = absurd have
 long_as f image (p ∷ ps) (l ∷ ls) have = omega (arith, long_as f image ps ls have.1)
 
-module _ (f : Format) (image : Image) (m : ManifestData) (live : List Numbered) (placed : Placed) (all : AreGathered f image m live placed) (rows : Map) (made : AreMade live rows) (at : PlaceMap) (put : at ≡ with_places empty placed) where
-  each_made : AreMade (all_of all.lives) rows
-  each_made = made_in_order (all_of all.lives) live rows all.whole made.apart made.are
+module _ (f : Format) (image : Image) (m : ManifestData) (gathered : List Filed) (all : AreGathered f image m gathered) (rows : Map) (at : PlaceMap) (made : AreMade gathered rows at) where
+  long : length m.pairs ≡ length all.lives
+  long = long_as f image m.pairs all.lives all.have
+
+  each_made : AreRows (all_of all.lives) rows
+  each_made =
+      let moved = IsPermutation-map (λ (x : Filed). x.1) (filed_by m.pairs all.lives) gathered all.whole in
+      made_in_order (all_of all.lives) (unfiled gathered) rows (subst (λ (l : List Numbered). IsPermutation l (unfiled gathered)) (unfiled-by m.pairs all.lives long) moved) made.apart made.rows_are
 
   apart : AreApart all.lives
   apart = apart_each all.lives (all_of all.lives) refl each_made.apart
 
-  keys_apart : IsDistinct eq (map first_of placed)
-  keys_apart = subst (λ (ks : List RowKey). IsDistinct eq ks) (sym (ap (λ (es : Placed). map first_of es) all.each ∙ keys-places_of m.pairs all.lives (long_as f image m.pairs all.lives all.have))) apart
+  keys_apart : IsDistinct eq (map first_of (places_of m.pairs all.lives))
+  keys_apart = subst (λ (ks : List RowKey). IsDistinct eq ks) (sym (keys-places_of m.pairs all.lives long)) apart
 
-  at_is : from_entries placed ≡ at
-  at_is = sym (put_in_order placed [] keys_apart) ∙ sym put
+  places_moved : IsPermutation (places_of m.pairs all.lives) (map keyed_place gathered)
+  places_moved = subst (λ (es : Placed). IsPermutation es (map keyed_place gathered)) (placed-by m.pairs all.lives) (IsPermutation-map keyed_place (filed_by m.pairs all.lives) gathered all.whole)
+
+  at_is : from_entries (places_of m.pairs all.lives) ≡ at
+  at_is = same_entries (places_of m.pairs all.lives) (map keyed_place gathered) places_moved keys_apart ∙ sym made.places_are
 
   rows_are : rows ≡ rows_of all.lives
   rows_are = each_made.are ∙ rows_each all.lives (all_of all.lives) refl
@@ -250,19 +247,15 @@ module _ (f : Format) (image : Image) (m : ManifestData) (live : List Numbered) 
   pub leads_made : Leads (Behind f image m rows) (Whole f image m)
   leads_made out only = all.leads apart out (subst (λ (r : Map). IsOnly (Behind f image m r) out) rows_are only)
 
--- the places of parts that were found may lie in a table, whatever their bytes
-module _ (f : Format) where
-  abbrev lying : Part → Placed
-  lying part = part.placed.items
-
-  pub small_parts : (bs : List PairBytes) (parts : List Part) → AllByRecursion HasFiles (map (λ b. b.pair) bs) → AllZip (λ of part. IsPart f of part.live.items part.placed.items) bs parts
-      → All MayLie (flat_map lying parts)
-  small_parts [] [] fit are = All-from_recursion MayLie [] tt
-  small_parts [] (part ∷ parts) fit are = absurd are
-  small_parts (b ∷ bs) [] fit are = absurd are
-  small_parts (b ∷ bs) (part ∷ parts) fit are =
-      let p = b.pair in
-      let live = are.0.live in
-      let here = All-from_recursion MayLie (places_in p.data_file live) (may_lie p live fit.0 (recursion_from_All (λ l. l.0 < p.records) live (live_numbers_rise f p b.data_bytes b.delta_bytes live are.0.only.0).1)) in
-      let mine = subst (λ (es : Placed). All MayLie es) (sym are.0.each) here in
-      subst (λ (es : Placed). All MayLie es) (sym (flat_map-cons lying part parts)) (All-append MayLie (lying part) (flat_map lying parts) mine (small_parts bs parts fit.1 are.1))
+-- the live records of parts that were found may lie in a table, whatever their bytes
+pub small_parts : (f : Format) (bs : List PairBytes) (parts : List Part) → AllByRecursion HasFiles (map (λ b. b.pair) bs) → AllZip (IsPart f) bs parts → All MayLie (filed_in parts)
+small_parts f [] [] fit are = All-from_recursion MayLie [] tt
+small_parts f [] (part ∷ parts) fit are = absurd are
+small_parts f (b ∷ bs) [] fit are = absurd are
+small_parts f (b ∷ bs) (part ∷ parts) fit are =
+    let p = b.pair in
+    let sorted = part.live.items in
+    let few = All-permutation (λ (l : Numbered). l.0 < p.records) are.0.live sorted are.0.moved (live_numbers_rise f p b.data_bytes b.delta_bytes are.0.live are.0.only.0).1 in
+    let here = All-from_recursion MayLie (file_all p.data_file sorted) (may_lie p sorted fit.0 (recursion_from_All (λ l. l.0 < p.records) sorted few)) in
+    let mine : All MayLie (filed_of part) = subst (λ (n : ℕ). All MayLie (file_all n sorted)) (sym are.0.file) here in
+    subst (λ (l : List Filed). All MayLie l) (sym (flat_map-cons filed_of part parts)) (All-append MayLie (filed_of part) (filed_in parts) mine (small_parts f bs parts fit.1 are.1))

@@ -104,7 +104,7 @@ fn load_beside<D: Disk>(
         Err(e) => return Err(e),
     };
     if let Some(all) = gathered {
-        if let Some(made) = at_once(rt, alloc, seed, all)? {
+        if let Some(made) = at_once(alloc, seed, all)? {
             return Ok(made);
         }
     }

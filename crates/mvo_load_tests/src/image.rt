@@ -157,7 +157,7 @@ pub fn find_all(
 }
 
 /// The place on a disk is this line.
-fn places(
+pub fn places(
     rt: &(impl Abort + Threads + Sync),
     alloc: Global,
     disk: &mut MemDisk,

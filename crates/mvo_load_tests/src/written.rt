@@ -1,5 +1,5 @@
 //! Images that the writers of manifests, pairs and segments wrote.
-use crate::image::{DATA, DELTA, INSERTED, LATER_DATA, NAMED, bytes, finds, put, put_all};
+use crate::image::{DATA, DELTA, INSERTED, LATER_DATA, NAMED, bytes, finds, places, put, put_all};
 use mvo_disk::{Disk, MemDisk};
 use mvo_format::VERSION;
 use mvo_frame::Segment;
@@ -172,13 +172,13 @@ fn records(alloc: Global, count: u32, last: u64) -> Result<Vec<u8>, Fail> {
     Ok(data)
 }
 
-/// How many records a pair has, the key of the last one, and what is found. From the second count
-/// on pairs are read in threads.
-const COUNTS: [(u32, u64, &str); 4] = [
-    (8_191, 8_190, "0, 8191, 8, 8191: 50 61"),
-    (8_192, 8_191, "0, 8192, 8, 8192: 50 61"),
-    (8_191, 5, "refused 54 4"),
-    (8_192, 5, "refused 54 4"),
+/// How many records a pair has, the key of the last one, what is found, and where key 5 lies. From
+/// the second count on pairs are read in threads.
+const COUNTS: [(u32, u64, &str, &str); 4] = [
+    (8_191, 8_190, "0, 8191, 8, 8191: 50 61", "4 5"),
+    (8_192, 8_191, "0, 8192, 8, 8192: 50 61", "4 5"),
+    (8_191, 5, "refused 54 4", "refused 54 4"),
+    (8_192, 5, "refused 54 4", "refused 54 4"),
 ];
 
 fn are_found_alike(
@@ -187,7 +187,7 @@ fn are_found_alike(
     disk: &mut MemDisk,
 ) -> Result<(), Fail> {
     put_all(alloc, disk, &[(5, DELTA)])?;
-    for (count, last, line) in COUNTS {
+    for (count, last, line, place) in COUNTS {
         put(disk, 4, &records(alloc, count, last)?)?;
         let pair = Pair {
             hi: Stamp(count as u64),
@@ -195,6 +195,7 @@ fn are_found_alike(
             ..earlier(0)
         };
         installed_finds(rt, alloc, disk, &[pair], &[], line)?;
+        places(rt, alloc, disk, place)?;
     }
     Ok(())
 }

@@ -7,3 +7,5 @@ pub mod Finding
 pub mod Rising
 pub mod Growing
 pub mod Putting
+pub mod Falls
+pub mod Over

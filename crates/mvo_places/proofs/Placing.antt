@@ -10,7 +10,7 @@ use Rattle.mvo_types.specs.Keys.{key_cmp}
 use Rattle.mvo_types.proofs.Maps.{keys_total, exact_keys}
 use Rattle.mvo_hash.specs.Table.{Map}
 use Rattle.mvo_places.specs.declared.place.Place.{Place}
-use Rattle.mvo_places.specs.Places.{place, placed, placed_by, place_of, number_of, AreSmall}
+use Rattle.mvo_places.specs.Places.{PlaceMap, place, placed, placed_by, place_of, number_of, AreSmall}
 
 find-placed : (es : List (RowKey × ℕ)) (q : RowKey) → find key_cmp q (map placed_by es) ≡ option_map place_of (find key_cmp q es)
 find-placed [] q = refl
@@ -100,3 +100,11 @@ none_before o none = ap (option_map place_of) none
 
 pub none_placed : (m : Map) (q : RowKey) → get m q ≡ None → get (placed m) q ≡ None
 none_placed m q none = get-placed m q ∙ none_before (get m q) none
+
+place_again : (o : Option Place) → ((p : Place) → o ≡ Some p → p.number < MAX_PAIR_RECORDS) → option_map place_of (option_map number_of o) ≡ o
+place_again None small = refl
+place_again (Some p) small = ap Some (place_of-number_of p (small p refl))
+
+-- the place at a key from its number
+pub place_back : (at : PlaceMap) (q : RowKey) → AreSmall at → option_map place_of (option_map number_of (get at q)) ≡ get at q
+place_back at q small = place_again (get at q) (small.each q)

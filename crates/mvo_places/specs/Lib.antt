@@ -1,2 +1,4 @@
 pub mod Places
+pub mod Falling
+pub mod Fixed
 pub mod Laws

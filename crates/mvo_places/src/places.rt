@@ -3,7 +3,10 @@ ghost use Rattle.std.specs.Option.{option_map};
 ghost use Rattle.std.specs.FinMap as map;
 ghost use Rattle.mvo_places.specs.Places.{no_places, number_of, AreSmall, with_live};
 ghost use Rattle.mvo_places.specs.Places.{without_keys, taken_over};
+ghost use Rattle.mvo_places.specs.Falling.{HaveDistinctKeys};
 
+use crate::falling::Falling;
+use crate::fixed_keys::FixedKeys;
 use crate::place::Place;
 use mvo_hash::OpenTable;
 use mvo_pair::{Entry, Live};
@@ -14,16 +17,24 @@ use std::marker::Model;
 /// The place of the live record of each key. Contracts see a finite map, and the room: how many
 /// more keys can be put before every key is moved to a larger table.
 ///
-/// Each key has a slot of 16 bytes in an open table of which at most half is used: 32 bytes of
-/// touched memory a key or more, and 48 of reserved memory.
+/// The keys that `of_falling` was given take 13 bytes each for good, whether they are removed or
+/// not, and no room where they are put again. Each other key has a slot of 16 bytes in an open
+/// table of which at most half is used: 32 bytes of touched memory a key or more, and 48 of
+/// reserved memory. A search takes as many steps as the count of the former keys has bits, and then
+/// those in the open table.
 pub struct Places {
+    fixed: FixedKeys,
     heads: OpenTable,
     seed: u64,
 }
 
 impl Drop for Places {
     fn drop(self) {
-        let Places { heads: _, seed: _ } = self;
+        let Places {
+            fixed: _,
+            heads: _,
+            seed: _,
+        } = self;
     }
 }
 
@@ -34,9 +45,9 @@ impl Model for Places {
 
     ghost coded = { coded_table };
 
-    ghost use Rattle.mvo_places.specs.Places.{table_of};
+    ghost use Rattle.mvo_places.specs.Fixed.{table_over};
 
-    ghost view = { λ t. table_of t.heads };
+    ghost view = { λ t. table_over t.fixed t.heads };
 }
 
 impl Places {
@@ -46,6 +57,20 @@ impl Places {
         ensures { result ≡ no_places }
     {
         Places {
+            fixed: FixedKeys::new(alloc),
+            heads: OpenTable::new(alloc, seed),
+            seed,
+        }
+    }
+
+    /// The places of these keys, and no room for more. It takes no memory.
+    pub fn of_falling(alloc: Global, seed: u64, falling: Falling) -> Places
+        ensures at { result.at ≡ map.from_entries falling }
+        ensures room { result.room ≡ 0 }
+        ensures apart { HaveDistinctKeys falling }
+    {
+        Places {
+            fixed: falling.into_fixed(),
             heads: OpenTable::new(alloc, seed),
             seed,
         }
@@ -74,7 +99,10 @@ impl Places {
         ensures number { result ≡ option_map number_of (map.get self.now.at key) }
         ensures small { AreSmall self.now.at }
     {
-        self.heads.get(key)
+        match self.fixed.get(key) {
+            Some(number) => number,
+            None => self.heads.get(key),
+        }
     }
 
     /// The place of a key.
@@ -82,7 +110,7 @@ impl Places {
         ensures place { result ≡ map.get self.now.at key }
         ensures small { AreSmall self.now.at }
     {
-        match self.heads.get(key) {
+        match self.number(key) {
             Some(number) => Some(Place {
                 data_file: (number / MAX_PAIR_RECORDS) as u16,
                 number: number % MAX_PAIR_RECORDS,
@@ -103,7 +131,10 @@ impl Places {
         ensures absent { OnErr result (map.get self.old.at key ≡ None) }
         ensures full { OnErr result (self.old.room ≡ 0) }
     {
-        let number = place.data_file as u32 * MAX_PAIR_RECORDS + place.number;
+        let number = place.as_number();
+        if self.fixed.set(key, Some(number)) {
+            return Ok(());
+        }
         self.heads.put(key, number)?;
         Ok(())
     }
@@ -113,7 +144,9 @@ impl Places {
         ensures gone { self.new.at ≡ map.remove self.old.at key }
         ensures room { self.new.room ≡ self.old.room }
     {
-        self.heads.remove(key);
+        if !self.fixed.set(key, None) {
+            self.heads.remove(key);
+        }
     }
 
     /// Puts the places of the live records of a pair. The room for them is made first. Refused, it

@@ -8,6 +8,7 @@ use mvo_word::Word;
 use std::alloc::{AllocError, Global};
 use std::process::Abort;
 use std::test::Fail;
+use std::thread::Threads;
 
 /// Versions, and what waits among them.
 struct Kept {
@@ -29,13 +30,13 @@ fn row(alloc: Global, key: u64) -> Result<Row, AllocError> {
 }
 
 /// Rows with the keys 1 and 2, put at the mark 2: the versions 0 and 1.
-fn two_rows(alloc: Global) -> Result<Kept, AllocError> {
+fn two_rows(rt: &(impl Threads + Sync), alloc: Global) -> Result<Kept, AllocError> {
     let mut rows = Rows::new(alloc);
     for key in [1, 2] {
         rows.put(row(alloc, key)?)?;
     }
     Ok(Kept {
-        versions: Versions::load(alloc, 7, rows, Stamp(2))?,
+        versions: Versions::load(rt, alloc, 7, rows, Stamp(2))?,
         waiting: Waiting::new(alloc),
     })
 }
@@ -67,7 +68,7 @@ fn end_at(kept: &mut Kept, number: u32, end: u32) -> Result<(), AllocError> {
 
 #[test]
 fn a_version_goes_once_its_end_is_not_above_the_start(rt: HostRuntime) -> Result<(), Fail> {
-    let mut kept = two_rows(rt.alloc())?;
+    let mut kept = two_rows(&rt, rt.alloc())?;
     goes_at_its_end(&rt, &mut kept)
 }
 
@@ -85,7 +86,7 @@ fn goes_at_its_end(rt: &impl Abort, kept: &mut Kept) -> Result<(), Fail> {
 
 #[test]
 fn what_is_no_garbage_any_more_is_passed_over(rt: HostRuntime) -> Result<(), Fail> {
-    let mut kept = two_rows(rt.alloc())?;
+    let mut kept = two_rows(&rt, rt.alloc())?;
     passes_over(&rt, &mut kept)
 }
 
@@ -113,7 +114,7 @@ fn put_and_take_back(kept: &mut Kept, row: Row) -> Result<VersionNo, AllocError>
 
 #[test]
 fn a_put_that_was_taken_back_goes_at_any_start(rt: HostRuntime) -> Result<(), Fail> {
-    let mut kept = two_rows(rt.alloc())?;
+    let mut kept = two_rows(&rt, rt.alloc())?;
     goes_after_an_abort(&rt, rt.alloc(), &mut kept)
 }
 
@@ -129,7 +130,7 @@ fn goes_after_an_abort(rt: &impl Abort, alloc: Global, kept: &mut Kept) -> Resul
 /// A word is replaced after a commit: nothing waits for it.
 #[test]
 fn what_is_repaid_leaves_nothing(rt: HostRuntime) -> Result<(), Fail> {
-    let mut kept = two_rows(rt.alloc())?;
+    let mut kept = two_rows(&rt, rt.alloc())?;
     kept.waiting.make_room()?;
     kept.waiting.owe();
     kept.waiting.repay();

@@ -71,6 +71,14 @@ fn is_preparing(table: &Table, id: TxId) -> bool {
     }
 }
 
+/// For whom a transaction waits.
+fn awaited(table: &Table, id: TxId) -> Option<TxId> {
+    match table.get(id) {
+        Some(seat) => waiting_for(table, &seat.kept.dependencies),
+        None => None,
+    }
+}
+
 /// The counter, the flag and whom it waits for, as a walk over the plain list tells them. Ends are
 /// drawn in the order of ids here.
 fn compare(rt: &impl Abort, table: &Table, plain: &Plain) {
@@ -85,7 +93,7 @@ fn compare(rt: &impl Abort, table: &Table, plain: &Plain) {
             });
         }
     }
-    same(rt, &waiting_for(table, plain.id), &least);
+    same(rt, &awaited(table, plain.id), &least);
     if let Some(seat) = table.get(plain.id) {
         same(rt, &seat.kept.own, &7);
         same(rt, &seat.kept.dependencies.unsettled(), &unsettled);
@@ -225,7 +233,7 @@ fn depend_on_three(table: &mut Table, alloc: Global) -> Result<(), Fail> {
 fn wait_for_three(rt: &impl Abort, table: &mut Table) {
     let on = [TxId(2), TxId(3), TxId(4)];
     for (settled, id) in on.iter().enumerate() {
-        same(rt, &waiting_for(table, TxId(5)), &Some(*id));
+        same(rt, &awaited(table, TxId(5)), &Some(*id));
         if let Some(seat) = table.get(TxId(5)) {
             same(
                 rt,
@@ -235,7 +243,7 @@ fn wait_for_three(rt: &impl Abort, table: &mut Table) {
         }
         settle(table, *id, false);
     }
-    same(rt, &waiting_for(table, TxId(5)), &None);
+    same(rt, &awaited(table, TxId(5)), &None);
 }
 
 fn depend_and_wait(rt: &impl Abort, alloc: Global, table: &mut Table) -> Result<(), Fail> {

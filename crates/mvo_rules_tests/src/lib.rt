@@ -16,9 +16,13 @@ mod equal;
 #[cfg(test)]
 mod hash;
 #[cfg(test)]
+mod loading;
+#[cfg(test)]
 mod numbers;
 #[cfg(test)]
 mod open;
+#[cfg(test)]
+mod passing;
 #[cfg(test)]
 mod plain;
 #[cfg(test)]

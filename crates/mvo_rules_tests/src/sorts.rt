@@ -9,6 +9,7 @@ use mvo_versions::Versions;
 use std::alloc::{AllocError, Global};
 use std::process::Abort;
 use std::test::Fail;
+use std::thread::Threads;
 
 const STEPS: u64 = 6000;
 
@@ -32,7 +33,7 @@ fn row(alloc: Global, key: u64, sort: u64) -> Result<Row, AllocError> {
 }
 
 /// One row, the version 0 at sort 1.
-fn begin(alloc: Global) -> Result<Both, AllocError> {
+fn begin(rt: &(impl Threads + Sync), alloc: Global) -> Result<Both, AllocError> {
     let mut rows = Rows::new(alloc);
     rows.put(row(alloc, 0, 1)?)?;
     let mut list = Vec::new(alloc);
@@ -45,7 +46,7 @@ fn begin(alloc: Global) -> Result<Both, AllocError> {
         },
     ))?;
     Ok(Both {
-        versions: Versions::load(alloc, 5, rows, Stamp(2))?,
+        versions: Versions::load(rt, alloc, 5, rows, Stamp(2))?,
         list,
     })
 }
@@ -141,7 +142,7 @@ fn run(
 fn places_are_those_of_a_plain_list(rt: HostRuntime) -> Result<(), Fail> {
     let mut numbers = Numbers::new();
     for sorts in [1, 2, 3, 1000] {
-        let mut both = begin(rt.alloc())?;
+        let mut both = begin(&rt, rt.alloc())?;
         run(&rt, rt.alloc(), &mut both, &mut numbers, sorts)?;
     }
     Ok(())
@@ -165,7 +166,7 @@ fn take_all(rt: &impl Abort, alloc: Global, both: &mut Both, count: u64) -> Resu
 
 #[test]
 fn many_sorts_of_a_hot_key_go_oldest_first(rt: HostRuntime) -> Result<(), Fail> {
-    let mut both = begin(rt.alloc())?;
+    let mut both = begin(&rt, rt.alloc())?;
     put_many(rt.alloc(), &mut both, 400)?;
     agree(&rt, rt.alloc(), &both, 400)?;
     take_all(&rt, rt.alloc(), &mut both, 401)?;

@@ -6,3 +6,4 @@ mod entries;
 mod many_keys;
 mod plain;
 mod random;
+mod spare;

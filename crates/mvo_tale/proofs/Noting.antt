@@ -22,40 +22,40 @@ use Rattle.mvo_theory.specs.Told.{history_told}
 use Rattle.mvo_theory.proofs.Written.{keys_equal}
 use Rattle.mvo_tale.specs.declared.effect.Effect.{Effect as EffectAt}
 use Rattle.mvo_tale.specs.Stored.{effect_data, effects_data}
-use Rattle.mvo_tale.specs.Records.{with_write}
+use Rattle.mvo_tale.specs.Records.{with_newer}
 use Rattle.mvo_tale.proofs.LastWrites.{last_step}
 
 -- ---- a write at its place
-pub no_write : (ks : List RowKey) (es : List (Option Effect)) → length es ≡ length ks → with_write None ks es ≡ es
+pub no_write : (ks : List RowKey) (es : List (Option Effect)) → length es ≡ length ks → with_newer None ks es ≡ es
 no_write [] [] e = refl
 no_write [] (x ∷ es) e = absurd (omega (arith, e))
 no_write (k ∷ ks) [] e = absurd (omega (arith, e))
 no_write (k ∷ ks) (x ∷ es) e = ap (λ xs. x ∷ xs) (no_write ks es (omega (arith, e)))
 
-pub other_write : (ks : List RowKey) (es : List (Option Effect)) (k : RowKey) (h : Effect) → AllByRecursion (λ j. eq_by_cmp key_cmp j k ≡ false) ks → length es ≡ length ks → with_write (Some (k, h)) ks es ≡ es
+pub other_write : (ks : List RowKey) (es : List (Option Effect)) (k : RowKey) (h : Effect) → AllByRecursion (λ j. eq_by_cmp key_cmp j k ≡ false) ks → length es ≡ length ks → with_newer (Some (k, h)) ks es ≡ es
 other_write [] [] k h others e = refl
 other_write [] (x ∷ es) k h others e = absurd (omega (arith, e))
 other_write (j ∷ ks) [] k h others e = absurd (omega (arith, e))
 other_write (j ∷ ks) (x ∷ es) k h others e =
-    ap (λ b. later (cond b (Some h) None) x ∷ with_write (Some (k, h)) ks es) others.0
+    ap (λ b. later (cond b (Some h) None) x ∷ with_newer (Some (k, h)) ks es) others.0
     ∙ ap (λ xs. x ∷ xs) (other_write ks es k h others.1 (omega (arith, e)))
 
 flipped : (ks : List RowKey) (j k : RowKey) → j ≡ k → AllByRecursion (λ i. eq_by_cmp key_cmp j i ≡ false) ks → AllByRecursion (λ i. eq_by_cmp key_cmp i k ≡ false) ks
 flipped [] j k e h = tt
 flipped (i ∷ ks) j k e h = (keys_equal.symm i k ∙ ap (λ x. eq_by_cmp key_cmp x i) (sym e) ∙ h.0, flipped ks j k e h.1)
 
-pub set_write : (ks : List RowKey) (es : List (Option Effect)) (i : ℕ) (k : RowKey) (h : Effect) → IsDistinct (eq_by_cmp key_cmp) ks → i < length ks → get_or ks i k ≡ k → length es ≡ length ks → set es i (Some h) ≡ with_write (Some (k, h)) ks es
+pub set_write : (ks : List RowKey) (es : List (Option Effect)) (i : ℕ) (k : RowKey) (h : Effect) → IsDistinct (eq_by_cmp key_cmp) ks → i < length ks → get_or ks i k ≡ k → length es ≡ length ks → set es i (Some h) ≡ with_newer (Some (k, h)) ks es
 unfolding IsDistinct
 set_write [] es i k h apart lt at e = absurd (omega (arith, lt))
 set_write (j ∷ ks) [] i k h apart lt at e = absurd (omega (arith, e))
 set_write (j ∷ ks) (x ∷ es) zero k h apart lt at e =
     let same : eq_by_cmp key_cmp j k ≡ true = ap (eq_by_cmp key_cmp j) (sym at) ∙ keys_equal.refl j in
     ap (λ xs. Some h ∷ xs) (sym (other_write ks es k h (flipped ks j k at apart.0) (omega (arith, e))))
-    ∙ ap (λ b. later (cond b (Some h) None) x ∷ with_write (Some (k, h)) ks es) (sym same)
+    ∙ ap (λ b. later (cond b (Some h) None) x ∷ with_newer (Some (k, h)) ks es) (sym same)
 set_write (j ∷ ks) (x ∷ es) (suc i) k h apart lt at e =
     let other : eq_by_cmp key_cmp j k ≡ false = ap (eq_by_cmp key_cmp j) (sym at) ∙ apart_from_distinct (eq_by_cmp key_cmp) (j ∷ ks) 0 (suc i) k apart (omega arith) lt in
     ap (λ xs. x ∷ xs) (set_write ks es i k h apart.1 (omega (arith, lt)) at (omega (arith, e)))
-    ∙ ap (λ b. later (cond b (Some h) None) x ∷ with_write (Some (k, h)) ks es) (sym other)
+    ∙ ap (λ b. later (cond b (Some h) None) x ∷ with_newer (Some (k, h)) ks es) (sym other)
 
 -- ---- a search for a key
 pub searchable : (ks : List RowKey) (k : RowKey) → IsStrictlySortedBy key_cmp ks → IsNonDecreasingBy (λ j. ordering_index (key_cmp j k)) ks
@@ -79,10 +79,10 @@ none_yet ks es e = ap effects_data e ∙ each ks
     each [] = refl
     each (j ∷ js) = ap (λ xs. None ∷ xs) (each js)
 
-pub note_step : (ks : List RowKey) (ops : List (Op × Answer)) (i : ℕ) (x : Op × Answer) (w : Option Write) → i < length ops → x ≡ get_or ops i x → w ≡ write_of x.0 (answer_data x.1) → with_write w ks (map (λ k. net_write k (history_told (take i ops))) ks) ≡ map (λ k. net_write k (history_told (take (i + 1) ops))) ks
+pub note_step : (ks : List RowKey) (ops : List (Op × Answer)) (i : ℕ) (x : Op × Answer) (w : Option Write) → i < length ops → x ≡ get_or ops i x → w ≡ write_of x.0 (answer_data x.1) → with_newer w ks (map (λ k. net_write k (history_told (take i ops))) ks) ≡ map (λ k. net_write k (history_told (take (i + 1) ops))) ks
 note_step [] ops i x w lt e is = refl
 note_step (k ∷ ks) ops i x w lt e is =
-    ap (λ v. v ∷ with_write w ks (map (λ j. net_write j (history_told (take i ops))) ks)) (sym (last_step k ops i x w lt e is))
+    ap (λ v. v ∷ with_newer w ks (map (λ j. net_write j (history_told (take i ops))) ks)) (sym (last_step k ops i x w lt e is))
     ∙ ap (λ vs. net_write k (history_told (take (i + 1) ops)) ∷ vs) (note_step ks ops i x w lt e is)
 
 pub as_many : (ks : List RowKey) (es : List (Option EffectAt)) (net : RowKey → Option Effect) → effects_data es ≡ map net ks → length es ≡ length ks

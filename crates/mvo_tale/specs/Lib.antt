@@ -6,3 +6,4 @@ pub mod Next
 pub mod Walk
 pub mod Timeline
 pub mod Kept
+pub mod Spare

@@ -34,10 +34,10 @@ AreRecordsOf (c ∷ cs) [] = ⊥
 AreRecordsOf (c ∷ cs) (r ∷ rs) = IsRecordOf c r × AreRecordsOf cs rs
 
 -- what the last writes to these keys leave, after one write more
-abbrev pub with_write : Option Write → List RowKey → List (Option Effect) → List (Option Effect)
-with_write w [] es = []
-with_write w (k ∷ ks) [] = []
-with_write w (k ∷ ks) (e ∷ es) = later (write_at k w) e ∷ with_write w ks es
+abbrev pub with_newer : Option Write → List RowKey → List (Option Effect) → List (Option Effect)
+with_newer w [] es = []
+with_newer w (k ∷ ks) [] = []
+with_newer w (k ∷ ks) (e ∷ es) = later (write_at k w) e ∷ with_newer w ks es
 
 -- ---- lengths, in bytes
 abbrev pub and_write : RowKey → Option Effect → List Write → List Write

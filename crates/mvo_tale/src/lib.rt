@@ -8,6 +8,7 @@ mod gathering;
 mod laws;
 mod next_records;
 mod slot;
+mod spare_lists;
 mod step;
 mod tale;
 mod tale_entry;

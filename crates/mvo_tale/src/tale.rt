@@ -4,10 +4,11 @@ ghost use Rattle.mvo_tale.specs.Forgetting.{behind_gone, from_kept, goes_first};
 
 use crate::next_records::NextRecords;
 use crate::slot::Slot;
+use crate::spare_lists::SpareLists;
 use crate::tale_entry::TaleEntry;
 use crate::walk::records_from;
 use mvo_queue::Queue;
-use mvo_types::{MAX_STAMP, Stamp};
+use mvo_types::{Answer, MAX_STAMP, Op, Stamp};
 use std::alloc::{AllocError, Global};
 use std::marker::Model;
 
@@ -16,12 +17,24 @@ use std::marker::Model;
 /// Contracts see the list of places. The ends rise over them.
 ///
 /// Places keep their numbers. Of those at the front from which nothing is stored any more there is
-/// only the number, how many they are: contracts see them as empty.
-#[derive(Drop)]
+/// only the number, how many they are: contracts see them as empty. The lists of operations of the
+/// commits that are forgotten are kept for transactions that begin: at most 64 of them, each with
+/// room for at most 64 operations. Contracts don't see them.
 pub struct Tale {
     slots: Queue<Slot>,
     /// How many places at the front are gone.
     gone: usize,
+    spare: SpareLists,
+}
+
+impl Drop for Tale {
+    fn drop(self) {
+        let Tale {
+            slots: _,
+            gone: _,
+            spare: _,
+        } = self;
+    }
 }
 
 impl Model for Tale {
@@ -40,7 +53,7 @@ impl Model for Tale {
 
 impl Tale {
     ghost use Rattle.std.specs.Prelude.{◌≡◌, ◌++◌, ◌∷◌, [], ◌<◌, ◌≤◌, length, slice_get, slice_set};
-    ghost use Rattle.std.specs.Prelude.{IfOk, OnOk, OnErr, IsSome, Some};
+    ghost use Rattle.std.specs.Prelude.{IfOk, OnOk, OnErr, IfSome, IsSome, Some};
     ghost use Rattle.std.specs.List.{AllByRecursion};
     ghost use Rattle.std.specs.Option.{option_copied};
     ghost use Rattle.mvo_group.specs.Data.{group_of};
@@ -58,6 +71,7 @@ impl Tale {
         Tale {
             slots: Queue::new(alloc),
             gone: 0,
+            spare: SpareLists::new(alloc),
         }
     }
 
@@ -74,6 +88,7 @@ impl Tale {
             return Err(AllocError);
         }
         self.slots.push_back(Slot::Open(end))?;
+        self.spare.make_room();
         Ok(place)
     }
 
@@ -102,8 +117,17 @@ impl Tale {
     pub fn forget(&mut self, upto: Stamp)
         ensures { self.new ≡ forgotten upto.0 self.old }
     {
-        let gone = drop_front(&mut self.slots, upto);
+        let gone = drop_front(&mut self.slots, &mut self.spare, upto);
         self.gone += gone;
+    }
+
+    /// The memory of the operations of a commit that is forgotten, if one is kept: an empty list.
+    /// It takes no memory.
+    pub fn spare_list(&mut self) -> Option<Vec<(Op, Answer)>>
+        ensures same { self.new ≡ self.old }
+        ensures empty { IfSome result (λ list. list.items ≡ []) }
+    {
+        self.spare.take()
     }
 
     /// How many places there are.
@@ -215,16 +239,24 @@ fn ends_empty(slots: &Queue<Slot>) -> bool
     }
 }
 
-/// Takes the places at the front off from which nothing is lost. Answers how many they were.
-fn drop_front(slots: &mut Queue<Slot>, upto: Stamp) -> usize
+/// Takes the places at the front off from which nothing is lost, and keeps the memory of their
+/// lists. Answers how many they were.
+fn drop_front(slots: &mut Queue<Slot>, spare: &mut SpareLists, upto: Stamp) -> usize
     ensures kept { slots.new.items ≡ from_kept upto.0 slots.old.items }
     ensures count { result + length slots.new.items ≡ length slots.old.items }
 {
     let before = slots.len();
     while goes_first(slots, upto) {
-        slots.pop_front();
+        keep_list(spare, slots.pop_front());
     }
     before - slots.len()
+}
+
+/// Keeps the memory of the operations of the commit, if one was at the place.
+fn keep_list(spare: &mut SpareLists, slot: Option<Slot>) {
+    if let Some(Slot::Settled(entry)) = slot {
+        spare.keep(entry.operations);
+    }
 }
 
 /// Whether the first place goes.

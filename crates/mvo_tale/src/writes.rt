@@ -6,7 +6,7 @@ ghost use Rattle.mvo_types.specs.AnswerData.{answer_data};
 ghost use Rattle.mvo_model.specs.History.{write_of, net_write};
 ghost use Rattle.mvo_theory.specs.Told.{history_told};
 ghost use Rattle.mvo_tale.specs.Stored.{write_as, effects_data};
-ghost use Rattle.mvo_tale.specs.Records.{with_write};
+ghost use Rattle.mvo_tale.specs.Records.{with_newer};
 
 use crate::effect::Effect;
 use mvo_types::{Answer, Op, RowKey};
@@ -40,7 +40,7 @@ fn note<'a>(
     requires len { length lasts.old.items ≡ length keys.now }
     requires rise { IsStrictlySortedBy key_cmp keys.now }
     ensures { effects_data lasts.new.items
-        ≡ with_write (option_map write_as write.entry) keys.now (effects_data lasts.old.items) }
+        ≡ with_newer (option_map write_as write.entry) keys.now (effects_data lasts.old.items) }
 {
     let Some((key, effect)) = write else {
         return;

@@ -2,15 +2,21 @@
 use Rattle.std.proofs.Common.{◌≡◌, ℕ, ◌<◌, ◌≤◌, true, false, eqb, Option, Some, None, refl, sym, ap, subst, ◌∙◌, arith, ⊎_elim}
 use Rattle.std.proofs.lemmas.Bool.{cases_eq, eqb-true, false≢true}
 use Rattle.std.proofs.lemmas.Cmp.{nat_cmp_total}
+use Rattle.std.proofs.lemmas.List.{set-get_or}
 use Rattle.std.proofs.lemmas.Option.{none-some}
+use Rattle.std.specs.Prelude.{slice_set}
 use Rattle.std.specs.Option.{option_map}
 use Rattle.std.specs.Ordering.{nat_cmp}
 use Rattle.std.specs.FinMap as map
+use Rattle.mvo_types.specs.declared.ids.Stamp.{Stamp}
 use Rattle.mvo_types.specs.declared.limits.TheConstants.{MAX_UNFINISHED}
 use Rattle.slab.specs.Slab.{Slab, get, with_value, slab_len, HasRoomFor, Updates}
 use Rattle.mvo_txn.specs.declared.chair.Chair.{Chair}
 use Rattle.mvo_txn.specs.declared.seat.Seat.{Seat}
 use Rattle.mvo_txn.specs.declared.directory.Directory.{Directory}
+use Rattle.mvo_txn.specs.declared.state.TxState.{TxState}
+use Rattle.mvo_txn.specs.declared.state.TxState.TheVariants.{Active, Preparing, Committed, Aborted}
+use Rattle.mvo_txn.specs.Queue.{open_end}
 use Rattle.mvo_txn.specs.Seats.{SeatMap}
 use Rattle.mvo_txn.specs.Directory.{is_of, Knows, KnowsAlike, Notes, Forgets}
 use Rattle.mvo_txn.specs.Chairs.{seats_of, AreSeats}
@@ -107,3 +113,14 @@ module _ {P : Type 0} where
 pub left_out : {X : Type 0} (m : map.FinMap nat_cmp X) (id : ℕ) → map.get m id ≡ None → m ≡ map.remove m id
 left_out m id none = map.same_map nat_cmp_total map.nat_cmp-IsAntisymmetric m (map.remove m id) (λ q.
     ⊎_elim (λ is. ap (map.get m) is ∙ none ∙ sym (ap (map.get (map.remove m id)) is ∙ get_removed m id)) (λ ne. sym (get_left m id q ne)) (cases_eq q id))
+
+-- a chair that is written back changes nothing
+pub written_back : {P : Type 0} (s : Slab (Chair P)) (n : ℕ) (c : Chair P) → get s n ≡ Some c → with_value s n c ≡ s
+written_back s n c here = ap (λ slots. record s { slots = slots }) (ap (slice_set s.slots n) (sym here) ∙ set-get_or s.slots n None)
+
+-- one that isn't Preparing has no open end
+pub not_open : (state : TxState) → ((end : Stamp) → state ≡ Preparing end → ⊥) → open_end (Some state) ≡ None
+not_open Active h = refl
+not_open (Preparing end) h = absurd (h end refl)
+not_open (Committed end) h = refl
+not_open Aborted h = refl

@@ -1,16 +1,18 @@
-ghost use Rattle.std.specs.Prelude.{◌≡◌, ◌<◌, None, IfOk, OnErr, OnOk, IsSome, option_copied};
-ghost use Rattle.std.specs.Option.{option_copied_mut};
+ghost use Rattle.std.specs.Prelude.{◌≡◌, ◌<◌, None, Some, IfOk, IfSome, OnErr, OnOk, IsSome};
+ghost use Rattle.std.specs.Prelude.{option_copied};
+ghost use Rattle.std.specs.Option.{option_copied_mut, IfNone};
 ghost use Rattle.std.specs.FinMap as map;
 ghost use Rattle.std.specs.Borrow.{sem};
 ghost use Rattle.mvo_types.specs.declared.limits.TheConstants.{MAX_UNFINISHED};
 ghost use Rattle.mvo_txn.specs.Lends.{LendsKeptOfSeats};
-ghost use Rattle.mvo_txn.specs.Seats.{kept_in, with_state};
+ghost use Rattle.mvo_txn.specs.Queue.{open_end};
+ghost use Rattle.mvo_txn.specs.Seats.{kept_in, state_in, with_state};
 
 use crate::chair::Chair;
 use crate::directory::Directory;
 use crate::seat::Seat;
 use crate::state::TxState;
-use mvo_types::MAX_UNFINISHED;
+use mvo_types::{MAX_UNFINISHED, Stamp};
 use slab::Slab;
 use std::alloc::{AllocError, Global};
 use std::marker::Model;
@@ -109,6 +111,25 @@ impl<P> Seats<P> {
             Some(chair) => chair.seat.state = state,
             None => unreachable!(),
         }
+    }
+
+    /// Settles a Preparing transaction, and answers its end. Another stays as it is.
+    pub(crate) fn commit(&mut self, id: u64) -> Option<Stamp>
+        ensures end { IfSome result (λ end. state_in self.old id ≡ Some (TxState.Preparing end)) }
+        ensures settled { IfSome result (λ end.
+            self.new ≡ with_state self.old id (TxState.Committed end)) }
+        ensures none { IfNone result (open_end (state_in self.old id) ≡ None) }
+        ensures same { IfNone result (self.new ≡ self.old) }
+    {
+        let Some(number) = self.directory.find(&self.chairs, id) else {
+            return None;
+        };
+        let chair = self.chairs.get_mut(number)?;
+        let TxState::Preparing(end) = chair.seat.state else {
+            return None;
+        };
+        chair.seat.state = TxState::Committed(end);
+        Some(end)
     }
 
     /// Gives a new transaction a seat. It takes memory only to list an id whose place is another's.

@@ -178,10 +178,9 @@ impl<P> TxnTable<P> {
         ensures end { state_of self.old id.0 ≡ Some (TxState.Preparing result) }
         ensures committed { self.new ≡ after_change self.old id.0 (TxState.Committed result) }
     {
-        let Some(TxState::Preparing(end)) = self.state(id) else {
+        let Some(end) = self.seats.commit(id.0) else {
             unreachable!()
         };
-        self.seats.set_state(id.0, TxState::Committed(end));
         self.open_ends.trim(&self.seats, id.0);
         end
     }

@@ -61,7 +61,7 @@ hole_empty [] n e = refl
 hole_empty (x ∷ xs) zero e = cc
 hole_empty (x ∷ xs) (suc n) e = hole_empty xs n e
 
-appended_same : (slots : Slots) (n : ℕ) → slice_index_or (slots ++ None ∷ []) n None ≡ slice_index_or slots n None
+pub appended_same : (slots : Slots) (n : ℕ) → slice_index_or (slots ++ None ∷ []) n None ≡ slice_index_or slots n None
 appended_same [] zero = refl
 appended_same [] (suc n) = refl
 appended_same (x ∷ xs) zero = refl

@@ -6,3 +6,9 @@ pub mod Putting
 pub mod Going
 pub mod Walked
 pub mod Loading
+pub mod Numbering
+pub mod Posts
+pub mod Words
+pub mod Kept
+pub mod Older
+pub mod Past

@@ -1,5 +1,5 @@
 -- Versions that are loaded one after another.
-use Rattle.std.proofs.Common.{◌≡◌, ℕ, ◌<◌, ◌≤◌, ◌^◌, ◌||◌, T, suc, zero, List, [], ◌∷◌, ◌++◌, map, length, Option, None, Some, refl, sym, ap, ◌∙◌, subst, arith}
+use Rattle.std.proofs.Common.{◌≡◌, ℕ, ◌<◌, ◌≤◌, ◌^◌, ◌||◌, T, suc, zero, List, [], ◌∷◌, ◌++◌, map, length, None, Some, refl, sym, ap, ◌∙◌, subst, arith}
 use Rattle.std.specs.Prelude.{◌&&◌, slice_get, slice_set, slice_index_or, fold, ◌==◌, cond, Bool, true, false}
 use Rattle.std.specs.List.{list_any}
 use Rattle.std.specs.Ordering.{is_lt, is_eq}
@@ -20,93 +20,64 @@ use Rattle.mvo_word.specs.declared.held.Held.TheVariants.{At}
 use Rattle.mvo_chain.specs.declared.version.Version.{Version}
 use Rattle.mvo_chain.specs.declared.version.VersionNo.{VersionNo}
 use Rattle.mvo_chain.specs.Slots.{Slots, with_room, with_slot, hole_count, IsHole, added}
-use Rattle.mvo_hash.specs.Lists.{Lists, or_empty, numbers_of, is_among}
-use Rattle.mvo_theory.specs.Sound.{how_many}
+use Rattle.mvo_hash.specs.Lists.{Lists, numbers_of, is_among}
 use Rattle.mvo_types.specs.Keys.{key_cmp}
 use Rattle.mvo_range.specs.declared.place.Place.{Place}
 use Rattle.mvo_range.specs.Place.{Map as Places, all_added, place_cmp}
 use Rattle.mvo_range.proofs.Places.{places_total}
 use Rattle.mvo_validate.specs.Entries.{key_at}
-use Rattle.mvo_visible.specs.Fronts.{with_new}
 use Rattle.mvo_representation.specs.Indexes.{all_versions, place_of, is_at_place, is_of_key, HasNumbers}
 use Rattle.mvo_representation.specs.Versions.{loaded_from, loaded}
-use Rattle.mvo_representation.proofs.Numbers.{numbers_added}
 use Rattle.mvo_versions.specs.Changes.{is_number_at}
+use Rattle.mvo_versions.specs.Loading.{as_loaded, entry_for, AreListed}
 use Rattle.mvo_versions.specs.Runs.{runs_at, entry_of, AreCounted}
 use Rattle.mvo_versions.proofs.Counting.{one, one_run}
 use Rattle.mvo_versions.proofs.Counted.{once_each, key_number}
-use Rattle.mvo_versions.proofs.Indexing.{hole_inside, hole_empty, room_numbers, found_at}
+use Rattle.mvo_versions.proofs.Indexing.{found_at}
 use Rattle.mvo_versions.proofs.Putting.{small_room}
 
--- the row as a version that was put at the mark
-abbrev pub put_at : Held → RowData → Option Version
-put_at mark row = Some (added row mark)
-
--- the entry of a row's place: one run, for no other row has its key
-abbrev pub entry_for : Held → RowData → Place × ℕ
-entry_for mark row = (place_of (added row mark), 1)
-
--- so many of the rows are loaded
-pub record AreLoading (mark : Held) (done : List RowData) (slots : Slots) (lists : Lists) (es : List (Place × ℕ)) : Type 0 where
-  pub slots_are : slots ≡ map (put_at mark) done
-  pub numbers : HasNumbers slots lists
-  pub entries : es ≡ map (entry_for mark) done
-  pub small : length slots ≤ 2 ^ 32
-
-pub none_loaded : (mark : Held) → AreLoading mark [] [] fin.empty []
-none_loaded mark = record {
-  slots_are = refl;
-  numbers = record { at = λ k n. ap (λ (o : Option (List ℕ)). how_many (λ m. m == n) (or_empty o)) (fin.get-empty key_cmp k) };
-  entries = refl;
-  small = omega arith;
-}
-
 -- ---- slots without a hole
-no_holes : (mark : Held) (rows : List RowData) → hole_count (map (put_at mark) rows) ≡ 0
+no_holes : (mark : Held) (rows : List RowData) → hole_count (map (as_loaded mark) rows) ≡ 0
 no_holes mark [] = refl
 no_holes mark (r ∷ rows) = no_holes mark rows
 
-full_room : (mark : Held) (rows : List RowData) → with_room (map (put_at mark) rows) ≡ map (put_at mark) rows ++ None ∷ []
-full_room mark rows = ap (λ (c : ℕ). cond (c == 0) (map (put_at mark) rows ++ None ∷ []) (map (put_at mark) rows)) (no_holes mark rows)
+full_room : (mark : Held) (rows : List RowData) → with_room (map (as_loaded mark) rows) ≡ map (as_loaded mark) rows ++ None ∷ []
+full_room mark rows = ap (λ (c : ℕ). cond (c == 0) (map (as_loaded mark) rows ++ None ∷ []) (map (as_loaded mark) rows)) (no_holes mark rows)
 
-only_hole : (mark : Held) (rows : List RowData) (n : ℕ) (w : Version) → slice_get (map (put_at mark) rows ++ None ∷ []) n ≡ Some None → slice_set (map (put_at mark) rows ++ None ∷ []) n (Some w) ≡ map (put_at mark) rows ++ Some w ∷ []
+only_hole : (mark : Held) (rows : List RowData) (n : ℕ) (w : Version) → slice_get (map (as_loaded mark) rows ++ None ∷ []) n ≡ Some None → slice_set (map (as_loaded mark) rows ++ None ∷ []) n (Some w) ≡ map (as_loaded mark) rows ++ Some w ∷ []
 only_hole mark [] zero w e = refl
 only_hole mark [] (suc n) w e = absurd cc
 only_hole mark (r ∷ rows) zero w e = absurd cc
-only_hole mark (r ∷ rows) (suc n) w e = ap (λ xs. put_at mark r ∷ xs) (only_hole mark rows n w e)
+only_hole mark (r ∷ rows) (suc n) w e = ap (λ xs. as_loaded mark r ∷ xs) (only_hole mark rows n w e)
 
-map_behind : (mark : Held) (rows : List RowData) (r : RowData) → map (put_at mark) rows ++ put_at mark r ∷ [] ≡ map (put_at mark) (rows ++ r ∷ [])
+map_behind : (mark : Held) (rows : List RowData) (r : RowData) → map (as_loaded mark) rows ++ as_loaded mark r ∷ [] ≡ map (as_loaded mark) (rows ++ r ∷ [])
 map_behind mark [] r = refl
-map_behind mark (q ∷ rows) r = ap (λ xs. put_at mark q ∷ xs) (map_behind mark rows r)
+map_behind mark (q ∷ rows) r = ap (λ xs. as_loaded mark q ∷ xs) (map_behind mark rows r)
 
 entry_behind : (mark : Held) (rows : List RowData) (r : RowData) → map (entry_for mark) rows ++ entry_for mark r ∷ [] ≡ map (entry_for mark) (rows ++ r ∷ [])
 entry_behind mark [] r = refl
 entry_behind mark (q ∷ rows) r = ap (λ xs. entry_for mark q ∷ xs) (entry_behind mark rows r)
 
 -- one more
-pub one_loaded : (mark : Held) (done : List RowData) (slots new : Slots) (lists lists' : Lists) (es : List (Place × ℕ)) (row : RowData) (n : VersionNo) (place : Place) → n.0 < 2 ^ 32 → AreLoading mark done slots lists es → IsHole (with_room slots) n → new ≡ with_slot (with_room slots) n (Some (added row mark)) → lists' ≡ with_new lists row.key n.0 → place ≡ place_of (added row mark) → AreLoading mark (done ++ row ∷ []) new lists' (es ++ (place, 1) ∷ [])
-one_loaded mark done slots new lists lists' es row n place few h hole s l p = record {
+pub one_listed : (mark : Held) (done : List RowData) (slots new : Slots) (es : List (Place × ℕ)) (row : RowData) (n : VersionNo) (place : Place) → n.0 < 2 ^ 32 → AreListed mark done slots es → IsHole (with_room slots) n → new ≡ with_slot (with_room slots) n (Some (added row mark)) → place ≡ place_of (added row mark) → AreListed mark (done ++ row ∷ []) new (es ++ (place, 1) ∷ [])
+one_listed mark done slots new es row n place few h hole s p = record {
   slots_are =
       s ∙ ap (λ (x : Slots). slice_set x n.0 (Some (added row mark))) room_is
       ∙ only_hole mark done n.0 (added row mark) (subst (λ (x : Slots). slice_get x n.0 ≡ Some None) room_is hole)
       ∙ map_behind mark done row;
-  numbers =
-      subst (λ (x : Slots). HasNumbers x lists') (sym s)
-      (subst (λ (x : Lists). HasNumbers (slice_set (with_room slots) n.0 (Some (added row mark))) x) (sym l)
-      (numbers_added (with_room slots) lists n.0 (added row mark) (hole_inside (with_room slots) n.0 hole) (hole_empty (with_room slots) n.0 hole) (room_numbers slots lists h.numbers)));
-  entries = ap (λ (x : List (Place × ℕ)). x ++ (place, 1) ∷ []) h.entries ∙ ap (λ q. map (entry_for mark) done ++ (q, 1) ∷ []) p ∙ entry_behind mark done row;
+  entries_are = ap (λ (x : List (Place × ℕ)). x ++ (place, 1) ∷ []) h.entries_are ∙ ap (λ q. map (entry_for mark) done ++ (q, 1) ∷ []) p ∙ entry_behind mark done row;
   small = subst (λ (x : Slots). length x ≤ 2 ^ 32) (sym s) (subst (λ m. m ≤ 2 ^ 32) (sym (length-set (with_room slots) n.0 (Some (added row mark)))) (small_room slots n hole few h.small));
 }
   where
-    room_is : with_room slots ≡ map (put_at mark) done ++ None ∷ []
+    room_is : with_room slots ≡ map (as_loaded mark) done ++ None ∷ []
     room_is = ap with_room h.slots_are ∙ full_room mark done
 
 -- ---- all of them
-versions_of : (mark : ℕ) (es : List (RowKey × ContentData)) → all_versions (map (put_at (At (record { 0 = mark }))) (map (λ e. row_with e.0 e.1) es)) ≡ loaded_from mark es
+versions_of : (mark : ℕ) (es : List (RowKey × ContentData)) → all_versions (map (as_loaded (At (record { 0 = mark }))) (map (λ e. row_with e.0 e.1) es)) ≡ loaded_from mark es
 versions_of mark [] = refl
 versions_of mark (e ∷ es) = ap (λ vs. added (row_with e.0 e.1) (At (record { 0 = mark })) ∷ vs) (versions_of mark es)
 
-pub all_loaded : (mark : ℕ) (rows : Map) (slots : Slots) → slots ≡ map (put_at (At (record { 0 = mark }))) (rows_by_key rows) → all_versions slots ≡ loaded rows mark
+pub all_loaded : (mark : ℕ) (rows : Map) (slots : Slots) → slots ≡ map (as_loaded (At (record { 0 = mark }))) (rows_by_key rows) → all_versions slots ≡ loaded rows mark
 all_loaded mark rows slots e = ap all_versions e ∙ versions_of mark (fin.entries rows)
 
 -- ---- each key has one row at most
@@ -124,7 +95,7 @@ lt_not_eq Equal p = absurd p
 lt_not_eq Greater p = absurd p
 
 abbrev slots_of : Held → List (RowKey × ContentData) → Slots
-slots_of mark es = map (put_at mark) (map (λ e. row_with e.0 e.1) es)
+slots_of mark es = map (as_loaded mark) (map (λ e. row_with e.0 e.1) es)
 
 none_below : (mark : Held) (k : RowKey) (es : List (RowKey × ContentData)) (n : ℕ) → T (below_all key_cmp k es) → is_of_key k (slice_index_or (slots_of mark es) n None) ≡ false
 none_below mark k [] n h = refl
@@ -142,12 +113,12 @@ sole mark k (e ∷ es) (suc i) (suc j) s a b = ap suc (sole mark k es i j (secon
 abbrev added_to : Places → List (Place × ℕ) → Places
 added_to m es = fold (λ (n : Places) (f : Place × ℕ). fin.insert n f.0 f.1) m es
 
-entry_at : (mark : Held) (rows : List RowData) (m : Places) (p : Place) → fin.get (added_to m (map (entry_for mark) rows)) p ≡ cond (list_any (is_at_place p) (all_versions (map (put_at mark) rows))) (Some 1) (fin.get m p)
+entry_at : (mark : Held) (rows : List RowData) (m : Places) (p : Place) → fin.get (added_to m (map (entry_for mark) rows)) p ≡ cond (list_any (is_at_place p) (all_versions (map (as_loaded mark) rows))) (Some 1) (fin.get m p)
 entry_at mark [] m p = refl
 entry_at mark (r ∷ rows) m p =
     entry_at mark rows (fin.insert m (place_of (added r mark)) 1) p
-    ∙ ap (cond (list_any (is_at_place p) (all_versions (map (put_at mark) rows))) (Some 1)) (fin.get-insert places_total m (place_of (added r mark)) 1 p)
-    ∙ go (is_at_place p (added r mark)) (list_any (is_at_place p) (all_versions (map (put_at mark) rows)))
+    ∙ ap (cond (list_any (is_at_place p) (all_versions (map (as_loaded mark) rows))) (Some 1)) (fin.get-insert places_total m (place_of (added r mark)) 1 p)
+    ∙ go (is_at_place p (added r mark)) (list_any (is_at_place p) (all_versions (map (as_loaded mark) rows)))
   where
     go : (a b : Bool) → cond b (Some 1) (cond a (Some 1) (fin.get m p)) ≡ cond (a || b) (Some 1) (fin.get m p)
     go true true = refl
@@ -158,11 +129,11 @@ one_entry : (b : Bool) → cond b (Some 1) None ≡ entry_of (one b)
 one_entry true = refl
 one_entry false = refl
 
-pub loaded_runs : (mark : Held) (rows : Map) (slots : Slots) (lists : Lists) (p : Place) → slots ≡ map (put_at mark) (rows_by_key rows) → HasNumbers slots lists → fin.get (all_added (map (entry_for mark) (rows_by_key rows))) p ≡ entry_of (runs_at slots lists p)
+pub loaded_runs : (mark : Held) (rows : Map) (slots : Slots) (lists : Lists) (p : Place) → slots ≡ map (as_loaded mark) (rows_by_key rows) → HasNumbers slots lists → fin.get (all_added (map (entry_for mark) (rows_by_key rows))) p ≡ entry_of (runs_at slots lists p)
 loaded_runs mark rows slots lists p s h =
     entry_at mark (rows_by_key rows) fin.empty p
-    ∙ ap (cond (list_any (is_at_place p) (all_versions (map (put_at mark) (rows_by_key rows)))) (Some 1)) (fin.get-empty place_cmp p)
-    ∙ one_entry (list_any (is_at_place p) (all_versions (map (put_at mark) (rows_by_key rows))))
+    ∙ ap (cond (list_any (is_at_place p) (all_versions (map (as_loaded mark) (rows_by_key rows)))) (Some 1)) (fin.get-empty place_cmp p)
+    ∙ one_entry (list_any (is_at_place p) (all_versions (map (as_loaded mark) (rows_by_key rows))))
     ∙ ap (λ (x : Slots). entry_of (one (list_any (is_at_place p) (all_versions x)))) (sym s)
     ∙ ap (λ b. entry_of (one b)) (sym (found_at slots lists p h))
     ∙ ap entry_of (sym (one_run (is_number_at slots p) (numbers_of lists (key_at p)) alone (once_each slots lists (key_at p) h)))
@@ -173,13 +144,13 @@ loaded_runs mark rows slots lists p s h =
         (ap (λ (x : Slots). is_of_key (key_at p) (slice_index_or x j None)) (sym s) ∙ key_number slots lists (key_at p) j h b)
 
 -- as the loop has it at first
-pub loading_begins : (mark : Held) (slots : Slots) (lists : Lists) (es : List (Place × ℕ)) → slots ≡ [] → lists ≡ fin.empty → es ≡ [] → AreLoading mark [] slots lists es
-loading_begins mark slots lists es s l e = subst (λ (x : Slots). AreLoading mark [] x lists es) (sym s) (subst (λ (x : Lists). AreLoading mark [] [] x es) (sym l) (subst (λ (x : List (Place × ℕ)). AreLoading mark [] [] fin.empty x) (sym e) (none_loaded mark)))
+pub none_listed : (mark : Held) (slots : Slots) (es : List (Place × ℕ)) → slots ≡ [] → es ≡ [] → AreListed mark [] slots es
+none_listed mark slots es s e = record { slots_are = s; entries_are = e; small = subst (λ (x : Slots). length x ≤ 2 ^ 32) (sym s) (omega arith) }
 
--- and at last
-pub loading_ends : (mark : Held) (rows : Map) (done : List RowData) (slots : Slots) (lists : Lists) (es : List (Place × ℕ)) (places : Places) → AreLoading mark done slots lists es → done ≡ rows_by_key rows → places ≡ all_added es → AreCounted (record { slots = slots; lists = lists; places = places })
-loading_ends mark rows done slots lists es places h d p = record {
-  numbers = h.numbers;
-  runs = λ q. ap (λ (x : Places). fin.get x q) (p ∙ ap all_added (h.entries ∙ ap (map (entry_for mark)) d)) ∙ loaded_runs mark rows slots lists q (h.slots_are ∙ ap (map (put_at mark)) d) h.numbers;
+-- with both indexes
+pub loaded_counted : (mark : Held) (rows : Map) (slots : Slots) (lists : Lists) (es : List (Place × ℕ)) (places : Places) → AreListed mark (rows_by_key rows) slots es → HasNumbers slots lists → places ≡ all_added es → AreCounted (record { slots = slots; lists = lists; places = places })
+loaded_counted mark rows slots lists es places h numbers p = record {
+  numbers = numbers;
+  runs = λ q. ap (λ (x : Places). fin.get x q) (p ∙ ap all_added h.entries_are) ∙ loaded_runs mark rows slots lists q h.slots_are numbers;
   small = h.small;
 }

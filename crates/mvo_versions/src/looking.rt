@@ -1,11 +1,18 @@
 //! What is found among the versions.
+ghost use Rattle.std.specs.Prelude.{map};
+ghost use Rattle.mvo_hash.specs.Lists.{number, numbers_of};
+ghost use Rattle.mvo_versions.specs.Skips.{HasSkips, IsRest};
+
+use crate::ended::is_later_one;
+use crate::indexed::Indexed;
+use crate::skips::Skips;
 use crate::versions::Versions;
 use mvo_hash::Versions as Numbers;
 use mvo_range::Walk;
 use mvo_txn::TxnTable;
 use mvo_types::{Entry, RowKey, Stamp, TxId};
 use mvo_validate::{Check, check_entry};
-use mvo_visible::{Shown, shown};
+use mvo_visible::{Shown, shown_on};
 
 impl Versions {
     ghost use Rattle.std.specs.Prelude.{◌≡◌, filter, map};
@@ -25,14 +32,9 @@ impl Versions {
             IsInOrder (state_of table.now) reader.0 reader.0 vs →
             result ≡ shown_to (state_of table.now) reader.0 reader.0 vs }
     {
-        shown(
-            &self.chains,
-            &self.index,
-            table,
-            Stamp(reader.0),
-            reader,
-            key,
-        )
+        let at = Stamp(reader.0);
+        let walk = walk_past(&self.indexed, &self.skips, key, at);
+        shown_on(self.indexed.chains(), walk, table, at, reader)
     }
 
     /// Whether others have changed what an entry looks at, between a begin and an end, where the
@@ -45,9 +47,9 @@ impl Versions {
             (changes_of states (versions_in self.now.slots lists self.now.places entry))) }
     {
         check_entry(
-            &self.chains,
-            &self.index,
-            &self.order,
+            self.indexed.chains(),
+            self.indexed.index(),
+            self.indexed.order(),
             table,
             begin,
             end,
@@ -59,7 +61,7 @@ impl Versions {
     pub fn walk(&self, key: RowKey) -> Numbers<'_>
         ensures { result ≡ map number (numbers_of self.now.lists key) }
     {
-        self.index.walk(key)
+        self.indexed.index().walk(key)
     }
 
     /// A walk over the places of a table whose sort is at least `lo` and at most `hi`, in the order
@@ -67,6 +69,30 @@ impl Versions {
     pub fn between(&self, table: u8, lo: u64, hi: u64) -> Walk<'_>
         ensures { result ≡ filter (is_between table lo hi) (fin.entries self.now.places) }
     {
-        self.order.between(table, lo, hi)
+        self.indexed.order().between(table, lo, hi)
     }
+}
+
+/// A walk over the versions of a key, past those in front that tell nothing below a begin.
+fn walk_past<'a>(indexed: &'a Indexed, skips: &Skips, key: RowKey, at: Stamp) -> Numbers<'a>
+    requires { HasSkips indexed.now skips.now }
+    ensures { IsRest at.0 indexed.now.slots (map number (numbers_of indexed.now.lists key)) result }
+{
+    let mut walk = indexed.index().walk(key);
+    for _ in 0..u64::MAX {
+        let Some(number) = walk.peek() else {
+            break;
+        };
+        if !is_later_one(indexed.chains(), number, at) {
+            break;
+        }
+        // All of a skip are passed over without a look at them.
+        match skips.skip(number) {
+            Some(skip) if at.0 <= skip.least.0 => walk.pass_to(skip.to),
+            _ => {
+                walk.next();
+            }
+        }
+    }
+    walk
 }

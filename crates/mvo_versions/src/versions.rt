@@ -1,14 +1,12 @@
-ghost use Rattle.std.specs.Prelude.{◌≡◌, IsSome, IfSome};
-ghost use Rattle.mvo_chain.specs.Slots.{version_at};
-
-use crate::runs::{enter, fits, give_back, joins, leave, place_of};
-use mvo_chain::{Chains, Version, VersionNo};
-use mvo_hash::HashIndex;
-use mvo_range::{Place, RangeIndex};
+use crate::indexed::Indexed;
+use crate::leading::{lead, unless_ended};
+use crate::skips::{Skips, is_post};
+use mvo_chain::{Version, VersionNo};
 use mvo_types::{Row, Rows, Stamp, TxId};
 use mvo_word::Word;
 use std::alloc::{AllocError, Global};
 use std::marker::Model;
+use std::thread::Threads;
 
 /// The versions of all rows. Contracts see them by number, the numbers of each key, newest first,
 /// and the places in the order of sorts.
@@ -16,18 +14,18 @@ use std::marker::Model;
 /// Each version stands under its key once, and the places are just those of the versions: an entry
 /// of the ordered index is shared by all versions of a key that have one sort, and says how many
 /// runs of them stand side by side.
+///
+/// A reader that began long ago passes over many newer versions of a key at a time.
 pub struct Versions {
-    pub(crate) chains: Chains,
-    pub(crate) index: HashIndex,
-    pub(crate) order: RangeIndex,
+    pub(crate) indexed: Indexed,
+    pub(crate) skips: Skips,
 }
 
 impl Drop for Versions {
     fn drop(self) {
         let Versions {
-            chains: _,
-            index: _,
-            order: _,
+            indexed: _,
+            skips: _,
         } = self;
     }
 }
@@ -37,58 +35,44 @@ impl Model for Versions {
     ghost use Rattle.mvo_hash.specs.Lists.{coded_lists};
     ghost use Rattle.mvo_range.specs.Place.{coded_map};
     ghost use Rattle.mvo_versions.specs.Data.{VersionsData};
-    ghost use Rattle.mvo_versions.specs.Runs.{AreCounted};
+    ghost use Rattle.mvo_versions.specs.Skips.{HasSkips};
 
     ghost Value = { VersionsData };
 
     ghost coded = { Prim.hlevel (codes, coded_lists, coded_map) };
 
-    ghost view = { λ v. record { slots = v.chains; lists = v.index.versions; places = v.order } };
+    ghost view = { λ v. v.indexed };
 
-    ghost invariant = { λ v. AreCounted (record {
-      slots = v.chains;
-      lists = v.index.versions;
-      places = v.order;
-    }) };
+    ghost invariant = { λ v. HasSkips v.indexed v.skips };
 }
 
 impl Versions {
     ghost use Rattle.std.specs.Prelude.{◌≡◌, ◌≤◌, ◌<◌, ◌^◌, IfOk, OnErr, IsSome, IfSome, option_copied};
     ghost use Rattle.mvo_chain.specs.Slots.{version_at};
-    ghost use Rattle.mvo_word.specs.declared.held.Held.TheVariants.{By};
     ghost use Rattle.mvo_representation.specs.Steps.{ended_by};
     ghost use Rattle.mvo_types.specs.declared.limits.TheConstants.{MAX_STAMP as LIMIT};
     ghost use Rattle.mvo_versions.specs.Data.{AreIndexed};
     ghost use Rattle.mvo_versions.specs.Changes.{AreLoaded, IsPut, IsRoomed, IsReworded};
     ghost use Rattle.mvo_versions.specs.Changes.{IsInFront, IsTakenOut};
 
-    /// The versions of these rows, put at the mark. Both indexes are built in one go. The seed
-    /// decides where keys stand in memory: who chooses the keys must not know it.
-    pub fn load(alloc: Global, seed: u64, rows: Rows, mark: Stamp) -> Result<Versions, AllocError>
+    /// The versions of these rows, put at the mark. The indexes of 8,192 rows or more are made in
+    /// two threads, each index beside the other. The seed decides where keys stand in memory: who
+    /// chooses the keys must not know it.
+    pub fn load(
+        rt: &(impl Threads + Sync),
+        alloc: Global,
+        seed: u64,
+        rows: Rows,
+        mark: Stamp,
+    ) -> Result<Versions, AllocError>
         requires { mark.0 ≤ LIMIT }
         ensures loaded { IfOk result (AreLoaded rows mark.0) }
         ensures indexed { IfOk result AreIndexed }
     {
-        let rows = rows.into_rows(alloc)?;
-        let mut chains = Chains::new(alloc);
-        let mut index = HashIndex::new(alloc, seed);
-        let mut places = Vec::new(alloc);
-        index.reserve(rows.len())?;
-        places.reserve(rows.len())?;
-        for row in rows {
-            let key = row.row_key();
-            let place = Place::new(key, row.sort);
-            let number = chains.add(row, Word::stamp(mark))?;
-            fits(number);
-            index.add(key, number)?;
-            // No other row has this key, so the version is a run by itself.
-            places.push((place, 1))?;
-        }
-        let order = RangeIndex::from_entries(alloc, places)?;
+        let indexed = Indexed::load(rt, alloc, seed, rows, mark)?;
         Ok(Versions {
-            chains,
-            index,
-            order,
+            indexed,
+            skips: Skips::new(alloc),
         })
     }
 
@@ -98,7 +82,7 @@ impl Versions {
         ensures version { option_copied result ≡ version_at self.now.slots number }
         ensures indexed { AreIndexed self.now }
     {
-        self.chains.get(number)
+        self.indexed.get(number)
     }
 
     /// Puts the row as a version of the transaction, which nobody has ended, in front of those of
@@ -116,21 +100,12 @@ impl Versions {
         ensures err { OnErr result (IsRoomed self.old self.new) }
         ensures indexed { AreIndexed self.new }
     {
-        let key = row.row_key();
-        let place = Place::new(key, row.sort);
-        let joins = joins(&self.chains, &self.index, like, place);
-        let number = self.chains.add(row, Word::id(by))?;
-        // There are no more slots than numbers, which the invariant asks for.
-        fits(number);
-        let Ok(()) = enter(&mut self.order, place, joins) else {
-            let _ = self.chains.take_out(number);
-            return Err(AllocError);
-        };
-        let Ok(()) = self.index.add(key, number) else {
-            give_back(&mut self.order, place, joins);
-            let _ = self.chains.take_out(number);
-            return Err(AllocError);
-        };
+        let number = self.indexed.put(row, by, like)?;
+        if is_post(number) {
+            // Without memory for it no skip begins there.
+            let _ = self.skips.reach(number);
+        }
+        self.skips.forget(number);
         Ok(number)
     }
 
@@ -143,12 +118,8 @@ impl Versions {
         ensures gone { IsTakenOut self.old self.new number }
         ensures indexed { AreIndexed self.new }
     {
-        let place = place_of(&self.chains, number);
-        let newer = self.index.newer(number);
-        let older = self.index.older(number);
-        leave(&mut self.order, &self.chains, place, newer, older);
-        self.index.remove(place.row_key(), number);
-        self.chains.take_out(number)
+        self.skips.forget(number);
+        self.indexed.take_out(number)
     }
 
     /// Lets a transaction end the version.
@@ -157,7 +128,8 @@ impl Versions {
         requires id { by.0 < 2 ^ 63 }
         ensures { IsReworded self.old self.new number (ended_by by.0) }
     {
-        self.chains.claim_end(number, by);
+        unless_ended(&mut self.skips, self.indexed.chains(), number);
+        self.indexed.end(number, by);
     }
 
     /// Replaces the version's Begin.
@@ -165,7 +137,10 @@ impl Versions {
         requires { IsSome (version_at self.old.slots number) }
         ensures { IsReworded self.old self.new number (λ v. record v { begin = begin }) }
     {
-        self.chains.set_begin(number, begin);
+        unless_ended(&mut self.skips, self.indexed.chains(), number);
+        self.indexed.set_begin(number, begin);
+        let (chains, index) = (self.indexed.chains(), self.indexed.index());
+        lead(&mut self.skips, chains, index, number);
     }
 
     /// Replaces the version's End.
@@ -173,7 +148,10 @@ impl Versions {
         requires { IsSome (version_at self.old.slots number) }
         ensures { IsReworded self.old self.new number (λ v. record v { end = end }) }
     {
-        self.chains.set_end(number, end);
+        unless_ended(&mut self.skips, self.indexed.chains(), number);
+        self.indexed.set_end(number, end);
+        let (chains, index) = (self.indexed.chains(), self.indexed.index());
+        lead(&mut self.skips, chains, index, number);
     }
 
     /// Brings the version to the front of those of its key. Takes no memory, and constant time
@@ -182,16 +160,7 @@ impl Versions {
         requires { IsSome (version_at self.old.slots number) }
         ensures { IsInFront self.old self.new number }
     {
-        let newer = self.index.newer(number);
-        if newer.is_none() {
-            return;
-        }
-        let place = place_of(&self.chains, number);
-        let joins = joins(&self.chains, &self.index, None, place);
-        // The place has an entry, so counting a run takes no memory.
-        let _ = enter(&mut self.order, place, joins);
-        let older = self.index.older(number);
-        leave(&mut self.order, &self.chains, place, newer, older);
-        self.index.bring_to_front(place.row_key(), number);
+        unless_ended(&mut self.skips, self.indexed.chains(), number);
+        self.indexed.bring_to_front(number);
     }
 }

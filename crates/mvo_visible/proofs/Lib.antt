@@ -1,6 +1,7 @@
 pub mod Decides
 pub mod Walks
 pub mod Settled
+pub mod Passed
 pub mod Behind
 pub mod Orders
 pub mod Moves

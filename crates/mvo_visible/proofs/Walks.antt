@@ -66,7 +66,7 @@ changes_one states e = append-nil (changes_by states e)
 pub changes-append : (states : States) (xs ys : List Numbered) → changes_of states (xs ++ ys) ≡ changes_of states xs ++ changes_of states ys
 changes-append states xs ys = flat_map-append (changes_by states) xs ys
 
-walked_is : (states : States) (b r : ℕ) (xs ys : List Numbered) → walked_over states b r (xs ++ ys) ≡ record {
+pub walked_is : (states : States) (b r : ℕ) (xs ys : List Numbered) → walked_over states b r (xs ++ ys) ≡ record {
   own = list_any (is_own r) xs || list_any (is_own r) ys;
   newest = option_or (own_newest r xs) (own_newest r ys);
   change = later (deciding b (changes_of states xs)) (deciding b (changes_of states ys));

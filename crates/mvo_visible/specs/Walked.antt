@@ -1,7 +1,7 @@
 -- What a walk over versions has found.
-use Rattle.std.specs.Prelude.{ℕ, ◌||◌, ◌&&◌, nat_lt, nat_le, Bool, true, false, not, cond, List, Option, None, Some}
+use Rattle.std.specs.Prelude.{◌≡◌, ℕ, ◌||◌, ◌&&◌, nat_lt, nat_le, Bool, true, false, not, cond, List, Option, None, Some}
 use Rattle.std.specs.Option.{option_or}
-use Rattle.std.specs.List.{list_any}
+use Rattle.std.specs.List.{AllByRecursion, list_any}
 use Rattle.mvo_word.specs.declared.held.Held.{Held}
 use Rattle.mvo_word.specs.declared.held.Held.TheVariants.{At, By, Infinity}
 use Rattle.mvo_types.specs.declared.ids.Stamp.{Stamp}
@@ -67,3 +67,7 @@ with_put w n s = record {
 -- whether the version tells nothing below b, by both its words
 abbrev pub is_later : ℕ → Version → Bool
 is_later b v = is_from b v.begin && is_from b v.end
+
+-- each does so
+abbrev pub AreLater : ℕ → List Numbered → Type 0
+AreLater b vs = AllByRecursion (λ e. is_later b e.1 ≡ true) vs

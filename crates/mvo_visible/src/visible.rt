@@ -1,7 +1,7 @@
 ghost use Rattle.std.specs.Prelude.{◌≡◌, ◌||◌, cond};
 ghost use Rattle.mvo_visible.specs.Words as words;
 ghost use Rattle.mvo_txn.specs.Txns.{state_of};
-ghost use Rattle.mvo_visible.specs.Versions.{is_own_newest, versions_at};
+ghost use Rattle.mvo_visible.specs.Versions.{is_own_newest, versions_at, versions_by};
 ghost use Rattle.mvo_visible.specs.Shown.{IsInOrder, own_or, shown_to};
 ghost use Rattle.mvo_visible.specs.Walked.{walked_on};
 
@@ -9,7 +9,7 @@ use crate::outcome::Shown;
 use crate::seen::{names, seen_by_others};
 use crate::walked::{Walked, change_below, is_last, is_later, later, settled_put, with_put};
 use mvo_chain::{Chains, Version, VersionNo};
-use mvo_hash::HashIndex;
+use mvo_hash::{HashIndex, Versions};
 use mvo_txn::TxnTable;
 use mvo_types::{RowKey, Stamp, TxId};
 
@@ -32,12 +32,28 @@ pub fn shown<P>(
         IsInOrder (state_of table.now) at.0 reader.0 vs →
         result ≡ shown_to (state_of table.now) at.0 reader.0 vs }
 {
+    shown_on(chains, index.walk(key), table, at, reader)
+}
+
+/// What a transaction is shown of the versions that are still to come of a walk, as `shown` says
+/// it of all versions of a key.
+pub fn shown_on<P>(
+    chains: &Chains,
+    walk: Versions<'_>,
+    table: &TxnTable<P>,
+    at: Stamp,
+    reader: TxId,
+) -> Shown
+    ensures { let vs = versions_by chains.now walk.entry in
+        IsInOrder (state_of table.now) at.0 reader.0 vs →
+        result ≡ shown_to (state_of table.now) at.0 reader.0 vs }
+{
     let mut walked = Walked {
         own: false,
         newest: None,
         change: None,
     };
-    for number in index.walk(key) {
+    for number in walk {
         if let Some(version) = chains.get(number) {
             // The first version that a reader walks over is mostly such a one.
             if let Some(stamp) = settled_put(version, at) {

@@ -1,4 +1,4 @@
-ghost use Rattle.std.specs.Prelude.{◌≡◌, ◌-◌, ◌++◌, ◌∷◌, [], ◌<◌, not, ◌==◌, drop, is_some, length, slice_get, IfOk, OnOk, OnErr};
+ghost use Rattle.std.specs.Prelude.{◌≡◌, ◌-◌, ◌++◌, ◌∷◌, [], ◌<◌, ◌≤◌, not, ◌==◌, drop, is_some, length, slice_get, IfOk, OnOk, OnErr};
 ghost use Rattle.mvo_types.specs.AnswerData.{answer_data};
 ghost use Rattle.mvo_model.specs.History.{net_write};
 ghost use Rattle.mvo_theory.specs.Entries.{entries, written_keys};
@@ -110,6 +110,19 @@ impl Work {
         ensures { result ≡ slice_get (entries self.now.history) place }
     {
         self.lists.looked_at.at(place)
+    }
+
+    /// Takes an empty list for its operations, unless its own has memory. Nothing changes but the
+    /// room, which gets no less.
+    #[inline(always)]
+    pub fn keep_list(&mut self, list: Vec<(Op, Answer)>)
+        requires { list.items ≡ [] }
+        ensures same { self.new ≡ record self.old { room = self.new.room } }
+        ensures room { self.old.room ≤ self.new.room }
+    {
+        if self.lists.operations.capacity() == 0 {
+            self.lists.operations = list;
+        }
     }
 
     /// Sees to it that there is room for an operation and two words more. Refused, it has changed

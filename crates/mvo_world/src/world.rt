@@ -80,7 +80,7 @@ impl<D: Disk> World<D> {
 
     /// A world over what is on the disk. It writes and cuts nothing. Refused as `Store::open` is,
     /// or with OutOfMemory; the disk comes back. Who chooses the keys of rows must not know the
-    /// seed, which decides where keys stand in memory.
+    /// seed, which decides where keys stand in memory. Many rows are read and indexed in threads.
     ///
     /// The world stands after its past where both manifest slots hold a byte (`HasSlots`), as
     /// `format` leaves them. Where the disk has answered as written until then, it is opened over
@@ -122,7 +122,7 @@ impl<D: Disk> World<D> {
         let Ok(ring) = Ring::new(alloc) else {
             return Err((Refusal::OutOfMemory, store.into_disk()));
         };
-        let Ok(core) = Core::open(alloc, seed, rows, mark) else {
+        let Ok(core) = Core::open(rt, alloc, seed, rows, mark) else {
             return Err((Refusal::OutOfMemory, store.into_disk()));
         };
         Ok(World {

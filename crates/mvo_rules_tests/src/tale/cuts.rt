@@ -45,7 +45,7 @@ fn figures(prev: u64, next: NextRecords) -> Option<(usize, u64, usize)> {
 }
 
 /// Stores a commit of so many inserts.
-fn store_inserts(
+pub fn store_inserts(
     alloc: Global,
     tale: &mut Tale,
     end: u64,

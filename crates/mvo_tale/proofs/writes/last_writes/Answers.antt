@@ -3,7 +3,7 @@ use Rattle.std.specs.Option.{option_map}
 use Rattle.mvo_model.specs.History.{net_write}
 use Rattle.mvo_theory.specs.Told.{history_told}
 use Rattle.mvo_tale.specs.Stored.{write_as}
-use Rattle.mvo_tale.specs.Records.{with_write}
+use Rattle.mvo_tale.specs.Records.{with_newer}
 use Rattle.mvo_tale.proofs.Noting.{none_yet, note_step, as_many}
 use Rattle.mvo_tale.proofs.writes.last_writes.Goals as goal
 
@@ -19,5 +19,5 @@ loop-told-preserved c =
     let ks = c.args.keys.now in
     let w = option_map write_as c.write_by.result in
     c.note.ensures
-    ∙ ap (with_write w ks) c.loop-told.invariant
+    ∙ ap (with_newer w ks) c.loop-told.invariant
     ∙ note_step ks c.args.operations.now c.loop-told.told-index c.told-item.result w c.loop-told-test.true c.told-item.is c.write_by.ensures

@@ -1,10 +1,11 @@
-use Rattle.std.proofs.Common.{refl, sym, subst, ap, ◌∙◌}
+use Rattle.std.proofs.Common.{List, refl, sym, subst, ap, ◌∙◌}
 use Rattle.mvo_types.specs.declared.refusal.Refusal.TheVariants.{OutOfMemory}
+use Rattle.mvo_tale.specs.declared.slot.Slot.{Slot}
 use Rattle.mvo_txn.specs.Txns.{why_not_begun, IsRefusal}
 use Rattle.mvo_theory.specs.Calls.Call.{Begin}
 use Rattle.mvo_core.specs.Data.{CoreData}
 use Rattle.mvo_core.specs.View.{core_data}
-use Rattle.mvo_core.specs.Standing.{StandsFor}
+use Rattle.mvo_core.specs.Standing.{Stands, StandsFor}
 use Rattle.mvo_core.specs.Steps.{came, LeadsOn}
 use Rattle.mvo_core.proofs.Begun.{begin_leads, begin_refused, stands_on}
 use Rattle.mvo_core.proofs.Refused.{came_spent}
@@ -27,12 +28,14 @@ returns-in_err-work-clause-step c = λ opening steps s h.
 pub invariant_of-self-2 : goal.invariant_of-self-2
 invariant_of-self-2 c =
     let f = c.self.inside in
-    let i = c.self.invariant.stands in
-    let old : CoreData = core_data f in
+    let old : CoreData = record (core_data f) { tale = c.give_list.new.tale } in
+    let i : Stands old = subst (λ (t : List Slot). Stands (record (core_data f) { tale = t })) (sym c.give_list.ensures.tale) c.self.invariant.stands in
     record {
       stands =
           stands_on i Begin (came c.begin.result) (record old { table = c.begin.new.self })
-          (begin_leads i.opening i.steps i.state old i.stands c.begun.result c.begun.ensures.dependencies (ap (λ w. w.history) c.begun.ensures.work ∙ c.in_ok-work.ensures.history) (ap (λ w. w.words) c.begun.ensures.work ∙ c.in_ok-work.ensures.words)
+          (begin_leads i.opening i.steps i.state old i.stands c.begun.result c.begun.ensures.dependencies
+          (ap (λ w. w.history) c.begun.ensures.work ∙ c.give_list.ensures.history ∙ c.in_ok-work.ensures.history)
+          (ap (λ w. w.words) c.begun.ensures.work ∙ c.give_list.ensures.words ∙ c.in_ok-work.ensures.words)
           c.begin.result c.begin.new.self c.begin.ensures.ok c.begin.ensures.no_cause c.begin.ensures.refused c.begin.ensures.err);
       waiting = begun_waits f.table c.begin.new.self c.begun.result f.versions.slots f.waiting c.begin.result c.begin.ensures.ok c.begin.ensures.err c.self.invariant.waiting;
     }
@@ -40,7 +43,10 @@ invariant_of-self-2 c =
 pub returns-clause-step : goal.returns-clause-step
 returns-clause-step c = λ opening steps s h.
     let f = c.self.inside in
-    let old : CoreData = core_data f in
-    begin_leads opening steps s old (subst (StandsFor opening steps s) (sym c.self.view_is) h)
-    c.begun.result c.begun.ensures.dependencies (ap (λ w. w.history) c.begun.ensures.work ∙ c.in_ok-work.ensures.history) (ap (λ w. w.words) c.begun.ensures.work ∙ c.in_ok-work.ensures.words)
+    let old : CoreData = record (core_data f) { tale = c.give_list.new.tale } in
+    let g : StandsFor opening steps s (core_data f) = subst (StandsFor opening steps s) (sym c.self.view_is) h in
+    let stands : StandsFor opening steps s old = subst (λ (t : List Slot). StandsFor opening steps s (record (core_data f) { tale = t })) (sym c.give_list.ensures.tale) g in
+    begin_leads opening steps s old stands c.begun.result c.begun.ensures.dependencies
+    (ap (λ w. w.history) c.begun.ensures.work ∙ c.give_list.ensures.history ∙ c.in_ok-work.ensures.history)
+    (ap (λ w. w.words) c.begun.ensures.work ∙ c.give_list.ensures.words ∙ c.in_ok-work.ensures.words)
     c.begin.result c.begin.new.self c.begin.ensures.ok c.begin.ensures.no_cause c.begin.ensures.refused c.begin.ensures.err
