@@ -49,7 +49,11 @@ fn operations(alloc: Global) -> Result<Vec<(Op, Answer)>, AllocError> {
 fn wanted(alloc: Global) -> Result<Vec<Wrote>, AllocError> {
     let mut wrote = Vec::new(alloc);
     for key in 0..KEYS {
-        let sort = if key % 4 == 0 { None } else { Some(key + 1_000) };
+        let sort = if key % 4 == 0 {
+            None
+        } else {
+            Some(key + 1_000)
+        };
         let key = key_of(key);
         wrote.push(Wrote { key, sort })?;
     }
