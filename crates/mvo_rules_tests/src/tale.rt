@@ -3,6 +3,7 @@
 mod checked;
 mod cuts;
 mod entries;
+mod many_keys;
 mod plain;
 mod random;
 mod spare;

@@ -22,7 +22,7 @@ fn inserts(alloc: Global, rows: u64, last: usize) -> Result<Vec<(Op, Answer)>, A
 }
 
 /// Stores a commit with this end.
-fn store(
+pub fn store(
     alloc: Global,
     tale: &mut Tale,
     end: u64,

@@ -35,7 +35,8 @@ fn keep(wrote: &mut Vec<Wrote>, write: Wrote) -> Result<(), AllocError> {
     Ok(())
 }
 
-fn row_at(alloc: Global, key: RowKey, sort: u64) -> Result<Row, AllocError> {
+/// A row with that sort, and as many bytes of data as that leaves over of sevens.
+pub fn row_at(alloc: Global, key: RowKey, sort: u64) -> Result<Row, AllocError> {
     Row::new(key, sort, vec![in alloc; 97; (sort % 7) as usize]?)
 }
 
