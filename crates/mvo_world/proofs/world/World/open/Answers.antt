@@ -3,9 +3,6 @@ use Rattle.mvo_store.proofs.Marked.{not_of_files}
 use Rattle.mvo_world.proofs.Runs.{answer_here, gives_here, opened_here, world_begins, world_after, world_prefix}
 use Rattle.mvo_world.proofs.world.World.open.Goals as goal
 
-pub open-requires-2 : goal.open-requires-2
-open-requires-2 g c = c.in-Ok.ensures.stamp
-
 pub returns-clause-answer : goal.returns-clause-answer
 returns-clause-answer g c = λ now.
     let w : WorldData _ = record { core = c.in-Ok-open.core; ring = c.in-Ok-new.ring; store = c.in-Ok.opened.0 } in
