@@ -40,7 +40,7 @@ impl Model for Entries {
     } };
 
     ghost invariant = { λ e. FewComeFirst e.few.items e.set.keys ×
-      HasNoKeyAbove e.greatest e.few.items };
+        HasNoKeyAbove e.greatest e.few.items };
 }
 
 impl Entries {
