@@ -11,7 +11,7 @@ use std::marker::Model;
 const FEW: usize = 16;
 
 // The memory of more entries than this isn't kept for another transaction.
-const KEPT: usize = 64;
+const KEPT: usize = 128;
 
 /// The entries of a transaction, in the order in which they were first noted, without repeats.
 /// Contracts see that list, and the room: at least so many more can be noted without memory.
