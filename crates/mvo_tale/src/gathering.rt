@@ -11,6 +11,9 @@ use mvo_types::{MAX_BODY_LEN, MAX_RECORDS, Stamp};
 use std::alloc::{AllocError, Global};
 use std::marker::Model;
 
+// So many records fit into the memory that is taken at first: to grow the list costs more than that.
+const FIRST: usize = 16;
+
 /// The records of a group, so far. Contracts see them.
 #[derive(Drop)]
 pub struct Gathering {
@@ -59,6 +62,9 @@ impl Gathering {
         let len = self.len + record.encoded_len();
         if len > MAX_BODY_LEN {
             return Ok(false);
+        }
+        if self.records.capacity() == 0 {
+            self.records.reserve_exact(FIRST)?;
         }
         self.records.push(record)?;
         self.len = len;
