@@ -11,7 +11,7 @@ use mvo_types::{MAX_BODY_LEN, MAX_RECORDS, Stamp};
 use std::alloc::{AllocError, Global};
 use std::marker::Model;
 
-// So many records fit into the memory that is taken at first: to grow the list costs more than that.
+// So many records fit into the memory that is taken at first: to grow the list costs more.
 const FIRST: usize = 16;
 
 /// The records of a group, so far. Contracts see them.
