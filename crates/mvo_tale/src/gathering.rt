@@ -1,4 +1,4 @@
-ghost use Rattle.std.specs.Prelude.{◌≡◌, true, MatchBool, IfOk, []};
+ghost use Rattle.std.specs.Prelude.{◌≡◌, ◌+◌, ◌++◌, ◌∷◌, true, MatchBool, IfOk, OnOk, OnErr, [], length};
 ghost use Rattle.mvo_theory.specs.Groups.{is_writing};
 ghost use Rattle.mvo_tale.specs.Stored.{commit_of};
 ghost use Rattle.mvo_tale.specs.Walk.{AreFitting, IsOneMore, IsTooMuch, end_behind};
@@ -63,10 +63,7 @@ impl Gathering {
         if len > MAX_BODY_LEN {
             return Ok(false);
         }
-        if self.records.capacity() == 0 {
-            self.records.reserve_exact(FIRST)?;
-        }
-        self.records.push(record)?;
+        push(&mut self.records, record)?;
         self.len = len;
         Ok(true)
     }
@@ -96,6 +93,19 @@ impl Gathering {
         let mark = last_end(&self.records, prev);
         self.up_to(mark, next)
     }
+}
+
+/// Adds a record. The first one takes memory for several.
+fn push(records: &mut Vec<Record>, next: Record) -> Result<(), AllocError>
+    ensures items { OnOk result (records.new.items ≡ records.old.items ++ next ∷ []) }
+    ensures len { OnOk result (length records.new.items ≡ length records.old.items + 1) }
+    ensures err { OnErr result (records.new.items ≡ records.old.items) }
+{
+    if records.capacity() == 0 {
+        records.reserve_exact(FIRST)?;
+    }
+    records.push(next)?;
+    Ok(())
 }
 
 /// The end of the last record, or prev where there are none.
