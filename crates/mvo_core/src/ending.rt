@@ -285,7 +285,7 @@ fn draw_words(versions: &mut Versions, waiting: &mut Waiting, table: &Table, tx:
     }
 }
 
-/// The same of what the transaction has done.
+/// Does so in what is kept of the transaction.
 #[inline(always)]
 fn draw_all(
     versions: &mut Versions,
@@ -317,7 +317,7 @@ fn bring_puts(versions: &mut Versions, table: &Table, tx: TxId)
     }
 }
 
-/// The same of what the transaction has done.
+/// Does so in what is kept of the transaction.
 fn bring_each_put(versions: &mut Versions, tx: TxId, work: &Work)
     ensures { AreInFront (is_put_by tx.0) versions.old versions.new work.now.words }
 {
