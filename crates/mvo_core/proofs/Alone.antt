@@ -1,5 +1,5 @@
 -- What one look at a transaction leaves, where several would leave the same.
-use Rattle.std.proofs.Common.{◌≡◌, ℕ, true, false, List, [], ◌∷◌, Option, None, Some, refl, sym, ap, ◌∙◌, subst, arith, ⊎_elim}
+use Rattle.std.proofs.Common.{◌≡◌, ℕ, false, List, [], ◌∷◌, Option, None, Some, refl, sym, ap, ◌∙◌, subst, arith, ⊎_elim}
 use Rattle.std.specs.Prelude.{IsSome, length, nat_lt, slice_get}
 use Rattle.std.specs.Option.{option_map}
 use Rattle.std.proofs.lemmas.Bool.{cases_eq, false≢true, lt-ltb}
@@ -23,9 +23,9 @@ use Rattle.mvo_work.specs.declared.word_place.WordPlace.{WordPlace}
 use Rattle.mvo_versions.specs.Data.{VersionsData}
 use Rattle.mvo_core.specs.declared.transaction.Transaction.{Transaction}
 use Rattle.mvo_core.specs.Data.{own_of}
-use Rattle.mvo_core.specs.Standing.{words_by, words_in}
+use Rattle.mvo_core.specs.Standing.{words_in}
 use Rattle.mvo_core.specs.Keeping.{IsWritten, HasMadeRoom, IsTold, IsRecorded, with_own_at}
-use Rattle.mvo_core.specs.Finishing.{from_own, IsNextReplaced, IsFirstReplaced}
+use Rattle.mvo_core.specs.Finishing.{from_own, HasPassed, IsFirstReplaced, IsOneReplaced}
 use Rattle.mvo_core.proofs.NoneLeft.{passed_none}
 use Rattle.mvo_core.proofs.Written.{written}
 
@@ -52,15 +52,25 @@ no_word [] e = refl
 no_word (p ∷ ps) e = absurd (false≢true (sym e ∙ lt-ltb 0 (length (p ∷ ps)) (omega arith)))
 
 module _ (versions : VersionsData) (table : Txns (Node Transaction)) (t : ℕ) (none : nat_lt 0 (length (words_in table t)) ≡ false) where
-  pub nothing_replaced : IsSome (own_of table t) → (w : Held) → IsNextReplaced versions versions table table t w
+  nothing_passed : IsSome (own_of table t) → IsWritten table table t (HasPassed versions.slots t)
+  nothing_passed there = passed_none table t versions.slots there (no_word (words_in table t) none)
+
+  pub nothing_replaced : IsSome (own_of table t) → (w : Held) → IsOneReplaced versions versions table table t w
   nothing_replaced there w = record {
     between = table;
-    passed = passed_none table t versions.slots there (no_word (words_in table t) none);
-    first = subst (λ ps. IsFirstReplaced versions versions table table t w (slice_get ps 0)) (sym (no_word (words_in table t) none)) (refl, refl);
+    next = record {
+      between = table;
+      passed = nothing_passed there;
+      first = subst (λ ps. IsFirstReplaced versions versions table table t w (slice_get ps 0)) (sym (no_word (words_in table t) none)) (refl, refl);
+    };
+    passed = nothing_passed there;
   }
 
   pub no_first : (slots : Slots) → None ≡ slice_get (from_own slots t (words_in table t)) 0
   no_first slots = sym (ap (λ ps. slice_get (from_own slots t ps) 0) (no_word (words_in table t) none))
+
+  pub no_next : None ≡ slice_get (words_in table t) 0
+  no_next = sym (ap (λ ps. slice_get ps 0) (no_word (words_in table t) none))
 
 -- ---- an answer is told
 inserted_twice : {X : Type 0} (m : FinMap nat_cmp X) (k : ℕ) (x y : X) → insert (insert m k x) k y ≡ insert m k y
@@ -89,6 +99,22 @@ module _ (table : Txns (Node Transaction)) (t : ℕ) (node first second : Node T
   written_twice : kept_of table t ≡ Some node → after_write (after_write table t first) t second ≡ after_write table t second
   written_twice k = ap (λ seats. record table { seats = seats }) (twice_at (get table.seats t) refl k)
 
+-- what is written of it is written over
+pub written_again : (table : Txns (Node Transaction)) (t : ℕ) (node : Node Transaction) (one two : Transaction) (change : Transaction → Transaction → Type 0)
+    → Some node ≡ kept_of table t → change one two
+    → IsWritten (after_write table t (record node { own = one })) (after_write table t (record node { own = two })) t change
+written_again table t node one two change kept changed =
+    let first : Node Transaction = record node { own = one } in
+    let second : Node Transaction = record node { own = two } in
+    let now = kept_now table t node first second (sym kept) in
+    record {
+      before = one;
+      after = two;
+      was = ap (option_map (λ n. n.own)) now;
+      is = sym (written_twice table t node first second (sym kept)) ∙ sym (ap (λ o. with_own_at o (after_write table t first) t two) now);
+      changed = changed;
+    }
+
 -- room for more, whatever there is
 abbrev roomy : Transaction → Transaction
 roomy own = record own { work = record own.work { room = 1; word_room = 2 } }
@@ -98,17 +124,9 @@ pub recorded_alone : (table : Txns (Node Transaction)) (t : TxId) (node : Node T
     → Some node ≡ kept_of table t.0 → IsTold op answer node.own after
     → IsRecorded table (after_write table t.0 (record node { own = after })) t [] op answer
 recorded_alone table t node after op answer kept told =
-    let first : Node Transaction = record node { own = roomy node.own } in
-    let second : Node Transaction = record node { own = after } in
-    let now = kept_now table t.0 node first second (sym kept) in
     record {
-      roomy = after_write table t.0 first;
+      roomy = after_write table t.0 (record node { own = roomy node.own });
       room = written table t.0 node (roomy node.own) HasMadeRoom kept (record { same = record { history = refl; words = refl; place = refl; checked = refl; valid = refl }; room = record { operation = omega arith; words = omega arith } });
-      told = record {
-        before = roomy node.own;
-        after = after;
-        was = ap (option_map (λ n. n.own)) now;
-        is = sym (written_twice table t.0 node first second (sym kept)) ∙ sym (ap (λ o. with_own_at o (after_write table t.0 first) t.0 after) now);
-        changed = record { history = told.history; words = told.words; place = told.place; checked = told.checked; valid = told.valid };
-      };
+      told = written_again table t.0 node (roomy node.own) after (IsTold op answer) kept
+          (record { history = told.history; words = told.words; place = told.place; checked = told.checked; valid = told.valid });
     }

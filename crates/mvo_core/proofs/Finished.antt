@@ -1,6 +1,6 @@
 -- A word of an ended transaction is finished: what the core stands for then.
 use Rattle.std.proofs.Common.{◌≡◌, ◌≢◌, ℕ, ◌++◌, Bool, true, false, cond, List, [], ◌∷◌, append-nil, drop, Option, None, Some, refl, sym, ap, ◌∙◌, subst}
-use Rattle.std.specs.Prelude.{⊤, ◌≤◌, ◌||◌, IsSome, is_some, slice_get, if◌then◌else◌}
+use Rattle.std.specs.Prelude.{⊤, ◌≤◌, ◌||◌, is_some, slice_get, if◌then◌else◌}
 use Rattle.std.specs.Option.{option_map}
 use Rattle.std.proofs.lemmas.Bool.{eqb-true, true≢false, false≢true}
 use Rattle.mvo_types.specs.Keys.{Map}
@@ -38,13 +38,13 @@ use Rattle.mvo_representation.proofs.WordPlaces.{IsNamedAt, names_there}
 use Rattle.mvo_core.specs.declared.transaction.Transaction.{Transaction}
 use Rattle.mvo_core.specs.declared.answers.Finishing.{Finishing}
 use Rattle.mvo_core.specs.declared.answers.Finishing.TheVariants.{More, Done}
-use Rattle.mvo_core.specs.Data.{CoreData, own_of}
+use Rattle.mvo_core.specs.Data.{CoreData}
 use Rattle.mvo_core.specs.Standing.{StandsFor, words_by, words_in}
 use Rattle.mvo_core.specs.Steps.{LeadsOn}
 use Rattle.mvo_core.specs.Keeping.{IsWritten, HasDropped}
 use Rattle.mvo_core.specs.Finishing.{why_not_finished, IsFinalWord, HasDrawnEnd, from_own, HasPassed, IsFirstReplaced, IsNextReplaced}
 use Rattle.mvo_core.proofs.FinishLaws.{none_unnamed, finish_in_lists, last_unnamed, last_in_lists, leaving_in_lists}
-use Rattle.mvo_core.proofs.BesideWords.{StandsBeside, beside, with_lists, same_states, list_written, list_was, own_now, beside_written, beside_finished, finished_now, beside_word, beside_left}
+use Rattle.mvo_core.proofs.BesideWords.{StandsBeside, beside, with_lists, same_states, list_written, list_was, beside_written, beside_finished, finished_now, beside_word, beside_left}
 use Rattle.mvo_core.proofs.FirstWord.{IsFirst, first_of, first_is}
 use Rattle.mvo_core.proofs.Passed.{first_named, passes, not_done, done_now, done_none}
 
@@ -306,18 +306,11 @@ module _ (opening : Map) (steps : List Step) (s : State) (c : CoreData) (h : Sta
       go (Some Aborted) e = tt
 
 -- ---- the table, once a word was replaced
-first_kept : (old new : VersionsData) (table table' : Txns (Node Transaction)) (t : ℕ) (w : Held) (o : Option WordPlace) → IsFirstReplaced old new table table' t w o → IsSome (own_of table t) → IsSome (own_of table' t)
-first_kept old new table table' t w None r kept = subst (λ x. IsSome (own_of x t)) (sym r.1) kept
-first_kept old new table table' t w (Some p) r kept = subst IsSome (sym (own_now table table' t HasDropped r.1)) refl
-
 first_states : (old new : VersionsData) (table table' : Txns (Node Transaction)) (t : ℕ) (w : Held) (o : Option WordPlace) → IsFirstReplaced old new table table' t w o → state_of table ≡ state_of table'
 first_states old new table table' t w None r = ap state_of (sym r.1)
 first_states old new table table' t w (Some p) r = same_states table table' t HasDropped r.1
 
 module _ (old new : VersionsData) (table table' : Txns (Node Transaction)) (t : ℕ) (w : Held) (r : IsNextReplaced old new table table' t w) where
-  pub replaced_kept : IsSome (own_of table' t)
-  replaced_kept = first_kept old new r.between table' t w (slice_get (words_in r.between t) 0) r.first (subst IsSome (sym (own_now table r.between t (HasPassed old.slots t) r.passed)) refl)
-
   pub replaced_ended : (end : Txns (Node Transaction)) → IsWritten table' end t (HasPassed new.slots t) → IsFinalWord (state_of table t) w → IsEnded (state_of end t)
   replaced_ended end again final =
       subst (λ states. IsEnded (states t))

@@ -30,13 +30,10 @@ first_is [] p e = absurd (none_place p e)
 first_is (q ∷ qs) p e = let same : q ≡ p = cc in record { rest = qs; is = ap (λ x. x ∷ qs) same }
 
 -- it is a version's
-pub first_there : (slots : Slots) (table between : Txns (Node Transaction)) (t : ℕ) (p : WordPlace) → IsWritten table between t (HasPassed slots t) → Some p ≡ slice_get (words_in between t) 0
-    → IsSome (version_at slots (number_at p))
-first_there slots table between t p w first =
-    let changed = own_changed table between t (HasPassed slots t) w in
-    let here = first_is (words_in between t) p (sym first) in
-    let there = names_there slots t p (first_named slots t changed.before.work.words p here.rest
-    (sym changed.changed.words ∙ sym (words_here table between t (HasPassed slots t) changed) ∙ here.is)) in
+pub first_there : (slots : Slots) (t : ℕ) (ps qs : List WordPlace) (p : WordPlace) → qs ≡ from_own slots t ps → Some p ≡ slice_get qs 0 → IsSome (version_at slots (number_at p))
+first_there slots t ps qs p passed first =
+    let here = first_is qs p (sym first) in
+    let there = names_there slots t p (first_named slots t ps p here.rest (sym passed ∙ here.is)) in
     subst IsSome (sym there.at) refl
 
 -- it is the first of the list that still names the transaction

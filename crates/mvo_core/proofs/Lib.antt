@@ -38,6 +38,7 @@ pub mod GivenUp
 pub mod Inserted
 pub mod Inserting
 pub mod NoneLeft
+pub mod OneReplaced
 pub mod Opening
 pub mod Committing
 pub mod Validating

@@ -1,6 +1,6 @@
--- Where no word was replaced none is left, and then nothing is passed over.
-use Rattle.std.proofs.Common.{◌≡◌, ℕ, Bool, true, false, List, [], Option, None, Some, refl, sym, ap, ◌∙◌, subst, ⊎_elim}
-use Rattle.std.specs.Prelude.{IsSome, slice_get}
+-- Where no word is left nothing is passed over.
+use Rattle.std.proofs.Common.{◌≡◌, ℕ, Bool, true, false, [], Option, None, Some, refl, sym, ap, ◌∙◌, subst, ⊎_elim}
+use Rattle.std.specs.Prelude.{IsSome}
 use Rattle.std.specs.Option.{option_map}
 use Rattle.std.proofs.lemmas.Cmp.{nat_cmp_total}
 use Rattle.std.specs.Ordering.{nat_cmp}
@@ -12,20 +12,11 @@ use Rattle.mvo_txn.specs.Seats.{with_kept_at}
 use Rattle.mvo_txn.specs.Txns.{Txns, kept_of, after_write}
 use Rattle.mvo_txn.proofs.Stamps.{get_inserted, get_beside}
 use Rattle.mvo_deps.specs.declared.node.Node.{Node}
-use Rattle.mvo_word.specs.declared.held.Held.{Held}
-use Rattle.mvo_versions.specs.Data.{VersionsData}
 use Rattle.mvo_core.specs.declared.transaction.Transaction.{Transaction}
 use Rattle.mvo_core.specs.Data.{own_of}
 use Rattle.mvo_core.specs.Standing.{words_by, words_in}
 use Rattle.mvo_core.specs.Keeping.{IsWritten, with_own_at}
-use Rattle.mvo_core.specs.Finishing.{from_own, HasPassed, IsNextReplaced, IsFirstReplaced}
-use Rattle.mvo_core.proofs.FirstWord.{first_of, first_passed}
-
-pub none_left : (old new : VersionsData) (table after : Txns (Node Transaction)) (t : ℕ) (w : Held) → IsNextReplaced old new table after t w → slice_get (from_own old.slots t (words_in table t)) 0 ≡ None → words_in after t ≡ []
-none_left old new table after t w r none =
-    let empty : slice_get (words_in r.between t) 0 ≡ None = first_passed old.slots table r.between t r.passed ∙ none in
-    let first : IsFirstReplaced old new r.between after t w None = subst (IsFirstReplaced old new r.between after t w) empty r.first in
-    ap (λ x. words_in x t) first.1 ∙ first_of (words_in r.between t) empty
+use Rattle.mvo_core.specs.Finishing.{from_own, HasPassed}
 
 -- ---- to write what is kept changes nothing
 none_node : (n : Node Transaction) → ◌≡◌ {A = Option (Node Transaction)} None (Some n) → ⊥

@@ -40,7 +40,7 @@ use Rattle.mvo_core.specs.Fronts.{comes_at_draw, AreInFront}
 use Rattle.mvo_core.specs.Keeping.{IsWritten, IsPlaced, HasHandedOver}
 use Rattle.mvo_core.specs.Standing.{StandsFor, words_in}
 use Rattle.mvo_core.proofs.Drawing.{clock_written, was_active, others, here, over_limit}
-use Rattle.mvo_core.proofs.OwnChanged.{IsOwnChanged, own_changed, words_stay}
+use Rattle.mvo_core.proofs.OwnChanged.{IsOwnChanged, own_changed}
 use Rattle.mvo_core.proofs.Reporting.{stands_now, others_stand}
 use Rattle.mvo_core.proofs.Undone.{was_state}
 use Rattle.mvo_core.proofs.Waits.{clock_changed, alike_written, waits_alike, waits_beside, waits_roomy_ended}
@@ -100,12 +100,6 @@ taken_so start old new w w' Collected q = (q.0, q.1)
 taken_so start old new w w' Nothing q = q.0
 
 -- ---- a transaction draws its end
--- its list of words is the same
-pub words_placed : (old new : Txns (Node Transaction)) (t place : ℕ) → IsWritten old new t (IsPlaced place) → words_in new ≡ words_in old
-words_placed old new t place w =
-    let change = own_changed old new t (IsPlaced place) w in
-    words_stay old new t (IsPlaced place) change (ap (λ x. x.words) change.changed.work)
-
 none_refusal : (r : Refusal) → ◌≡◌ {A = Option Refusal} None (Some r) → ⊥
 none_refusal r q = cc
 
@@ -117,14 +111,11 @@ module _ (opening : Map) (steps : List Step) (s : State) (c : CoreData) (h : Sta
   same_clock : placed.clock ≡ c.table.clock
   same_clock = clock_written c.table placed t.0 (IsPlaced place) written
 
-  same_words : words_in placed ≡ words_in c.table
-  same_words = words_stay c.table placed t.0 (IsPlaced (length c.tale)) change (ap (λ w. w.words) change.changed.work)
-
   end_is : e ≡ record { 0 = placed.clock + 1 }
   end_is = λ i. record { 0 = (drawn ∙ ap (λ (n : ℕ). n + 1) (sym same_clock)) i }
 
   prepared_waits : (w roomy w' : WaitingData) → roomy ≡ record w { ended_room = roomy.ended_room }
-      → w' ≡ record roomy { ended = roomy.ended ++ waiting_drawn e (end_numbers (words_in placed t.0)); ended_room = w'.ended_room }
+      → w' ≡ record roomy { ended = roomy.ended ++ waiting_drawn e (end_numbers (words_in c.table t.0)); ended_room = w'.ended_room }
       → AreWaiting c.table.clock (state_of c.table) c.versions.slots w
       → AreWaiting (placed.clock + 1) (state_of (txns.after_prepare placed t.0)) versions.slots w'
   prepared_waits w roomy w' room is waits =
@@ -138,12 +129,12 @@ module _ (opening : Map) (steps : List Step) (s : State) (c : CoreData) (h : Sta
       (λ n x at named. ends_are_listed s c.versions.slots (words_in c.table) t.0 n x h.words at named) in
       let clock : s.clock + 1 ≡ placed.clock + 1 = ap (λ (n : ℕ). n + 1) (sym (same_clock ∙ h.dependencies.stands.clock)) in
       waits_roomy_ended (placed.clock + 1) states' versions.slots (record roomy { ended = roomy.ended ++ waiting_drawn e ns }) w' w'.ended_room
-      (is ∙ ap (λ (ws : ℕ → List Rattle.mvo_work.specs.declared.word_place.WordPlace.WordPlace). record roomy { ended = roomy.ended ++ waiting_drawn e (end_numbers (ws t.0)); ended_room = w'.ended_room }) same_words)
+      is
       (subst (λ ss. AreWaiting (placed.clock + 1) states' ss (record roomy { ended = roomy.ended ++ waiting_drawn e ns })) (sym front.slots)
       (subst (λ (n : ℕ). AreWaiting n states' c.versions.slots (record roomy { ended = roomy.ended ++ waiting_drawn e ns })) clock now))
 
   pub drawn_waits : (w roomy w' : WaitingData) → roomy ≡ record w { ended_room = roomy.ended_room }
-      → w' ≡ record roomy { ended = roomy.ended ++ waiting_drawn e (end_numbers (words_in placed t.0)); ended_room = w'.ended_room }
+      → w' ≡ record roomy { ended = roomy.ended ++ waiting_drawn e (end_numbers (words_in c.table t.0)); ended_room = w'.ended_room }
       → AreWaiting c.table.clock (state_of c.table) c.versions.slots w
       → (result : Result Stamp Refusal) (table : Txns (Node Transaction)) → OnOk result (table ≡ txns.after_prepare placed t.0) → IfErr result (λ why. spent_clock placed.clock ≡ Some why)
       → AreWaiting table.clock (state_of table) versions.slots w'

@@ -1,5 +1,6 @@
 -- What waits to be collected, and what collecting comes to.
-use Rattle.std.specs.Prelude.{ℕ, ◌≡◌, ◌-◌, Bool, false, List, Option, None, Some}
+use Rattle.std.specs.Prelude.{ℕ, ◌≡◌, ◌-◌, ◌++◌, Bool, false, List, Option, None, Some}
+use Rattle.mvo_types.specs.declared.ids.Stamp.{Stamp}
 use Rattle.mvo_types.specs.declared.row.RowKey.{RowKey}
 use Rattle.mvo_types.specs.Keys.{Map}
 use Rattle.mvo_model.specs.Trace.{Step}
@@ -19,7 +20,7 @@ use Rattle.mvo_collect.specs.declared.collection.Collection.TheVariants.{Collect
 use Rattle.mvo_collect.specs.Garbage.{horizon}
 use Rattle.mvo_collect.specs.Waiting.{WaitingData, is_by}
 use Rattle.mvo_collect.specs.Collecting.{is_dead_at, IsCollected}
-use Rattle.mvo_collect.specs.Laws.{IsCountedSo, IsFreeBegin, with_owed, and_dead}
+use Rattle.mvo_collect.specs.Laws.{IsCountedSo, IsFreeBegin, with_owed, and_dead, waiting_drawn, end_numbers}
 use Rattle.mvo_core.specs.Data.{CoreData}
 use Rattle.mvo_core.specs.Standing.{StandsFor}
 use Rattle.mvo_core.specs.Steps.{InEach}
@@ -38,6 +39,13 @@ abbrev pub counted_off : Slots → Option WordPlace → WaitingData → ℕ → 
 counted_off slots None w room = w
 counted_off slots (Some p) w room =
     and_dead (is_dead_at slots (number_at p)) (number_at p).0 (with_owed w (w.owed - 1) room)
+
+-- what these words have ended waits behind the others, with this end
+abbrev pub WaitBehind : Stamp → List WordPlace → WaitingData → WaitingData → Type 0
+WaitBehind e words old new = new ≡ record old {
+  ended = old.ended ++ waiting_drawn e (end_numbers words);
+  ended_room = new.ended_room;
+}
 
 -- ---- collecting
 -- one garbage version is taken out and nothing else, or nothing is

@@ -68,3 +68,15 @@ pub record IsNextReplaced (old new : VersionsData) (table table' : Txns (Node Tr
   pub between : Txns (Node Transaction)
   pub passed : IsWritten table between t (HasPassed old.slots t)
   pub first : IsFirstReplaced old new between table' t w (slice_get (words_in between t) 0)
+
+-- so it is, and those behind it that others took over are taken off
+pub record IsOneReplaced (old new : VersionsData) (table table' : Txns (Node Transaction))
+    (t : ℕ) (w : Held) : Type 0 where
+  pub between : Txns (Node Transaction)
+  pub next : IsNextReplaced old new table between t w
+  pub passed : IsWritten between table' t (HasPassed new.slots t)
+
+-- the word at the place is replaced, if there is a place
+abbrev pub IsRewordedAt : VersionsData → VersionsData → Option WordPlace → Held → Type 0
+IsRewordedAt old new None w = new ≡ old
+IsRewordedAt old new (Some p) w = IsReworded old new (number_at p) (with_word p w)

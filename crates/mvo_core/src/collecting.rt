@@ -1,14 +1,12 @@
 //! What waits to be collected, and collecting it.
-ghost use Rattle.std.specs.Prelude.{◌≡◌, ◌+◌, ◌-◌, ◌++◌, ◌∷◌, [], ◌<◌, ◌≤◌, cond, length, Some};
-ghost use Rattle.mvo_collect.specs.Laws.{with_owed, waiting_drawn, end_numbers};
+ghost use Rattle.std.specs.Prelude.{◌≡◌, ◌+◌, ◌-◌, ◌∷◌, [], ◌<◌, ◌≤◌, cond, Some};
+ghost use Rattle.mvo_collect.specs.Laws.{with_owed};
 ghost use Rattle.mvo_collect.specs.Waiting.{is_by};
 ghost use Rattle.mvo_work.specs.declared.word_place.WordPlace.{WordPlace as WordPlaceData};
-ghost use Rattle.mvo_core.specs.Collecting.{is_open_end_at, counted_off};
-ghost use Rattle.mvo_core.specs.Standing.{words_in};
+ghost use Rattle.mvo_core.specs.Collecting.{is_open_end_at, counted_off, WaitBehind};
 
-use crate::ending::{number_of, word_at};
+use crate::ending::number_of;
 use crate::event_core::Core;
-use crate::transaction::Table;
 use mvo_chain::VersionNo;
 use mvo_collect::{Collection, Waiting, collect_one, is_dead};
 use mvo_types::{Stamp, TxId};
@@ -67,30 +65,10 @@ pub fn owe_end(waiting: &mut Waiting, is_open: bool)
     }
 }
 
-/// What the transaction has ended waits behind the others, with the end that it draws. It has so
-/// many words.
-pub fn await_ends(waiting: &mut Waiting, table: &Table, tx: TxId, count: usize, end: Stamp)
-    requires counted { count ≡ length (words_in table.now tx.0) }
-    requires room { length (words_in table.now tx.0) ≤ waiting.old.ended_room }
-    ensures { waiting.new ≡ record waiting.old {
-      ended = waiting.old.ended ++ waiting_drawn end (end_numbers (words_in table.now tx.0));
-      ended_room = waiting.new.ended_room;
-    } }
-{
-    for place in 0..count {
-        if let Some(word) = word_at(table, tx, place) {
-            await_end(waiting, word, end);
-        }
-    }
-}
-
 /// If the word is the End of a version, that waits behind the others, with this end.
-fn await_end(waiting: &mut Waiting, word: WordPlace, end: Stamp)
+pub fn await_end(waiting: &mut Waiting, word: WordPlace, end: Stamp)
     requires { 0 < waiting.old.ended_room }
-    ensures waits { waiting.new ≡ record waiting.old {
-      ended = waiting.old.ended ++ waiting_drawn end (end_numbers (word ∷ []));
-      ended_room = waiting.new.ended_room;
-    } }
+    ensures waits { WaitBehind end (word ∷ []) waiting.old waiting.new }
     ensures room { waiting.old.ended_room ≤ waiting.new.ended_room + 1 }
 {
     match word {

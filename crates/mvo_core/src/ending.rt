@@ -1,5 +1,5 @@
 //! How a transaction ends.
-ghost use Rattle.std.specs.Prelude.{◌≡◌, [], false, Some, IsSome, is_none, length, slice_get};
+ghost use Rattle.std.specs.Prelude.{◌≡◌, ◌≤◌, [], false, Some, IsSome, is_none, length};
 ghost use Rattle.std.specs.Option.{option_map};
 ghost use Rattle.mvo_theory.specs.Entries.{written_keys};
 ghost use Rattle.mvo_theory.specs.Told.{history_told};
@@ -20,16 +20,18 @@ ghost use Rattle.mvo_core.specs.Own.{is_own_valid, own_place, own_history, own_e
 ghost use Rattle.mvo_core.specs.Own.{own_check};
 ghost use Rattle.mvo_core.specs.Keeping.{IsWritten, IsPlaced, IsCounted, HasHandedOver};
 ghost use Rattle.mvo_core.specs.Aborting.{HasOpenPlace, tale_left};
+ghost use Rattle.mvo_core.specs.Collecting.{WaitBehind};
 ghost use Rattle.mvo_core.specs.Checking.{change_between, change_for};
 ghost use Rattle.mvo_core.specs.Fronts.{passes, comes_at_draw, IsInFrontIf, AreInFront};
 
 use crate::answers::{Settlement, Validation};
-use crate::collecting::await_ends;
+use crate::collecting::await_end;
 use crate::event_core::Core;
 use crate::readiness::{Readiness, readiness_of};
 use crate::refusing::{active, is_failure, not_undone, preparing};
 use crate::transaction::{Table, Transaction};
 use mvo_chain::VersionNo;
+use mvo_collect::Waiting;
 use mvo_deps::{report_abort, report_commit};
 use mvo_tale::{Tale, TaleEntry};
 use mvo_txn::TxState;
@@ -38,7 +40,7 @@ use mvo_validate::Check;
 use mvo_versions::Versions;
 use mvo_visible::{Seen, names, seen_by_others};
 use mvo_word::Word;
-use mvo_work::{Operations, WordPlace};
+use mvo_work::{Operations, WordPlace, Work};
 
 impl Core {
     ghost use Rattle.std.specs.Prelude.{◌≡◌, ◌+◌, IfOk};
@@ -65,9 +67,8 @@ impl Core {
         let end = Stamp(clock + 1);
         self.waiting.make_room_for_ended(count)?;
         let place = self.tale.open(end)?;
-        bring_forward(&mut self.versions, &self.table, tx, count);
+        draw_words(&mut self.versions, &mut self.waiting, &self.table, tx, end);
         keep_place(&mut self.table, tx, place);
-        await_ends(&mut self.waiting, &self.table, tx, count, end);
         self.table.prepare(tx)
     }
 
@@ -270,36 +271,39 @@ fn take_operations(table: &mut Table, tx: TxId) -> (usize, Operations)
     }
 }
 
-/// The word of the transaction at a place of its list.
-pub fn word_at(table: &Table, tx: TxId, place: usize) -> Option<WordPlace>
-    ensures { result ≡ slice_get (words_in table.now tx.0) place }
-{
-    match table.get(tx) {
-        Some(seat) => seat.kept.own.work.word_at(place),
-        None => None,
-    }
-}
-
-/// How many words the transaction's list has.
-fn word_count(table: &Table, tx: TxId) -> usize
-    ensures { result ≡ length (words_in table.now tx.0) }
-{
-    match table.get(tx) {
-        Some(seat) => seat.kept.own.work.word_count(),
-        None => 0,
-    }
-}
-
-/// Brings to the front of their keys what the transaction put, and what it ended whose put has no
-/// stamp, in the order of writing. It has so many words.
-fn bring_forward(versions: &mut Versions, table: &Table, tx: TxId, count: usize)
-    requires { count ≡ length (words_in table.now tx.0) }
-    ensures { AreInFront (comes_at_draw (state_of table.now) tx.0) versions.old versions.new
+/// What the words of the transaction come to as it draws this end, in the order of writing. What it
+/// put comes to the front of its key, and so does what it ended whose put has no stamp. What it
+/// ended waits behind the others.
+fn draw_words(versions: &mut Versions, waiting: &mut Waiting, table: &Table, tx: TxId, end: Stamp)
+    requires { length (words_in table.now tx.0) ≤ waiting.old.ended_room }
+    ensures fronts { AreInFront (comes_at_draw (state_of table.now) tx.0) versions.old versions.new
         (words_in table.now tx.0) }
+    ensures waits { WaitBehind end (words_in table.now tx.0) waiting.old waiting.new }
 {
-    for place in 0..count {
-        if let Some(word) = word_at(table, tx, place) {
+    if let Some(seat) = table.get(tx) {
+        draw_all(versions, waiting, table, tx, &seat.kept.own.work, end);
+    }
+}
+
+/// Does so in what is kept of the transaction.
+#[inline(always)]
+fn draw_all(
+    versions: &mut Versions,
+    waiting: &mut Waiting,
+    table: &Table,
+    tx: TxId,
+    work: &Work,
+    end: Stamp,
+)
+    requires { length work.now.words ≤ waiting.old.ended_room }
+    ensures fronts { AreInFront (comes_at_draw (state_of table.now) tx.0) versions.old versions.new
+        work.now.words }
+    ensures waits { WaitBehind end work.now.words waiting.old waiting.new }
+{
+    for place in 0..work.word_count() {
+        if let Some(word) = work.word_at(place) {
             bring_unstamped(versions, table, tx, number_of(word));
+            await_end(waiting, word, end);
         }
     }
 }
@@ -308,8 +312,17 @@ fn bring_forward(versions: &mut Versions, table: &Table, tx: TxId, count: usize)
 fn bring_puts(versions: &mut Versions, table: &Table, tx: TxId)
     ensures { AreInFront (is_put_by tx.0) versions.old versions.new (words_in table.now tx.0) }
 {
-    for place in 0..word_count(table, tx) {
-        if let Some(word) = word_at(table, tx, place) {
+    if let Some(seat) = table.get(tx) {
+        bring_each_put(versions, tx, &seat.kept.own.work);
+    }
+}
+
+/// Does so in what is kept of the transaction.
+fn bring_each_put(versions: &mut Versions, tx: TxId, work: &Work)
+    ensures { AreInFront (is_put_by tx.0) versions.old versions.new work.now.words }
+{
+    for place in 0..work.word_count() {
+        if let Some(word) = work.word_at(place) {
             bring_put(versions, tx, number_of(word));
         }
     }

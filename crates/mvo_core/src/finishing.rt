@@ -1,15 +1,13 @@
 //! How a transaction's words are replaced, one after another.
-ghost use Rattle.std.specs.Prelude.{◌≡◌, [], IsSome, IfOk, IfErr, None, Some, slice_get};
-ghost use Rattle.std.specs.Prelude.{length, nat_lt};
+ghost use Rattle.std.specs.Prelude.{◌≡◌, IsSome, IfOk, IfErr, Some, drop, slice_get, length, nat_lt};
 ghost use Rattle.mvo_chain.specs.Slots.{version_at};
 ghost use Rattle.mvo_txn.specs.Txns.{state_of};
 ghost use Rattle.mvo_representation.specs.WordLists.{number_at, names_at, with_word};
 ghost use Rattle.mvo_versions.specs.Changes.{IsReworded};
 ghost use Rattle.mvo_core.specs.Data.{own_of};
 ghost use Rattle.mvo_core.specs.Standing.{words_in};
-ghost use Rattle.mvo_core.specs.Keeping.{IsWritten, HasDropped};
 ghost use Rattle.mvo_core.specs.Finishing.{why_not_finished, IsFinalWord, HasDrawnEnd};
-ghost use Rattle.mvo_core.specs.Finishing.{from_own, HasPassed, IsNextReplaced};
+ghost use Rattle.mvo_core.specs.Finishing.{from_own, IsOneReplaced, IsRewordedAt};
 
 use crate::answers::Finishing;
 use crate::collecting::count_off;
@@ -36,9 +34,15 @@ impl Core {
         ensures answer { IfOk result (IsFinishing self.old tx.0) }
     {
         let (word, has_words) = final_word(&self.table, tx)?;
-        let replaced = replace_next(&mut self.versions, &mut self.table, tx, word, has_words);
+        let (replaced, next) = replace_next(
+            &mut self.versions,
+            &mut self.table,
+            tx,
+            word,
+            has_words,
+        );
         count_off(&mut self.waiting, &self.versions, replaced);
-        if next_left(&self.versions, &mut self.table, tx, replaced).is_some() {
+        if next.is_some() {
             return Ok(Finishing::More);
         }
         let node = self.table.terminate(tx);
@@ -70,66 +74,57 @@ fn final_word(table: &Table, tx: TxId) -> Result<(Word, bool), Refusal>
 }
 
 /// Replaces the first word of the transaction's list that still names it, if there is one, and
-/// takes it off the list, with those before it, which others took over. Answers which it was. A
-/// list without words isn't looked up.
+/// takes it off the list, with those that others took over, before it and behind it. Answers which
+/// it was, and which is the next. A list without words isn't looked up.
 fn replace_next(
     versions: &mut Versions,
     table: &mut Table,
     tx: TxId,
     word: Word,
     has_words: bool,
-) -> Option<WordPlace>
+) -> (Option<WordPlace>, Option<WordPlace>)
     requires there { IsSome (own_of table.old tx.0) }
     requires words { has_words ≡ nat_lt 0 (length (words_in table.old tx.0)) }
-    ensures replaced { IsNextReplaced versions.old versions.new table.old table.new tx.0 word }
-    ensures first { result ≡
+    ensures replaced { IsOneReplaced versions.old versions.new table.old table.new tx.0 word }
+    ensures first { result.0 ≡
         slice_get (from_own versions.old.slots tx.0 (words_in table.old tx.0)) 0 }
+    ensures next { result.1 ≡ slice_get (words_in table.new tx.0) 0 }
 {
     if !has_words {
-        return None;
+        return (None, None);
     }
-    let Some(place) = next_own(versions, table, tx) else {
-        return None;
-    };
-    replace(versions, place, word);
-    drop_word(table, tx);
-    Some(place)
-}
-
-/// The first word of the transaction's list that still names it. Those before it, which others took
-/// over, are taken off.
-#[inline(always)]
-fn next_own(versions: &Versions, table: &mut Table, tx: TxId) -> Option<WordPlace>
-    requires { IsSome (own_of table.old tx.0) }
-    ensures passed { IsWritten table.old table.new tx.0 (HasPassed versions.now.slots tx.0) }
-    ensures first { result ≡ slice_get (words_in table.new tx.0) 0 }
-{
     match table.get_mut(tx) {
-        Some(node) => pass_others(versions, &mut node.own.work, tx),
+        Some(node) => replace_first(versions, &mut node.own.work, tx, word),
         None => unreachable!(),
     }
 }
 
-/// The same behind a word that was replaced. Where none was, none is left.
-fn next_left(
-    versions: &Versions,
-    table: &mut Table,
+/// Does so in what is kept of the transaction.
+#[inline(always)]
+fn replace_first(
+    versions: &mut Versions,
+    work: &mut Work,
     tx: TxId,
-    replaced: Option<WordPlace>,
-) -> Option<WordPlace>
-    requires there { IsSome (own_of table.old tx.0) }
-    requires none { replaced ≡ None → words_in table.old tx.0 ≡ [] }
-    ensures passed { IsWritten table.old table.new tx.0 (HasPassed versions.now.slots tx.0) }
-    ensures first { result ≡ slice_get (words_in table.new tx.0) 0 }
+    word: Word,
+) -> (Option<WordPlace>, Option<WordPlace>)
+    ensures history { work.new.history ≡ work.old.history }
+    ensures first { result.0 ≡ slice_get (from_own versions.old.slots tx.0 work.old.words) 0 }
+    ensures replaced { IsRewordedAt versions.old versions.new result.0 word }
+    ensures words { work.new.words ≡ from_own versions.new.slots tx.0
+        (drop 1 (from_own versions.old.slots tx.0 work.old.words)) }
+    ensures next { result.1 ≡ slice_get work.new.words 0 }
 {
-    match replaced {
-        Some(_) => next_own(versions, table, tx),
-        None => None,
-    }
+    let Some(place) = pass_others(versions, work, tx) else {
+        return (None, None);
+    };
+    replace(versions, place, word);
+    work.drop_word();
+    (Some(place), pass_others(versions, work, tx))
 }
 
 /// Takes off the words that others took over, up to the first that still names the transaction,
 /// which it answers.
+#[inline(always)]
 fn pass_others(versions: &Versions, work: &mut Work, tx: TxId) -> Option<WordPlace>
     ensures history { work.new.history ≡ work.old.history }
     ensures words { work.new.words ≡ from_own versions.now.slots tx.0 work.old.words }
@@ -142,17 +137,6 @@ fn pass_others(versions: &Versions, work: &mut Work, tx: TxId) -> Option<WordPla
         work.drop_word();
     }
     None
-}
-
-/// Takes the first word off the transaction's list.
-fn drop_word(table: &mut Table, tx: TxId)
-    requires { IsSome (own_of table.old tx.0) }
-    ensures { IsWritten table.old table.new tx.0 HasDropped }
-{
-    match table.get_mut(tx) {
-        Some(node) => node.own.work.drop_word(),
-        None => unreachable!(),
-    }
 }
 
 /// Whether the word still names the transaction.

@@ -1,34 +1,12 @@
-use Rattle.std.proofs.Common.{refl, sym, ◌∙◌, subst}
-use Rattle.mvo_core.specs.Finishing.{IsFirstReplaced}
-use Rattle.mvo_core.proofs.FirstWord.{first_there, first_passed}
-use Rattle.mvo_core.proofs.Alone.{nothing_replaced, no_first}
+use Rattle.std.proofs.Common.{sym, ap, ◌∙◌}
+use Rattle.std.specs.Prelude.{slice_get}
+use Rattle.std.specs.Option.{option_map}
+use Rattle.mvo_core.specs.Standing.{words_by}
+use Rattle.mvo_core.specs.Finishing.{from_own}
+use Rattle.mvo_core.proofs.Alone.{nothing_replaced, no_first, no_next}
+use Rattle.mvo_core.proofs.Carried.{own_here}
+use Rattle.mvo_core.proofs.OneReplaced.{one_replaced}
 use Rattle.mvo_core.proofs.finishing.replace_next.Goals as goal
-
-pub replace-requires : goal.replace-requires
-replace-requires c =
-    first_there c.args.versions.now.slots c.args.table.now c.next_own.new.table c.args.tx.0 c.in-Some.place c.next_own.ensures.passed c.in-Some.ensures.first
-
-pub returns-clause-replaced : goal.returns-clause-replaced
-returns-clause-replaced c = record {
-  between = c.next_own.new.table;
-  passed = c.next_own.ensures.passed;
-  first = subst (IsFirstReplaced c.args.versions.now c.replace.new.versions c.next_own.new.table c.drop_word.new.table c.args.tx.0 c.args.word) c.in-Some.ensures.first
-      (c.replace.ensures, c.drop_word.ensures);
-}
-
-pub returns-clause-first : goal.returns-clause-first
-returns-clause-first c = c.in-Some.ensures.first ∙ first_passed c.args.versions.now.slots c.args.table.now c.next_own.new.table c.args.tx.0 c.next_own.ensures.passed
-
-pub returns-in_default-clause-replaced : goal.returns-in_default-clause-replaced
-returns-in_default-clause-replaced c = record {
-  between = c.next_own.new.table;
-  passed = c.next_own.ensures.passed;
-  first = subst (IsFirstReplaced c.args.versions.now c.args.versions.now c.next_own.new.table c.next_own.new.table c.args.tx.0 c.args.word) c.in_default.ensures.first
-      (refl, refl);
-}
-
-pub returns-in_default-clause-first : goal.returns-in_default-clause-first
-returns-in_default-clause-first c = c.in_default.ensures.first ∙ first_passed c.args.versions.now.slots c.args.table.now c.next_own.new.table c.args.tx.0 c.next_own.ensures.passed
 
 pub returns-then-not-has_words-clause-replaced : goal.returns-then-not-has_words-clause-replaced
 returns-then-not-has_words-clause-replaced c =
@@ -37,3 +15,24 @@ returns-then-not-has_words-clause-replaced c =
 pub returns-then-not-has_words-clause-first : goal.returns-then-not-has_words-clause-first
 returns-then-not-has_words-clause-first c =
     no_first c.args.versions.now c.args.table.now c.args.tx.0 (sym c.requires.words ∙ c.if-not-has_words.true) c.args.versions.now.slots
+
+pub returns-then-not-has_words-clause-next : goal.returns-then-not-has_words-clause-next
+returns-then-not-has_words-clause-next c =
+    no_next c.args.versions.now c.args.table.now c.args.tx.0 (sym c.requires.words ∙ c.if-not-has_words.true)
+
+pub returns-clause-replaced : goal.returns-clause-replaced
+returns-clause-replaced c =
+    one_replaced c.args.versions.now c.replace_first.new.versions c.args.table.now c.args.tx.0 c.args.word c.in-Some.node.now c.replace_first.new.work c.replace_first.result.0
+    c.in-Some.ensures.value c.replace_first.ensures.history c.replace_first.ensures.first c.replace_first.ensures.replaced c.replace_first.ensures.words
+
+pub returns-clause-first : goal.returns-clause-first
+returns-clause-first c =
+    c.replace_first.ensures.first
+    ∙ ap (λ o. slice_get (from_own c.args.versions.now.slots c.args.tx.0 (words_by (option_map (λ node. node.own) o))) 0) c.in-Some.ensures.value
+
+pub returns-clause-next : goal.returns-clause-next
+returns-clause-next c =
+    let node = c.in-Some.node.now in
+    c.replace_first.ensures.next
+    ∙ ap (λ o. slice_get (words_by o) 0)
+    (sym (own_here c.args.table.now c.args.tx.0 node (record node { own = record node.own { work = c.replace_first.new.work } }) (sym c.in-Some.ensures.value)))

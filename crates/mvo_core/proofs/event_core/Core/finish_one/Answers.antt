@@ -1,4 +1,4 @@
-use Rattle.std.proofs.Common.{sym, subst, ◌∙◌}
+use Rattle.std.proofs.Common.{sym, subst}
 use Rattle.mvo_theory.specs.Calls.Call.{Finish}
 use Rattle.mvo_theory.specs.Calls.Result.{Accepted}
 use Rattle.mvo_core.specs.Data.{CoreData}
@@ -6,8 +6,7 @@ use Rattle.mvo_core.specs.View.{core_data}
 use Rattle.mvo_txn.specs.Txns.{state_of}
 use Rattle.mvo_core.specs.Standing.{StandsFor, words_in}
 use Rattle.mvo_core.proofs.Begun.{stands_on}
-use Rattle.mvo_core.proofs.Finished.{drawn_end, finish_more, finish_done, replaced_kept, replaced_ended}
-use Rattle.mvo_core.proofs.NoneLeft.{none_left}
+use Rattle.mvo_core.proofs.Finished.{drawn_end, finish_more, finish_done, replaced_ended}
 use Rattle.mvo_core.proofs.Waits.{owed_for, waits_finished, waits_gone}
 use Rattle.mvo_core.proofs.event_core.Core.finish_one.Goals as goal
 
@@ -18,19 +17,10 @@ final_word-requires c =
     let old : CoreData = core_data f in
     drawn_end i.opening i.steps i.state old i.stands c.args.tx.0
 
-pub next_left-requires-clause-there : goal.next_left-requires-clause-there
-next_left-requires-clause-there c =
-    replaced_kept c.self.inside.versions c.replace_next-replaced.new.versions c.self.inside.table c.replace_next-replaced.new.table c.args.tx.0 c.in_ok-word.word c.replace_next-replaced.ensures.replaced
-
-pub next_left-requires-clause-none : goal.next_left-requires-clause-none
-next_left-requires-clause-none c = λ is.
-    none_left c.self.inside.versions c.replace_next-replaced.new.versions c.self.inside.table c.replace_next-replaced.new.table c.args.tx.0 c.in_ok-word.word c.replace_next-replaced.ensures.replaced
-    (sym c.replace_next-replaced.ensures.first ∙ is)
-
 pub terminate-node-requires : goal.terminate-node-requires
 terminate-node-requires c =
-    replaced_ended c.self.inside.versions c.replace_next-replaced.new.versions c.self.inside.table c.replace_next-replaced.new.table c.args.tx.0 c.in_ok-word.word c.replace_next-replaced.ensures.replaced
-    c.next_left.new.table c.next_left.ensures.passed c.in_ok-word.ensures.ok
+    replaced_ended c.self.inside.versions c.replace_next-replaced.new.versions c.self.inside.table c.replace_next-replaced.ensures.replaced.between c.args.tx.0 c.in_ok-word.word c.replace_next-replaced.ensures.replaced.next
+    c.replace_next-replaced.new.table c.replace_next-replaced.ensures.replaced.passed c.in_ok-word.ensures.ok
 
 -- ---- words are left
 pub invariant_of-self : goal.invariant_of-self
@@ -40,10 +30,10 @@ invariant_of-self c =
     let old : CoreData = core_data f in
     record {
       stands =
-          stands_on i (Finish c.args.tx.0) Accepted (record old { versions = c.replace_next-replaced.new.versions; table = c.next_left.new.table })
-          (finish_more i.opening i.steps i.state old i.stands c.args.tx.0 c.in_ok-word.word c.in_ok-word.ensures.ok c.replace_next-replaced.new.versions c.replace_next-replaced.new.table c.next_left.new.table
-          c.replace_next-replaced.ensures.replaced c.next_left.ensures.passed c.next_left.result c.next_left.ensures.first c.if-is_some.ensures).leads;
-      waiting = waits_finished f.versions c.replace_next-replaced.new.versions f.table c.replace_next-replaced.new.table c.next_left.new.table c.args.tx.0 c.in_ok-word.word c.replace_next-replaced.ensures.replaced c.in_ok-word.ensures.ok c.next_left.ensures.passed f.waiting c.count_off.new.waiting c.replace_next-replaced.result c.replace_next-replaced.ensures.first c.count_off.ensures c.self.invariant.waiting;
+          stands_on i (Finish c.args.tx.0) Accepted (record old { versions = c.replace_next-replaced.new.versions; table = c.replace_next-replaced.new.table })
+          (finish_more i.opening i.steps i.state old i.stands c.args.tx.0 c.in_ok-word.word c.in_ok-word.ensures.ok c.replace_next-replaced.new.versions c.replace_next-replaced.ensures.replaced.between c.replace_next-replaced.new.table
+          c.replace_next-replaced.ensures.replaced.next c.replace_next-replaced.ensures.replaced.passed c.replace_next-replaced.result.1 c.replace_next-replaced.ensures.next c.if-is_some.ensures).leads;
+      waiting = waits_finished f.versions c.replace_next-replaced.new.versions f.table c.replace_next-replaced.ensures.replaced.between c.replace_next-replaced.new.table c.args.tx.0 c.in_ok-word.word c.replace_next-replaced.ensures.replaced.next c.in_ok-word.ensures.ok c.replace_next-replaced.ensures.replaced.passed f.waiting c.count_off.new.waiting c.replace_next-replaced.result.0 c.replace_next-replaced.ensures.first c.count_off.ensures c.self.invariant.waiting;
     }
 
 pub returns-then-is_some-clause-step : goal.returns-then-is_some-clause-step
@@ -51,14 +41,14 @@ returns-then-is_some-clause-step c = λ opening steps s h.
     let f = c.self.inside in
     let old : CoreData = core_data f in
     (finish_more opening steps s old (subst (StandsFor opening steps s) (sym c.self.view_is) h) c.args.tx.0 c.in_ok-word.word c.in_ok-word.ensures.ok
-    c.replace_next-replaced.new.versions c.replace_next-replaced.new.table c.next_left.new.table c.replace_next-replaced.ensures.replaced c.next_left.ensures.passed c.next_left.result c.next_left.ensures.first c.if-is_some.ensures).leads
+    c.replace_next-replaced.new.versions c.replace_next-replaced.ensures.replaced.between c.replace_next-replaced.new.table c.replace_next-replaced.ensures.replaced.next c.replace_next-replaced.ensures.replaced.passed c.replace_next-replaced.result.1 c.replace_next-replaced.ensures.next c.if-is_some.ensures).leads
 
 pub returns-then-is_some-clause-answer : goal.returns-then-is_some-clause-answer
 returns-then-is_some-clause-answer c = λ opening steps s h.
     let f = c.self.inside in
     let old : CoreData = core_data f in
     (finish_more opening steps s old (subst (StandsFor opening steps s) (sym c.self.view_is) h) c.args.tx.0 c.in_ok-word.word c.in_ok-word.ensures.ok
-    c.replace_next-replaced.new.versions c.replace_next-replaced.new.table c.next_left.new.table c.replace_next-replaced.ensures.replaced c.next_left.ensures.passed c.next_left.result c.next_left.ensures.first c.if-is_some.ensures).answer
+    c.replace_next-replaced.new.versions c.replace_next-replaced.ensures.replaced.between c.replace_next-replaced.new.table c.replace_next-replaced.ensures.replaced.next c.replace_next-replaced.ensures.replaced.passed c.replace_next-replaced.result.1 c.replace_next-replaced.ensures.next c.if-is_some.ensures).answer
 
 -- ---- none is left
 pub invariant_of-self-2 : goal.invariant_of-self-2
@@ -69,9 +59,9 @@ invariant_of-self-2 c =
     record {
       stands =
           stands_on i (Finish c.args.tx.0) Accepted (record old { versions = c.replace_next-replaced.new.versions; table = c.terminate-node.new.self })
-          (finish_done i.opening i.steps i.state old i.stands c.args.tx.0 c.in_ok-word.word c.in_ok-word.ensures.ok c.replace_next-replaced.new.versions c.replace_next-replaced.new.table c.next_left.new.table c.terminate-node.new.self
-          c.replace_next-replaced.ensures.replaced c.next_left.ensures.passed c.next_left.result c.next_left.ensures.first c.if-is_some.ensures c.terminate-node.ensures.gone).leads;
-      waiting = waits_gone c.next_left.new.table c.terminate-node.new.self c.args.tx.0 c.replace_next-replaced.new.versions.slots c.count_off.new.waiting c.terminate-node.ensures.gone (waits_finished f.versions c.replace_next-replaced.new.versions f.table c.replace_next-replaced.new.table c.next_left.new.table c.args.tx.0 c.in_ok-word.word c.replace_next-replaced.ensures.replaced c.in_ok-word.ensures.ok c.next_left.ensures.passed f.waiting c.count_off.new.waiting c.replace_next-replaced.result c.replace_next-replaced.ensures.first c.count_off.ensures c.self.invariant.waiting);
+          (finish_done i.opening i.steps i.state old i.stands c.args.tx.0 c.in_ok-word.word c.in_ok-word.ensures.ok c.replace_next-replaced.new.versions c.replace_next-replaced.ensures.replaced.between c.replace_next-replaced.new.table c.terminate-node.new.self
+          c.replace_next-replaced.ensures.replaced.next c.replace_next-replaced.ensures.replaced.passed c.replace_next-replaced.result.1 c.replace_next-replaced.ensures.next c.if-is_some.ensures c.terminate-node.ensures.gone).leads;
+      waiting = waits_gone c.replace_next-replaced.new.table c.terminate-node.new.self c.args.tx.0 c.replace_next-replaced.new.versions.slots c.count_off.new.waiting c.terminate-node.ensures.gone (waits_finished f.versions c.replace_next-replaced.new.versions f.table c.replace_next-replaced.ensures.replaced.between c.replace_next-replaced.new.table c.args.tx.0 c.in_ok-word.word c.replace_next-replaced.ensures.replaced.next c.in_ok-word.ensures.ok c.replace_next-replaced.ensures.replaced.passed f.waiting c.count_off.new.waiting c.replace_next-replaced.result.0 c.replace_next-replaced.ensures.first c.count_off.ensures c.self.invariant.waiting);
     }
 
 pub returns-clause-step : goal.returns-clause-step
@@ -79,7 +69,7 @@ returns-clause-step c = λ opening steps s h.
     let f = c.self.inside in
     let old : CoreData = core_data f in
     (finish_done opening steps s old (subst (StandsFor opening steps s) (sym c.self.view_is) h) c.args.tx.0 c.in_ok-word.word c.in_ok-word.ensures.ok
-    c.replace_next-replaced.new.versions c.replace_next-replaced.new.table c.next_left.new.table c.terminate-node.new.self c.replace_next-replaced.ensures.replaced c.next_left.ensures.passed c.next_left.result c.next_left.ensures.first
+    c.replace_next-replaced.new.versions c.replace_next-replaced.ensures.replaced.between c.replace_next-replaced.new.table c.terminate-node.new.self c.replace_next-replaced.ensures.replaced.next c.replace_next-replaced.ensures.replaced.passed c.replace_next-replaced.result.1 c.replace_next-replaced.ensures.next
     c.if-is_some.ensures c.terminate-node.ensures.gone).leads
 
 pub returns-clause-answer : goal.returns-clause-answer
@@ -87,10 +77,10 @@ returns-clause-answer c = λ opening steps s h.
     let f = c.self.inside in
     let old : CoreData = core_data f in
     (finish_done opening steps s old (subst (StandsFor opening steps s) (sym c.self.view_is) h) c.args.tx.0 c.in_ok-word.word c.in_ok-word.ensures.ok
-    c.replace_next-replaced.new.versions c.replace_next-replaced.new.table c.next_left.new.table c.terminate-node.new.self c.replace_next-replaced.ensures.replaced c.next_left.ensures.passed c.next_left.result c.next_left.ensures.first
+    c.replace_next-replaced.new.versions c.replace_next-replaced.ensures.replaced.between c.replace_next-replaced.new.table c.terminate-node.new.self c.replace_next-replaced.ensures.replaced.next c.replace_next-replaced.ensures.replaced.passed c.replace_next-replaced.result.1 c.replace_next-replaced.ensures.next
     c.if-is_some.ensures c.terminate-node.ensures.gone).answer
 
 pub count_off-requires : goal.count_off-requires
 count_off-requires c =
     let f = c.self.inside in
-    owed_for f.table.clock (state_of f.table) f.versions.slots f.waiting c.args.tx.0 (words_in f.table c.args.tx.0) c.replace_next-replaced.result c.replace_next-replaced.ensures.first c.self.invariant.waiting
+    owed_for f.table.clock (state_of f.table) f.versions.slots f.waiting c.args.tx.0 (words_in f.table c.args.tx.0) c.replace_next-replaced.result.0 c.replace_next-replaced.ensures.first c.self.invariant.waiting

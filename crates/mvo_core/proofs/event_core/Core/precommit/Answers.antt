@@ -1,8 +1,7 @@
-use Rattle.std.proofs.Common.{arith, ℕ, List, length, ◌≡◌, ◌<◌, ◌≤◌, ◌+◌, Some, sym, ap, ◌∙◌, subst}
+use Rattle.std.proofs.Common.{arith, List, ◌≡◌, ◌<◌, ◌≤◌, ◌+◌, Some, sym, ap, ◌∙◌, subst}
 use Rattle.mvo_types.specs.declared.limits.TheConstants.{MAX_STAMP}
 use Rattle.mvo_types.specs.declared.ids.Stamp.{Stamp}
 use Rattle.mvo_types.specs.declared.refusal.Refusal.TheVariants.{ClockSpent, OutOfMemory}
-use Rattle.mvo_work.specs.declared.word_place.WordPlace.{WordPlace}
 use Rattle.mvo_theory.specs.Calls.Call.{Precommit}
 use Rattle.mvo_theory.specs.Calls.Result.{Refused}
 use Rattle.mvo_core.specs.Data.{CoreData}
@@ -16,7 +15,7 @@ use Rattle.mvo_core.proofs.Drawing.{precommit_refused, clock_spent_leads, memory
 use Rattle.mvo_txn.specs.Txns.{state_of}
 use Rattle.mvo_tale.specs.declared.slot.Slot.{Slot}
 use Rattle.mvo_core.proofs.Waits.{waits_roomy_ended}
-use Rattle.mvo_core.proofs.WaitsOn.{words_placed, drawn_waits}
+use Rattle.mvo_core.proofs.WaitsOn.{drawn_waits}
 use Rattle.mvo_core.proofs.event_core.Core.precommit.Goals as goal
 
 pub returns-in-Some-clause-step : goal.returns-in-Some-clause-step
@@ -59,7 +58,7 @@ prepare-requires c =
     let old : CoreData = core_data f in
     let drawn : Stamp = record { 0 = c.clock-clock.result.0 + 1 } in
     active_there i.opening i.steps i.state old i.stands c.args.tx (sym c.active-refusal.ensures.refusal ∙ c.in_default.is) c.in_ok-place.place c.in_ok-place.ensures.place c.keep_place.new.table c.keep_place.ensures
-    drawn (ap (λ n. n + 1) c.clock-clock.ensures.value) c.open.new.self c.in_ok-place.ensures.ok c.bring_forward.new.versions c.bring_forward.ensures
+    drawn (ap (λ n. n + 1) c.clock-clock.ensures.value) c.open.new.self c.in_ok-place.ensures.ok c.draw_words.new.versions c.draw_words.ensures.fronts
     (subst (λ n. n < MAX_STAMP) c.clock-clock.ensures.value c.if-clock-ge-MAX_STAMP.false)
 
 pub invariant_of-self-2 : goal.invariant_of-self-2
@@ -70,11 +69,11 @@ invariant_of-self-2 c =
     let drawn : Stamp = record { 0 = c.clock-clock.result.0 + 1 } in
     record {
       stands =
-          stands_on i (Precommit c.args.tx.0) (came c.prepare.result) (record old { versions = c.bring_forward.new.versions; table = c.prepare.new.self; tale = c.open.new.self })
+          stands_on i (Precommit c.args.tx.0) (came c.prepare.result) (record old { versions = c.draw_words.new.versions; table = c.prepare.new.self; tale = c.open.new.self })
           (draw_leads i.opening i.steps i.state old i.stands c.args.tx (sym c.active-refusal.ensures.refusal ∙ c.in_default.is) c.in_ok-place.place c.in_ok-place.ensures.place c.keep_place.new.table c.keep_place.ensures
-          drawn (ap (λ n. n + 1) c.clock-clock.ensures.value) c.open.new.self c.in_ok-place.ensures.ok c.bring_forward.new.versions c.bring_forward.ensures
+          drawn (ap (λ n. n + 1) c.clock-clock.ensures.value) c.open.new.self c.in_ok-place.ensures.ok c.draw_words.new.versions c.draw_words.ensures.fronts
           (subst (λ n. n < MAX_STAMP) c.clock-clock.ensures.value c.if-clock-ge-MAX_STAMP.false) c.prepare.result c.prepare.new.self c.prepare.ensures.ok c.prepare.ensures.refused);
-      waiting = drawn_waits i.opening i.steps i.state old i.stands c.args.tx (sym c.active-refusal.ensures.refusal ∙ c.in_default.is) c.in_ok-place.place c.in_ok-place.ensures.place c.keep_place.new.table c.keep_place.ensures drawn (ap (λ n. n + 1) c.clock-clock.ensures.value) c.bring_forward.new.versions c.bring_forward.ensures (subst (λ n. n < MAX_STAMP) c.clock-clock.ensures.value c.if-clock-ge-MAX_STAMP.false) f.waiting c.make_room_for_ended.new.self c.await_ends.new.waiting c.make_room_for_ended.ensures.same c.await_ends.ensures c.self.invariant.waiting c.prepare.result c.prepare.new.self c.prepare.ensures.ok c.prepare.ensures.refused;
+      waiting = drawn_waits i.opening i.steps i.state old i.stands c.args.tx (sym c.active-refusal.ensures.refusal ∙ c.in_default.is) c.in_ok-place.place c.in_ok-place.ensures.place c.keep_place.new.table c.keep_place.ensures drawn (ap (λ n. n + 1) c.clock-clock.ensures.value) c.draw_words.new.versions c.draw_words.ensures.fronts (subst (λ n. n < MAX_STAMP) c.clock-clock.ensures.value c.if-clock-ge-MAX_STAMP.false) f.waiting c.make_room_for_ended.new.self c.draw_words.new.waiting c.make_room_for_ended.ensures.same c.draw_words.ensures.waits c.self.invariant.waiting c.prepare.result c.prepare.new.self c.prepare.ensures.ok c.prepare.ensures.refused;
     }
 
 pub returns-clause-step : goal.returns-clause-step
@@ -84,7 +83,7 @@ returns-clause-step c = λ opening steps s h.
     let g : StandsFor opening steps s old = subst (StandsFor opening steps s) (sym c.self.view_is) h in
     let drawn : Stamp = record { 0 = c.clock-clock.result.0 + 1 } in
     draw_leads opening steps s old g c.args.tx (sym c.active-refusal.ensures.refusal ∙ c.in_default.is) c.in_ok-place.place c.in_ok-place.ensures.place c.keep_place.new.table c.keep_place.ensures
-    drawn (ap (λ n. n + 1) c.clock-clock.ensures.value) c.open.new.self c.in_ok-place.ensures.ok c.bring_forward.new.versions c.bring_forward.ensures
+    drawn (ap (λ n. n + 1) c.clock-clock.ensures.value) c.open.new.self c.in_ok-place.ensures.ok c.draw_words.new.versions c.draw_words.ensures.fronts
     (subst (λ n. n < MAX_STAMP) c.clock-clock.ensures.value c.if-clock-ge-MAX_STAMP.false) c.prepare.result c.prepare.new.self c.prepare.ensures.ok c.prepare.ensures.refused
 
 pub returns-in_err-make_room_for_ended-clause-step : goal.returns-in_err-make_room_for_ended-clause-step
@@ -113,17 +112,8 @@ invariant_of-self-in_err-place c =
       waiting = waits_roomy_ended f.table.clock (state_of f.table) f.versions.slots f.waiting c.make_room_for_ended.new.self c.make_room_for_ended.new.self.ended_room c.make_room_for_ended.ensures.same c.self.invariant.waiting;
     }
 
-pub await_ends-requires-clause-counted : goal.await_ends-requires-clause-counted
-await_ends-requires-clause-counted c =
-    let f = c.self.inside in
-    let same = ap (λ (ws : ℕ → List WordPlace). length (ws c.args.tx.0)) (words_placed f.table c.keep_place.new.table c.args.tx.0 c.in_ok-place.place c.keep_place.ensures) in
-    let count = c.active-refusal.ensures.words in
-    omega (arith, same, count)
-
-pub await_ends-requires-clause-room : goal.await_ends-requires-clause-room
-await_ends-requires-clause-room c =
-    let f = c.self.inside in
-    let same = ap (λ (ws : ℕ → List WordPlace). length (ws c.args.tx.0)) (words_placed f.table c.keep_place.new.table c.args.tx.0 c.in_ok-place.place c.keep_place.ensures) in
+pub draw_words-requires : goal.draw_words-requires
+draw_words-requires c =
     let count = c.active-refusal.ensures.words in
     let room = c.in_ok-make_room_for_ended.ensures.ok in
-    omega (arith, same, count, room)
+    omega (arith, count, room)

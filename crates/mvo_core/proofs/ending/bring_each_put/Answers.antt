@@ -1,17 +1,16 @@
 use Rattle.std.proofs.Common.{◌≡◌, ◌+◌, ◌∙◌, take, sym, subst, arith}
 use Rattle.mvo_representation.specs.Order.{is_put_by}
-use Rattle.mvo_core.specs.Standing.{words_in}
 use Rattle.mvo_core.specs.Fronts.{IsInFrontIf, AreInFront}
 use Rattle.mvo_core.proofs.Fronting.{front_first, front_more, front_same, front_all}
-use Rattle.mvo_core.proofs.ending.bring_puts.Goals as goal
-use Rattle.mvo_core.proofs.ending.bring_puts.Goals.{in-Some, in_default}
+use Rattle.mvo_core.proofs.ending.bring_each_put.Goals as goal
+use Rattle.mvo_core.proofs.ending.bring_each_put.Goals.{in-Some, in_default}
 
 pub loop-place-init : goal.loop-place-init
 loop-place-init c = front_first (is_put_by c.args.tx.0) c.args.versions.now
 
 pub loop-place-preserved : goal.loop-place-preserved
 loop-place-preserved c =
-    let words = words_in c.args.table.now c.args.tx.0 in
+    let words = c.args.work.now.words in
     elim c.match-word_at.branch [
       | in-Some w ↦
           subst (λ v. AreInFront (is_put_by c.args.tx.0) c.args.versions.now v (take (c.loop-place.place + 1) words)) (sym w.versions-is)
@@ -26,4 +25,4 @@ loop-place-preserved c =
 pub returns : goal.returns
 returns c =
     let e : c.loop-place.place ≡ c.word_count-place-end.result = omega arith in
-    front_all (is_put_by c.args.tx.0) c.args.versions.now c.loop-place.versions (words_in c.args.table.now c.args.tx.0) c.loop-place.place (e ∙ c.word_count-place-end.ensures) c.loop-place.invariant
+    front_all (is_put_by c.args.tx.0) c.args.versions.now c.loop-place.versions c.args.work.now.words c.loop-place.place (e ∙ c.word_count-place-end.ensures) c.loop-place.invariant

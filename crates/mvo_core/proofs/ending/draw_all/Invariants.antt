@@ -1,0 +1,11 @@
+use Rattle.std.proofs.Common.{take}
+use Rattle.mvo_txn.specs.Txns.{state_of}
+use Rattle.mvo_core.specs.Fronts.{comes_at_draw, AreInFront}
+use Rattle.mvo_core.proofs.Awaiting.{IsAwaitedTo}
+use Rattle.mvo_core.proofs.ending.draw_all.Given as goal
+
+abbrev pub invariant-loop-place : goal.invariant-loop-place
+invariant-loop-place l = record {
+  fronts : AreInFront (comes_at_draw (state_of l.table) l.tx.0) l.fn.versions l.versions (take l.place l.work.words);
+  waits : IsAwaitedTo l.fn.waiting l.waiting l.end l.work.words l.place;
+}
