@@ -26,10 +26,10 @@ returns-clause-ok c =
     (IsRecordedWith c.args.table.now c.write.new.table c.args.tx (c.args.on ∷ []) c.args.op (answer_data c.args.answer) put)
     c.write.result c.write.ensures.ok
     (λ done. record {
-    roomy = c.make_room.new.table;
-    room = c.in_ok-make_room.ensures.ok;
-    done = subst (λ table. IsWritten table c.write.new.table c.args.tx.0 (HasDoneMore c.args.op (answer_data c.args.answer) put)) c.in_ok-register.ensures.ok done;
-  })
+      roomy = c.make_room.new.table;
+      room = c.in_ok-make_room.ensures.ok;
+      done = subst (λ table. IsWritten table c.write.new.table c.args.tx.0 (HasDoneMore c.args.op (answer_data c.args.answer) put)) c.in_ok-register.ensures.ok done;
+    })
 
 pub returns-clause-err : goal.returns-clause-err
 returns-clause-err c =

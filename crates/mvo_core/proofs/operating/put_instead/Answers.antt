@@ -17,19 +17,19 @@ take_out-requires c =
 pub returns-in_err-copy-clause-err : goal.returns-in_err-copy-clause-err
 returns-in_err-copy-clause-err c =
     always_err (IsLeft c.args.versions.now c.args.versions.now c.args.table.now c.args.table.now c.args.tx) c.from_residual.result (record {
-    versions = record { slots = inl refl; numbers = λ k. refl };
-    indexed = λ h. h;
-    own = unwritten c.args.table.now c.args.tx.0 c.requires.there;
-  })
+      versions = record { slots = inl refl; numbers = λ k. refl };
+      indexed = λ h. h;
+      own = unwritten c.args.table.now c.args.tx.0 c.requires.there;
+    })
 
 pub returns-in_err-place-clause-err : goal.returns-in_err-place-clause-err
 returns-in_err-place-clause-err c =
     let same = c.in_err-place.ensures.err in
     always_err (IsLeft c.args.versions.now c.put.new.self c.args.table.now c.args.table.now c.args.tx) c.from_residual-in_err-place.result (record {
-    versions = record { slots = same.slots; numbers = λ k. ap (λ lists. numbers_of lists k) same.lists };
-    indexed = λ h. c.put.ensures.indexed;
-    own = unwritten c.args.table.now c.args.tx.0 c.requires.there;
-  })
+      versions = record { slots = same.slots; numbers = λ k. ap (λ lists. numbers_of lists k) same.lists };
+      indexed = λ h. c.put.ensures.indexed;
+      own = unwritten c.args.table.now c.args.tx.0 c.requires.there;
+    })
 
 pub returns-in_default-clause-err : goal.returns-in_default-clause-err
 returns-in_default-clause-err c = record {
