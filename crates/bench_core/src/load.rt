@@ -2,7 +2,6 @@ use crate::checksum::Checksum;
 use crate::config::Config;
 use crate::figure::Figure;
 use crate::resident::resident;
-use crate::rows::loaded;
 use crate::session::Session;
 use crate::stopped::Stopped;
 use anyhow::Result;
@@ -36,10 +35,9 @@ fn insert(
     data: u64,
     sum: &mut Checksum,
 ) -> Result<(), Stopped> {
-    let alloc = session.alloc();
     let tx = session.begin()?;
     for key in from..to {
-        let row = loaded(alloc, key, data)?;
+        let row = session.draft.loaded(key, data)?;
         sum.add(&row);
         session.insert(tx, row)?;
     }

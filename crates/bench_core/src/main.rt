@@ -7,6 +7,7 @@
 mod checksum;
 mod config;
 mod crowd;
+mod draft;
 mod figure;
 mod hot;
 mod keeping;

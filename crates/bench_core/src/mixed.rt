@@ -2,7 +2,6 @@ use crate::checksum::Checksum;
 use crate::config::Config;
 use crate::figure::Figure;
 use crate::keys::{Keys, mixed};
-use crate::rows::changed;
 use crate::session::Session;
 use crate::stopped::Stopped;
 use anyhow::Result;
@@ -40,7 +39,7 @@ pub fn update_one(session: &mut Session, key: u64, sum: &mut Checksum) -> Result
     let tx = session.begin()?;
     let row = session.read(tx, key)?;
     sum.add(&row);
-    let row = changed(session.alloc(), &row, 1)?;
+    let row = session.draft.changed(&row, 1)?;
     session.update(tx, row)?;
     session.commit(tx)
 }

@@ -1,10 +1,11 @@
 //! How much memory the parts of a row take, each made by itself. The memory of one is used again by
 //! the next, so a figure is right where its part is the only one of a run.
 use crate::config::Config;
+use crate::draft::Draft;
 use crate::figure::Figure;
 use crate::part::Part;
 use crate::resident::resident;
-use crate::rows::{key_of, loaded, sort_of};
+use crate::rows::{key_of, sort_of};
 use anyhow::Result;
 use mvo_chain::{Chains, VersionNo};
 use mvo_hash::{HashIndex, Heads};
@@ -67,15 +68,16 @@ impl<'a> Look<'a> {
 
 fn row_list(alloc: Global, rows: u64, data: u64) -> Result<Vec<Row>, AllocError> {
     let mut list = Vec::with_capacity(alloc, rows as usize)?;
+    let mut draft = Draft::new(alloc);
     for key in 0..rows {
-        list.push(loaded(alloc, key, data)?)?;
+        list.push(draft.loaded(key, data)?)?;
     }
     Ok(list)
 }
 
 fn copies(alloc: Global, rows: u64, data: u64) -> Result<Vec<Row>, AllocError> {
     let mut list = Vec::with_capacity(alloc, rows as usize)?;
-    let row = loaded(alloc, 0, data)?;
+    let row = Draft::new(alloc).loaded(0, data)?;
     for _ in 0..rows {
         list.push(row.copy()?)?;
     }
@@ -84,7 +86,7 @@ fn copies(alloc: Global, rows: u64, data: u64) -> Result<Vec<Row>, AllocError> {
 
 fn chains(alloc: Global, rows: u64, data: u64) -> Result<Chains, AllocError> {
     let mut chains = Chains::new(alloc);
-    let row = loaded(alloc, 0, data)?;
+    let row = Draft::new(alloc).loaded(0, data)?;
     for _ in 0..rows {
         chains.add(row.copy()?, Word::stamp(Stamp(1)))?;
     }
@@ -146,8 +148,9 @@ fn versions(
     data: u64,
 ) -> Result<Versions, AllocError> {
     let mut versions = Versions::load(rt, alloc, SEED, Rows::new(alloc), Stamp(1))?;
+    let mut draft = Draft::new(alloc);
     for key in 0..rows {
-        versions.put(loaded(alloc, key, data)?, TxId(3), None)?;
+        versions.put(draft.loaded(key, data)?, TxId(3), None)?;
     }
     Ok(versions)
 }
@@ -159,8 +162,9 @@ fn at_once(
     data: u64,
 ) -> Result<Versions, AllocError> {
     let mut list = Rows::new(alloc);
+    let mut draft = Draft::new(alloc);
     for key in 0..rows {
-        list.put(loaded(alloc, key, data)?)?;
+        list.put(draft.loaded(key, data)?)?;
     }
     Versions::load(rt, alloc, SEED, list, Stamp(1))
 }

@@ -1,3 +1,4 @@
+use crate::draft::Draft;
 use crate::rows::{TABLE, key_of};
 use crate::stopped::Stopped;
 use crate::upkeep::{MOST as MOST_COLLECTED, Upkeep};
@@ -16,6 +17,8 @@ pub struct Session {
     alloc: Global,
     core: Core,
     upkeep: Upkeep,
+    /// Where its rows are made.
+    pub draft: Draft,
 }
 
 impl Session {
@@ -26,6 +29,7 @@ impl Session {
             alloc,
             core,
             upkeep: Upkeep::new(alloc, every)?,
+            draft: Draft::new(alloc),
         })
     }
 

@@ -1,8 +1,9 @@
 //! What one thread does through a session.
 use crate::checksum::Checksum;
+use crate::draft::Draft;
 use crate::keeping::Keeping;
 use crate::keys::Keys;
-use crate::rows::{changed, changed_in, key_of, number_of};
+use crate::rows::{key_of, number_of};
 use mvo_disk::Disk;
 use mvo_engine::{Engine, Gate, Run, Session};
 use mvo_types::{Answer, Refusal, Row};
@@ -93,8 +94,9 @@ fn write_two<L: Run, D: Disk, G: Gate + Drop, R: Wait>(
     (first, second): (&Row, &Row),
     round: u64,
 ) -> Result<(), Refusal> {
-    session.update(rt, changed_in(alloc, first, 1, round)?)?;
-    session.update(rt, changed(alloc, second, u8::MAX)?)?;
+    let mut draft = Draft::new(alloc);
+    session.update(rt, draft.changed_in(first, 1, round)?)?;
+    session.update(rt, draft.changed(second, u8::MAX)?)?;
     session.commit_tx(rt)?;
     Ok(())
 }

@@ -1,6 +1,5 @@
 use crate::config::Config;
 use crate::figure::Figure;
-use crate::rows::loaded;
 use crate::session::{MOST, Session};
 use crate::times::Times;
 use crate::upkeep::MOST as MOST_COLLECTED;
@@ -38,7 +37,7 @@ fn insert_all(
         let from = batch.saturating_mul(EACH);
         let tx = begin(rt, session, times)?;
         for key in from..from.saturating_add(EACH) {
-            let row = loaded(session.alloc(), key, config.data)?;
+            let row = session.draft.loaded(key, config.data)?;
             insert(rt, session, times, tx, row)?;
         }
         commit(rt, session, times, tx)?;

@@ -4,10 +4,10 @@ ghost use Rattle.mvo_engine.specs.Opened.{IsNamedBy};
 
 use crate::checksum::Checksum;
 use crate::config::Config;
+use crate::draft::Draft;
 use crate::figure::Figure;
 use crate::keeping::Keeping;
 use crate::keys::Keys;
-use crate::rows::loaded;
 use crate::shared::{Work, number_in, transact};
 use crate::stopped::Stopped;
 use anyhow::{Result, bail};
@@ -245,9 +245,10 @@ fn put<L: Run, D: Disk, G: Gate + Drop, R: Wait>(
     (from, to): (u64, u64),
     data: u64,
 ) -> Result<(), Refusal> {
+    let mut draft = Draft::new(alloc);
     session.begin_tx(rt)?;
     for key in from..to {
-        session.insert(rt, loaded(alloc, key, data)?)?;
+        session.insert(rt, draft.loaded(key, data)?)?;
     }
     session.commit_tx(rt)?;
     Ok(())

@@ -2,7 +2,6 @@ use crate::checksum::Checksum;
 use crate::config::Config;
 use crate::figure::Figure;
 use crate::keys::Keys;
-use crate::rows::{changed, changed_in};
 use crate::session::Session;
 use crate::stopped::Stopped;
 use anyhow::Result;
@@ -54,8 +53,9 @@ fn write_two(
     second: &Row,
     round: u64,
 ) -> Result<(), Stopped> {
-    let alloc = session.alloc();
-    session.update(tx, changed_in(alloc, first, 1, round)?)?;
-    session.update(tx, changed(alloc, second, u8::MAX)?)?;
+    let row = session.draft.changed_in(first, 1, round)?;
+    session.update(tx, row)?;
+    let row = session.draft.changed(second, u8::MAX)?;
+    session.update(tx, row)?;
     session.commit(tx)
 }

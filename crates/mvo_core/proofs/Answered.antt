@@ -41,10 +41,11 @@ use Rattle.mvo_representation.specs.WordLists.{HasWordLists}
 use Rattle.mvo_representation.proofs.OrderAborts.{same_stay_in_order}
 use Rattle.mvo_representation.proofs.WordsKept.{answer_keeps_lists}
 use Rattle.mvo_collect.proofs.Over.{each_call_keeps_over}
+use Rattle.mvo_work.specs.declared.word_place.WordPlace.{WordPlace}
 use Rattle.mvo_core.specs.declared.transaction.Transaction.{Transaction}
 use Rattle.mvo_core.specs.Data.{CoreData, own_of}
 use Rattle.mvo_core.specs.Standing.{StandsFor, HasWorks, IsActive, IsPreparing, words_in}
-use Rattle.mvo_core.specs.Keeping.{IsTold, IsRecorded}
+use Rattle.mvo_core.specs.Keeping.{HasDoneMore, IsTold, IsRecorded}
 use Rattle.mvo_core.specs.Steps.{LeadsOn}
 use Rattle.mvo_core.proofs.Laws.{answer_in_table, call_keeps}
 use Rattle.mvo_core.proofs.Carried.{stands_roomy}
@@ -197,6 +198,9 @@ same_versions s table t (Delete k) a vs e = refl
 
 told_so : (op : Op) (a : AnswerData) (x y : Transaction) → IsTold op a x y → HasAnswered op a x y
 told_so op a x y w = record { history = w.history; place = w.place; checked = w.checked; valid = w.valid }
+
+pub done_so : (op : Op) (a : AnswerData) (put : List WordPlace) (x y : Transaction) → HasDoneMore op a put x y → HasAnswered op a x y
+done_so op a put x y w = record { history = w.history; place = w.place; checked = w.checked; valid = w.valid }
 
 -- The same of an answer that writes nothing: the versions and the lists of words stay.
 pub record IsAnsweredOnly (s : State) (c : CoreData) (t : TxId) (r : ActiveTx) (op : Op) (ids : List TxId) (table : Txns (Node Transaction)) : Type 0 where

@@ -37,7 +37,7 @@ use Rattle.mvo_core.specs.declared.transaction.Transaction.{Transaction}
 use Rattle.mvo_core.specs.Causes.{why_not_remove}
 use Rattle.mvo_core.specs.Data.{CoreData}
 use Rattle.mvo_core.specs.Ending.{IsRemoved}
-use Rattle.mvo_core.specs.Keeping.{IsWritten, HasDoneAsMuch, HasMadeRoom, IsNoted, IsTold, IsRecorded}
+use Rattle.mvo_core.specs.Keeping.{IsWritten, HasDoneAsMuch, HasMadeRoom, HasDoneMore, IsRecorded}
 use Rattle.mvo_core.specs.Looking.{cause_at}
 use Rattle.mvo_core.specs.Standing.{StandsFor}
 use Rattle.mvo_core.specs.Steps.{LeadsOn}
@@ -47,9 +47,9 @@ use Rattle.mvo_core.proofs.Carried.{stands_as_much, stands_roomy}
 use Rattle.mvo_core.proofs.CausesTold.{not_deleted_is}
 use Rattle.mvo_core.proofs.InTheWay.{in_the_way_is}
 use Rattle.mvo_core.proofs.Looked.{IsActiveHere, active_here, shown_in, versions_in_order, shown_there, key_is, names_just}
-use Rattle.mvo_core.proofs.OwnChanged.{IsOwnChanged, own_changed, own_changed_twice}
+use Rattle.mvo_core.proofs.OwnChanged.{IsOwnChanged, own_changed}
 use Rattle.mvo_core.proofs.Refused.{refused_leads, spent_leads}
-use Rattle.mvo_core.proofs.Removed.{HasNotedAndTold, told_one, deleted}
+use Rattle.mvo_core.proofs.Removed.{deleted}
 
 module _ (opening : Map) (steps : List Step) (s : State) (c : CoreData) (h : StandsFor opening steps s c) (t : TxId) (k : RowKey) where
   pub delete_refused : (r : Refusal) → why_not_remove c.table t.0 k ≡ Some r → (new : CoreData) → StandsFor opening (steps ++ steps_of_refusal t.0 r) (after_refusal s t.0 r) new
@@ -123,30 +123,27 @@ module _ (opening : Map) (steps : List Step) (s : State) (c : CoreData) (h : Sta
           deleted_live = ap is_some (shown_there opening steps s c h t.0 here.tx here.found k n (ap (λ (x : Shown). x.version) (sym shown) ∙ e)).at
 
           module _ (versions : VersionsData) (table : Txns (Node Transaction)) (w : IsRemoved c.versions versions c.table table t (option_to_list found.depends_on) n k) where
-            states : state_of c.table ≡ state_of w.roomy
-            states = λ i u. sym ((own_changed c.table w.roomy t.0 HasMadeRoom w.room).states u) i
+            states : state_of c.table ≡ state_of w.recorded.roomy
+            states = λ i u. sym ((own_changed c.table w.recorded.roomy t.0 HasMadeRoom w.recorded.room).states u) i
 
-            stands : StandsFor opening steps s (record c { table = w.roomy })
-            stands = stands_roomy opening steps s c h t.0 w.roomy w.room
+            stands : StandsFor opening steps s (record c { table = w.recorded.roomy })
+            stands = stands_roomy opening steps s c h t.0 w.recorded.roomy w.recorded.room
 
-            told : IsOwnChanged (after_register_all w.roomy t (option_to_list found.depends_on)) table t.0 (HasNotedAndTold (Delete k) Deleted (λ ws. ws ++ End n ∷ []))
-            told = own_changed_twice (after_register_all w.roomy t (option_to_list found.depends_on)) w.noted table t.0
-                (IsNoted (End n)) (IsTold (Delete k) Deleted) (HasNotedAndTold (Delete k) Deleted (λ ws. ws ++ End n ∷ [])) (told_one (Delete k) Deleted (End n))
-                (own_changed (after_register_all w.roomy t (option_to_list found.depends_on)) w.noted t.0 (IsNoted (End n)) w.word)
-                (own_changed w.noted table t.0 (IsTold (Delete k) Deleted) w.told)
+            told : IsOwnChanged (after_register_all w.recorded.roomy t (option_to_list found.depends_on)) table t.0 (HasDoneMore (Delete k) Deleted (End n ∷ []))
+            told = own_changed (after_register_all w.recorded.roomy t (option_to_list found.depends_on)) table t.0 (HasDoneMore (Delete k) Deleted (End n ∷ [])) w.recorded.done
 
             abbrev Claim : ℕ → Type 0
-            Claim i = (shown_to (state_of w.roomy) i i (versions_at c.versions.slots c.versions.lists k)).version ≡ Some n → cause_at (state_of w.roomy) c.versions.slots i (Some n) ≡ None
+            Claim i = (shown_to (state_of w.recorded.roomy) i i (versions_at c.versions.slots c.versions.lists k)).version ≡ Some n → cause_at (state_of w.recorded.roomy) c.versions.slots i (Some n) ≡ None
                 → IsReworded c.versions versions n (ended_by i)
-                → IsOwnChanged (after_register_all w.roomy (tx_id i) (option_to_list found.depends_on)) table i (HasNotedAndTold (Delete k) Deleted (λ ws. ws ++ End n ∷ []))
+                → IsOwnChanged (after_register_all w.recorded.roomy (tx_id i) (option_to_list found.depends_on)) table i (HasDoneMore (Delete k) Deleted (End n ∷ []))
                 → why_not_do s i (Delete k) ≡ None
-                → IsAnswered s (record c { table = w.roomy }) (tx_id i) here.tx (Delete k) (option_to_list found.depends_on) versions table
+                → IsAnswered s (record c { table = w.recorded.roomy }) (tx_id i) here.tx (Delete k) (option_to_list found.depends_on) versions table
 
             claim : Claim here.tx.id
-            claim e' free' w' told' may' = deleted opening steps s (record c { table = w.roomy }) stands here.tx mine k n e' free' (option_to_list found.depends_on) versions table w' told' on may'
+            claim e' free' w' told' may' = deleted opening steps s (record c { table = w.recorded.roomy }) stands here.tx mine k n e' free' (option_to_list found.depends_on) versions table w' told' on may'
 
             pub deleted_leads : LeadsOn opening steps s (Do t.0 (Delete k)) Accepted (record c { versions = versions; table = table })
-            deleted_leads = answer_leads opening steps s (record c { table = w.roomy }) stands t here.tx (Delete k) (option_to_list found.depends_on) versions table
+            deleted_leads = answer_leads opening steps s (record c { table = w.recorded.roomy }) stands t here.tx (Delete k) (option_to_list found.depends_on) versions table
                 (subst Claim id claim
                 (subst (λ (st : States). (shown_to st t.0 t.0 (versions_at c.versions.slots c.versions.lists k)).version ≡ Some n) states (ap (λ (x : Shown). x.version) (sym shown) ∙ e))
                 (subst (λ (st : States). cause_at st c.versions.slots t.0 (Some n) ≡ None) states (ap (cause_at (state_of c.table) c.versions.slots t.0) (sym e) ∙ free))

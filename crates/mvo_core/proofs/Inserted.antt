@@ -19,7 +19,6 @@ use Rattle.mvo_theory.proofs.Who.{id_of}
 use Rattle.mvo_txn.specs.Txns.{Txns, state_of}
 use Rattle.mvo_deps.specs.declared.node.Node.{Node}
 use Rattle.mvo_deps.specs.Nodes.{after_register_all}
-use Rattle.mvo_chain.specs.declared.version.VersionNo.{VersionNo}
 use Rattle.mvo_chain.specs.Slots.{version_at, with_room, with_slot}
 use Rattle.mvo_work.specs.declared.word_place.WordPlace.TheVariants.{Begin}
 use Rattle.mvo_versions.specs.Data.{VersionsData, AreIndexed}
@@ -37,42 +36,22 @@ use Rattle.mvo_representation.proofs.WordsWritten.{insert_keeps_lists}
 use Rattle.mvo_core.specs.declared.transaction.Transaction.{Transaction}
 use Rattle.mvo_core.specs.Data.{CoreData}
 use Rattle.mvo_core.specs.Inserting.{IsInserted}
-use Rattle.mvo_core.specs.Keeping.{IsTold, IsNoted}
+use Rattle.mvo_core.specs.Keeping.{HasDoneMore}
 use Rattle.mvo_core.specs.Standing.{StandsFor, words_in}
 use Rattle.mvo_core.specs.Steps.{LeadsOn}
-use Rattle.mvo_core.proofs.Answered.{HasAnswered, IsAnswered, answer_leads}
+use Rattle.mvo_core.proofs.Answered.{HasAnswered, IsAnswered, answer_leads, done_so}
 use Rattle.mvo_core.proofs.Carried.{stands_roomy}
 use Rattle.mvo_core.proofs.Looked.{IsActiveHere, shown_in, none_is, key_is}
-use Rattle.mvo_core.proofs.OwnChanged.{IsOwnChanged, own_changed, own_weaker, own_changed_twice, words_beside, words_here, words_before, words_registered}
-
--- it has put one word more, and done one operation more
-record HasInserted (row : RowData) (number : VersionNo) (old new : Transaction) : Type 0 where
-  pub history : new.work.history ≡ old.work.history ++ (Insert row, Inserted) ∷ []
-  pub words : new.work.words ≡ old.work.words ++ Begin number ∷ []
-  pub place : new.place ≡ old.place
-  pub checked : new.checked ≡ old.checked
-  pub valid : new.valid ≡ old.valid
-
-both_told : (row : RowData) (number : VersionNo) (x y z : Transaction) → IsNoted (Begin number) x y → IsTold (Insert row) Inserted y z → HasInserted row number x z
-both_told row number x y z p q = record {
-  history = q.history ∙ ap (λ ts. ts ++ (Insert row, Inserted) ∷ []) p.history;
-  words = q.words ∙ p.words;
-  place = q.place ∙ p.place;
-  checked = q.checked ∙ p.checked;
-  valid = q.valid ∙ p.valid;
-}
-
-answered_so : (row : RowData) (number : VersionNo) (x y : Transaction) → HasInserted row number x y → HasAnswered (Insert row) Inserted x y
-answered_so row number x y w = record { history = w.history; place = w.place; checked = w.checked; valid = w.valid }
+use Rattle.mvo_core.proofs.OwnChanged.{IsOwnChanged, own_changed, own_weaker, words_beside, words_here, words_before, words_registered}
 
 module _ (opening : Map) (steps : List Step) (s : State) (c : CoreData) (h : StandsFor opening steps s c) (t : TxId) (row : RowData) (may : why_not_do s t.0 (Insert row) ≡ None) (here : IsActiveHere s c t.0)
     (unseen : (shown_in c t.0 row.key).version ≡ None) (ids : List TxId) (on : AreDependencies s (Insert row) here.tx ids) (new : VersionsData) (table : Txns (Node Transaction))
     (w : IsInserted c.versions new c.table table t ids row) (indexed : AreIndexed new) where
   roomy : CoreData
-  roomy = record c { table = w.roomy }
+  roomy = record c { table = w.recorded.roomy }
 
-  stands : StandsFor opening steps s (record c { table = w.roomy })
-  stands = stands_roomy opening steps s c h t.0 w.roomy w.room
+  stands : StandsFor opening steps s (record c { table = w.recorded.roomy })
+  stands = stands_roomy opening steps s c h t.0 w.recorded.roomy w.recorded.room
 
   id : here.tx.id ≡ t.0
   id = id_of t.0 s.active here.tx here.found
@@ -91,9 +70,9 @@ module _ (opening : Map) (steps : List Step) (s : State) (c : CoreData) (h : Sta
   now = subst (λ ss. HaveNow c.versions.slots ss w.number.0 (fresh here.tx.id row)) (sym w.put.slots)
       (subst (λ (n : ℕ). HaveNow c.versions.slots (with_slot (with_room c.versions.slots) w.number (Some (fresh t.0 row))) w.number.0 (fresh n row)) (sym id) added.1)
 
-  in_order : AllStandInOrder s.start (state_of w.roomy) new.slots new.lists
-  in_order = subst (AllStandInOrder s.start (state_of w.roomy) new.slots) (sym w.put.lists)
-      (insert_keeps_order opening steps s (state_of w.roomy) c.versions.slots new.slots c.versions.lists c.versions.places here.tx row w.number.0 stands.versions found empty w.put.unused now stands.order)
+  in_order : AllStandInOrder s.start (state_of w.recorded.roomy) new.slots new.lists
+  in_order = subst (AllStandInOrder s.start (state_of w.recorded.roomy) new.slots) (sym w.put.lists)
+      (insert_keeps_order opening steps s (state_of w.recorded.roomy) c.versions.slots new.slots c.versions.lists c.versions.places here.tx row w.number.0 stands.versions found empty w.put.unused now stands.order)
 
   one_more : IsOneMore (fresh t.0 row) (all_versions c.versions.slots) (all_versions new.slots)
   one_more = subst (λ ss. IsOneMore (fresh t.0 row) (all_versions c.versions.slots) (all_versions ss)) (sym w.put.slots)
@@ -102,43 +81,45 @@ module _ (opening : Map) (steps : List Step) (s : State) (c : CoreData) (h : Sta
 
   -- ---- the table
   registered : Txns (Node Transaction)
-  registered = after_register_all w.roomy t ids
+  registered = after_register_all w.recorded.roomy t ids
 
-  changed : IsOwnChanged (after_register_all w.roomy t ids) table t.0 (HasInserted row w.number)
-  changed = own_changed_twice (after_register_all w.roomy t ids) w.noted table t.0 (IsNoted (Begin w.number)) (IsTold (Insert row) Inserted) (HasInserted row w.number) (both_told row w.number)
-      (own_changed (after_register_all w.roomy t ids) w.noted t.0 (IsNoted (Begin w.number)) w.word) (own_changed w.noted table t.0 (IsTold (Insert row) Inserted) w.told)
+  abbrev Done : Transaction → Transaction → Type 0
+  Done = HasDoneMore (Insert row) Inserted (Begin w.number ∷ [])
 
-  before : words_in (after_register_all w.roomy t ids) ≡ words_in w.roomy
-  before = words_registered w.roomy t ids
+  changed : IsOwnChanged (after_register_all w.recorded.roomy t ids) table t.0 Done
+  changed = own_changed (after_register_all w.recorded.roomy t ids) table t.0 Done w.recorded.done
 
-  list_here : HaveListNow (words_in w.roomy) (words_in table) t.0 (words_in w.roomy t.0 ++ Begin w.number ∷ [])
+  before : words_in (after_register_all w.recorded.roomy t ids) ≡ words_in w.recorded.roomy
+  before = words_registered w.recorded.roomy t ids
+
+  list_here : HaveListNow (words_in w.recorded.roomy) (words_in table) t.0 (words_in w.recorded.roomy t.0 ++ Begin w.number ∷ [])
   list_here = record {
-    others = λ u ne. words_beside (after_register_all w.roomy t ids) table t.0 (HasInserted row w.number) changed u ne ∙ ap (λ f. f u) before;
+    others = λ u ne. words_beside (after_register_all w.recorded.roomy t ids) table t.0 Done changed u ne ∙ ap (λ f. f u) before;
     here =
-        words_here (after_register_all w.roomy t ids) table t.0 (HasInserted row w.number) changed
+        words_here (after_register_all w.recorded.roomy t ids) table t.0 Done changed
         ∙ changed.changed.words
-        ∙ ap (λ ws. ws ++ Begin w.number ∷ []) (sym (words_before (after_register_all w.roomy t ids) table t.0 (HasInserted row w.number) changed) ∙ ap (λ f. f t.0) before);
+        ∙ ap (λ ws. ws ++ Begin w.number ∷ []) (sym (words_before (after_register_all w.recorded.roomy t ids) table t.0 Done changed) ∙ ap (λ f. f t.0) before);
   }
 
-  list_now : HaveListNow (words_in w.roomy) (words_in table) here.tx.id (words_in w.roomy here.tx.id ++ Begin w.number ∷ [])
-  list_now = subst (λ (n : ℕ). HaveListNow (words_in w.roomy) (words_in table) n (words_in w.roomy n ++ Begin w.number ∷ [])) (sym id) list_here
+  list_now : HaveListNow (words_in w.recorded.roomy) (words_in table) here.tx.id (words_in w.recorded.roomy here.tx.id ++ Begin w.number ∷ [])
+  list_now = subst (λ (n : ℕ). HaveListNow (words_in w.recorded.roomy) (words_in table) n (words_in w.recorded.roomy n ++ Begin w.number ∷ [])) (sym id) list_here
 
   words : HasWordLists (after_answer s t.0 (Insert row) Inserted) new.slots (words_in table)
   words = subst (λ (n : ℕ). HasWordLists (after_answer s n (Insert row) Inserted) new.slots (words_in table)) id
-      (insert_keeps_lists opening steps s (state_of w.roomy) c.versions.slots new.slots c.versions.lists c.versions.places (words_in w.roomy) (words_in table) here.tx row w.number.0
+      (insert_keeps_lists opening steps s (state_of w.recorded.roomy) c.versions.slots new.slots c.versions.lists c.versions.places (words_in w.recorded.roomy) (words_in table) here.tx row w.number.0
       stands.versions found empty added.0 now list_now stands.words)
 
   -- ---- the answer
   pub insert_answers : Inserted ≡ answer_in s t.0 (Insert row)
   insert_answers = sym (ap (λ b. cond b Exists Inserted) (key_is opening steps s c h t.0 here.tx here.found row.key ∙ ap is_some unseen))
 
-  answered : IsAnswered s (record c { table = w.roomy }) t here.tx (Insert row) ids new table
+  answered : IsAnswered s (record c { table = w.recorded.roomy }) t here.tx (Insert row) ids new table
   answered = record {
     found = here.found;
     may = may;
     on = on;
-    told = subst (λ a. IsOwnChanged (after_register_all w.roomy t ids) table t.0 (HasAnswered (Insert row) a)) insert_answers
-        (own_weaker (after_register_all w.roomy t ids) table t.0 (HasInserted row w.number) (HasAnswered (Insert row) Inserted) (answered_so row w.number) changed);
+    told = subst (λ a. IsOwnChanged (after_register_all w.recorded.roomy t ids) table t.0 (HasAnswered (Insert row) a)) insert_answers
+        (own_weaker (after_register_all w.recorded.roomy t ids) table t.0 Done (HasAnswered (Insert row) Inserted) (done_so (Insert row) Inserted (Begin w.number ∷ [])) changed);
     versions = subst (λ a. IsAfterAnswer s (phase_in s) t.0 (Insert row) a (all_versions c.versions.slots) (all_versions new.slots)) insert_answers one_more;
     indexed = indexed;
     order = in_order;
@@ -146,4 +127,4 @@ module _ (opening : Map) (steps : List Step) (s : State) (c : CoreData) (h : Sta
   }
 
   pub inserted_leads : LeadsOn opening steps s (Do t.0 (Insert row)) Accepted (record c { versions = new; table = table })
-  inserted_leads = answer_leads opening steps s (record c { table = w.roomy }) stands t here.tx (Insert row) ids new table answered
+  inserted_leads = answer_leads opening steps s (record c { table = w.recorded.roomy }) stands t here.tx (Insert row) ids new table answered

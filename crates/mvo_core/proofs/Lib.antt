@@ -30,7 +30,6 @@ pub mod KeptTale
 pub mod Trimmed
 pub mod Undone
 pub mod EndCauses
-pub mod Held
 pub mod Reading
 pub mod Deleting
 pub mod Updating

@@ -37,7 +37,7 @@ use Rattle.mvo_core.specs.declared.transaction.Transaction.{Transaction}
 use Rattle.mvo_core.specs.Causes.{why_not_put}
 use Rattle.mvo_core.specs.Data.{CoreData}
 use Rattle.mvo_core.specs.Ending.{IsReplaced, IsLeft}
-use Rattle.mvo_core.specs.Keeping.{IsWritten, HasDoneAsMuch, HasMadeRoom, IsNoted, IsTold, IsRecorded}
+use Rattle.mvo_core.specs.Keeping.{IsWritten, HasDoneAsMuch, HasMadeRoom, HasDoneMore, IsRecorded}
 use Rattle.mvo_core.specs.Looking.{cause_at}
 use Rattle.mvo_core.specs.Standing.{StandsFor}
 use Rattle.mvo_core.specs.Steps.{LeadsOn}
@@ -47,9 +47,9 @@ use Rattle.mvo_core.proofs.Carried.{stands_as_much, stands_roomy}
 use Rattle.mvo_core.proofs.CausesTold.{not_updated_is}
 use Rattle.mvo_core.proofs.InTheWay.{in_the_way_is}
 use Rattle.mvo_core.proofs.Looked.{IsActiveHere, active_here, shown_in, versions_in_order, shown_there, key_is, names_just}
-use Rattle.mvo_core.proofs.OwnChanged.{IsOwnChanged, own_changed, own_changed_twice}
+use Rattle.mvo_core.proofs.OwnChanged.{IsOwnChanged, own_changed}
 use Rattle.mvo_core.proofs.Refused.{refused_leads, spent_leads}
-use Rattle.mvo_core.proofs.Removed.{HasNotedAndTold, told_one, told_two, updated}
+use Rattle.mvo_core.proofs.Removed.{updated}
 use Rattle.mvo_core.proofs.SameVersions.{stands_same_versions}
 
 module _ (opening : Map) (steps : List Step) (s : State) (c : CoreData) (h : StandsFor opening steps s c) (t : TxId) (row : RowData) where
@@ -126,38 +126,28 @@ module _ (opening : Map) (steps : List Step) (s : State) (c : CoreData) (h : Sta
           updated_live = ap is_some (shown_there opening steps s c h t.0 here.tx here.found row.key n (ap (λ (x : Shown). x.version) (sym shown) ∙ e)).at
 
           module _ (versions : VersionsData) (table : Txns (Node Transaction)) (w : IsReplaced c.versions versions c.table table t (option_to_list found.depends_on) n row) where
-            states : state_of c.table ≡ state_of w.roomy
-            states = λ i u. sym ((own_changed c.table w.roomy t.0 HasMadeRoom w.room).states u) i
+            states : state_of c.table ≡ state_of w.recorded.roomy
+            states = λ i u. sym ((own_changed c.table w.recorded.roomy t.0 HasMadeRoom w.recorded.room).states u) i
 
-            stands : StandsFor opening steps s (record c { table = w.roomy })
-            stands = stands_roomy opening steps s c h t.0 w.roomy w.room
+            stands : StandsFor opening steps s (record c { table = w.recorded.roomy })
+            stands = stands_roomy opening steps s c h t.0 w.recorded.roomy w.recorded.room
 
-            put_told : IsOwnChanged w.noted table t.0 (HasNotedAndTold (Update row) Updated (λ ws. ws ++ Begin w.place ∷ []))
-            put_told = own_changed_twice w.noted w.both table t.0
-                (IsNoted (Begin w.place)) (IsTold (Update row) Updated) (HasNotedAndTold (Update row) Updated (λ ws. ws ++ Begin w.place ∷ [])) (told_one (Update row) Updated (Begin w.place))
-                (own_changed w.noted w.both t.0 (IsNoted (Begin w.place)) w.begin)
-                (own_changed w.both table t.0 (IsTold (Update row) Updated) w.told)
-
-            told : IsOwnChanged (after_register_all w.roomy t (option_to_list found.depends_on)) table t.0 (HasNotedAndTold (Update row) Updated (λ ws. (ws ++ End n ∷ []) ++ Begin w.place ∷ []))
-            told = own_changed_twice (after_register_all w.roomy t (option_to_list found.depends_on)) w.noted table t.0
-                (IsNoted (End n)) (HasNotedAndTold (Update row) Updated (λ ws. ws ++ Begin w.place ∷ [])) (HasNotedAndTold (Update row) Updated (λ ws. (ws ++ End n ∷ []) ++ Begin w.place ∷ []))
-                (told_two (Update row) Updated (End n) (Begin w.place))
-                (own_changed (after_register_all w.roomy t (option_to_list found.depends_on)) w.noted t.0 (IsNoted (End n)) w.end')
-                put_told
+            told : IsOwnChanged (after_register_all w.recorded.roomy t (option_to_list found.depends_on)) table t.0 (HasDoneMore (Update row) Updated (End n ∷ Begin w.place ∷ []))
+            told = own_changed (after_register_all w.recorded.roomy t (option_to_list found.depends_on)) table t.0 (HasDoneMore (Update row) Updated (End n ∷ Begin w.place ∷ [])) w.recorded.done
 
             abbrev Claim : ℕ → Type 0
-            Claim i = (shown_to (state_of w.roomy) i i (versions_at c.versions.slots c.versions.lists row.key)).version ≡ Some n → cause_at (state_of w.roomy) c.versions.slots i (Some n) ≡ None
+            Claim i = (shown_to (state_of w.recorded.roomy) i i (versions_at c.versions.slots c.versions.lists row.key)).version ≡ Some n → cause_at (state_of w.recorded.roomy) c.versions.slots i (Some n) ≡ None
                 → IsPut c.versions w.between row i w.place → IsReworded w.between versions n (ended_by i)
-                → IsOwnChanged (after_register_all w.roomy (tx_id i) (option_to_list found.depends_on)) table i (HasNotedAndTold (Update row) Updated (λ ws. (ws ++ End n ∷ []) ++ Begin w.place ∷ []))
+                → IsOwnChanged (after_register_all w.recorded.roomy (tx_id i) (option_to_list found.depends_on)) table i (HasDoneMore (Update row) Updated (End n ∷ Begin w.place ∷ []))
                 → why_not_do s i (Update row) ≡ None
-                → IsAnswered s (record c { table = w.roomy }) (tx_id i) here.tx (Update row) (option_to_list found.depends_on) versions table
+                → IsAnswered s (record c { table = w.recorded.roomy }) (tx_id i) here.tx (Update row) (option_to_list found.depends_on) versions table
 
             claim : Claim here.tx.id
-            claim e' free' p' w' told' may' = updated opening steps s (record c { table = w.roomy }) stands here.tx mine row.key n e' free' row refl w.place w.between versions p'
+            claim e' free' p' w' told' may' = updated opening steps s (record c { table = w.recorded.roomy }) stands here.tx mine row.key n e' free' row refl w.place w.between versions p'
                 (w.indexed (record { numbers = h.versions.numbers; order = h.versions.order })) w' (option_to_list found.depends_on) table told' on may'
 
             pub updated_leads : LeadsOn opening steps s (Do t.0 (Update row)) Accepted (record c { versions = versions; table = table })
-            updated_leads = answer_leads opening steps s (record c { table = w.roomy }) stands t here.tx (Update row) (option_to_list found.depends_on) versions table
+            updated_leads = answer_leads opening steps s (record c { table = w.recorded.roomy }) stands t here.tx (Update row) (option_to_list found.depends_on) versions table
                 (subst Claim id claim
                 (subst (λ (st : States). (shown_to st t.0 t.0 (versions_at c.versions.slots c.versions.lists row.key)).version ≡ Some n) states (ap (λ (x : Shown). x.version) (sym shown) ∙ e))
                 (subst (λ (st : States). cause_at st c.versions.slots t.0 (Some n) ≡ None) states (ap (cause_at (state_of c.table) c.versions.slots t.0) (sym e) ∙ free))

@@ -46,7 +46,7 @@ use Rattle.mvo_core.specs.Collecting.{is_open_end, is_open_end_at, counted_off}
 use Rattle.mvo_core.specs.Ending.{IsRemoved, IsReplaced}
 use Rattle.mvo_core.specs.Finishing.{IsFinalWord, HasPassed, from_own, IsFirstReplaced, IsNextReplaced}
 use Rattle.mvo_core.specs.Inserting.{IsInserted}
-use Rattle.mvo_core.specs.Keeping.{IsWritten, HasDoneAsMuch, HasMadeRoom, IsTold, IsNoted, HasDropped, IsRecorded}
+use Rattle.mvo_core.specs.Keeping.{IsWritten, HasDoneAsMuch, HasMadeRoom, HasDoneMore, IsTold, HasDropped, IsRecorded, IsRecordedWith}
 use Rattle.mvo_core.specs.Looking.{HasSameVersions}
 use Rattle.mvo_core.specs.Standing.{words_in}
 use Rattle.mvo_core.proofs.BesideWords.{list_written, list_was}
@@ -109,6 +109,11 @@ pub alike_recorded : (old new : Txns (Node Transaction)) (t : TxId) (ids : List 
 alike_recorded old new t ids op answer w =
     alike_twice old w.roomy new (alike_written old w.roomy t.0 HasMadeRoom w.room)
     (alike_twice w.roomy (after_register_all w.roomy t ids) new (alike_registered w.roomy t ids) (alike_written (after_register_all w.roomy t ids) new t.0 (IsTold op answer) w.told))
+
+pub alike_recorded_with : (old new : Txns (Node Transaction)) (t : TxId) (ids : List TxId) (op : Op) (answer : AnswerData) (put : List WordPlace) → IsRecordedWith old new t ids op answer put → AreAlike old new
+alike_recorded_with old new t ids op answer put w =
+    alike_twice old w.roomy new (alike_written old w.roomy t.0 HasMadeRoom w.room)
+    (alike_twice w.roomy (after_register_all w.roomy t ids) new (alike_registered w.roomy t ids) (alike_written (after_register_all w.roomy t ids) new t.0 (HasDoneMore op answer put) w.done))
 
 pub waits_alike : (old new : Txns (Node Transaction)) (slots : Slots) (w : WaitingData) → AreAlike old new → AreWaiting old.clock (state_of old) slots w → AreWaiting new.clock (state_of new) slots w
 waits_alike old new slots w a h = table_keeps_waiting old.clock new.clock (state_of old) (state_of new) slots w (let c = a.clock in omega (arith, c))
@@ -186,10 +191,7 @@ module _ (old new : VersionsData) (table after : Txns (Node Transaction)) (t : T
       → AreWaiting table.clock (state_of table) old.slots w → AreWaiting after.clock (state_of after) new.slots last
   waits_inserted row last p is h =
       waits_alike table after new.slots last
-      (alike_twice table p.roomy after (alike_written table p.roomy t.0 HasMadeRoom p.room)
-      (alike_twice p.roomy (after_register_all p.roomy t ids) after (alike_registered p.roomy t ids)
-      (alike_twice (after_register_all p.roomy t ids) p.noted after (alike_written (after_register_all p.roomy t ids) p.noted t.0 (IsNoted (Begin p.number)) p.word)
-      (alike_written p.noted after t.0 (IsTold _ _) p.told))))
+      (alike_recorded_with table after t ids _ _ _ p.recorded)
       (waits_put table.clock (state_of table) old new row t.0 p.number roomy last p.put is (waits_roomy table.clock (state_of table) old.slots w roomy roomy.room room h))
 
   -- ---- a delete
@@ -198,10 +200,7 @@ module _ (old new : VersionsData) (table after : Txns (Node Transaction)) (t : T
       → AreWaiting table.clock (state_of table) old.slots w → AreWaiting after.clock (state_of after) new.slots last
   waits_removed n key b last active there p test is h =
       waits_alike table after new.slots last
-      (alike_twice table p.roomy after (alike_written table p.roomy t.0 HasMadeRoom p.room)
-      (alike_twice p.roomy (after_register_all p.roomy t ids) after (alike_registered p.roomy t ids)
-      (alike_twice (after_register_all p.roomy t ids) p.noted after (alike_written (after_register_all p.roomy t ids) p.noted t.0 (IsNoted (End n)) p.word)
-      (alike_written p.noted after t.0 (IsTold _ _) p.told))))
+      (alike_recorded_with table after t ids _ _ _ p.recorded)
       (waits_ended table.clock (state_of table) old new t.0 n b roomy last active there p.ended test is (waits_roomy table.clock (state_of table) old.slots w roomy roomy.room room h))
 
   -- ---- an update
@@ -221,11 +220,7 @@ module _ (old new : VersionsData) (table after : Txns (Node Transaction)) (t : T
   waits_replaced n row b owed last active there p test one is h =
       let same = still_there p.between row p.place n p.put there in
       waits_alike table after new.slots last
-      (alike_twice table p.roomy after (alike_written table p.roomy t.0 HasMadeRoom p.room)
-      (alike_twice p.roomy (after_register_all p.roomy t ids) after (alike_registered p.roomy t ids)
-      (alike_twice (after_register_all p.roomy t ids) p.noted after (alike_written (after_register_all p.roomy t ids) p.noted t.0 (IsNoted (End n)) p.end')
-      (alike_twice p.noted p.both after (alike_written p.noted p.both t.0 (IsNoted (Begin p.place)) p.begin)
-      (alike_written p.both after t.0 (IsTold _ _) p.told)))))
+      (alike_recorded_with table after t ids _ _ _ p.recorded)
       (waits_ended table.clock (state_of table) p.between new t.0 n b owed last active (subst IsSome (sym same) there) p.ended (test ∙ ap is_open_end (sym same)) is
       (waits_put table.clock (state_of table) old p.between row t.0 p.place roomy owed p.put one (waits_roomy table.clock (state_of table) old.slots w roomy roomy.room room h)))
 

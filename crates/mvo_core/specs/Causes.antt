@@ -9,6 +9,7 @@ use Rattle.mvo_types.specs.RowData.{RowData}
 use Rattle.mvo_types.specs.declared.entry.Entry.{Entry}
 use Rattle.mvo_types.specs.declared.entry.Entry.TheVariants.{Key}
 use Rattle.mvo_types.specs.Causes.{when, first_cause}
+use Rattle.mvo_model.specs.History.{History}
 use Rattle.mvo_theory.specs.Causes.{is_entry_too_many, is_write_too_many}
 use Rattle.mvo_txn.specs.declared.state.TxState.{TxState}
 use Rattle.mvo_txn.specs.declared.state.TxState.TheVariants.{Active, Preparing, Committed, Aborted}
@@ -72,6 +73,13 @@ why_not_look table t of e = first_cause (
     why_not_active table t
     ∷ when (nat_lt MAX_TABLE of) BadTable
     ∷ when (is_entry_over table t e) TooManyReads
+    ∷ [])
+
+-- of one with these operations, what is over first if it looks at the key and writes it
+abbrev pub why_not_write : History → RowKey → Option Refusal
+why_not_write ts k = first_cause (
+    when (is_entry_too_many ts (Key k)) TooManyReads
+    ∷ when (is_write_too_many ts k) TooManyWrites
     ∷ [])
 
 abbrev pub why_not_put : Txns (Node Transaction) → ℕ → RowData → Option Refusal

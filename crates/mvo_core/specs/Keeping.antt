@@ -51,12 +51,11 @@ pub record IsTold (op : Op) (answer : AnswerData) (old new : Transaction) : Type
   pub checked : new.checked ≡ old.checked
   pub valid : new.valid ≡ old.valid
 
--- it has put one word more
-pub record IsNoted (word : WordPlace) (old new : Transaction) : Type 0 where
-  pub history : new.work.history ≡ old.work.history
-  pub words : new.work.words ≡ old.work.words ++ word ∷ []
-  pub room : new.work.room ≡ old.work.room
-  pub word_room : new.work.word_room + 1 ≡ old.work.word_room
+-- it has done one operation more, which put these words
+pub record HasDoneMore (op : Op) (answer : AnswerData) (put : List WordPlace)
+    (old new : Transaction) : Type 0 where
+  pub history : new.work.history ≡ old.work.history ++ (op, answer) ∷ []
+  pub words : new.work.words ≡ old.work.words ++ put
   pub place : new.place ≡ old.place
   pub checked : new.checked ≡ old.checked
   pub valid : new.valid ≡ old.valid
@@ -98,3 +97,10 @@ pub record IsRecorded (old new : Txns (Node Transaction)) (t : TxId) (ids : List
   pub roomy : Txns (Node Transaction)
   pub room : IsWritten old roomy t.0 HasMadeRoom
   pub told : IsWritten (after_register_all roomy t ids) new t.0 (IsTold op answer)
+
+-- the same of an operation that put these words
+pub record IsRecordedWith (old new : Txns (Node Transaction)) (t : TxId) (ids : List TxId) (op : Op)
+    (answer : AnswerData) (put : List WordPlace) : Type 0 where
+  pub roomy : Txns (Node Transaction)
+  pub room : IsWritten old roomy t.0 HasMadeRoom
+  pub done : IsWritten (after_register_all roomy t ids) new t.0 (HasDoneMore op answer put)

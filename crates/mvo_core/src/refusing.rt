@@ -3,7 +3,7 @@ ghost use Rattle.std.specs.Prelude.{◌≡◌, Some, length};
 ghost use Rattle.mvo_theory.specs.Causes.{is_failure};
 ghost use Rattle.mvo_core.specs.Causes.{why_not_active, why_not_look};
 ghost use Rattle.mvo_core.specs.Causes.{why_not_put, why_not_remove, why_not_undo};
-ghost use Rattle.mvo_core.specs.Causes.{flag_refusal, is_entry_over, is_write_over};
+ghost use Rattle.mvo_core.specs.Causes.{why_not_write, flag_refusal};
 ghost use Rattle.mvo_core.specs.Causes.{unless_active_as, unless_preparing_as};
 ghost use Rattle.mvo_core.specs.Standing.{words_in};
 ghost use Rattle.mvo_txn.specs.Txns.{state_of};
@@ -12,6 +12,7 @@ use crate::transaction::{Table, Transaction};
 use mvo_deps::{Dependencies, Node};
 use mvo_txn::{Seat, TxState};
 use mvo_types::{Entry, MAX_DATA_LEN, MAX_TABLE, Refusal, Row, RowKey, TxId};
+use mvo_work::Work;
 
 /// The refusal by the flag, if it is set.
 fn flagged(dependencies: &Dependencies) -> Option<Refusal>
@@ -23,17 +24,7 @@ fn flagged(dependencies: &Dependencies) -> Option<Refusal>
     }
 }
 
-/// Why the transaction may not be called as an Active one.
-pub fn not_active(table: &Table, tx: TxId) -> Option<Refusal>
-    ensures { result ≡ why_not_active table.now tx.0 }
-{
-    let Some(seat) = table.get(tx) else {
-        return Some(Refusal::NoSuchTransaction);
-    };
-    not_active_in(seat)
-}
-
-/// The same of one that is unfinished.
+/// Why one that is unfinished may not be called as an Active one.
 fn not_active_in(seat: &Seat<Node<Transaction>>) -> Option<Refusal>
     ensures { result ≡
         unless_active_as (Some seat.now.state) seat.now.kept.dependencies.aborted }
@@ -83,26 +74,6 @@ pub fn not_undone(table: &Table, tx: TxId) -> Option<Refusal>
     }
 }
 
-/// Whether one more entry is too many for the transaction.
-fn is_entry_too_many(table: &Table, tx: TxId, entry: Entry) -> bool
-    ensures { result ≡ is_entry_over table.now tx.0 entry }
-{
-    match table.get(tx) {
-        Some(seat) => seat.kept.own.work.is_entry_too_many(entry),
-        None => false,
-    }
-}
-
-/// Whether one more key is too many for the transaction to write.
-fn is_write_too_many(table: &Table, tx: TxId, key: RowKey) -> bool
-    ensures { result ≡ is_write_over table.now tx.0 key }
-{
-    match table.get(tx) {
-        Some(seat) => seat.kept.own.work.is_write_too_many(key),
-        None => false,
-    }
-}
-
 /// Why the transaction may not look at the entry, which is of this table.
 #[inline(always)]
 pub fn not_looked(table: &Table, tx: TxId, of: u8, entry: Entry) -> Option<Refusal>
@@ -123,40 +94,54 @@ pub fn not_looked(table: &Table, tx: TxId, of: u8, entry: Entry) -> Option<Refus
     None
 }
 
+/// Why one that has done this work may not look at the key and write it.
+#[inline(always)]
+fn not_written(work: &Work, key: RowKey) -> Option<Refusal>
+    ensures { result ≡ why_not_write work.now.history key }
+{
+    if work.is_entry_too_many(Entry::Key(key)) {
+        return Some(Refusal::TooManyReads);
+    }
+    if work.is_write_too_many(key) {
+        return Some(Refusal::TooManyWrites);
+    }
+    None
+}
+
 /// Why the transaction may not put the row, before it is looked who stands in the way.
 pub fn not_put(table: &Table, tx: TxId, row: &Row) -> Option<Refusal>
     ensures { result ≡ why_not_put table.now tx.0 row.now }
 {
-    let key = row.row_key();
-    if let Some(refusal) = not_active(table, tx) {
+    let Some(seat) = table.get(tx) else {
+        return Some(Refusal::NoSuchTransaction);
+    };
+    if let Some(refusal) = not_active_in(seat) {
         return Some(refusal);
     }
+    let key = row.row_key();
     if key.table > MAX_TABLE {
         return Some(Refusal::BadTable);
     }
     if row.data_len() > MAX_DATA_LEN {
         return Some(Refusal::DataTooLong);
     }
-    if is_entry_too_many(table, tx, Entry::Key(key)) {
-        return Some(Refusal::TooManyReads);
-    }
-    if is_write_too_many(table, tx, key) {
-        return Some(Refusal::TooManyWrites);
-    }
-    None
+    not_written(&seat.kept.own.work, key)
 }
 
 /// Why the transaction may not remove the key's row, before it is looked who stands in the way.
 pub fn not_removed(table: &Table, tx: TxId, key: RowKey) -> Option<Refusal>
     ensures { result ≡ why_not_remove table.now tx.0 key }
 {
-    if let Some(refusal) = not_looked(table, tx, key.table, Entry::Key(key)) {
+    let Some(seat) = table.get(tx) else {
+        return Some(Refusal::NoSuchTransaction);
+    };
+    if let Some(refusal) = not_active_in(seat) {
         return Some(refusal);
     }
-    if is_write_too_many(table, tx, key) {
-        return Some(Refusal::TooManyWrites);
+    if key.table > MAX_TABLE {
+        return Some(Refusal::BadTable);
     }
-    None
+    not_written(&seat.kept.own.work, key)
 }
 
 /// Whether the transaction is Aborted by the refusal.

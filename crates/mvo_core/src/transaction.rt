@@ -5,7 +5,7 @@ use crate::answers::Validation;
 use mvo_deps::{Dependencies, Node};
 use mvo_txn::TxnTable;
 use mvo_types::{Answer, Op};
-use mvo_work::Work;
+use mvo_work::{WordPlace, Work};
 use std::alloc::{AllocError, Global};
 
 /// The unfinished transactions.
@@ -25,11 +25,14 @@ pub struct Transaction {
 }
 
 impl Transaction {
-    ghost use Rattle.std.specs.Prelude.{◌≡◌, OnOk, OnErr};
+    ghost use Rattle.std.specs.Prelude.{◌≡◌, ◌∷◌, OnOk, OnErr};
+    ghost use Rattle.std.specs.Option.{option_to_list};
     ghost use Rattle.mvo_types.specs.AnswerData.{answer_data};
     ghost use Rattle.mvo_work.specs.Limits.{MayFollow};
+    ghost use Rattle.mvo_work.specs.Work.{HasRoom};
     ghost use Rattle.mvo_core.specs.Own.{is_last_check, checked_as};
-    ghost use Rattle.mvo_core.specs.Keeping.{IsPlaced, IsCounted, IsTold, HasDoneAsMuch};
+    ghost use Rattle.mvo_core.specs.Keeping.{IsPlaced, IsCounted, IsTold};
+    ghost use Rattle.mvo_core.specs.Keeping.{HasDoneAsMuch, HasDoneMore};
 
     /// It has this place in the tale, and none of its entries is checked yet.
     pub fn keep_place(&mut self, place: usize)
@@ -49,6 +52,31 @@ impl Transaction {
     {
         self.work.make_room()?;
         self.work.tell(op, answer);
+        Ok(())
+    }
+
+    /// It is told the answer to a write that put this word, and the other, if there is one; or there
+    /// is no more of it than before. Where there is room it isn't refused.
+    #[inline(always)]
+    pub fn write(
+        &mut self,
+        op: Op,
+        answer: Answer,
+        word: WordPlace,
+        other: Option<WordPlace>,
+    ) -> Result<(), AllocError>
+        requires { MayFollow self.old.work.history op (answer_data answer) }
+        ensures ok { OnOk result (HasDoneMore op (answer_data answer)
+            (word ∷ option_to_list other) self.old self.new) }
+        ensures err { OnErr result (HasDoneAsMuch self.old self.new) }
+        ensures room { OnErr result (¬ HasRoom self.old.work) }
+    {
+        self.work.make_room()?;
+        self.work.tell(op, answer);
+        self.work.push_word(word);
+        if let Some(other) = other {
+            self.work.push_word(other);
+        }
         Ok(())
     }
 

@@ -244,3 +244,50 @@ fn entries_stand_in_the_order_of_their_first_use(rt: HostRuntime) -> Result<(), 
     let mut entries = Entries::new(rt.alloc());
     check_entries(&rt, &mut entries)
 }
+
+/// Notes a key, and sees whether it is a new one.
+fn note_key(rt: &impl Abort, entries: &mut Entries, key: u64, is_new: bool) -> Result<(), Fail> {
+    entries.make_room()?;
+    same_at(rt, &entries.note(Entry::Key(key_of(key))), &is_new, key);
+    Ok(())
+}
+
+/// Notes the keys from 20 to 39 as they rise, those from 19 to 0 as they fall, and all once more.
+fn note_many(rt: &impl Abort, entries: &mut Entries) -> Result<(), Fail> {
+    for key in 20..40 {
+        note_key(rt, entries, key, true)?;
+    }
+    for key in (0..20).rev() {
+        note_key(rt, entries, key, true)?;
+    }
+    for key in 0..40 {
+        note_key(rt, entries, key, false)?;
+    }
+    Ok(())
+}
+
+/// Places, and the keys that stand there.
+const MANY: [(usize, u64); 6] = [(0, 20), (15, 35), (16, 36), (19, 39), (20, 19), (39, 0)];
+
+fn many_stand_in_order(rt: &impl Abort, entries: &Entries) {
+    same(rt, &entries.len(), &40);
+    for (place, key) in MANY.iter() {
+        same_at(
+            rt,
+            &entries.at(*place),
+            &Some(Entry::Key(key_of(*key))),
+            *key,
+        );
+    }
+}
+
+#[test]
+fn many_keys_are_noted_once_in_each_order(rt: HostRuntime) -> Result<(), Fail> {
+    let mut entries = Entries::new(rt.alloc());
+    note_many(&rt, &mut entries)?;
+    many_stand_in_order(&rt, &entries);
+    entries.clear();
+    note_many(&rt, &mut entries)?;
+    many_stand_in_order(&rt, &entries);
+    Ok(())
+}

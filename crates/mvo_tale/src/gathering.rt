@@ -1,4 +1,4 @@
-ghost use Rattle.std.specs.Prelude.{◌≡◌, true, MatchBool, IfOk, []};
+ghost use Rattle.std.specs.Prelude.{◌≡◌, ◌+◌, ◌++◌, ◌∷◌, true, MatchBool, IfOk, OnOk, OnErr, [], length};
 ghost use Rattle.mvo_theory.specs.Groups.{is_writing};
 ghost use Rattle.mvo_tale.specs.Stored.{commit_of};
 ghost use Rattle.mvo_tale.specs.Walk.{AreFitting, IsOneMore, IsTooMuch, end_behind};
@@ -10,6 +10,9 @@ use mvo_group::{BODY_HEADER_LEN, Record};
 use mvo_types::{MAX_BODY_LEN, MAX_RECORDS, Stamp};
 use std::alloc::{AllocError, Global};
 use std::marker::Model;
+
+// So many records fit into the memory that is taken at first: to grow the list costs more.
+const FIRST: usize = 16;
 
 /// The records of a group, so far. Contracts see them.
 #[derive(Drop)]
@@ -60,7 +63,7 @@ impl Gathering {
         if len > MAX_BODY_LEN {
             return Ok(false);
         }
-        self.records.push(record)?;
+        push(&mut self.records, record)?;
         self.len = len;
         Ok(true)
     }
@@ -90,6 +93,19 @@ impl Gathering {
         let mark = last_end(&self.records, prev);
         self.up_to(mark, next)
     }
+}
+
+/// Adds a record. The first one takes memory for several.
+fn push(records: &mut Vec<Record>, next: Record) -> Result<(), AllocError>
+    ensures items { OnOk result (records.new.items ≡ records.old.items ++ next ∷ []) }
+    ensures len { OnOk result (length records.new.items ≡ length records.old.items + 1) }
+    ensures err { OnErr result (records.new.items ≡ records.old.items) }
+{
+    if records.capacity() == 0 {
+        records.reserve_exact(FIRST)?;
+    }
+    records.push(next)?;
+    Ok(())
 }
 
 /// The end of the last record, or prev where there are none.

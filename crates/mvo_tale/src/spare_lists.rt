@@ -6,7 +6,7 @@ use std::marker::Model;
 const MOST: usize = 64;
 
 // A list with room for more operations than this isn't kept.
-const FEW: usize = 64;
+const FEW: usize = 128;
 
 /// The emptied lists of operations of commits that are forgotten, for transactions that begin:
 /// without them each commit would take a new list with it. No more than `MOST` are kept.

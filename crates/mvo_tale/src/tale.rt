@@ -19,7 +19,7 @@ use std::marker::Model;
 /// Places keep their numbers. Of those at the front from which nothing is stored any more there is
 /// only the number, how many they are: contracts see them as empty. The lists of operations of the
 /// commits that are forgotten are kept for transactions that begin: at most 64 of them, each with
-/// room for at most 64 operations. Contracts don't see them.
+/// room for at most 128 operations. Contracts don't see them.
 pub struct Tale {
     slots: Queue<Slot>,
     /// How many places at the front are gone.

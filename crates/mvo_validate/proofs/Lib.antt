@@ -1,1 +1,2 @@
 pub mod Windows
+mod Keys

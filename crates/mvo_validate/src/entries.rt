@@ -1,6 +1,7 @@
 ghost use Rattle.std.specs.Prelude.{◌≡◌, ◌<◌, ◌≤◌, ◌+◌, [], not, OnOk, OnErr, length, slice_get};
 ghost use Rattle.indexmap.specs.IndexSet.{spare};
 ghost use Rattle.mvo_types.specs.Entries.{has_entry, with_entry};
+ghost use Rattle.mvo_validate.specs.Noted.{HasNoKeyAbove, key_above, with_key};
 
 use indexmap::IndexSet;
 use mvo_types::Entry;
@@ -11,7 +12,7 @@ use std::marker::Model;
 const FEW: usize = 16;
 
 // The memory of more entries than this isn't kept for another transaction.
-const KEPT: usize = 64;
+const KEPT: usize = 128;
 
 /// The entries of a transaction, in the order in which they were first noted, without repeats.
 /// Contracts see that list, and the room: at least so many more can be noted without memory.
@@ -19,6 +20,8 @@ const KEPT: usize = 64;
 pub struct Entries {
     // The first ones.
     few: Vec<Entry>,
+    // No key among them has a number above this, so a key that has is sought no further there.
+    greatest: u64,
     // Those behind them.
     set: IndexSet<Entry>,
 }
@@ -26,7 +29,8 @@ pub struct Entries {
 impl Model for Entries {
     ghost use Rattle.std.specs.Prelude.{◌++◌, vec_len, vec_capacity};
     ghost use Rattle.indexmap.specs.IndexSet.{spare};
-    ghost use Rattle.mvo_validate.specs.Noted.{EntriesData, FewComeFirst, entry_room};
+    ghost use Rattle.mvo_validate.specs.Noted.{EntriesData, FewComeFirst, HasNoKeyAbove};
+    ghost use Rattle.mvo_validate.specs.Noted.{entry_room};
 
     ghost Value = { EntriesData };
 
@@ -35,7 +39,8 @@ impl Model for Entries {
       room = entry_room (vec_len e.few) (vec_capacity e.few) (spare e.set);
     } };
 
-    ghost invariant = { λ e. FewComeFirst e.few.items e.set.keys };
+    ghost invariant = { λ e. FewComeFirst e.few.items e.set.keys ×
+        HasNoKeyAbove e.greatest e.few.items };
 }
 
 impl Entries {
@@ -45,6 +50,7 @@ impl Entries {
     {
         Entries {
             few: Vec::new(alloc),
+            greatest: 0,
             set: IndexSet::new(alloc),
         }
     }
@@ -86,10 +92,11 @@ impl Entries {
         ensures fresh { result ≡ not (has_entry self.old.noted entry) }
         ensures room { self.old.room ≤ self.new.room + 1 }
     {
-        if is_among(&self.few, entry) {
+        if is_among_few(&self.few, self.greatest, entry) {
             return false;
         }
         if self.few.len() < FEW {
+            self.greatest = greatest_with(self.greatest, entry);
             self.few.push(entry).unwrap();
             return true;
         }
@@ -102,6 +109,7 @@ impl Entries {
         ensures { self.new.noted ≡ [] }
     {
         self.few.clear();
+        self.greatest = 0;
         if self.set.len() > KEPT {
             self.set = IndexSet::new(*self.set.allocator());
         } else if !self.set.is_empty() {
@@ -126,6 +134,40 @@ fn is_among(few: &[Entry], entry: Entry) -> bool
     ensures { result ≡ has_entry few.now entry }
 {
     few.contains(&entry)
+}
+
+/// Whether the entry is among these, of whose keys none has a number above the greatest.
+#[inline(always)]
+fn is_among_few(few: &[Entry], greatest: u64, entry: Entry) -> bool
+    requires { HasNoKeyAbove greatest few.now }
+    ensures { result ≡ has_entry few.now entry }
+{
+    if is_key_above(greatest, entry) {
+        return false;
+    }
+    is_among(few, entry)
+}
+
+/// Whether the entry is a key with a number above this.
+#[inline(always)]
+fn is_key_above(number: u64, entry: Entry) -> bool
+    ensures { result ≡ key_above number entry }
+{
+    match entry {
+        Entry::Key(key) => number < key.key,
+        Entry::Range(_, _, _) => false,
+    }
+}
+
+/// The greatest number, where the entry comes to those that had this one.
+#[inline(always)]
+fn greatest_with(greatest: u64, entry: Entry) -> u64
+    ensures { result ≡ with_key greatest entry }
+{
+    match entry {
+        Entry::Key(key) => greatest.max(key.key),
+        Entry::Range(_, _, _) => greatest,
+    }
 }
 
 /// Notes an entry in a set that has room, and answers whether it is a new one.

@@ -1,5 +1,5 @@
 -- What the entries of the ordered index are where a run comes or goes.
-use Rattle.std.proofs.Common.{◌≡◌, ℕ, ◌+◌, ◌-◌, suc, zero, Bool, true, false, cond, not, ◌||◌, Option, None, Some, refl, sym, ap, ◌∙◌, arith}
+use Rattle.std.proofs.Common.{◌≡◌, ℕ, ◌+◌, ◌-◌, suc, zero, Bool, true, false, cond, not, ◌||◌, Option, None, Some, IsSome, refl, sym, ap, ◌∙◌, subst, arith}
 use Rattle.std.specs.Prelude.{◌&&◌, slice_index_or}
 use Rattle.std.specs.Option.{option_map}
 use Rattle.std.specs.Ordering.{eq_by_cmp}
@@ -59,6 +59,27 @@ less_has places f p h q = counted places f p (count_at places p - 1) q h ∙ ap 
 pub entered_has : (joins : Bool) (places : Places) (f : Place → ℕ) (p : Place) → Has places f → Has (entered joins places p) (λ q. f q + cond joins 0 (one (same q p)))
 entered_has true places f p h q = h q ∙ ap entry_of (omega arith)
 entered_has false places f p h q = more_has places f p h q
+
+-- a place that a number was put at has an entry
+pub has_put : (places : Places) (p : Place) (n : ℕ) → IsSome (fin.get (fin.insert places p n) p)
+has_put places p n = subst (λ o. IsSome o) (sym (fin.get-insert places_total places p n p ∙ ap (λ b. cond b (Some n) (fin.get places p)) ((eq_by_cmp_equiv places_total).refl p))) refl
+
+-- a number that is put at a place stands for the one that was put there before
+pub put_twice : (places : Places) (p : Place) (n m : ℕ) → fin.insert (fin.insert places p n) p m ≡ fin.insert places p m
+put_twice places p n m = fin.same_map places_total exact_places _ _ (λ q. fin.get-insert places_total (fin.insert places p n) p m q ∙ go q (same q p) (fin.get-insert places_total places p n q) ∙ sym (fin.get-insert places_total places p m q))
+  where
+    go : (q : Place) (b : Bool) → fin.get (fin.insert places p n) q ≡ cond b (Some n) (fin.get places q) → cond b (Some m) (fin.get (fin.insert places p n) q) ≡ cond b (Some m) (fin.get places q)
+    go q true e = refl
+    go q false e = e
+
+-- a run is counted at a place that has an entry
+pub counted_up : (places : Places) (p : Place) (runs : ℕ) → fin.get places p ≡ Some runs → fin.insert (fin.insert places p 1) p (runs + 1) ≡ one_more places p
+counted_up places p runs e =
+    put_twice places p 1 (runs + 1)
+    ∙ sym (ap (λ o. with_count places p (or_none o + 1)) e ∙ at_least_one runs)
+  where
+    at_least_one : (n : ℕ) → with_count places p (n + 1) ≡ fin.insert places p (n + 1)
+    at_least_one n = let next : suc n ≡ n + 1 = omega arith in subst (λ m. with_count places p m ≡ fin.insert places p m) next refl
 
 -- places with the same entries are the same
 pub same_entries : (old new : Places) (f g : Place → ℕ) → Has old f → Has new g → ((q : Place) → g q ≡ f q) → new ≡ old

@@ -57,9 +57,18 @@ pub fn enter(order: &mut RangeIndex, place: Place, joins: bool) -> Result<(), Al
     if joins {
         return Ok(());
     }
-    let runs = order.get(place).unwrap_or(0);
-    order.add(place, runs + 1)?;
+    if let Some(runs) = order.add(place, 1)? {
+        set_count(order, place, runs + 1);
+    }
     Ok(())
+}
+
+/// Replaces the number of runs at a place that has an entry, which takes no memory.
+fn set_count(order: &mut RangeIndex, place: Place, runs: u32)
+    requires { IsSome (map.get order.old place) }
+    ensures { order.new ≡ map.insert order.old place runs }
+{
+    let _ = order.add(place, runs);
 }
 
 /// Takes back what `enter` did.
@@ -96,9 +105,7 @@ fn count_down(order: &mut RangeIndex, place: Place)
     ensures { order.new ≡ one_less order.old place }
 {
     match order.get(place) {
-        Some(runs) if runs > 1 => {
-            let _ = order.add(place, runs - 1);
-        }
+        Some(runs) if runs > 1 => set_count(order, place, runs - 1),
         _ => {
             order.remove(place);
         }

@@ -6,7 +6,10 @@ use std::collections::VecDeque;
 use std::mem;
 
 // The memory of more items than this isn't kept for another transaction.
-const FEW: usize = 64;
+const FEW: usize = 128;
+
+// So many items fit into the memory that a list takes at first which isn't kept.
+const SEVERAL: usize = 4;
 
 // Room for more items than this, behind those that are stored, is given back.
 const SPARE: usize = 8;
@@ -20,6 +23,19 @@ pub fn reserve_one<T: Drop>(items: &mut Vec<T>) -> Result<(), AllocError>
 {
     if items.is_empty() {
         return items.reserve_exact(1);
+    }
+    items.reserve(1)
+}
+
+/// Sees to it that there is room for one item more. The first one takes memory for `SEVERAL`, since
+/// to grow a list that isn't kept costs more than that.
+pub fn reserve_few<T: Drop>(items: &mut Vec<T>) -> Result<(), AllocError>
+    ensures same { items.new.items ≡ items.old.items }
+    ensures ok { OnOk result (vec_len items.new < vec_capacity items.new) }
+    ensures err { OnErr result (vec_capacity items.old ≤ vec_len items.old) }
+{
+    if items.capacity() == 0 {
+        return items.reserve_exact(SEVERAL);
     }
     items.reserve(1)
 }

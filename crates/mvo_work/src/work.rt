@@ -9,7 +9,7 @@ ghost use Rattle.mvo_work.specs.Limits.{MayFollow};
 ghost use Rattle.mvo_work.specs.Work.{HasRoom};
 
 use crate::lists::Lists;
-use crate::memory::{clear_items, clear_words, reserve_one, take_items};
+use crate::memory::{clear_items, clear_words, reserve_few, reserve_one, take_items};
 use crate::operations::Operations;
 use crate::told::{entry_of, is_among, key_written, note_write, push_reserved};
 use crate::word_place::WordPlace;
@@ -136,7 +136,7 @@ impl Work {
     {
         reserve_one(&mut self.lists.operations)?;
         self.lists.looked_at.make_room()?;
-        reserve_one(&mut self.lists.written)?;
+        reserve_few(&mut self.lists.written)?;
         self.lists.words.reserve(2)
     }
 

@@ -1,72 +1,49 @@
-use Rattle.std.proofs.Common.{subst, arith}
-use Rattle.std.specs.Option.{option_to_list}
-use Rattle.mvo_types.specs.declared.op.Op.TheVariants.{Update}
-use Rattle.mvo_types.specs.AnswerData.AnswerData.{Updated}
-use Rattle.mvo_work.specs.declared.word_place.WordPlace.TheVariants.{Begin, End}
-use Rattle.mvo_work.specs.Limits.{MayFollow}
-use Rattle.mvo_core.specs.Keeping.{IsNoted, IsWritten}
-use Rattle.mvo_core.proofs.Held.{unfinished_roomy, held_ready, held_there, held_room, held_word_room, held_history, held_noted}
+use Rattle.std.proofs.Common.{refl, ap, inl, subst}
+use Rattle.mvo_types.specs.RowData.{RowData}
+use Rattle.mvo_versions.specs.Changes.{IsPut}
+use Rattle.mvo_hash.specs.Lists.{numbers_of}
+use Rattle.mvo_core.specs.Ending.{IsLeft}
+use Rattle.mvo_core.specs.Keeping.{IsWritten, HasDoneAsMuch}
+use Rattle.mvo_versions.proofs.Putting.{put_there}
+use Rattle.mvo_core.proofs.Alone.{unwritten}
+use Rattle.mvo_core.proofs.TakenBack.{taken_back}
+use Rattle.mvo_core.proofs.Written.{always_err}
 use Rattle.mvo_core.proofs.operating.put_instead.Goals as goal
 
-pub put-requires-clause-there : goal.put-requires-clause-there
-put-requires-clause-there c = unfinished_roomy c.args.table.now c.make_room.new.table c.args.tx c.in_ok-make_room.ensures.ok
+pub take_out-requires : goal.take_out-requires
+take_out-requires c =
+    put_there c.args.versions.now.slots c.put.new.self.slots c.in_ok-place.place _ c.in_ok-place.ensures.ok.hole c.in_ok-place.ensures.ok.slots
 
-pub note_word-requires-clause-there : goal.note_word-requires-clause-there
-note_word-requires-clause-there c =
-    held_there c.args.table.now c.put.new.table c.args.tx.0 2
-    (held_ready c.args.table.now c.make_room.new.table c.args.tx c.in_ok-make_room.ensures.ok (option_to_list c.args.on) c.put.new.table c.in_ok-place.ensures.depends)
+pub returns-in_err-copy-clause-err : goal.returns-in_err-copy-clause-err
+returns-in_err-copy-clause-err c =
+    always_err (IsLeft c.args.versions.now c.args.versions.now c.args.table.now c.args.table.now c.args.tx) c.from_residual.result (record {
+      versions = record { slots = inl refl; numbers = λ k. refl };
+      indexed = λ h. h;
+      own = unwritten c.args.table.now c.args.tx.0 c.requires.there;
+    })
 
-pub note_word-requires-clause-room : goal.note_word-requires-clause-room
-note_word-requires-clause-room c =
-    held_word_room c.args.table.now c.put.new.table c.args.tx.0 2
-    (held_ready c.args.table.now c.make_room.new.table c.args.tx c.in_ok-make_room.ensures.ok (option_to_list c.args.on) c.put.new.table c.in_ok-place.ensures.depends) (omega arith)
+pub returns-in_err-place-clause-err : goal.returns-in_err-place-clause-err
+returns-in_err-place-clause-err c =
+    let same = c.in_err-place.ensures.err in
+    always_err (IsLeft c.args.versions.now c.put.new.self c.args.table.now c.args.table.now c.args.tx) c.from_residual-in_err-place.result (record {
+      versions = record { slots = same.slots; numbers = λ k. ap (λ lists. numbers_of lists k) same.lists };
+      indexed = λ h. c.put.ensures.indexed;
+      own = unwritten c.args.table.now c.args.tx.0 c.requires.there;
+    })
 
-pub note_word-requires-2-clause-there : goal.note_word-requires-2-clause-there
-note_word-requires-2-clause-there c =
-    held_there c.args.table.now c.note_word.new.table c.args.tx.0 1
-    (held_noted c.args.table.now c.put.new.table c.note_word.new.table c.args.tx.0 1 (End c.args.number)
-    (held_ready c.args.table.now c.make_room.new.table c.args.tx c.in_ok-make_room.ensures.ok (option_to_list c.args.on) c.put.new.table c.in_ok-place.ensures.depends) c.note_word.ensures)
-
-pub note_word-requires-2-clause-room : goal.note_word-requires-2-clause-room
-note_word-requires-2-clause-room c =
-    held_word_room c.args.table.now c.note_word.new.table c.args.tx.0 1
-    (held_noted c.args.table.now c.put.new.table c.note_word.new.table c.args.tx.0 1 (End c.args.number)
-    (held_ready c.args.table.now c.make_room.new.table c.args.tx c.in_ok-make_room.ensures.ok (option_to_list c.args.on) c.put.new.table c.in_ok-place.ensures.depends) c.note_word.ensures) (omega arith)
-
-pub tell-requires-clause-there : goal.tell-requires-clause-there
-tell-requires-clause-there c =
-    held_there c.args.table.now c.note_word-2.new.table c.args.tx.0 0
-    (held_noted c.args.table.now c.note_word.new.table c.note_word-2.new.table c.args.tx.0 0 (Begin c.in_ok-place.place)
-    (held_noted c.args.table.now c.put.new.table c.note_word.new.table c.args.tx.0 1 (End c.args.number)
-    (held_ready c.args.table.now c.make_room.new.table c.args.tx c.in_ok-make_room.ensures.ok (option_to_list c.args.on) c.put.new.table c.in_ok-place.ensures.depends) c.note_word.ensures) c.note_word-2.ensures)
-
-pub tell-requires-clause-room : goal.tell-requires-clause-room
-tell-requires-clause-room c =
-    held_room c.args.table.now c.note_word-2.new.table c.args.tx.0 0
-    (held_noted c.args.table.now c.note_word.new.table c.note_word-2.new.table c.args.tx.0 0 (Begin c.in_ok-place.place)
-    (held_noted c.args.table.now c.put.new.table c.note_word.new.table c.args.tx.0 1 (End c.args.number)
-    (held_ready c.args.table.now c.make_room.new.table c.args.tx c.in_ok-make_room.ensures.ok (option_to_list c.args.on) c.put.new.table c.in_ok-place.ensures.depends) c.note_word.ensures) c.note_word-2.ensures)
-
-pub tell-requires-clause-limits : goal.tell-requires-clause-limits
-tell-requires-clause-limits c =
-    held_history c.args.table.now c.note_word-2.new.table c.args.tx.0 0
-    (held_noted c.args.table.now c.note_word.new.table c.note_word-2.new.table c.args.tx.0 0 (Begin c.in_ok-place.place)
-    (held_noted c.args.table.now c.put.new.table c.note_word.new.table c.args.tx.0 1 (End c.args.number)
-    (held_ready c.args.table.now c.make_room.new.table c.args.tx c.in_ok-make_room.ensures.ok (option_to_list c.args.on) c.put.new.table c.in_ok-place.ensures.depends) c.note_word.ensures) c.note_word-2.ensures)
-    (λ ts. MayFollow ts (Update c.args.row) Updated) c.requires.limits
+pub returns-in_default-clause-err : goal.returns-in_default-clause-err
+returns-in_default-clause-err c = record {
+  versions = taken_back c.args.versions.now c.put.new.self c.take_out.new.self _ c.args.tx.0 c.in_ok-place.place c.in_ok-place.ensures.ok c.take_out.ensures.gone;
+  indexed = λ h. c.take_out.ensures.indexed;
+  own = c.in_default.ensures.err;
+}
 
 pub returns-clause-ok : goal.returns-clause-ok
 returns-clause-ok c = record {
-  roomy = c.make_room.new.table;
-  noted = c.note_word.new.table;
-  both = c.note_word-2.new.table;
-  between = c.put.new.versions;
+  between = c.put.new.self;
   place = c.in_ok-place.place;
-  put = c.in_ok-place.ensures.ok;
-  indexed = c.in_ok-place.ensures.indexed;
+  put = subst (λ (row : RowData). IsPut c.args.versions.now c.put.new.self row c.args.tx.0 c.in_ok-place.place) (c.in_ok-copy.ensures) c.in_ok-place.ensures.ok;
+  indexed = λ h. c.put.ensures.indexed;
   ended = c.end.ensures;
-  room = c.in_ok-make_room.ensures.ok;
-  end' = subst (λ table. IsWritten table c.note_word.new.table c.args.tx.0 (IsNoted (End c.args.number))) c.in_ok-place.ensures.depends c.note_word.ensures;
-  begin = c.note_word-2.ensures;
-  told = c.tell.ensures;
+  recorded = c.in-Ok.ensures.ok;
 }

@@ -32,10 +32,10 @@ returns-then-len-gt-MAX_BODY_LEN c =
 
 pub invariant_of-self-2 : goal.invariant_of-self-2
 invariant_of-self-2 c =
-    let pushed : c.push.new.self.items ≡ c.self.inside.records.items ++ c.in_ok-record.record ∷ [] = c.in_ok-push.ensures.items in
+    let pushed : c.push.new.records.items ≡ c.self.inside.records.items ++ c.in_ok-record.record ∷ [] = c.in_ok-push.ensures.items in
     let fitting = c.self.invariant.0 in
     let len = c.self.invariant.1 in
-    let more : sum_by record_len c.push.new.self.items ≡ sum_by record_len c.self.inside.records.items + record_len c.in_ok-record.record = ap (λ (rs : List RecordData). sum_by record_len rs) pushed ∙ sum_by_push record_len c.self.inside.records.items c.in_ok-record.record in
+    let more : sum_by record_len c.push.new.records.items ≡ sum_by record_len c.self.inside.records.items + record_len c.in_ok-record.record = ap (λ (rs : List RecordData). sum_by record_len rs) pushed ∙ sum_by_push record_len c.self.inside.records.items c.in_ok-record.record in
     let count = c.in_ok-push.ensures.len in
     let few = c.if-len-ge-MAX_RECORDS.false in
     let size = c.if-len-gt-MAX_BODY_LEN.false in (
