@@ -23,7 +23,7 @@ use Rattle.mvo_work.specs.declared.word_place.WordPlace.{WordPlace}
 use Rattle.mvo_versions.specs.Data.{VersionsData}
 use Rattle.mvo_core.specs.declared.transaction.Transaction.{Transaction}
 use Rattle.mvo_core.specs.Data.{own_of}
-use Rattle.mvo_core.specs.Standing.{words_by, words_in}
+use Rattle.mvo_core.specs.Standing.{words_in}
 use Rattle.mvo_core.specs.Keeping.{IsWritten, HasDoneAsMuch, HasMadeRoom, HasDoneMore, IsTold, IsRecorded, IsRecordedWith, with_own_at}
 use Rattle.mvo_core.specs.Finishing.{from_own, HasPassed, IsFirstReplaced, IsOneReplaced}
 use Rattle.mvo_core.proofs.NoneLeft.{passed_none}
