@@ -1,5 +1,6 @@
 -- What the check of a transaction's next entry finds among the versions.
-use Rattle.std.specs.Prelude.{ℕ, Option, None, Some}
+use Rattle.std.specs.Prelude.{ℕ, ◌≡◌, true, false, Option, None, Some}
+use Rattle.mvo_types.specs.declared.ids.TxId.{TxId}
 use Rattle.mvo_txn.specs.declared.state.TxState.{TxState}
 use Rattle.mvo_txn.specs.declared.state.TxState.TheVariants.{Active, Preparing, Committed, Aborted}
 use Rattle.mvo_visible.specs.Words.{States}
@@ -8,6 +9,16 @@ use Rattle.mvo_types.specs.declared.entry.Entry.{Entry}
 use Rattle.mvo_validate.specs.Between.{stamp_between}
 use Rattle.mvo_validate.specs.Entries.{versions_in}
 use Rattle.mvo_versions.specs.Data.{VersionsData}
+use Rattle.mvo_visible.specs.Shown.{AllHaveFallingStamps}
+use Rattle.mvo_txn.specs.Txns.{Txns, state_of}
+use Rattle.mvo_deps.specs.declared.node.Node.{Node}
+use Rattle.mvo_core.specs.declared.transaction.Transaction.{Transaction}
+use Rattle.mvo_core.specs.declared.next_check.NextCheck.{NextCheck}
+use Rattle.mvo_core.specs.declared.next_check.NextCheck.TheVariants.{Refused, Valid, Differs, Same}
+use Rattle.mvo_core.specs.Causes.{why_not_preparing}
+use Rattle.mvo_core.specs.Data.{own_of}
+use Rattle.mvo_core.specs.Own.{own_entry}
+use Rattle.mvo_core.specs.Settling.{IsCalled}
 
 -- the greatest stamp of a change to the entry, if there is one, between the begin and the end
 abbrev pub change_between : States → VersionsData → ℕ → ℕ → Option Entry → Option ℕ
@@ -22,3 +33,16 @@ change_for (Some Active) states v t entry = None
 change_for (Some (Preparing end')) states v t entry = change_between states v t end'.0 entry
 change_for (Some (Committed end')) states v t entry = None
 change_for (Some Aborted) states v t entry = None
+
+-- so it is with the next entry of this one, where the versions stand in order
+abbrev pub IsNextChange : Txns (Node Transaction) → VersionsData → ℕ → Option ℕ → Type 0
+IsNextChange table v t change = AllHaveFallingStamps (state_of table) v.slots v.lists
+    → change ≡ change_for (state_of table t) (state_of table) v t (own_entry (own_of table t))
+
+-- what a look at a transaction that is to be validated tells: each says that no earlier one was due
+abbrev pub IsNextCheck : Txns (Node Transaction) → VersionsData → TxId → NextCheck → Type 0
+IsNextCheck table v t (Refused r) = why_not_preparing table t.0 ≡ Some r
+IsNextCheck table v t Valid = IsCalled table t true
+IsNextCheck table v t (Differs stamp) =
+    IsCalled table t false × IsNextChange table v t.0 (Some stamp.0)
+IsNextCheck table v t Same = IsCalled table t false × IsNextChange table v t.0 None

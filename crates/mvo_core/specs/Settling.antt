@@ -1,5 +1,5 @@
 -- What a look at a transaction that is to be settled tells.
-use Rattle.std.specs.Prelude.{◌≡◌, Bool, true, false, [], Option, None, Some}
+use Rattle.std.specs.Prelude.{◌≡◌, Bool, true, false, [], None, Some}
 use Rattle.mvo_types.specs.declared.ids.TxId.{TxId}
 use Rattle.mvo_txn.specs.Txns.{Txns}
 use Rattle.mvo_deps.specs.declared.node.Node.{Node}

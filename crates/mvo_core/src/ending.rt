@@ -1,6 +1,5 @@
 //! How a transaction ends.
 ghost use Rattle.std.specs.Prelude.{◌≡◌, ◌≤◌, [], false, Some, IsSome, is_none, length};
-ghost use Rattle.std.specs.Option.{option_map};
 ghost use Rattle.mvo_theory.specs.Entries.{written_keys};
 ghost use Rattle.mvo_theory.specs.Told.{history_told};
 ghost use Rattle.mvo_theory.specs.Limits.{AreLimited};
@@ -9,34 +8,32 @@ ghost use Rattle.mvo_deps.specs.Data.{after_commit};
 ghost use Rattle.mvo_deps.specs.Nodes.{data_of, IsReported};
 ghost use Rattle.mvo_deps.specs.Graph.{KeepsGraphAtCommit};
 ghost use Rattle.mvo_chain.specs.Slots.{version_at};
-ghost use Rattle.mvo_visible.specs.Shown.{AllHaveFallingStamps};
 ghost use Rattle.mvo_representation.specs.Words.{ends_of, stamp_in};
 ghost use Rattle.mvo_representation.specs.Table.{phases_of};
 ghost use Rattle.mvo_representation.specs.Order.{is_put_by};
 ghost use Rattle.mvo_representation.specs.WordLists.{number_at};
 ghost use Rattle.mvo_core.specs.Data.{own_of};
 ghost use Rattle.mvo_core.specs.Standing.{words_in};
-ghost use Rattle.mvo_core.specs.Own.{is_own_valid, own_place, own_history, own_entry};
+ghost use Rattle.mvo_core.specs.Own.{own_place, own_history};
 ghost use Rattle.mvo_core.specs.Own.{own_check};
 ghost use Rattle.mvo_core.specs.Keeping.{IsWritten, IsPlaced, IsCounted, HasHandedOver};
 ghost use Rattle.mvo_core.specs.Aborting.{HasOpenPlace, tale_left};
 ghost use Rattle.mvo_core.specs.Collecting.{WaitBehind};
-ghost use Rattle.mvo_core.specs.Checking.{change_between, change_for};
 ghost use Rattle.mvo_core.specs.Fronts.{passes, comes_at_draw, IsInFrontIf, AreInFront};
 
 use crate::answers::{Settlement, Validation};
 use crate::collecting::await_end;
 use crate::event_core::Core;
+use crate::next_check::{NextCheck, check_next};
 use crate::readiness::{Readiness, readiness_of};
-use crate::refusing::{active, is_failure, not_undone, preparing};
+use crate::refusing::{active, is_failure, not_undone};
 use crate::transaction::{Table, Transaction};
 use mvo_chain::VersionNo;
 use mvo_collect::Waiting;
 use mvo_deps::{report_abort, report_commit};
 use mvo_tale::{Tale, TaleEntry};
 use mvo_txn::TxState;
-use mvo_types::{Entry, MAX_STAMP, Refusal, Stamp, TxId};
-use mvo_validate::Check;
+use mvo_types::{MAX_STAMP, Refusal, Stamp, TxId};
 use mvo_versions::Versions;
 use mvo_visible::{Seen, names, seen_by_others};
 use mvo_word::Word;
@@ -79,17 +76,12 @@ impl Core {
         ensures step { IsStep self.old (Validate tx.0) result self.new }
         ensures answer { IfOk result (IsValidation self.old tx.0) }
     {
-        let (refusal, valid) = preparing(&self.table, tx);
-        if let Some(refusal) = refusal {
-            return Err(self.give_up(tx, refusal));
+        match check_next(&self.versions, &self.table, tx) {
+            NextCheck::Refused(refusal) => Err(self.give_up(tx, refusal)),
+            NextCheck::Valid => Ok(Validation::Valid),
+            NextCheck::Differs(stamp) => Err(self.give_up(tx, Refusal::ValidationFailed(stamp))),
+            NextCheck::Same => Ok(count_check(&mut self.table, tx)),
         }
-        if valid {
-            return Ok(Validation::Valid);
-        }
-        if let Some(stamp) = next_change(&self.versions, &self.table, tx) {
-            return Err(self.give_up(tx, Refusal::ValidationFailed(stamp)));
-        }
-        Ok(count_check(&mut self.table, tx))
     }
 
     /// Makes a validated transaction Committed, unless it depends on one that isn't settled.
@@ -186,49 +178,6 @@ fn keep_place(table: &mut Table, tx: TxId, place: usize)
     match table.get_mut(tx) {
         Some(node) => node.own.keep_place(place),
         None => unreachable!(),
-    }
-}
-
-/// The next entry to check, if one is left.
-fn next_entry(own: &Transaction) -> Option<Entry>
-    ensures { result ≡ own_entry (Some own.now) }
-{
-    own.work.entry_at(own.checked)
-}
-
-/// The greatest stamp of a change to the next entry of a Preparing transaction, between its begin
-/// and its end, where the versions stand in order.
-fn next_change(versions: &Versions, table: &Table, tx: TxId) -> Option<Stamp>
-    ensures { let states = state_of table.now in
-        AllHaveFallingStamps states versions.now.slots versions.now.lists →
-        option_map (λ stamp. stamp.0) result ≡
-        change_for (states tx.0) states versions.now tx.0 (own_entry (own_of table.now tx.0)) }
-{
-    let seat = table.get(tx)?;
-    let TxState::Preparing(end) = seat.state else {
-        return None;
-    };
-    let entry = next_entry(&seat.kept.own)?;
-    change_in(versions, table, Stamp(tx.0), end, entry)
-}
-
-/// The greatest stamp of a change to the entry between the begin and the end, where the versions
-/// stand in order.
-fn change_in(
-    versions: &Versions,
-    table: &Table,
-    begin: Stamp,
-    end: Stamp,
-    entry: Entry,
-) -> Option<Stamp>
-    ensures { let states = state_of table.now in
-        AllHaveFallingStamps states versions.now.slots versions.now.lists →
-        option_map (λ stamp. stamp.0) result ≡
-        change_between states versions.now begin.0 end.0 (Some entry) }
-{
-    match versions.check(table, begin, end, entry) {
-        Check::Same => None,
-        Check::Differs(stamp) => Some(stamp),
     }
 }
 

@@ -10,6 +10,7 @@ mod equal;
 mod event_core;
 mod finishing;
 mod holding;
+mod next_check;
 mod operating;
 mod readiness;
 mod refusing;

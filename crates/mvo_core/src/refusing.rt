@@ -1,12 +1,10 @@
 //! Why a call is refused: the first of its refusals whose cause stands.
 ghost use Rattle.std.specs.Prelude.{◌≡◌, Some, length};
 ghost use Rattle.mvo_theory.specs.Causes.{is_failure};
-ghost use Rattle.mvo_core.specs.Causes.{why_not_active, why_not_preparing, why_not_look};
+ghost use Rattle.mvo_core.specs.Causes.{why_not_active, why_not_look};
 ghost use Rattle.mvo_core.specs.Causes.{why_not_put, why_not_remove, why_not_undo};
 ghost use Rattle.mvo_core.specs.Causes.{why_not_write, flag_refusal};
 ghost use Rattle.mvo_core.specs.Causes.{unless_active_as, unless_preparing_as};
-ghost use Rattle.mvo_core.specs.Data.{own_of};
-ghost use Rattle.mvo_core.specs.Own.{is_own_valid};
 ghost use Rattle.mvo_core.specs.Standing.{words_in};
 ghost use Rattle.mvo_txn.specs.Txns.{state_of};
 
@@ -47,17 +45,6 @@ pub fn active(table: &Table, tx: TxId) -> (Option<Refusal>, usize)
     match table.get(tx) {
         Some(seat) => (not_active_in(seat), seat.kept.own.work.word_count()),
         None => (Some(Refusal::NoSuchTransaction), 0),
-    }
-}
-
-/// Why the transaction may not be called as a Preparing one, and whether it is found valid.
-pub fn preparing(table: &Table, tx: TxId) -> (Option<Refusal>, bool)
-    ensures refusal { result.0 ≡ why_not_preparing table.now tx.0 }
-    ensures valid { result.1 ≡ is_own_valid (own_of table.now tx.0) }
-{
-    match table.get(tx) {
-        Some(seat) => (not_preparing_in(seat), seat.kept.own.valid),
-        None => (Some(Refusal::NoSuchTransaction), false),
     }
 }
 
