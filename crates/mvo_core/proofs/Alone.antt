@@ -24,17 +24,13 @@ use Rattle.mvo_versions.specs.Data.{VersionsData}
 use Rattle.mvo_core.specs.declared.transaction.Transaction.{Transaction}
 use Rattle.mvo_core.specs.Data.{own_of}
 use Rattle.mvo_core.specs.Standing.{words_in}
-use Rattle.mvo_core.specs.Keeping.{IsWritten, HasDoneAsMuch, HasMadeRoom, HasDoneMore, IsTold, IsRecorded, IsRecordedWith, with_own_at}
+use Rattle.mvo_core.specs.Keeping.{IsWritten, HasMadeRoom, IsTold, IsRecorded, with_own_at}
 use Rattle.mvo_core.specs.Finishing.{from_own, HasPassed, IsFirstReplaced, IsOneReplaced}
 use Rattle.mvo_core.proofs.NoneLeft.{passed_none}
-use Rattle.mvo_core.proofs.OwnChanged.{some_own}
 use Rattle.mvo_core.proofs.Written.{written}
 
 none_node : (n : Node Transaction) → ◌≡◌ {A = Option (Node Transaction)} None (Some n) → ⊥
 none_node n e = cc
-
-none_own : (own : Transaction) → ◌≡◌ {A = Option Transaction} None (Some own) → ⊥
-none_own own e = cc
 
 -- ---- nobody depends on it
 same_node : (node : Node Transaction) → node.dependencies.dependents ≡ [] → record node { dependencies = without_dependents node.dependencies } ≡ node
@@ -133,45 +129,4 @@ recorded_alone table t node after op answer kept told =
       room = written table t.0 node (roomy node.own) HasMadeRoom kept (record { same = record { history = refl; words = refl; place = refl; checked = refl; valid = refl }; room = record { operation = omega arith; words = omega arith } });
       told = written_again table t.0 node (roomy node.own) after (IsTold op answer) kept
           (record { history = told.history; words = told.words; place = told.place; checked = told.checked; valid = told.valid });
-    }
-
--- the same of an answer to a write
-module _ (table new : Txns (Node Transaction)) (t : TxId) (op : Op) (answer : AnswerData) (put : List WordPlace) (w : IsWritten table new t.0 (HasDoneMore op answer put)) where
-  pub written_alone : IsRecordedWith table new t [] op answer put
-  written_alone = go (kept_of table t.0) refl w.was
-    where
-      here : (node : Node Transaction) → kept_of table t.0 ≡ Some node → w.before ≡ node.own → IsRecordedWith table new t [] op answer put
-      here node k was =
-          let first : Node Transaction = record node { own = roomy node.own } in
-          let second : Node Transaction = record node { own = w.after } in
-          let now = kept_now table t.0 node first second k in
-          let changed : HasDoneMore op answer put node.own w.after = subst (λ x. HasDoneMore op answer put x w.after) was w.changed in
-          record {
-            roomy = after_write table t.0 first;
-            room = written table t.0 node (roomy node.own) HasMadeRoom (sym k) (record { same = record { history = refl; words = refl; place = refl; checked = refl; valid = refl }; room = record { operation = omega arith; words = omega arith } });
-            done = record {
-              before = roomy node.own;
-              after = w.after;
-              was = ap (option_map (λ n. n.own)) now;
-              is = w.is ∙ ap (λ o. with_own_at o table t.0 w.after) k ∙ sym (written_twice table t.0 node first second k) ∙ sym (ap (λ o. with_own_at o (after_write table t.0 first) t.0 w.after) now);
-              changed = record { history = changed.history; words = changed.words; place = changed.place; checked = changed.checked; valid = changed.valid };
-            };
-          }
-
-      go : (o : Option (Node Transaction)) → kept_of table t.0 ≡ o → option_map (λ n. n.own) o ≡ Some w.before → IsRecordedWith table new t [] op answer put
-      go None k e = absurd (none_own w.before e)
-      go (Some node) k e = here node k (some_own w.before node.own (sym e))
-
--- ---- nothing is written
-pub unwritten : (table : Txns (Node Transaction)) (t : ℕ) → IsSome (own_of table t) → IsWritten table table t HasDoneAsMuch
-unwritten table t some = go (kept_of table t) refl some
-  where
-    go : (o : Option (Node Transaction)) → kept_of table t ≡ o → IsSome (option_map (λ n. n.own) o) → IsWritten table table t HasDoneAsMuch
-    go None k e = absurd (false≢true e)
-    go (Some node) k e = record {
-      before = node.own;
-      after = node.own;
-      was = ap (option_map (λ n. n.own)) k;
-      is = sym (write_same table t node k) ∙ sym (ap (λ o. with_own_at o table t node.own) k);
-      changed = record { history = refl; words = refl; place = refl; checked = refl; valid = refl };
     }

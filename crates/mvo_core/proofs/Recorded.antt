@@ -39,9 +39,8 @@ module _ (old roomy : Txns (Node Transaction)) (t : TxId) (room : IsWritten old 
     pub room_then : IfSome (own_of table t.0) (λ own. 0 < own.work.room)
     room_then = if_own (own_of table t.0) changed.after (λ own. 0 < own.work.room) own_then changed.changed.room.operation
 
-    -- then want of room is no cause
-    pub never_full : IfSome (own_of table t.0) (λ own. ¬ HasRoom own.work) → ⊥
-    never_full full = of_own table t.0 changed.after (λ own. ¬ HasRoom own.work) own_then full changed.changed.room
+    pub all_room_then : IfSome (own_of table t.0) (λ own. HasRoom own.work)
+    all_room_then = if_own (own_of table t.0) changed.after (λ own. HasRoom own.work) own_then changed.changed.room
 
     -- what is so of its history before
     pub history_then : (P : History → Type 0) → IfSome (own_of old t.0) (λ own. P own.work.history) → IfSome (own_of table t.0) (λ own. P own.work.history)

@@ -12,10 +12,6 @@ pub on_ok : {T E : Type 0} (A B : Type 0) (r : Result T E) → OnOk r A → (A �
 on_ok A B (Ok x) h f = f h
 on_ok A B (Err e) h f = tt
 
-pub on_err : {T E : Type 0} (A B : Type 0) (r : Result T E) → OnErr r A → (A → B) → OnErr r B
-on_err A B (Ok x) h f = tt
-on_err A B (Err e) h f = f h
-
 pub always_ok : {T E : Type 0} (A : Type 0) (r : Result T E) → A → OnOk r A
 always_ok A (Ok x) h = h
 always_ok A (Err e) h = tt
@@ -40,8 +36,3 @@ written table t node after change kept h = record {
 pub required : (table : Txns (Node Transaction)) (t : ℕ) (node : Node Transaction) (P : Transaction → Type 0)
     → Some node ≡ kept_of table t → IfSome (own_of table t) P → P node.own
 required table t node P kept h = subst (λ o. IfSome (option_map (λ n. n.own) o) P) (sym kept) h
-
--- what is so of what was kept is so of it
-pub kept_so : (table : Txns (Node Transaction)) (t : ℕ) (node : Node Transaction) (P : Transaction → Type 0)
-    → Some node ≡ kept_of table t → P node.own → IfSome (own_of table t) P
-kept_so table t node P kept h = subst (λ o. IfSome (option_map (λ n. n.own) o) P) kept h

@@ -2,11 +2,13 @@
 ghost use Rattle.std.specs.Prelude.{◌≡◌, ◌∷◌, [], OnOk, OnErr, IsSome, IfSome, ◌<◌};
 ghost use Rattle.std.specs.Option.{option_to_list};
 ghost use Rattle.mvo_types.specs.AnswerData.{answer_data};
+ghost use Rattle.mvo_deps.specs.Nodes.{after_register_all};
+ghost use Rattle.mvo_deps.specs.Graph.{IsUnfinished};
 ghost use Rattle.mvo_work.specs.Limits.{MayFollow};
 ghost use Rattle.mvo_work.specs.Work.{HasRoom};
 ghost use Rattle.mvo_core.specs.Data.{own_of};
 ghost use Rattle.mvo_core.specs.Keeping.{IsWritten, HasDoneAsMuch, HasMadeRoom, IsTold};
-ghost use Rattle.mvo_core.specs.Keeping.{HasDoneMore, IsRecorded, IsRecordedWith};
+ghost use Rattle.mvo_core.specs.Keeping.{HasDoneMore, IsRecorded};
 
 use crate::transaction::Table;
 use mvo_deps::{register, register_all};
@@ -16,7 +18,7 @@ use std::alloc::AllocError;
 
 /// Room for one more operation of the transaction, and for the words that it may put.
 #[inline(always)]
-fn make_room(table: &mut Table, tx: TxId) -> Result<(), AllocError>
+pub fn make_room(table: &mut Table, tx: TxId) -> Result<(), AllocError>
     requires { IsSome (own_of table.old tx.0) }
     ensures ok { OnOk result (IsWritten table.old table.new tx.0 HasMadeRoom) }
     ensures err { OnErr result (IsWritten table.old table.new tx.0 HasDoneAsMuch) }
@@ -24,6 +26,19 @@ fn make_room(table: &mut Table, tx: TxId) -> Result<(), AllocError>
     match table.get_mut(tx) {
         Some(node) => node.own.work.make_room(),
         None => unreachable!(),
+    }
+}
+
+/// Lets the transaction depend on the other, if there is one.
+#[inline(always)]
+pub fn depend(table: &mut Table, tx: TxId, on: Option<TxId>) -> Result<(), AllocError>
+    requires { IsUnfinished table.old tx }
+    ensures ok { OnOk result (table.new ≡ after_register_all table.old tx (option_to_list on)) }
+    ensures err { OnErr result (table.new ≡ table.old) }
+{
+    match on {
+        Some(on) => register(table, tx, on),
+        None => Ok(()),
     }
 }
 
@@ -38,6 +53,30 @@ fn tell(table: &mut Table, tx: TxId, op: Op, answer: Answer)
 {
     match table.get_mut(tx) {
         Some(node) => node.own.work.tell(op, answer),
+        None => unreachable!(),
+    }
+}
+
+/// Tells the transaction the answer to a write that put this word, and the other, if there is one,
+/// by one look at it.
+#[inline(always)]
+pub fn write(
+    table: &mut Table,
+    tx: TxId,
+    op: Op,
+    answer: Answer,
+    word: WordPlace,
+    other: Option<WordPlace>,
+)
+    requires there { IsSome (own_of table.old tx.0) }
+    requires room { IfSome (own_of table.old tx.0) (λ own. HasRoom own.work) }
+    requires limits { IfSome (own_of table.old tx.0) (λ own.
+        MayFollow own.work.history op (answer_data answer)) }
+    ensures { IsWritten table.old table.new tx.0
+        (HasDoneMore op (answer_data answer) (word ∷ option_to_list other)) }
+{
+    match table.get_mut(tx) {
+        Some(node) => node.own.write(op, answer, word, other),
         None => unreachable!(),
     }
 }
@@ -120,77 +159,4 @@ pub fn record_answer_on(
     register_all(table, tx, on)?;
     tell(table, tx, op, answer);
     Ok(())
-}
-
-/// Tells the transaction the answer to a write that put this word, and the other, if there is one,
-/// and lets it depend on `on`, if there is one; or does nothing of it.
-#[inline(always)]
-pub fn record_write(
-    table: &mut Table,
-    tx: TxId,
-    on: Option<TxId>,
-    op: Op,
-    answer: Answer,
-    word: WordPlace,
-    other: Option<WordPlace>,
-) -> Result<(), AllocError>
-    requires there { IsSome (own_of table.old tx.0) }
-    requires limits { IfSome (own_of table.old tx.0) (λ own.
-        MayFollow own.work.history op (answer_data answer)) }
-    ensures ok { OnOk result (IsRecordedWith table.old table.new tx (option_to_list on) op
-        (answer_data answer) (word ∷ option_to_list other)) }
-    ensures err { OnErr result (IsWritten table.old table.new tx.0 HasDoneAsMuch) }
-{
-    match on {
-        Some(on) => write_depending(table, tx, on, op, answer, word, other),
-        None => write(table, tx, op, answer, word, other),
-    }
-}
-
-/// The same of one that depends on another then.
-#[inline(never)]
-fn write_depending(
-    table: &mut Table,
-    tx: TxId,
-    on: TxId,
-    op: Op,
-    answer: Answer,
-    word: WordPlace,
-    other: Option<WordPlace>,
-) -> Result<(), AllocError>
-    requires there { IsSome (own_of table.old tx.0) }
-    requires limits { IfSome (own_of table.old tx.0) (λ own.
-        MayFollow own.work.history op (answer_data answer)) }
-    ensures ok { OnOk result (IsRecordedWith table.old table.new tx (on ∷ []) op
-        (answer_data answer) (word ∷ option_to_list other)) }
-    ensures err { OnErr result (IsWritten table.old table.new tx.0 HasDoneAsMuch) }
-{
-    make_room(table, tx)?;
-    register(table, tx, on)?;
-    write(table, tx, op, answer, word, other)
-}
-
-/// The same of one that depends on no other then, by one look at it. Where there is room it isn't
-/// refused.
-#[inline(always)]
-fn write(
-    table: &mut Table,
-    tx: TxId,
-    op: Op,
-    answer: Answer,
-    word: WordPlace,
-    other: Option<WordPlace>,
-) -> Result<(), AllocError>
-    requires there { IsSome (own_of table.old tx.0) }
-    requires limits { IfSome (own_of table.old tx.0) (λ own.
-        MayFollow own.work.history op (answer_data answer)) }
-    ensures ok { OnOk result (IsWritten table.old table.new tx.0
-        (HasDoneMore op (answer_data answer) (word ∷ option_to_list other))) }
-    ensures err { OnErr result (IsWritten table.old table.new tx.0 HasDoneAsMuch) }
-    ensures room { OnErr result (IfSome (own_of table.old tx.0) (λ own. ¬ HasRoom own.work)) }
-{
-    match table.get_mut(tx) {
-        Some(node) => node.own.write(op, answer, word, other),
-        None => unreachable!(),
-    }
 }

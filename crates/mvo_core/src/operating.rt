@@ -1,11 +1,14 @@
 //! The operations on a key.
-ghost use Rattle.std.specs.Prelude.{◌≡◌, IfOk, OnOk, OnErr, IsSome, IfSome};
+ghost use Rattle.std.specs.Prelude.{◌≡◌, ◌<◌, ◌^◌, IfOk, OnOk, OnErr, IsSome, IfSome};
 ghost use Rattle.std.specs.Option.{option_to_list};
 ghost use Rattle.mvo_txn.specs.Txns.{state_of};
+ghost use Rattle.mvo_deps.specs.Nodes.{after_register_all};
+ghost use Rattle.mvo_deps.specs.Graph.{IsUnfinished};
 ghost use Rattle.mvo_types.specs.AnswerData.AnswerData.{Inserted, Deleted, Updated};
 ghost use Rattle.mvo_chain.specs.Slots.{version_at};
 ghost use Rattle.mvo_work.specs.Limits.{MayFollow};
 ghost use Rattle.mvo_versions.specs.Data.{AreIndexed};
+ghost use Rattle.mvo_versions.specs.Changes.{IsPut};
 ghost use Rattle.mvo_core.specs.Data.{own_of};
 ghost use Rattle.mvo_core.specs.Inserting.{IsInserted};
 ghost use Rattle.mvo_core.specs.Keeping.{IsWritten, HasDoneAsMuch};
@@ -13,7 +16,7 @@ ghost use Rattle.mvo_core.specs.Ending.{IsRemoved, IsReplaced, IsLeft};
 ghost use Rattle.mvo_core.specs.Looking.{row_shown, cause_at, HasSameVersions};
 
 use crate::collecting::{has_open_end, owe_end};
-use crate::depending::{record_answer, record_write};
+use crate::depending::{depend, make_room, record_answer, write};
 use crate::event_core::Core;
 use crate::refusing::{not_looked, not_put, not_removed};
 use crate::transaction::Table;
@@ -162,6 +165,34 @@ fn in_the_way(
     }
 }
 
+/// Puts a version of the row, and lets the transaction depend on the other, if there is one; or
+/// does neither. Where the version `like` has the row's key and sort, no place is sought. Refused,
+/// the places are still just those of the versions, as always.
+fn put(
+    versions: &mut Versions,
+    table: &mut Table,
+    tx: TxId,
+    row: &Row,
+    like: Option<VersionNo>,
+    on: Option<TxId>,
+) -> Result<VersionNo, AllocError>
+    requires id { tx.0 < 2 ^ 63 }
+    requires there { IsUnfinished table.old tx }
+    ensures ok { IfOk result (λ n. IsPut versions.old versions.new row.now tx.0 n) }
+    ensures depends { OnOk result
+        (table.new ≡ after_register_all table.old tx (option_to_list on)) }
+    ensures err { OnErr result (HasSameVersions versions.old versions.new) }
+    ensures alone { OnErr result (table.new ≡ table.old) }
+    ensures indexed { AreIndexed versions.old → AreIndexed versions.new }
+{
+    let number = versions.put(row.copy()?, tx, like)?;
+    let Ok(()) = depend(table, tx, on) else {
+        let _ = versions.take_out(number);
+        return Err(AllocError);
+    };
+    Ok(number)
+}
+
 /// Puts a version of the row, which the transaction is told to have inserted, and lets it depend on
 /// the other, if there is one; or does neither.
 fn insert_row(
@@ -182,12 +213,10 @@ fn insert_row(
 {
     let clock = table.clock();
     prove!(clock.0 <= MAX_STAMP);
-    let number = versions.put(row.copy()?, tx, None)?;
-    let (op, word) = (Op::Insert(row), WordPlace::Begin(number));
-    let Ok(()) = record_write(table, tx, on, op, Answer::Inserted, word, None) else {
-        let _ = versions.take_out(number);
-        return Err(AllocError);
-    };
+    make_room(table, tx)?;
+    let number = put(versions, table, tx, &row, None, on)?;
+    let word = WordPlace::Begin(number);
+    write(table, tx, Op::Insert(row), Answer::Inserted, word, None);
     Ok(())
 }
 
@@ -212,9 +241,11 @@ fn remove(
 {
     let clock = table.clock();
     prove!(clock.0 <= MAX_STAMP);
-    let (op, word) = (Op::Delete(key), WordPlace::End(number));
-    record_write(table, tx, on, op, Answer::Deleted, word, None)?;
+    make_room(table, tx)?;
+    depend(table, tx, on)?;
     versions.end(number, tx);
+    let word = WordPlace::End(number);
+    write(table, tx, Op::Delete(key), Answer::Deleted, word, None);
     Ok(())
 }
 
@@ -238,13 +269,17 @@ fn put_instead(
 {
     let clock = table.clock();
     prove!(clock.0 <= MAX_STAMP);
-    let place = versions.put(row.copy()?, tx, Some(number))?;
-    let (end, begin) = (WordPlace::End(number), WordPlace::Begin(place));
-    let (op, told) = (Op::Update(row), Answer::Updated);
-    let Ok(()) = record_write(table, tx, on, op, told, end, Some(begin)) else {
-        let _ = versions.take_out(place);
-        return Err(AllocError);
-    };
+    make_room(table, tx)?;
+    let place = put(versions, table, tx, &row, Some(number), on)?;
     versions.end(number, tx);
+    let (end, begin) = (WordPlace::End(number), WordPlace::Begin(place));
+    write(
+        table,
+        tx,
+        Op::Update(row),
+        Answer::Updated,
+        end,
+        Some(begin),
+    );
     Ok(())
 }

@@ -55,29 +55,19 @@ impl Transaction {
         Ok(())
     }
 
-    /// It is told the answer to a write that put this word, and the other, if there is one; or there
-    /// is no more of it than before. Where there is room it isn't refused.
+    /// It is told the answer to a write that put this word, and the other, if there is one.
     #[inline(always)]
-    pub fn write(
-        &mut self,
-        op: Op,
-        answer: Answer,
-        word: WordPlace,
-        other: Option<WordPlace>,
-    ) -> Result<(), AllocError>
-        requires { MayFollow self.old.work.history op (answer_data answer) }
-        ensures ok { OnOk result (HasDoneMore op (answer_data answer)
-            (word ∷ option_to_list other) self.old self.new) }
-        ensures err { OnErr result (HasDoneAsMuch self.old self.new) }
-        ensures room { OnErr result (¬ HasRoom self.old.work) }
+    pub fn write(&mut self, op: Op, answer: Answer, word: WordPlace, other: Option<WordPlace>)
+        requires room { HasRoom self.old.work }
+        requires limits { MayFollow self.old.work.history op (answer_data answer) }
+        ensures { HasDoneMore op (answer_data answer) (word ∷ option_to_list other)
+            self.old self.new }
     {
-        self.work.make_room()?;
-        self.work.tell(op, answer);
         self.work.push_word(word);
         if let Some(other) = other {
             self.work.push_word(other);
         }
-        Ok(())
+        self.work.tell(op, answer);
     }
 
     /// Counts a check, and says whether an entry is left. The last one isn't counted.

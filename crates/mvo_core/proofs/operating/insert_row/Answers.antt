@@ -1,22 +1,36 @@
-use Rattle.mvo_core.specs.Keeping.{IsWritten, HasDoneAsMuch}
-use Rattle.mvo_versions.proofs.Putting.{put_there}
-use Rattle.mvo_core.proofs.Alone.{unwritten}
-use Rattle.mvo_core.proofs.TakenBack.{taken_back}
-use Rattle.mvo_core.proofs.Written.{always_err}
+use Rattle.std.proofs.Common.{◌∷◌, [], subst}
+use Rattle.std.specs.Option.{option_to_list}
+use Rattle.mvo_types.specs.declared.op.Op.TheVariants.{Insert}
+use Rattle.mvo_types.specs.AnswerData.AnswerData.{Inserted}
+use Rattle.mvo_work.specs.declared.word_place.WordPlace.TheVariants.{Begin}
+use Rattle.mvo_work.specs.Limits.{MayFollow}
+use Rattle.mvo_core.specs.Keeping.{HasDoneMore, IsWritten}
+use Rattle.mvo_core.proofs.Recorded.{unfinished_roomy, there_then, room_then, history_then, all_room_then}
 use Rattle.mvo_core.proofs.operating.insert_row.Goals as goal
 
-pub returns-in_err-copy-clause-alone : goal.returns-in_err-copy-clause-alone
-returns-in_err-copy-clause-alone c =
-    always_err (IsWritten c.args.table.now c.args.table.now c.args.tx.0 HasDoneAsMuch) c.from_residual.result (unwritten c.args.table.now c.args.tx.0 c.requires.there)
+pub put-requires-clause-there : goal.put-requires-clause-there
+put-requires-clause-there c = unfinished_roomy c.args.table.now c.make_room.new.table c.args.tx c.in_ok-make_room.ensures.ok
 
-pub returns-in_err-number-clause-alone : goal.returns-in_err-number-clause-alone
-returns-in_err-number-clause-alone c =
-    always_err (IsWritten c.args.table.now c.args.table.now c.args.tx.0 HasDoneAsMuch) c.from_residual-in_err-number.result (unwritten c.args.table.now c.args.tx.0 c.requires.there)
+pub write-requires-clause-there : goal.write-requires-clause-there
+write-requires-clause-there c =
+    there_then c.args.table.now c.make_room.new.table c.args.tx c.in_ok-make_room.ensures.ok (option_to_list c.args.on) c.put.new.table c.in_ok-number.ensures.depends
 
-pub take_out-requires : goal.take_out-requires
-take_out-requires c =
-    put_there c.args.versions.now.slots c.put.new.self.slots c.in_ok-number.number _ c.in_ok-number.ensures.ok.hole c.in_ok-number.ensures.ok.slots
+pub write-requires-clause-room : goal.write-requires-clause-room
+write-requires-clause-room c =
+    all_room_then c.args.table.now c.make_room.new.table c.args.tx c.in_ok-make_room.ensures.ok (option_to_list c.args.on) c.put.new.table c.in_ok-number.ensures.depends
 
-pub returns-in_default-clause-err : goal.returns-in_default-clause-err
-returns-in_default-clause-err c =
-    taken_back c.args.versions.now c.put.new.self c.take_out.new.self _ c.args.tx.0 c.in_ok-number.number c.in_ok-number.ensures.ok c.take_out.ensures.gone
+pub write-requires-clause-limits : goal.write-requires-clause-limits
+write-requires-clause-limits c =
+    history_then c.args.table.now c.make_room.new.table c.args.tx c.in_ok-make_room.ensures.ok (option_to_list c.args.on) c.put.new.table c.in_ok-number.ensures.depends
+    (λ ts. MayFollow ts (Insert c.args.row) Inserted) c.requires.limits
+
+pub returns-clause-ok : goal.returns-clause-ok
+returns-clause-ok c = record {
+  number = c.in_ok-number.number;
+  put = c.in_ok-number.ensures.ok;
+  recorded = record {
+    roomy = c.make_room.new.table;
+    room = c.in_ok-make_room.ensures.ok;
+    done = subst (λ table. IsWritten table c.write.new.table c.args.tx.0 (HasDoneMore (Insert c.args.row) Inserted (Begin c.in_ok-number.number ∷ []))) c.in_ok-number.ensures.depends c.write.ensures;
+  };
+}

@@ -1,49 +1,39 @@
-use Rattle.std.proofs.Common.{refl, ap, inl, subst}
-use Rattle.mvo_types.specs.RowData.{RowData}
-use Rattle.mvo_versions.specs.Changes.{IsPut}
-use Rattle.mvo_hash.specs.Lists.{numbers_of}
-use Rattle.mvo_core.specs.Ending.{IsLeft}
-use Rattle.mvo_core.specs.Keeping.{IsWritten, HasDoneAsMuch}
-use Rattle.mvo_versions.proofs.Putting.{put_there}
-use Rattle.mvo_core.proofs.Alone.{unwritten}
-use Rattle.mvo_core.proofs.TakenBack.{taken_back}
-use Rattle.mvo_core.proofs.Written.{always_err}
+use Rattle.std.proofs.Common.{◌∷◌, [], subst}
+use Rattle.std.specs.Option.{option_to_list}
+use Rattle.mvo_types.specs.declared.op.Op.TheVariants.{Update}
+use Rattle.mvo_types.specs.AnswerData.AnswerData.{Updated}
+use Rattle.mvo_work.specs.declared.word_place.WordPlace.TheVariants.{Begin, End}
+use Rattle.mvo_work.specs.Limits.{MayFollow}
+use Rattle.mvo_core.specs.Keeping.{HasDoneMore, IsWritten}
+use Rattle.mvo_core.proofs.Recorded.{unfinished_roomy, there_then, room_then, history_then, all_room_then}
 use Rattle.mvo_core.proofs.operating.put_instead.Goals as goal
 
-pub take_out-requires : goal.take_out-requires
-take_out-requires c =
-    put_there c.args.versions.now.slots c.put.new.self.slots c.in_ok-place.place _ c.in_ok-place.ensures.ok.hole c.in_ok-place.ensures.ok.slots
+pub put-requires-clause-there : goal.put-requires-clause-there
+put-requires-clause-there c = unfinished_roomy c.args.table.now c.make_room.new.table c.args.tx c.in_ok-make_room.ensures.ok
 
-pub returns-in_err-copy-clause-err : goal.returns-in_err-copy-clause-err
-returns-in_err-copy-clause-err c =
-    always_err (IsLeft c.args.versions.now c.args.versions.now c.args.table.now c.args.table.now c.args.tx) c.from_residual.result (record {
-      versions = record { slots = inl refl; numbers = λ k. refl };
-      indexed = λ h. h;
-      own = unwritten c.args.table.now c.args.tx.0 c.requires.there;
-    })
+pub write-requires-clause-there : goal.write-requires-clause-there
+write-requires-clause-there c =
+    there_then c.args.table.now c.make_room.new.table c.args.tx c.in_ok-make_room.ensures.ok (option_to_list c.args.on) c.put.new.table c.in_ok-place.ensures.depends
 
-pub returns-in_err-place-clause-err : goal.returns-in_err-place-clause-err
-returns-in_err-place-clause-err c =
-    let same = c.in_err-place.ensures.err in
-    always_err (IsLeft c.args.versions.now c.put.new.self c.args.table.now c.args.table.now c.args.tx) c.from_residual-in_err-place.result (record {
-      versions = record { slots = same.slots; numbers = λ k. ap (λ lists. numbers_of lists k) same.lists };
-      indexed = λ h. c.put.ensures.indexed;
-      own = unwritten c.args.table.now c.args.tx.0 c.requires.there;
-    })
+pub write-requires-clause-room : goal.write-requires-clause-room
+write-requires-clause-room c =
+    all_room_then c.args.table.now c.make_room.new.table c.args.tx c.in_ok-make_room.ensures.ok (option_to_list c.args.on) c.put.new.table c.in_ok-place.ensures.depends
 
-pub returns-in_default-clause-err : goal.returns-in_default-clause-err
-returns-in_default-clause-err c = record {
-  versions = taken_back c.args.versions.now c.put.new.self c.take_out.new.self _ c.args.tx.0 c.in_ok-place.place c.in_ok-place.ensures.ok c.take_out.ensures.gone;
-  indexed = λ h. c.take_out.ensures.indexed;
-  own = c.in_default.ensures.err;
-}
+pub write-requires-clause-limits : goal.write-requires-clause-limits
+write-requires-clause-limits c =
+    history_then c.args.table.now c.make_room.new.table c.args.tx c.in_ok-make_room.ensures.ok (option_to_list c.args.on) c.put.new.table c.in_ok-place.ensures.depends
+    (λ ts. MayFollow ts (Update c.args.row) Updated) c.requires.limits
 
 pub returns-clause-ok : goal.returns-clause-ok
 returns-clause-ok c = record {
-  between = c.put.new.self;
+  between = c.put.new.versions;
   place = c.in_ok-place.place;
-  put = subst (λ (row : RowData). IsPut c.args.versions.now c.put.new.self row c.args.tx.0 c.in_ok-place.place) (c.in_ok-copy.ensures) c.in_ok-place.ensures.ok;
-  indexed = λ h. c.put.ensures.indexed;
+  put = c.in_ok-place.ensures.ok;
+  indexed = c.in_ok-place.ensures.indexed;
   ended = c.end.ensures;
-  recorded = c.in-Ok.ensures.ok;
+  recorded = record {
+    roomy = c.make_room.new.table;
+    room = c.in_ok-make_room.ensures.ok;
+    done = subst (λ table. IsWritten table c.write.new.table c.args.tx.0 (HasDoneMore (Update c.args.row) Updated (End c.args.number ∷ Begin c.in_ok-place.place ∷ []))) c.in_ok-place.ensures.depends c.write.ensures;
+  };
 }
