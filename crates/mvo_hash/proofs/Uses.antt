@@ -16,54 +16,54 @@ use Rattle.mvo_hash.proofs.Counts.{share, live_used, used_kept, used_more, used_
 use Rattle.mvo_hash.proofs.Finds.{entries_of-replicate}
 use Rattle.mvo_hash.proofs.Tables.{table_set, table_take, table_place, table_push}
 
-module _ (first second homes used keys : ℕ) (ss : List Slot) (h : IsHeads first second homes used keys ss) (key : RowKey) (number : ℕ) (i : ℕ) (none : get (map_of ss) key ≡ None) (from : ℕ) (at_home : from ≡ home_of first second homes key) (free : IsFreeFrom ss from i) where
+module _ (first second homes most used keys : ℕ) (ss : List Slot) (h : IsHeads first second homes most used keys ss) (key : RowKey) (number : ℕ) (i : ℕ) (none : get (map_of ss) key ≡ None) (from : ℕ) (at_home : from ≡ home_of first second homes key) (free : IsFreeFrom ss from i) where
   -- in a slot that was never used
-  pub heads_fresh : i < length ss → (slot ss i).state ≡ Empty → used < homes / 2 → IsHeads first second homes (used + 1) (keys + 1) (set ss i (live_slot key number))
+  pub heads_fresh : i < length ss → (slot ss i).state ≡ Empty → used < most → IsHeads first second homes most (used + 1) (keys + 1) (set ss i (live_slot key number))
   heads_fresh within empty room = record {
     table = table_place first second homes ss h.table key number i none from at_home free within;
     live = let e = live_more ss i (live_slot key number) within free.free refl in omega (arith, e, h.live);
     counted = let e = used_more ss i (live_slot key number) within empty (λ e. cc) in omega (arith, e, h.counted);
-    half = omega (arith, room);
+    room = omega (arith, room);
   }
 
   -- in one that another key has left
-  pub heads_again : i < length ss → (slot ss i).state ≢ Empty → IsHeads first second homes used (keys + 1) (set ss i (live_slot key number))
+  pub heads_again : i < length ss → (slot ss i).state ≢ Empty → IsHeads first second homes most used (keys + 1) (set ss i (live_slot key number))
   heads_again within full = record {
     table = table_place first second homes ss h.table key number i none from at_home free within;
     live = let e = live_more ss i (live_slot key number) within free.free refl in omega (arith, e, h.live);
     counted = let e = used_kept ss i (live_slot key number) within full (λ e. cc) in omega (arith, e, h.counted);
-    half = h.half;
+    room = h.room;
   }
 
   -- behind the last slot
-  pub heads_push : i ≡ length ss → used < homes / 2 → IsHeads first second homes (used + 1) (keys + 1) (ss ++ live_slot key number ∷ [])
+  pub heads_push : i ≡ length ss → used < most → IsHeads first second homes most (used + 1) (keys + 1) (ss ++ live_slot key number ∷ [])
   heads_push end room = record {
     table = table_push first second homes ss h.table key number i none from at_home free end;
     live = let e = live_push ss (live_slot key number) refl in omega (arith, e, h.live);
     counted = let e = used_push ss (live_slot key number) (λ e. cc) in omega (arith, e, h.counted);
-    half = omega (arith, room);
+    room = omega (arith, room);
   }
 
-module _ (first second homes used keys : ℕ) (ss : List Slot) (h : IsHeads first second homes used keys ss) (key : RowKey) (i : ℕ) (found : IsFoundAt ss key i) where
+module _ (first second homes most used keys : ℕ) (ss : List Slot) (h : IsHeads first second homes most used keys ss) (key : RowKey) (i : ℕ) (found : IsFoundAt ss key i) where
   full : (slot ss i).state ≢ Empty
   full e = let l = found.live in cc
 
   -- another number at a key
-  pub heads_set : (number : ℕ) → IsHeads first second homes used keys (set ss i (live_slot key number))
+  pub heads_set : (number : ℕ) → IsHeads first second homes most used keys (set ss i (live_slot key number))
   heads_set number = record {
     table = table_set first second homes ss h.table key number i found;
     counted = let e = used_kept ss i (live_slot key number) found.within full (λ e. cc) in omega (arith, e, h.counted);
     live = let e = live_kept ss i (live_slot key number) found.within found.live refl in omega (arith, e, h.live);
-    half = h.half;
+    room = h.room;
   }
 
   -- a key less
-  pub heads_left : IsHeads first second homes used (keys - 1) (set ss i left_slot)
+  pub heads_left : IsHeads first second homes most used (keys - 1) (set ss i left_slot)
   heads_left = record {
     table = table_take first second homes ss h.table key 0 i found;
     counted = let e = used_kept ss i left_slot found.within full (λ e. cc) in omega (arith, e, h.counted);
     live = let e = live_less ss i left_slot found.within found.live (λ e. cc) in omega (arith, e, h.live);
-    half = h.half;
+    room = h.room;
   }
 
 empty_at : (n i : ℕ) → slot (replicate n empty_slot) i ≡ empty_slot
@@ -86,8 +86,8 @@ live_none : (n : ℕ) → live_count (replicate n empty_slot) ≡ 0
 live_none n = omega (arith, live_used (replicate n empty_slot), used_none n)
 
 -- a table that was just made
-pub new_heads : (first second homes count : ℕ) (ss : List Slot) → ss ≡ replicate count empty_slot → homes ≤ count → IsHeads first second homes 0 0 ss
-new_heads first second homes count ss is le = subst (IsHeads first second homes 0 0) (sym is) (record {
+pub new_heads : (first second homes most count : ℕ) (ss : List Slot) → ss ≡ replicate count empty_slot → homes ≤ count → IsHeads first second homes most 0 0 ss
+new_heads first second homes most count ss is le = subst (IsHeads first second homes most 0 0) (sym is) (record {
   table = record {
     long = omega (arith, length-replicate count empty_slot, le);
     reached = λ key. record {
@@ -98,13 +98,13 @@ new_heads first second homes count ss is le = subst (IsHeads first second homes 
   };
   counted = sym (used_none count);
   live = sym (live_none count);
-  half = omega arith;
+  room = omega arith;
 })
 
-pub new_table : (seeds : Seeds) (homes keys count : ℕ) (ss : List Slot) → homes ≡ keys * 2 → ss ≡ replicate count empty_slot → table_of seeds homes 0 ss ≡ no_keys seeds keys
-new_table seeds homes keys count ss twice is =
+pub new_table : (seeds : Seeds) (keys count : ℕ) (ss : List Slot) → ss ≡ replicate count empty_slot → table_of seeds keys 0 ss ≡ no_keys seeds keys
+new_table seeds keys count ss is =
     let numbers : map_of ss ≡ empty = ap map_of is ∙ ap (from_entries {R = key_cmp}) (entries_of-replicate count) in
-    let room : homes / 2 - 0 ≡ keys = omega (arith, twice) in
+    let room : keys - 0 ≡ keys = omega arith in
     cc
 
 -- an empty list that was filled up

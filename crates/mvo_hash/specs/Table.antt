@@ -1,5 +1,5 @@
 -- An open table as a finite map.
-use Rattle.std.specs.Prelude.{◌≡◌, ℕ, ◌≤◌, ◌+◌, ◌-◌, ◌/◌, List, length, refl}
+use Rattle.std.specs.Prelude.{◌≡◌, ℕ, ◌≤◌, ◌+◌, ◌-◌, List, length, refl}
 use Rattle.std.specs.Coded.{Coded, code_by, coded×, coded_ℕ}
 use Rattle.std.specs.FinMap as map
 use Rattle.mvo_types.specs.declared.row.RowKey.{RowKey}
@@ -45,10 +45,10 @@ no_keys seeds room = record { seeds = seeds; numbers = map.empty; room = room }
 abbrev pub IsHash : Table → RowKey → ℕ → Type 0
 IsHash t key hash = hash ≡ hash_of t.seeds.first t.seeds.second key
 
--- at most half as many slots are to be used as there are homes
+-- the room is what is left of the slots that may be used
 abbrev pub table_of : Seeds → ℕ → ℕ → List Slot → Table
-table_of seeds homes used ss =
-    record { seeds = seeds; numbers = map_of ss; room = homes / 2 - used }
+table_of seeds most used ss =
+    record { seeds = seeds; numbers = map_of ss; room = most - used }
 
 -- each key stands once, where a search finds it
 pub record IsTable (first second homes : ℕ) (ss : List Slot) : Type 0 where
@@ -57,13 +57,13 @@ pub record IsTable (first second homes : ℕ) (ss : List Slot) : Type 0 where
   pub apart : (i j : ℕ) → IsLive (slot ss i) → IsLive (slot ss j)
       → slot_key (slot ss i) ≡ slot_key (slot ss j) → i ≡ j
 
--- memory for a slot of each home, and behind them for one of each key that there is room for
-abbrev pub IsSpacious : ℕ → ℕ → Type 0
-IsSpacious homes capacity = homes + homes / 2 ≤ capacity
+-- memory for a slot of each home, and behind them for as many as may be used
+abbrev pub IsSpacious : ℕ → ℕ → ℕ → Type 0
+IsSpacious homes most capacity = homes + most ≤ capacity
 
--- a table whose used slots and keys are counted, with at most half as many used slots as homes
-pub record IsHeads (first second homes used keys : ℕ) (ss : List Slot) : Type 0 where
+-- a table whose used slots and keys are counted, with no more used slots than may be
+pub record IsHeads (first second homes most used keys : ℕ) (ss : List Slot) : Type 0 where
   pub table : IsTable first second homes ss
   pub counted : used ≡ used_count ss
   pub live : keys ≡ live_count ss
-  pub half : used ≤ homes / 2
+  pub room : used ≤ most

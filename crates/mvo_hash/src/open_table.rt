@@ -19,8 +19,8 @@ const LEAST_ROOM: usize = 8;
 /// room, which is how many more keys can be put before every key is moved to a larger table, and
 /// the seeds of the hashes.
 ///
-/// A search begins at the key's home and goes on to the first slot that was never used. At most
-/// half as many slots as there are homes are ever used, those of removed keys among them. The
+/// A search begins at the key's home and goes on to the first slot that was never used. At most two
+/// thirds as many slots as there are homes are ever used, those of removed keys among them. The
 /// homes come from a seed, so that who chooses the keys without knowing it can't make them meet.
 ///
 /// A move to another table frees the slots of removed keys, and takes a larger one only where the
@@ -29,6 +29,7 @@ const LEAST_ROOM: usize = 8;
 pub struct OpenTable {
     seeds: Seeds,
     homes: usize,
+    most: usize,
     used: usize,
     keys: usize,
     slots: Vec<Slot>,
@@ -44,11 +45,11 @@ impl Model for OpenTable {
     ghost use Rattle.std.specs.Prelude.{vec_capacity};
     ghost use Rattle.mvo_hash.specs.Table.{table_of, IsHeads, IsSpacious};
 
-    ghost view = { λ t. table_of t.seeds t.homes t.used t.slots.items };
+    ghost view = { λ t. table_of t.seeds t.most t.used t.slots.items };
 
     ghost invariant = { λ t.
-        IsHeads t.seeds.first t.seeds.second t.homes t.used t.keys t.slots.items
-        × IsSpacious t.homes (vec_capacity t.slots) };
+        IsHeads t.seeds.first t.seeds.second t.homes t.most t.used t.keys t.slots.items
+        × IsSpacious t.homes t.most (vec_capacity t.slots) };
 }
 
 impl OpenTable {
@@ -68,6 +69,7 @@ impl OpenTable {
         OpenTable {
             seeds,
             homes: 0,
+            most: 0,
             used: 0,
             keys: 0,
             slots: Vec::new(alloc),
@@ -78,7 +80,7 @@ impl OpenTable {
     pub fn room(&self) -> usize
         ensures { result ≡ self.now.room }
     {
-        self.homes / 2 - self.used
+        self.most - self.used
     }
 
     fn hash(&self, key: RowKey) -> u64
@@ -184,13 +186,14 @@ impl OpenTable {
     fn with_room(alloc: Global, seeds: Seeds, keys: usize) -> Result<OpenTable, AllocError>
         ensures { IfOk result (λ t. t ≡ no_keys seeds keys) }
     {
-        let most = keys.checked_mul(3).ok_or(AllocError)?;
-        let homes = keys * 2;
-        let mut slots = Vec::with_capacity(alloc, most)?;
+        let homes = keys.checked_add(keys / 2).ok_or(AllocError)?;
+        let all = homes.checked_add(keys).ok_or(AllocError)?;
+        let mut slots = Vec::with_capacity(alloc, all)?;
         slots.resize(homes + keys.min(TAIL), Slot::empty())?;
         Ok(OpenTable {
             seeds,
             homes,
+            most: keys,
             used: 0,
             keys: 0,
             slots,
@@ -206,7 +209,7 @@ impl OpenTable {
     {
         let more = keys.max(self.keys).max(LEAST_ROOM);
         let enough = self.keys.checked_add(more).ok_or(AllocError)?;
-        let all = enough.max(self.homes / 2);
+        let all = enough.max(self.most);
         let mut larger = OpenTable::with_room(*self.slots.allocator(), self.seeds, all)?;
         for slot in &self.slots {
             if slot.is_live() {
@@ -263,8 +266,8 @@ impl OpenTable {
     }
 
     /// Makes room for so many more keys, so that no key is moved while they are put. Where the room
-    /// is short it takes the time of moving every key, and 48 bytes or more for each of them and of
-    /// those that are to come, of which it touches 32.
+    /// is short it takes the time of moving every key, and 40 bytes or more for each of them and of
+    /// those that are to come, of which it touches 24.
     pub fn reserve(&mut self, keys: usize) -> Result<(), AllocError>
         ensures numbers { self.new.numbers ≡ self.old.numbers }
         ensures ok { OnOk result (keys ≤ self.new.room) }

@@ -40,8 +40,8 @@ invariant_of-self c =
     let ss = c.self.inside.slots.items in
     let key = c.args.key in
     let found : IsFoundAt ss key c.in-Some.at = subst (λ xs. IsFoundAt xs key c.in-Some.at) c.deref.ensures.value c.in-Some.ensures.found in (
-      subst (λ s. IsHeads c.self.inside.seeds.first c.self.inside.seeds.second c.self.inside.homes c.self.inside.used c.self.inside.keys (set ss c.in-Some.at s)) (sym c.live.ensures)
-          (heads_set _ _ _ _ _ ss c.self.invariant.0 key c.in-Some.at found c.args.number),
+      subst (λ s. IsHeads c.self.inside.seeds.first c.self.inside.seeds.second c.self.inside.homes c.self.inside.most c.self.inside.used c.self.inside.keys (set ss c.in-Some.at s)) (sym c.live.ensures)
+          (heads_set _ _ _ _ _ _ ss c.self.invariant.0 key c.in-Some.at found c.args.number),
       c.self.invariant.1,
     )
 

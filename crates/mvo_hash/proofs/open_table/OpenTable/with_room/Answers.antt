@@ -1,4 +1,4 @@
-use Rattle.std.proofs.Common.{◌≡◌, ℕ, ◌+◌, ◌*◌, ◌<◌, ◌^◌, Option, Some, subst, arith, refl, replicate}
+use Rattle.std.proofs.Common.{◌≡◌, ℕ, ◌+◌, ◌/◌, ◌<◌, ◌^◌, Option, Some, subst, arith, replicate}
 use Rattle.std.specs.Option.{SomeIff}
 use Rattle.mvo_hash.specs.Slots.{empty_slot}
 use Rattle.mvo_hash.proofs.Uses.{new_heads, new_table, filled_up}
@@ -6,16 +6,16 @@ use Rattle.mvo_hash.proofs.open_table.OpenTable.with_room.Goals as goal
 
 pub invariant_of-result : goal.invariant_of-result
 invariant_of-result c =
-    let keys = c.args.keys in
-    let most : SomeIff (Some c.in_ok-most.most) (keys * 3 < 2 ^ 64) (keys * 3) = subst (λ (o : Option ℕ). SomeIff o (keys * 3 < 2 ^ 64) (keys * 3)) c.in_ok-most.ensures.ok_part c.checked_mul.ensures in
-    let count : ℕ = c.args.keys * 2 + c.min.result in
+    let homes = c.in_ok-homes.homes in
+    let all : SomeIff (Some c.in_ok-all.all) (homes + c.args.keys < 2 ^ 64) (homes + c.args.keys) = subst (λ (o : Option ℕ). SomeIff o (homes + c.args.keys < 2 ^ 64) (homes + c.args.keys)) c.in_ok-all.ensures.ok_part c.checked_add-2.ensures in
+    let count : ℕ = homes + c.min.result in
     let items : c.resize.new.self.items ≡ replicate count empty_slot = filled_up c.in_ok-slots.slots.items count c.in_ok-slots.slots.len c.empty.result c.resize.new.self.items c.in_ok-resize.ensures.items c.in_ok-slots.ensures.items c.in_ok-slots.ensures.len c.empty.ensures in (
-      new_heads c.args.seeds.first c.args.seeds.second (c.args.keys * 2) count c.resize.new.self.items items (omega arith),
-      omega (arith, most.1, c.in_ok-slots.ensures.capacity, c.in_ok-resize.ensures.capacity),
+      new_heads c.args.seeds.first c.args.seeds.second homes c.args.keys count c.resize.new.self.items items (omega arith),
+      omega (arith, all.1, c.in_ok-slots.ensures.capacity, c.in_ok-resize.ensures.capacity),
     )
 
 pub returns : goal.returns
 returns c =
-    let count : ℕ = c.args.keys * 2 + c.min.result in
+    let count : ℕ = c.in_ok-homes.homes + c.min.result in
     let items : c.resize.new.self.items ≡ replicate count empty_slot = filled_up c.in_ok-slots.slots.items count c.in_ok-slots.slots.len c.empty.result c.resize.new.self.items c.in_ok-resize.ensures.items c.in_ok-slots.ensures.items c.in_ok-slots.ensures.len c.empty.ensures in
-    new_table c.args.seeds (c.args.keys * 2) c.args.keys count c.resize.new.self.items refl items
+    new_table c.args.seeds c.args.keys count c.resize.new.self.items items
