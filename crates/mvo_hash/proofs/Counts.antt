@@ -1,7 +1,6 @@
 -- How many slots are used, and how many hold a key.
-use Rattle.std.proofs.Common.{◌≡◌, ◌≢◌, inl, inr, ℕ, zero, suc, ◌+◌, ◌<◌, ◌≤◌, List, [], ◌∷◌, ◌++◌, true, false, cond, length, set, take, refl, ap, subst, arith, add-one}
-use Rattle.std.proofs.lemmas.List.Sums.{sum_by-set, sum_by-cons, sum_by_push, sum_by-take-le, count_by_more_no, count_by_more_yes}
-use Rattle.std.proofs.lemmas.Bool.{cases_lt}
+use Rattle.std.proofs.Common.{◌≡◌, ◌≢◌, ℕ, zero, suc, ◌+◌, ◌<◌, ◌≤◌, List, [], ◌∷◌, true, false, cond, length, set, take, refl, ap, subst, arith, add-one}
+use Rattle.std.proofs.lemmas.List.Sums.{sum_by-set, sum_by-cons, sum_by-take-le, count_by_more_no, count_by_more_yes}
 use Rattle.mvo_hash.specs.declared.slot.Slot.{Slot}
 use Rattle.mvo_hash.specs.declared.slot.State.{State}
 use Rattle.mvo_hash.specs.declared.slot.State.TheVariants.{Empty, Left, Live}
@@ -33,29 +32,21 @@ used_kept ss i s within full stays = omega (arith, used-set ss i s within, share
 pub used_more : (ss : List Slot) (i : ℕ) (s : Slot) → i < length ss → (slot ss i).state ≡ Empty → s.state ≢ Empty → used_count (set ss i s) ≡ used_count ss + 1
 used_more ss i s within empty stays = omega (arith, used-set ss i s within, share_empty (slot ss i) empty, share_full s stays)
 
-pub used_push : (ss : List Slot) (s : Slot) → s.state ≢ Empty → used_count (ss ++ s ∷ []) ≡ used_count ss + 1
-used_push ss s full =
-    let e : used_count (ss ++ s ∷ []) ≡ used_count ss + share s = sum_by_push share ss s in
-    omega (arith, e, share_full s full)
-
 used_next : (ss : List Slot) (i : ℕ) → i < length ss → (slot ss i).state ≢ Empty → used_count (take (suc i) ss) ≡ used_count (take i ss) + 1
 used_next ss i within full =
     subst (λ m. used_count (take m ss) ≡ used_count (take i ss) + 1) (add-one i) (count_by_more_yes is_used ss i empty_slot within (full_state (slot ss i).state full))
 
-filled_front : (ss : List Slot) (home i : ℕ) → IsFilled ss home i → i ≤ length ss → i ≤ home + used_count (take i ss)
-filled_front ss home zero filled le = omega arith
-filled_front ss home (suc i) filled le = elim (cases_lt i home) [
-  | inl lt ↦ omega (arith, lt)
-  | inr ge ↦
-      let before : IsFilled ss home i = record { at = λ j from to. filled.at j from (omega (arith, to)) } in
-      omega (arith, filled_front ss home i before (omega (arith, le)), used_next ss i (omega (arith, le)) (filled.at i ge (omega arith)))
-]
+filled_front : (ss : List Slot) (i : ℕ) → IsFilled ss 0 i → i ≤ length ss → i ≤ used_count (take i ss)
+filled_front ss zero filled le = omega arith
+filled_front ss (suc i) filled le =
+    let before : IsFilled ss 0 i = record { at = λ j from to. filled.at j from (omega (arith, to)) } in
+    omega (arith, filled_front ss i before (omega (arith, le)), used_next ss i (omega (arith, le)) (filled.at i (omega arith) (omega arith)))
 
 -- where no slot is empty, each is used
-pub filled_used : (ss : List Slot) (home i : ℕ) → IsFilled ss home i → i ≤ length ss → i ≤ home + used_count ss
-filled_used ss home i filled le =
-    let front : used_count (take i ss) ≤ used_count ss = sum_by-take-le share ss i in
-    omega (arith, front, filled_front ss home i filled le)
+pub filled_used : (ss : List Slot) → IsFilled ss 0 (length ss) → length ss ≤ used_count ss
+filled_used ss filled =
+    let front : used_count (take (length ss) ss) ≤ used_count ss = sum_by-take-le share ss (length ss) in
+    omega (arith, front, filled_front ss (length ss) filled (omega arith))
 
 -- what a slot adds to the keys
 abbrev pub presence : Slot → ℕ
@@ -83,11 +74,6 @@ live_more ss i s within free is = omega (arith, live-set ss i s within, not_pres
 
 pub live_less : (ss : List Slot) (i : ℕ) (s : Slot) → i < length ss → IsLive (slot ss i) → s.state ≢ Live → live_count (set ss i s) + 1 ≡ live_count ss
 live_less ss i s within was gone = omega (arith, live-set ss i s within, present (slot ss i) was, not_present s gone)
-
-pub live_push : (ss : List Slot) (s : Slot) → IsLive s → live_count (ss ++ s ∷ []) ≡ live_count ss + 1
-live_push ss s is =
-    let e : live_count (ss ++ s ∷ []) ≡ live_count ss + presence s = sum_by_push presence ss s in
-    omega (arith, e, present s is)
 
 pub live_next : (ss : List Slot) (i : ℕ) → i < length ss → IsLive (slot ss i) → live_count (take (i + 1) ss) ≡ live_count (take i ss) + 1
 live_next ss i within live = count_by_more_yes is_live ss i empty_slot within (ap is_live_state live)

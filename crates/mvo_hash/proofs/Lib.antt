@@ -7,6 +7,7 @@ pub mod HeadsPut
 pub mod Homes
 pub mod Joins
 pub mod Passing
+pub mod Probes
 pub mod Puts
 pub mod Rooms
 pub mod Shared

@@ -1,7 +1,7 @@
 -- A write of one slot.
-use Rattle.std.proofs.Common.{◌≡◌, ◌≢◌, ℕ, ◌<◌, ◌≤◌, inl, inr, List, [], ◌∷◌, ◌++◌, None, Some, cond, length, set, refl, sym, ap, ◌∙◌, arith}
-use Rattle.std.proofs.lemmas.Bool.{cond-true, cond-false, cases_eq, cases_lt}
-use Rattle.std.proofs.lemmas.List.{get_or_past, get_or-set_same, get_or-set_other, get_or_push, get_or_append_left, length_push}
+use Rattle.std.proofs.Common.{◌≡◌, ◌≢◌, ℕ, ◌<◌, inl, inr, List, None, Some, cond, length, set, sym, ap, subst, ◌∙◌}
+use Rattle.std.proofs.lemmas.Bool.{cond-true, cond-false, cases_eq}
+use Rattle.std.proofs.lemmas.List.{length-set, get_or-set_same, get_or-set_other}
 use Rattle.std.specs.Ordering.{eq_by_cmp}
 use Rattle.std.specs.FinMap.{get, insert, remove, get-insert, get-remove, same_map}
 use Rattle.mvo_types.specs.declared.row.RowKey.{RowKey}
@@ -9,26 +9,18 @@ use Rattle.mvo_types.specs.Keys.{key_cmp}
 use Rattle.mvo_types.proofs.Maps.{keys_total, exact_keys}
 use Rattle.mvo_hash.specs.declared.slot.Slot.{Slot}
 use Rattle.mvo_hash.specs.declared.slot.State.TheVariants.{Empty, Live}
-use Rattle.mvo_hash.specs.Slots.{slot, slot_key, empty_slot, IsLive, IsFilled, IsReached}
+use Rattle.mvo_hash.specs.Slots.{slot, slot_key, empty_slot, IsLive, IsFilled, IsProbed, IsReached}
 use Rattle.mvo_hash.specs.Table.{map_of}
 use Rattle.mvo_hash.proofs.Finds.{same_key, other_key, cases_key, search_slots, get_found, get_missing}
 
 -- the new slots are the old ones but for s at i
 pub record Puts (old new : List Slot) (i : ℕ) (s : Slot) : Type 0 where
+  pub long : length new ≡ length old
   pub at : slot new i ≡ s
   pub others : (j : ℕ) → j ≢ i → slot new j ≡ slot old j
 
 pub Puts-set : (ss : List Slot) (i : ℕ) (s : Slot) → i < length ss → Puts ss (set ss i s) i s
-Puts-set ss i s h = record { at = get_or-set_same ss i s empty_slot h; others = λ j n. get_or-set_other ss i j s empty_slot n }
-
-pub Puts-push : (ss : List Slot) (s : Slot) → Puts ss (ss ++ s ∷ []) (length ss) s
-Puts-push ss s = record {
-  at = get_or_push ss s empty_slot (length ss) refl;
-  others = λ j n. elim (cases_lt j (length ss)) [
-    | inl l ↦ get_or_append_left ss (s ∷ []) empty_slot j l
-    | inr g ↦ get_or_past (ss ++ s ∷ []) j empty_slot (let e = length_push ss s in omega (arith, n, e, g)) ∙ sym (get_or_past ss j empty_slot g)
-  ];
-}
+Puts-set ss i s h = record { long = length-set ss i s; at = get_or-set_same ss i s empty_slot h; others = λ j n. get_or-set_other ss i j s empty_slot n }
 
 abbrev pub Apart : List Slot → Type 0
 Apart ss = (i j : ℕ) → IsLive (slot ss i) → IsLive (slot ss j) → slot_key (slot ss i) ≡ slot_key (slot ss j) → i ≡ j
@@ -46,31 +38,32 @@ module _ (old new : List Slot) (i : ℕ) (s : Slot) (put : Puts old new i s) whe
   key_before : (j : ℕ) → j ≢ i → slot_key (slot new j) ≡ slot_key (slot old j)
   key_before j n = ap slot_key (put.others j n)
 
+  filled_put : s.state ≢ Empty → (from to : ℕ) → IsFilled old from to → IsFilled new from to
+  filled_put full from to was = record {
+    at = λ x a b. elim (cases_eq x i) [
+      | inl is ↦ λ empty. full (sym (state_of _ _ put.at) ∙ ap (λ y. (slot new y).state) (sym is) ∙ empty)
+      | inr n ↦ λ empty. was.at x a b (sym (state_of _ _ (put.others x n)) ∙ empty)
+    ];
+  }
+
+  probed_put : s.state ≢ Empty → (home to : ℕ) → IsProbed old home to → IsProbed new home to
+  probed_put full home to was = record {
+    ahead = λ le. filled_put full home to (was.ahead le);
+    behind = λ lt. filled_put full home (length new) (subst (IsFilled old home) (sym put.long) (was.behind lt));
+    front = λ lt. filled_put full 0 to (was.front lt);
+  }
+
   -- searches still meet what they met, and the new key where it stands
-  pub reached_put : (home : RowKey → ℕ) → s.state ≢ Empty → (IsLive s → (home (slot_key s) ≤ i) × IsFilled old (home (slot_key s)) i) → ((key : RowKey) → IsReached old (home key) key) → (key : RowKey) → IsReached new (home key) key
+  pub reached_put : (home : RowKey → ℕ) → s.state ≢ Empty → (IsLive s → IsProbed old (home (slot_key s)) i) → ((key : RowKey) → IsReached old (home key) key) → (key : RowKey) → IsReached new (home key) key
   reached_put home full first was key = record {
-    ahead = λ m l e. elim (cases_eq m i) [
+    at = λ m l e. elim (cases_eq m i) [
       | inl is ↦
           let k : slot_key s ≡ key = ap slot_key (sym put.at) ∙ ap (λ x. slot_key (slot new x)) (sym is) ∙ e in
           let live : IsLive s = sym (state_of _ _ put.at) ∙ ap (λ x. (slot new x).state) (sym is) ∙ l in
-          let h : home (slot_key s) ≤ i = (first live).0 in
-          let g : home (slot_key s) ≡ home key = ap home k in
-          omega (arith, h, g, is)
-      | inr n ↦ (was key).ahead m (live_before m n l) (sym (key_before m n) ∙ e)
+          let there : IsProbed old (home key) i = subst (λ q. IsProbed old (home q) i) k (first live) in
+          probed_put full (home key) m (subst (IsProbed old (home key)) (sym is) there)
+      | inr n ↦ probed_put full (home key) m ((was key).at m (live_before m n l) (sym (key_before m n) ∙ e))
     ];
-    filled = λ m l e. record {
-      at = λ x from to. elim (cases_eq x i) [
-        | inl is ↦ λ empty. full (sym (state_of _ _ put.at) ∙ ap (λ y. (slot new y).state) (sym is) ∙ empty)
-        | inr n ↦ λ empty. elim (cases_eq m i) [
-          | inl at ↦
-              let k : slot_key s ≡ key = ap slot_key (sym put.at) ∙ ap (λ y. slot_key (slot new y)) (sym at) ∙ e in
-              let live : IsLive s = sym (state_of _ _ put.at) ∙ ap (λ y. (slot new y).state) (sym at) ∙ l in
-              let g : home (slot_key s) ≡ home key = ap home k in
-              (first live).1.at x (omega (arith, g, from)) (omega (arith, at, to)) (sym (state_of _ _ (put.others x n)) ∙ empty)
-          | inr o ↦ ((was key).filled m (live_before m o l) (sym (key_before m o) ∙ e)).at x from to (sym (state_of _ _ (put.others x n)) ∙ empty)
-        ]
-      ];
-    };
   }
 
   module _ (live : IsLive s) (only : (j : ℕ) → IsLive (slot old j) → slot_key (slot old j) ≡ slot_key s → j ≡ i) (was : Apart old) where

@@ -1,6 +1,6 @@
 -- A change of one key keeps the table, and changes its map there.
-use Rattle.std.proofs.Common.{◌≡◌, ◌≢◌, ℕ, ◌<◌, ◌≤◌, List, [], ◌∷◌, ◌++◌, Option, None, Some, length, set, take, ◌+◌, refl, sym, ap, ◌∙◌, arith}
-use Rattle.std.proofs.lemmas.List.{length-set, length_push, length-take, get_or-take, take_more, append-nil}
+use Rattle.std.proofs.Common.{◌≡◌, ◌≢◌, ℕ, ◌<◌, List, [], ◌∷◌, ◌++◌, None, Some, length, set, take, ◌+◌, refl, sym, ap, subst, ◌∙◌, arith}
+use Rattle.std.proofs.lemmas.List.{length-take, get_or-take, take_more, append-nil}
 use Rattle.std.proofs.lemmas.List.Elements.{filter_map-append}
 use Rattle.std.specs.FinMap.{from_entries, from_entries_push}
 use Rattle.mvo_types.specs.Keys.{key_cmp}
@@ -10,10 +10,10 @@ use Rattle.mvo_types.specs.declared.row.RowKey.{RowKey}
 use Rattle.mvo_hash.specs.declared.slot.Slot.{Slot}
 use Rattle.mvo_hash.specs.declared.slot.State.TheVariants.{Left, Live}
 use Rattle.mvo_hash.specs.Home.{home_of}
-use Rattle.mvo_hash.specs.Slots.{entry_of, entries_of, empty_slot, slot, slot_key, live_slot, left_slot, IsLive, IsFilled, IsFoundAt, IsNowhere, IsFreeFrom}
+use Rattle.mvo_hash.specs.Slots.{entry_of, entries_of, empty_slot, slot, slot_key, live_slot, left_slot, IsLive, IsProbed, IsFoundAt, IsNowhere, IsFreeFrom}
 use Rattle.mvo_hash.specs.Table.{map_of, IsTable}
 use Rattle.mvo_hash.proofs.Finds.{get_found, get_missing, kept, skipped, live_within, missing}
-use Rattle.mvo_hash.proofs.Puts.{Apart, Puts, Puts-set, Puts-push, reached_put, apart_put, map_put, apart_take, map_take}
+use Rattle.mvo_hash.proofs.Puts.{Apart, Puts, Puts-set, reached_put, apart_put, map_put, apart_take, map_take}
 
 module _ (first second homes : ℕ) (ss : List Slot) (t : IsTable first second homes ss) (key : RowKey) where
   abbrev home : RowKey → ℕ
@@ -38,8 +38,7 @@ module _ (first second homes : ℕ) (ss : List Slot) (t : IsTable first second h
     -- another number at a key that stands there
     pub table_set : IsTable first second homes (set ss i (live_slot key number))
     table_set = record {
-      long = let e = length-set ss i (live_slot key number) in omega (arith, t.long, e);
-      reached = reached_put ss _ i _ put_found home (λ e. cc) (λ _. ((t.reached key).ahead i found.live found.same, (t.reached key).filled i found.live found.same)) t.reached;
+      reached = reached_put ss _ i _ put_found home (λ e. cc) (λ _. (t.reached key).at i found.live found.same) t.reached;
       apart = apart_put ss _ i _ put_found refl only_key t.apart;
     }
 
@@ -52,7 +51,6 @@ module _ (first second homes : ℕ) (ss : List Slot) (t : IsTable first second h
     -- a slot that a key left
     pub table_take : IsTable first second homes (set ss i left_slot)
     table_take = record {
-      long = let e = length-set ss i left_slot in omega (arith, t.long, e);
       reached = reached_put ss _ i _ put_left home (λ e. cc) (λ l. absurd (let e : Left ≡ Live = l in cc)) t.reached;
       apart = apart_take ss _ i _ put_left (λ e. cc) found.live t.apart;
     }
@@ -67,38 +65,24 @@ module _ (first second homes : ℕ) (ss : List Slot) (t : IsTable first second h
     new_key : (j : ℕ) → IsLive (slot ss j) → slot_key (slot ss j) ≡ slot_key (live_slot key number) → j ≡ i
     new_key j l e = absurd (nowhere.at j l e)
 
-    ahead : (home key ≤ i) × IsFilled ss (home key) i
-    ahead = (omega (arith, free.ahead, at_home), record { at = λ j a b. free.filled.at j (omega (arith, a, at_home)) b })
+    probed : IsProbed ss (home key) i
+    probed = subst (λ h. IsProbed ss h i) at_home free.probed
 
     not_before : IsLive (slot ss i) → slot_key (slot ss i) ≡ slot_key (live_slot key number)
     not_before l = absurd (free.free l)
 
+    put_free : Puts ss (set ss i (live_slot key number)) i (live_slot key number)
+    put_free = Puts-set ss i (live_slot key number) free.within
+
     -- a new key at a free slot
-    pub table_place : i < length ss → IsTable first second homes (set ss i (live_slot key number))
-    table_place within =
-        let put : Puts ss (set ss i (live_slot key number)) i (live_slot key number) = Puts-set ss i (live_slot key number) within in
-        record {
-          long = let e = length-set ss i (live_slot key number) in omega (arith, t.long, e);
-          reached = reached_put ss _ i _ put home (λ e. cc) (λ _. ahead) t.reached;
-          apart = apart_put ss _ i _ put refl new_key t.apart;
-        }
-
-    pub map_place : i < length ss → map_of (set ss i (live_slot key number)) ≡ insert (map_of ss) key number
-    map_place within = map_put ss _ i _ (Puts-set ss i (live_slot key number) within) refl new_key t.apart not_before
-
-    put_end : i ≡ length ss → Puts ss (ss ++ live_slot key number ∷ []) i (live_slot key number)
-    put_end e = Rattle.std.proofs.Common.subst (λ n. Puts ss (ss ++ live_slot key number ∷ []) n (live_slot key number)) (sym e) (Puts-push ss (live_slot key number))
-
-    -- a new key behind the last slot
-    pub table_push : i ≡ length ss → IsTable first second homes (ss ++ live_slot key number ∷ [])
-    table_push e = record {
-      long = let l = length_push ss (live_slot key number) in omega (arith, t.long, l);
-      reached = reached_put ss _ i _ (put_end e) home (λ e. cc) (λ _. ahead) t.reached;
-      apart = apart_put ss _ i _ (put_end e) refl new_key t.apart;
+    pub table_place : IsTable first second homes (set ss i (live_slot key number))
+    table_place = record {
+      reached = reached_put ss _ i _ put_free home (λ e. cc) (λ _. probed) t.reached;
+      apart = apart_put ss _ i _ put_free refl new_key t.apart;
     }
 
-    pub map_push : i ≡ length ss → map_of (ss ++ live_slot key number ∷ []) ≡ insert (map_of ss) key number
-    map_push e = map_put ss _ i _ (put_end e) refl new_key t.apart not_before
+    pub map_place : map_of (set ss i (live_slot key number)) ≡ insert (map_of ss) key number
+    map_place = map_put ss _ i _ put_free refl new_key t.apart not_before
 
 module _ (ss : List Slot) (i : ℕ) (within : i < length ss) where
   next_entries : entries_of (take (i + 1) ss) ≡ entries_of (take i ss) ++ entries_of (slot ss i ∷ [])

@@ -67,10 +67,15 @@ entries_of ss = filter_map entry_of ss
 pub record IsFilled (ss : List Slot) (from to : ℕ) : Type 0 where
   pub at : (i : ℕ) → from ≤ i → i < to → (slot ss i).state ≢ Empty
 
--- a search for the key from its home meets it before an empty slot
+-- a search from the home comes to the place: no slot before it is empty, and slot 0 follows the last
+pub record IsProbed (ss : List Slot) (home i : ℕ) : Type 0 where
+  pub ahead : home ≤ i → IsFilled ss home i
+  pub behind : i < home → IsFilled ss home (length ss)
+  pub front : i < home → IsFilled ss 0 i
+
+-- a search for the key from its home comes to it
 pub record IsReached (ss : List Slot) (home : ℕ) (key : RowKey) : Type 0 where
-  pub ahead : (i : ℕ) → IsLive (slot ss i) → slot_key (slot ss i) ≡ key → home ≤ i
-  pub filled : (i : ℕ) → IsLive (slot ss i) → slot_key (slot ss i) ≡ key → IsFilled ss home i
+  pub at : (i : ℕ) → IsLive (slot ss i) → slot_key (slot ss i) ≡ key → IsProbed ss home i
 
 pub record IsFoundAt (ss : List Slot) (key : RowKey) (i : ℕ) : Type 0 where
   pub within : i < length ss
@@ -80,9 +85,16 @@ pub record IsFoundAt (ss : List Slot) (key : RowKey) (i : ℕ) : Type 0 where
 pub record IsNowhere (ss : List Slot) (key : RowKey) : Type 0 where
   pub at : (i : ℕ) → IsLive (slot ss i) → slot_key (slot ss i) ≢ key
 
--- the first place from the home on that holds no key
+-- no slot from one place on holds the key
+pub record IsNowhereFrom (ss : List Slot) (from : ℕ) (key : RowKey) : Type 0 where
+  pub at : (i : ℕ) → from ≤ i → IsLive (slot ss i) → slot_key (slot ss i) ≢ key
+
+-- a place that holds no key, to which a search from the home comes
 pub record IsFreeFrom (ss : List Slot) (home i : ℕ) : Type 0 where
-  pub ahead : home ≤ i
-  pub within : i ≤ length ss
+  pub within : i < length ss
   pub free : (slot ss i).state ≢ Live
-  pub filled : IsFilled ss home i
+  pub probed : IsProbed ss home i
+
+-- some slot was never used
+abbrev pub HasUnused : List Slot → Type 0
+HasUnused ss = used_count ss < length ss

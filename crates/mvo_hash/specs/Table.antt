@@ -1,5 +1,5 @@
 -- An open table as a finite map.
-use Rattle.std.specs.Prelude.{◌≡◌, ℕ, ◌≤◌, ◌+◌, ◌-◌, List, length, refl}
+use Rattle.std.specs.Prelude.{◌≡◌, ℕ, ◌≤◌, ◌-◌, List, length, refl}
 use Rattle.std.specs.Coded.{Coded, code_by, coded×, coded_ℕ}
 use Rattle.std.specs.FinMap as map
 use Rattle.mvo_types.specs.declared.row.RowKey.{RowKey}
@@ -50,20 +50,17 @@ abbrev pub table_of : Seeds → ℕ → ℕ → List Slot → Table
 table_of seeds most used ss =
     record { seeds = seeds; numbers = map_of ss; room = most - used }
 
--- each key stands once, where a search finds it
+-- each key stands once, where a search from its home among so many finds it
 pub record IsTable (first second homes : ℕ) (ss : List Slot) : Type 0 where
-  pub long : homes ≤ length ss
   pub reached : (key : RowKey) → IsReached ss (home_of first second homes key) key
   pub apart : (i j : ℕ) → IsLive (slot ss i) → IsLive (slot ss j)
       → slot_key (slot ss i) ≡ slot_key (slot ss j) → i ≡ j
 
--- memory for a slot of each home, and behind them for as many as may be used
-abbrev pub IsSpacious : ℕ → ℕ → ℕ → Type 0
-IsSpacious homes most capacity = homes + most ≤ capacity
-
--- a table whose used slots and keys are counted, with no more used slots than may be
-pub record IsHeads (first second homes most used keys : ℕ) (ss : List Slot) : Type 0 where
-  pub table : IsTable first second homes ss
+-- a table whose used slots and keys are counted, with no more used slots than may be. Each slot is a
+-- home
+pub record IsHeads (first second most used keys : ℕ) (ss : List Slot) : Type 0 where
+  pub table : IsTable first second (length ss) ss
   pub counted : used ≡ used_count ss
   pub live : keys ≡ live_count ss
   pub room : used ≤ most
+  pub long : most ≤ length ss

@@ -136,8 +136,8 @@ impl Heads {
 
     /// Makes room in each table for a 256th part of so many more keys, and somewhat more, so that
     /// few keys or none are moved while keys are put that the hash shares out evenly. Where the
-    /// room is short it takes the time of moving every key, so it is for a load. It takes 40 bytes
-    /// or more for each key and for each that is to come, of which it touches 24.
+    /// room is short it takes the time of moving every key, so it is for a load. It takes 24 bytes
+    /// or more for each key and for each that is to come.
     pub fn reserve(&mut self, keys: usize) -> Result<(), AllocError>
         ensures numbers { self.new.numbers ≡ self.old.numbers }
         ensures ok { OnOk result (keys ≤ shard_count * self.new.room) }

@@ -9,26 +9,22 @@ use mvo_types::RowKey;
 use std::alloc::{AllocError, Global};
 use std::marker::Model;
 
-// Slots behind the last home that a new table has, for keys whose search runs past it. There is
-// memory for as many more as there can be keys, which is touched where they are needed.
-const TAIL: usize = 64;
-
 const LEAST_ROOM: usize = 8;
 
 /// One number for each key, in one open table of slots of 16 bytes. Contracts see a finite map, the
 /// room, which is how many more keys can be put before every key is moved to a larger table, and
 /// the seeds of the hashes.
 ///
-/// A search begins at the key's home and goes on to the first slot that was never used. At most two
-/// thirds as many slots as there are homes are ever used, those of removed keys among them. The
-/// homes come from a seed, so that who chooses the keys without knowing it can't make them meet.
+/// A search begins at the key's home and goes on to the first slot that was never used; the first
+/// slot follows the last. At most two thirds of the slots are ever used, those of removed keys among
+/// them. The homes come from a seed, so that who chooses the keys without knowing it can't make them
+/// meet.
 ///
 /// A move to another table frees the slots of removed keys, and takes a larger one only where the
 /// keys are too many, so that keys that come and go don't take ever more memory.
 #[derive(Drop)]
 pub struct OpenTable {
     seeds: Seeds,
-    homes: usize,
     most: usize,
     used: usize,
     keys: usize,
@@ -42,14 +38,12 @@ impl Model for OpenTable {
 
     ghost coded = { coded_table };
 
-    ghost use Rattle.std.specs.Prelude.{vec_capacity};
-    ghost use Rattle.mvo_hash.specs.Table.{table_of, IsHeads, IsSpacious};
+    ghost use Rattle.mvo_hash.specs.Table.{table_of, IsHeads};
 
     ghost view = { λ t. table_of t.seeds t.most t.used t.slots.items };
 
     ghost invariant = { λ t.
-        IsHeads t.seeds.first t.seeds.second t.homes t.most t.used t.keys t.slots.items
-        × IsSpacious t.homes t.most (vec_capacity t.slots) };
+        IsHeads t.seeds.first t.seeds.second t.most t.used t.keys t.slots.items };
 }
 
 impl OpenTable {
@@ -68,7 +62,6 @@ impl OpenTable {
     {
         OpenTable {
             seeds,
-            homes: 0,
             most: 0,
             used: 0,
             keys: 0,
@@ -100,7 +93,7 @@ impl OpenTable {
         requires { IsHash self.now key hash }
         ensures { result ≡ map.get self.now.numbers key }
     {
-        let home = home(hash, self.homes);
+        let home = home(hash, self.slots.len());
         match find(&self.slots, home, key) {
             Some(at) => Some(self.slots[at].number),
             None => None,
@@ -109,7 +102,7 @@ impl OpenTable {
 
     // How many slots a search for the key goes over before the one where it ends.
     pub(crate) fn steps_by_hash(&self, key: RowKey, hash: u64) -> usize {
-        steps(&self.slots, home(hash, self.homes), key)
+        steps(&self.slots, home(hash, self.slots.len()), key)
     }
 
     // Gives the key another number, and answers the one that it had. It takes no memory and no
@@ -122,7 +115,7 @@ impl OpenTable {
         ensures room { self.new.room ≡ self.old.room }
         ensures seeds { self.new.seeds ≡ self.old.seeds }
     {
-        let home = home(hash, self.homes);
+        let home = home(hash, self.slots.len());
         let Some(at) = find(&self.slots, home, key) else {
             return None;
         };
@@ -148,7 +141,7 @@ impl OpenTable {
         ensures room { self.new.room ≡ self.old.room }
         ensures seeds { self.new.seeds ≡ self.old.seeds }
     {
-        let home = home(hash, self.homes);
+        let home = home(hash, self.slots.len());
         let Some(at) = find(&self.slots, home, key) else {
             return None;
         };
@@ -167,19 +160,13 @@ impl OpenTable {
         ensures room { self.old.room ≤ self.new.room + 1 }
         ensures seeds { self.new.seeds ≡ self.old.seeds }
     {
-        let home = home(hash, self.homes);
+        let home = home(hash, self.slots.len());
         let at = free(&self.slots, home);
-        if at < self.slots.len() {
-            self.keys += 1;
-            if self.slots[at].is_empty() {
-                self.used += 1;
-            }
-            self.slots[at] = Slot::live(key, number);
-            return;
-        }
-        self.slots.push_reserved(Slot::live(key, number));
-        self.used += 1;
         self.keys += 1;
+        if self.slots[at].is_empty() {
+            self.used += 1;
+        }
+        self.slots[at] = Slot::live(key, number);
     }
 
     // No keys, and room for so many.
@@ -187,12 +174,10 @@ impl OpenTable {
         ensures { IfOk result (λ t. t ≡ no_keys seeds keys) }
     {
         let homes = keys.checked_add(keys / 2).ok_or(AllocError)?;
-        let all = homes.checked_add(keys).ok_or(AllocError)?;
-        let mut slots = Vec::with_capacity(alloc, all)?;
-        slots.resize(homes + keys.min(TAIL), Slot::empty())?;
+        let mut slots = Vec::with_capacity(alloc, homes)?;
+        slots.resize(homes, Slot::empty())?;
         Ok(OpenTable {
             seeds,
-            homes,
             most: keys,
             used: 0,
             keys: 0,
@@ -266,8 +251,8 @@ impl OpenTable {
     }
 
     /// Makes room for so many more keys, so that no key is moved while they are put. Where the room
-    /// is short it takes the time of moving every key, and 40 bytes or more for each of them and of
-    /// those that are to come, of which it touches 24.
+    /// is short it takes the time of moving every key, and 24 bytes or more for each of them and of
+    /// those that are to come.
     pub fn reserve(&mut self, keys: usize) -> Result<(), AllocError>
         ensures numbers { self.new.numbers ≡ self.old.numbers }
         ensures ok { OnOk result (keys ≤ self.new.room) }

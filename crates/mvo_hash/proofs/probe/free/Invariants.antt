@@ -1,6 +1,5 @@
-use Rattle.std.proofs.Common.{ℕ, ◌<◌, ◌≤◌}
-use Rattle.mvo_hash.specs.Slots.{slot, IsLive}
+use Rattle.mvo_hash.proofs.Probes.{AreHeld}
 use Rattle.mvo_hash.proofs.probe.free.Given as goal
 
 abbrev pub invariant-loop-i : goal.invariant-loop-i
-invariant-loop-i l = (j : ℕ) → l.home ≤ j → j < l.i → IsLive (slot l.slots j)
+invariant-loop-i l = AreHeld l.slots l.home l.i

@@ -15,7 +15,7 @@ pub place-requires-clause-new : goal.place-requires-clause-new
 place-requires-clause-new c =
     let xs = c.deref-slot-items.result.now in
     let i = c.loop-slot.slot-index in
-    let apart : Apart xs = subst Apart (sym c.deref-slot-items.ensures.value) c.self.invariant.0.table.apart in
+    let apart : Apart xs = subst Apart (sym c.deref-slot-items.ensures.value) c.self.invariant.table.apart in
     ap (λ m. map.get m c.row_key-key.result) c.loop-slot.invariant.same ∙ ap (map.get (map_of (take i xs))) c.row_key-key.ensures
     ∙ next_new xs i c.loop-slot-test.true (c.is_live.ensures.0 c.if-is_live.true) apart
 
@@ -24,7 +24,7 @@ place-requires-clause-room c =
     let xs = c.deref-slot-items.result.now in
     let i = c.loop-slot.slot-index in
     let next = live_next xs i c.loop-slot-test.true (c.is_live.ensures.0 c.if-is_live.true) in
-    let counted : c.self.inside.keys ≡ live_count xs = c.self.invariant.0.live ∙ ap live_count (sym c.deref-slot-items.ensures.value) in
+    let counted : c.self.inside.keys ≡ live_count xs = c.self.invariant.live ∙ ap live_count (sym c.deref-slot-items.ensures.value) in
     let keys = c.self.inside.keys in
     let more = c.max-more.result in
     let sum : SomeIff (Some c.in_ok-enough.enough) (keys + more < 2 ^ 64) (keys + more) = subst (λ (o : Option ℕ). SomeIff o (keys + more < 2 ^ 64) (keys + more)) c.in_ok-enough.ensures.ok_part c.checked_add.ensures in
@@ -34,7 +34,7 @@ pub loop-slot-preserved : goal.loop-slot-preserved
 loop-slot-preserved c =
     let xs = c.deref-slot-items.result.now in
     let i = c.loop-slot.slot-index in
-    let apart : Apart xs = subst Apart (sym c.deref-slot-items.ensures.value) c.self.invariant.0.table.apart in
+    let apart : Apart xs = subst Apart (sym c.deref-slot-items.ensures.value) c.self.invariant.table.apart in
     elim c.if-is_live.branch [
       | then-is_live w ↦
           let next = live_next xs i c.loop-slot-test.true (c.is_live.ensures.0 w.if-is_live.true) in

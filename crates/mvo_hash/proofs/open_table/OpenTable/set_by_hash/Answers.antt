@@ -1,4 +1,4 @@
-use Rattle.std.proofs.Common.{◌≡◌, None, Some, set, sym, ap, ◌∙◌, subst}
+use Rattle.std.proofs.Common.{◌≡◌, None, Some, set, sym, ap, ◌∙◌, subst, arith}
 use Rattle.std.specs.FinMap as map
 use Rattle.mvo_hash.specs.declared.slot.Slot.{Slot}
 use Rattle.mvo_hash.specs.Slots.{IsReached, IsFoundAt, IsNowhere}
@@ -12,7 +12,7 @@ use Rattle.mvo_hash.proofs.open_table.OpenTable.set_by_hash.Goals as goal
 pub returns-in_default-clause-before : goal.returns-in_default-clause-before
 returns-in_default-clause-before c =
     let ss = c.self.inside.slots.items in
-    let t = c.self.invariant.0.table in
+    let t = c.self.invariant.table in
     let key = c.args.key in
     let none : map.get (map_of ss) key ≡ None = get_missing ss key (subst (λ xs. IsNowhere xs key) c.deref.ensures.value c.in_default.ensures.nowhere) in
     sym none ∙ ap (λ (m : Table). map.get m.numbers key) c.self.view_is
@@ -20,7 +20,7 @@ returns-in_default-clause-before c =
 pub returns-clause-before : goal.returns-clause-before
 returns-clause-before c =
     let ss = c.self.inside.slots.items in
-    let t = c.self.invariant.0.table in
+    let t = c.self.invariant.table in
     let key = c.args.key in
     let found : IsFoundAt ss key c.in-Some.at = subst (λ xs. IsFoundAt xs key c.in-Some.at) c.deref.ensures.value c.in-Some.ensures.found in
     ap (λ (s : Slot). Some s.number) (slot_read ss c.in-Some.at c.index.result.now found.within c.index.ensures)
@@ -29,7 +29,7 @@ returns-clause-before c =
 pub returns-clause-set : goal.returns-clause-set
 returns-clause-set c =
     let ss = c.self.inside.slots.items in
-    let t = c.self.invariant.0.table in
+    let t = c.self.invariant.table in
     let key = c.args.key in
     let found : IsFoundAt ss key c.in-Some.at = subst (λ xs. IsFoundAt xs key c.in-Some.at) c.deref.ensures.value c.in-Some.ensures.found in
     ap (λ s. map_of (set ss c.in-Some.at s)) c.live.ensures ∙ map_set _ _ _ ss t key c.args.number c.in-Some.at found
@@ -39,16 +39,14 @@ pub invariant_of-self : goal.invariant_of-self
 invariant_of-self c =
     let ss = c.self.inside.slots.items in
     let key = c.args.key in
-    let found : IsFoundAt ss key c.in-Some.at = subst (λ xs. IsFoundAt xs key c.in-Some.at) c.deref.ensures.value c.in-Some.ensures.found in (
-      subst (λ s. IsHeads c.self.inside.seeds.first c.self.inside.seeds.second c.self.inside.homes c.self.inside.most c.self.inside.used c.self.inside.keys (set ss c.in-Some.at s)) (sym c.live.ensures)
-          (heads_set _ _ _ _ _ _ ss c.self.invariant.0 key c.in-Some.at found c.args.number),
-      c.self.invariant.1,
-    )
+    let found : IsFoundAt ss key c.in-Some.at = subst (λ xs. IsFoundAt xs key c.in-Some.at) c.deref.ensures.value c.in-Some.ensures.found in
+    subst (λ s. IsHeads c.self.inside.seeds.first c.self.inside.seeds.second c.self.inside.most c.self.inside.used c.self.inside.keys (set ss c.in-Some.at s)) (sym c.live.ensures)
+    (heads_set _ _ _ _ _ ss c.self.invariant key c.in-Some.at found c.args.number)
 
-pub find-requires : goal.find-requires
-find-requires c =
+pub find-requires-clause-reached : goal.find-requires-clause-reached
+find-requires-clause-reached c =
     let ss = c.self.inside.slots.items in
     let key = c.args.key in
-    let at = at_home c.self.inside.seeds c.args.self.now c.self.inside.homes key c.args.hash c.home-home.result (ap (λ (t : Table). t.seeds) c.self.view_is) c.requires c.home-home.ensures.at in
+    let at = at_home c.self.inside.seeds c.args.self.now ss c.len.result key c.args.hash c.home-home.result (ap (λ (t : Table). t.seeds) c.self.view_is) c.requires (omega (arith, c.len.ensures, c.self.inside.slots.ok)) c.home-home.ensures.at in
     subst (λ xs. IsReached xs c.home-home.result key) (sym c.deref.ensures.value)
-    (subst (λ h. IsReached ss h key) (sym at) (c.self.invariant.0.table.reached key))
+    (subst (λ h. IsReached ss h key) (sym at) (c.self.invariant.table.reached key))
