@@ -1,13 +1,8 @@
 -- What a search has gone over.
-use Rattle.std.proofs.Common.{◌≡◌, ℕ, ◌<◌, ◌≤◌, List, length, arith}
-use Rattle.mvo_types.specs.declared.row.RowKey.{RowKey}
+use Rattle.std.proofs.Common.{ℕ, ◌<◌, ◌≤◌, List, length, arith}
 use Rattle.mvo_hash.specs.declared.slot.Slot.{Slot}
-use Rattle.mvo_hash.specs.Slots.{slot, slot_key, IsLive, IsFilled, HasUnused}
+use Rattle.mvo_hash.specs.Slots.{slot, IsLive, IsFilled, HasUnused}
 use Rattle.mvo_hash.proofs.Counts.{filled_used}
-
--- no slot from one place up to another holds the key
-abbrev pub IsPassed : List Slot → RowKey → ℕ → ℕ → Type 0
-IsPassed ss key from to = (j : ℕ) → from ≤ j → j < to → IsLive (slot ss j) → slot_key (slot ss j) ≡ key → ⊥
 
 -- each slot from one place up to another holds a key
 abbrev pub AreHeld : List Slot → ℕ → ℕ → Type 0

@@ -67,7 +67,7 @@ entries_of ss = filter_map entry_of ss
 pub record IsFilled (ss : List Slot) (from to : ℕ) : Type 0 where
   pub at : (i : ℕ) → from ≤ i → i < to → (slot ss i).state ≢ Empty
 
--- a search from the home comes to the place: no slot before it is empty, and slot 0 follows the last
+-- a search from the home comes to the place: no slot before is empty, where slot 0 follows the last
 pub record IsProbed (ss : List Slot) (home i : ℕ) : Type 0 where
   pub ahead : home ≤ i → IsFilled ss home i
   pub behind : i < home → IsFilled ss home (length ss)
@@ -85,9 +85,13 @@ pub record IsFoundAt (ss : List Slot) (key : RowKey) (i : ℕ) : Type 0 where
 pub record IsNowhere (ss : List Slot) (key : RowKey) : Type 0 where
   pub at : (i : ℕ) → IsLive (slot ss i) → slot_key (slot ss i) ≢ key
 
--- no slot from one place on holds the key
-pub record IsNowhereFrom (ss : List Slot) (from : ℕ) (key : RowKey) : Type 0 where
-  pub at : (i : ℕ) → from ≤ i → IsLive (slot ss i) → slot_key (slot ss i) ≢ key
+-- no slot from one place up to another holds the key
+pub record IsNowhereIn (ss : List Slot) (from to : ℕ) (key : RowKey) : Type 0 where
+  pub at : (i : ℕ) → from ≤ i → i < to → IsLive (slot ss i) → slot_key (slot ss i) ≢ key
+
+-- a search for the key ends here: at the key, or at a slot that is empty
+abbrev pub IsEnding : List Slot → RowKey → ℕ → Type 0
+IsEnding ss key i = (slot ss i).state ≢ Empty → IsFoundAt ss key i
 
 -- a place that holds no key, to which a search from the home comes
 pub record IsFreeFrom (ss : List Slot) (home i : ℕ) : Type 0 where

@@ -56,8 +56,8 @@ pub record IsTable (first second homes : ℕ) (ss : List Slot) : Type 0 where
   pub apart : (i j : ℕ) → IsLive (slot ss i) → IsLive (slot ss j)
       → slot_key (slot ss i) ≡ slot_key (slot ss j) → i ≡ j
 
--- a table whose used slots and keys are counted, with no more used slots than may be. Each slot is a
--- home
+-- a table whose used slots and keys are counted, with no more used slots than may be, each slot of
+-- which is a home
 pub record IsHeads (first second most used keys : ℕ) (ss : List Slot) : Type 0 where
   pub table : IsTable first second (length ss) ss
   pub counted : used ≡ used_count ss

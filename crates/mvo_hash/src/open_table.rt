@@ -8,6 +8,7 @@ use crate::slot::Slot;
 use mvo_types::RowKey;
 use std::alloc::{AllocError, Global};
 use std::marker::Model;
+use std::mem::size_of;
 
 const LEAST_ROOM: usize = 8;
 
@@ -15,10 +16,10 @@ const LEAST_ROOM: usize = 8;
 /// room, which is how many more keys can be put before every key is moved to a larger table, and
 /// the seeds of the hashes.
 ///
-/// A search begins at the key's home and goes on to the first slot that was never used; the first
-/// slot follows the last. At most two thirds of the slots are ever used, those of removed keys among
-/// them. The homes come from a seed, so that who chooses the keys without knowing it can't make them
-/// meet.
+/// A search begins at the key's home and goes on to the first slot that was never used; behind the
+/// last slot it goes on at the first one. At most two thirds of the slots are ever used, those of
+/// removed keys among them. The homes come from a seed, so that who chooses the keys without
+/// knowing it can't make them meet.
 ///
 /// A move to another table frees the slots of removed keys, and takes a larger one only where the
 /// keys are too many, so that keys that come and go don't take ever more memory.
@@ -30,6 +31,9 @@ pub struct OpenTable {
     keys: usize,
     slots: Vec<Slot>,
 }
+
+// One line of the cache, which a call reads before the slots.
+const _: () = prove!(size_of::<OpenTable>() == 64);
 
 impl Model for OpenTable {
     ghost use Rattle.mvo_hash.specs.Table.{Table, coded_table};

@@ -1,5 +1,5 @@
-ghost use Rattle.std.specs.Prelude.{◌≡◌, ℕ, ◌<◌, ◌≤◌, length, IfSome, IfNone};
-ghost use Rattle.mvo_hash.specs.Slots.{IsReached, IsFoundAt, IsNowhere, IsNowhereFrom, IsFreeFrom, HasUnused};
+ghost use Rattle.std.specs.Prelude.{◌<◌, ◌≤◌, length, IfSome, IfNone};
+ghost use Rattle.mvo_hash.specs.Slots.{IsReached, IsFoundAt, IsNowhere, IsNowhereIn, IsEnding, IsFreeFrom, HasUnused};
 
 use crate::slot::Slot;
 use mvo_types::RowKey;
@@ -24,26 +24,39 @@ pub fn find(slots: &[Slot], home: usize, key: RowKey) -> Option<usize>
     find_before(slots, home, key)
 }
 
-// Where the key stands before its home, behind which it isn't. Few searches come here, and those
-// that don't are the shorter for it.
+// Where the key stands before its home, where it isn't behind. Few searches come here.
 #[inline(never)]
 fn find_before(slots: &[Slot], home: usize, key: RowKey) -> Option<usize>
     requires within { home ≤ length slots.now }
     requires reached { IsReached slots.now home key }
-    requires behind { IsNowhereFrom slots.now home key }
+    requires behind { IsNowhereIn slots.now home (length slots.now) key }
     ensures found { IfSome result (λ i. IsFoundAt slots.now key i) }
     ensures nowhere { IfNone result (IsNowhere slots.now key) }
 {
-    for i in 0..home {
-        let slot = &slots[i];
-        if slot.holds(key) {
-            return Some(i);
-        }
-        if slot.is_empty() {
-            return None;
-        }
+    let at = ending(slots, 0, home, key);
+    if at < home && slots[at].holds(key) {
+        return Some(at);
     }
     None
+}
+
+// Where a search over the slots from one place up to another ends: at the key or at an empty slot,
+// else behind them.
+fn ending(slots: &[Slot], from: usize, to: usize, key: RowKey) -> usize
+    requires ordered { from ≤ to }
+    requires within { to ≤ length slots.now }
+    ensures ahead { from ≤ result }
+    ensures within { result ≤ to }
+    ensures passed { IsNowhereIn slots.now from result key }
+    ensures ended { result < to → IsEnding slots.now key result }
+{
+    for i in from..to {
+        let slot = &slots[i];
+        if slot.holds(key) || slot.is_empty() {
+            return i;
+        }
+    }
+    to
 }
 
 /// The first slot from the home on that holds no key; behind the last one it is the first of all.
@@ -78,18 +91,9 @@ pub fn steps(slots: &[Slot], home: usize, key: RowKey) -> usize
     requires { home ≤ length slots.now }
     ensures { result ≤ length slots.now }
 {
-    for i in home..slots.len() {
-        let slot = &slots[i];
-        if slot.is_empty() || slot.holds(key) {
-            return i - home;
-        }
+    let at = ending(slots, home, slots.len(), key);
+    if at < slots.len() {
+        return at - home;
     }
-    let behind = slots.len() - home;
-    for i in 0..home {
-        let slot = &slots[i];
-        if slot.is_empty() || slot.holds(key) {
-            return behind + i;
-        }
-    }
-    slots.len()
+    at - home + ending(slots, 0, home, key)
 }

@@ -19,9 +19,8 @@ use std::marker::Model;
 ///
 /// The keys that `of_falling` was given take 13 bytes each for good, whether they are removed or
 /// not, and no room where they are put again. Each other key has a slot of 16 bytes in an open
-/// table of which at most two thirds are used: 24 bytes of touched memory a key or more, and 40 of
-/// reserved memory. A search takes as many steps as the count of the former keys has bits, and then
-/// those in the open table.
+/// table of which at most two thirds are used: 24 bytes a key or more. A search takes as many steps
+/// as the count of the former keys has bits, and then those in the open table.
 pub struct Places {
     fixed: FixedKeys,
     heads: OpenTable,

@@ -1,7 +1,8 @@
-use crate::equal::{holds, same};
+use crate::equal::{holds, same, same_at};
+use crate::numbers::Numbers;
 use mvo_hash::OpenTable;
 use mvo_types::RowKey;
-use std::alloc::AllocError;
+use std::alloc::{AllocError, Global};
 use std::process::Abort;
 use std::test::Fail;
 
@@ -125,4 +126,84 @@ fn take_all_turns(rt: &impl Abort, table: &mut OpenTable) -> Result<(), Fail> {
 fn keys_that_come_and_go_take_no_more_memory(rt: HostRuntime) -> Result<(), Fail> {
     let mut table = OpenTable::new(rt.alloc(), 14);
     take_all_turns(&rt, &mut table)
+}
+
+// How many keys there are. A table has slots for few more, so that some search runs past its last
+// slot in most tables.
+const FEW: usize = 12;
+
+/// The same change of the table and of a plain list of the numbers by key, which had the same.
+fn change_both(
+    rt: &impl Abort,
+    table: &mut OpenTable,
+    plain: &mut [Option<u32>],
+    at: usize,
+    number: Option<u32>,
+) -> Result<(), Fail> {
+    let Some(listed) = plain.get_mut(at) else {
+        return Ok(());
+    };
+    let key = RowKey {
+        table: 1,
+        key: at as u64,
+    };
+    let before = match number {
+        Some(number) => table.put(key, number)?,
+        None => table.remove(key),
+    };
+    same(rt, &before, listed);
+    *listed = number;
+    Ok(())
+}
+
+/// The table has the keys of the list, with their numbers, and none of the others.
+fn has_the_same(rt: &impl Abort, table: &OpenTable, plain: &[Option<u32>], step: u32) {
+    for (at, number) in plain.iter().enumerate() {
+        let key = at as u64;
+        same_at(
+            rt,
+            &table.get(RowKey { table: 1, key }),
+            number,
+            u64::from(step),
+        );
+    }
+}
+
+fn agree(
+    rt: &impl Abort,
+    table: &mut OpenTable,
+    plain: &mut [Option<u32>],
+    numbers: &mut Numbers,
+) -> Result<(), Fail> {
+    for step in 0u32..500 {
+        let at = (numbers.below(FEW as u64) & 0xff) as usize;
+        let number = if numbers.below(3) == 0 {
+            None
+        } else {
+            Some(step)
+        };
+        change_both(rt, table, plain, at, number)?;
+        has_the_same(rt, table, plain, step);
+    }
+    Ok(())
+}
+
+/// By so many seeds each key has its home at the end of some table.
+fn agree_by_seeds(rt: &impl Abort, alloc: Global) -> Result<(), Fail> {
+    let mut numbers = Numbers::new();
+    for seed in 0u64..100 {
+        let mut plain: [Option<u32>; FEW] = [None; FEW];
+        agree(
+            rt,
+            &mut OpenTable::new(alloc, seed),
+            &mut plain,
+            &mut numbers,
+        )?;
+    }
+    Ok(())
+}
+
+#[test]
+fn keys_that_run_past_the_end_are_found(rt: HostRuntime) -> Result<(), Fail> {
+    agree_by_seeds(&rt, rt.alloc())
 }

@@ -1,5 +1,0 @@
-use Rattle.mvo_hash.proofs.Probes.{IsPassed}
-use Rattle.mvo_hash.proofs.probe.find_before.Given as goal
-
-abbrev pub invariant-loop-i : goal.invariant-loop-i
-invariant-loop-i l = IsPassed l.slots l.key 0 l.i
