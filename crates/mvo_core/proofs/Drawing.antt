@@ -16,7 +16,7 @@ use Rattle.mvo_types.specs.Causes.{when}
 use Rattle.mvo_theory.specs.Causes.{why_not_precommit}
 use Rattle.mvo_theory.specs.Changes.{to_stamped, after_prepare}
 use Rattle.mvo_theory.specs.Steps.{after_precommit_of, after_precommit}
-use Rattle.mvo_theory.specs.Calls.{IsRefusal, MayCome}
+use Rattle.mvo_theory.specs.Calls.{IsRefusal}
 use Rattle.mvo_theory.specs.Calls as theory
 use Rattle.mvo_theory.specs.Calls.Call.{Precommit}
 use Rattle.mvo_theory.specs.Calls.Result.{Accepted, Refused}

@@ -6,7 +6,7 @@ use Rattle.mvo_types.specs.declared.ids.TxId.{TxId}
 use Rattle.mvo_txn.specs.declared.seat.Seat.{Seat}
 use Rattle.mvo_txn.specs.declared.state.TxState.{TxState}
 use Rattle.mvo_txn.specs.Txns as txns
-use Rattle.mvo_txn.specs.Txns.{Txns, state_of, kept_of}
+use Rattle.mvo_txn.specs.Txns.{Txns, state_of}
 use Rattle.mvo_deps.specs.declared.node.Node.{Node}
 use Rattle.mvo_deps.specs.Data.{DependencyData, is_among, without_dependents}
 use Rattle.mvo_deps.specs.Nodes.{data_of, after_change, changed_if, with_data, IsEachChanged, IsReported}

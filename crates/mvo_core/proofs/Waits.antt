@@ -21,7 +21,6 @@ use Rattle.mvo_deps.specs.Data.{DependencyData, is_among, with_dependency, with_
 use Rattle.mvo_deps.specs.Nodes.{data_of, after_change_at, after_change, noted_on, after_register, after_register_all}
 use Rattle.mvo_visible.specs.Words.{States}
 use Rattle.mvo_work.specs.declared.word_place.WordPlace.{WordPlace}
-use Rattle.mvo_work.specs.declared.word_place.WordPlace.TheVariants.{Begin, End}
 use Rattle.mvo_versions.specs.Data.{VersionsData}
 use Rattle.mvo_versions.specs.Changes.{IsPut, IsReworded}
 use Rattle.mvo_versions.proofs.Indexing.{hole_inside, hole_empty, room_versions}

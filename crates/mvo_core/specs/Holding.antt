@@ -1,5 +1,5 @@
 -- Whether a transaction was told just this.
-use Rattle.std.specs.Prelude.{ℕ, ◌≡◌, ◌↔◌, Bool, IsTrue, Option, None, Some}
+use Rattle.std.specs.Prelude.{ℕ, ◌≡◌, ◌↔◌, Bool, IsTrue, Option, Some}
 use Rattle.std.specs.Option.{option_map}
 use Rattle.mvo_types.specs.declared.op.Op.{Op}
 use Rattle.mvo_types.specs.declared.answer.Answer.{Answer}

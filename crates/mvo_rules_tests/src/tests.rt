@@ -248,6 +248,7 @@ fn entries_stand_in_the_order_of_their_first_use(rt: HostRuntime) -> Result<(), 
 /// Notes a key, and sees whether it is a new one.
 fn note_key(rt: &impl Abort, entries: &mut Entries, key: u64, is_new: bool) -> Result<(), Fail> {
     entries.make_room()?;
+    holds(rt, entries.has_room());
     same_at(rt, &entries.note(Entry::Key(key_of(key))), &is_new, key);
     Ok(())
 }
@@ -284,6 +285,7 @@ fn many_stand_in_order(rt: &impl Abort, entries: &Entries) {
 #[test]
 fn many_keys_are_noted_once_in_each_order(rt: HostRuntime) -> Result<(), Fail> {
     let mut entries = Entries::new(rt.alloc());
+    holds(&rt, !entries.has_room());
     note_many(&rt, &mut entries)?;
     many_stand_in_order(&rt, &entries);
     entries.clear();

@@ -1,4 +1,4 @@
-ghost use Rattle.std.specs.Prelude.{◌≡◌, ◌<◌, ◌≤◌, ◌+◌, [], not, OnOk, OnErr, length, slice_get};
+ghost use Rattle.std.specs.Prelude.{◌≡◌, ◌<◌, ◌≤◌, ◌+◌, [], not, nat_lt, OnOk, OnErr, length, slice_get};
 ghost use Rattle.indexmap.specs.IndexSet.{spare};
 ghost use Rattle.mvo_types.specs.Entries.{has_entry, with_entry};
 ghost use Rattle.mvo_validate.specs.Noted.{HasNoKeyAbove, key_above, with_key};
@@ -67,6 +67,17 @@ impl Entries {
         ensures { result ≡ has_entry self.now.noted entry }
     {
         is_among(&self.few, entry) || self.set.contains(&entry)
+    }
+
+    /// Whether one more can be noted without memory.
+    #[inline(always)]
+    pub fn has_room(&self) -> bool
+        ensures { result ≡ nat_lt 0 self.now.room }
+    {
+        if self.few.len() < FEW {
+            return self.few.len() < self.few.capacity();
+        }
+        self.set.len() < self.set.capacity()
     }
 
     /// Sees to it that one more can be noted. It takes memory where there is no room, and alone

@@ -1,5 +1,5 @@
 -- Counting the runs of a list.
-use Rattle.std.proofs.Common.{◌≡◌, ℕ, ◌+◌, ◌≤◌, ◌<◌, suc, zero, Bool, true, false, cond, not, eqb, ◌||◌, List, [], ◌∷◌, length, Option, None, Some, IsSome, refl, sym, ap, ◌∙◌, subst, arith, ◌⊎◌, inl, inr}
+use Rattle.std.proofs.Common.{◌≡◌, ℕ, ◌+◌, ◌≤◌, ◌<◌, suc, zero, Bool, true, false, cond, not, eqb, ◌||◌, List, [], ◌∷◌, length, Option, None, Some, refl, sym, ap, ◌∙◌, subst, arith, ◌⊎◌, inl, inr}
 use Rattle.std.specs.Prelude.{◌==◌, ◌&&◌, is_some, is_none}
 use Rattle.std.specs.List.{list_any}
 use Rattle.std.proofs.lemmas.Bool.{eq-eqb, eqb-true, ne_eqb, cases_eq, true≢false, or_left, or_right}
@@ -171,6 +171,3 @@ newest_is n (m ∷ ns) a e = go (eqb n m) refl a e
 pub none_if : {X : Type 0} (o : Option X) (b : Bool) → is_some o ≡ not b → b ≡ true → is_none o ≡ true
 none_if None b e t = refl
 none_if (Some x) b e t = absurd (true≢false (e ∙ ap not t))
-
-pub some_if : {X : Type 0} (o : Option X) (b : Bool) → is_some o ≡ not b → b ≡ false → IsSome o
-some_if o b e t = e ∙ ap not t

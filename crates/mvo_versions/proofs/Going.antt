@@ -1,6 +1,6 @@
 -- A version that changes its words, comes to the front, or goes.
 use Rattle.std.proofs.Common.{◌≡◌, ℕ, ◌+◌, ◌-◌, ◌≤◌, ◌^◌, Bool, true, false, cond, not, List, [], ◌∷◌, Option, None, Some, Result, Ok, Err, IsSome, IfSome, refl, sym, ap, ◌∙◌, subst, arith, ◌⊎◌, inl, inr}
-use Rattle.std.specs.Prelude.{◌==◌, is_some, is_none, slice_index_or, slice_set}
+use Rattle.std.specs.Prelude.{◌==◌, is_some, slice_index_or, slice_set}
 use Rattle.std.specs.Option.{option_map}
 use Rattle.std.specs.Result.{OnOk, OnErr}
 use Rattle.std.specs.List.{list_any}
@@ -24,7 +24,7 @@ use Rattle.mvo_range.proofs.Places.{places_total}
 use Rattle.std.proofs.lemmas.Cmp.{eq_by_cmp_equiv}
 use Rattle.mvo_validate.specs.Entries.{key_at}
 use Rattle.mvo_visible.specs.Fronts.{with_front, with_less}
-use Rattle.mvo_representation.specs.Indexes.{all_versions, is_at_place, is_of_key, place_of}
+use Rattle.mvo_representation.specs.Indexes.{all_versions, is_at_place, is_of_key, place_of, HasNumbers}
 use Rattle.mvo_versions.specs.Data.{VersionsData}
 use Rattle.mvo_versions.specs.Changes.{is_slot_at, is_number_at, HaveSamePlaces, IsInFront}
 use Rattle.mvo_versions.specs.Runs.{runs_at, entry_of, or_none, is_newest_at, place_at, left, entered, AreCounted}
@@ -51,8 +51,8 @@ told : (v : VersionsData) (n : VersionNo) (P : Version → Type 0) (w : Version)
 told v n P w e h = subst (λ o. IfSome o P) e h
 
 -- it is held by its key
-pub is_held : (v : VersionsData) (n : VersionNo) → IsSome (version_at v.slots n) → AreCounted v → IsHeld v.lists n.0
-is_held v n s h = let f = found v n s in (f.0.row.key, number_among v.slots v.lists n.0 f.0 h.numbers f.1)
+pub is_held : (v : VersionsData) (n : VersionNo) → IsSome (version_at v.slots n) → HasNumbers v.slots v.lists → IsHeld v.lists n.0
+is_held v n s h = let f = found v n s in (f.0.row.key, number_among v.slots v.lists n.0 f.0 h f.1)
 
 pub live_among : (v : VersionsData) (n : VersionNo) (p : Place) → IsSome (version_at v.slots n) → IfSome (version_at v.slots n) (λ w. p ≡ place_of w) → AreCounted v → is_among n.0 (numbers_of v.lists (key_at p)) ≡ true
 live_among v n p s i h =
@@ -172,23 +172,19 @@ put_itself lists k (m ∷ ns) (Some ms) e i n f = fin.same_map keys_total exact_
     go q true t = ap Some i ∙ sym e ∙ ap (fin.get lists) (sym (tells_apart exact_keys q k t))
     go q false t = refl
 
-front_itself : (v : VersionsData) (n : VersionNo) (w : Version) → version_at v.slots n ≡ Some w → AreCounted v → newer_of n.0 (numbers_of v.lists w.row.key) ≡ None → v.lists ≡ with_front v.lists w.row.key n.0
+front_itself : (v : VersionsData) (n : VersionNo) (w : Version) → version_at v.slots n ≡ Some w → HasNumbers v.slots v.lists → newer_of n.0 (numbers_of v.lists w.row.key) ≡ None → v.lists ≡ with_front v.lists w.row.key n.0
 front_itself v n w e h f =
     let ns = numbers_of v.lists w.row.key in
-    let newest : newest_of ns ≡ Some n.0 = newest_is n.0 ns (number_among v.slots v.lists n.0 w h.numbers e) f in
-    let once : how_many (λ i. i == n.0) ns ≡ 1 = h.numbers.at w.row.key n.0 ∙ ap (λ x. one (is_of_key w.row.key x)) e ∙ ap one (key_of_itself w.row.key) in
+    let newest : newest_of ns ≡ Some n.0 = newest_is n.0 ns (number_among v.slots v.lists n.0 w h e) f in
+    let once : how_many (λ i. i == n.0) ns ≡ 1 = h.at w.row.key n.0 ∙ ap (λ x. one (is_of_key w.row.key x)) e ∙ ap one (key_of_itself w.row.key) in
     sym (ap (with_numbers v.lists w.row.key) (front_list n.0 ns newest once) ∙ put_itself v.lists w.row.key ns (fin.get v.lists w.row.key) refl refl n.0 newest)
 
-pub stays_front : (v : VersionsData) (n : VersionNo) (newer : Option VersionNo) → AreCounted v → IsNewer v.lists n.0 (option_map (λ (m : VersionNo). m.0) newer) → is_none newer ≡ true → IsInFront v v n
-stays_front v n newer h front none = record {
+pub stays_front : (v : VersionsData) (n : VersionNo) → HasNumbers v.slots v.lists → IsNewer v.lists n.0 None → IsInFront v v n
+stays_front v n h front = record {
   slots = refl;
-  lists = λ w e. front_itself v n w e h (sym (front.at w.row.key (number_among v.slots v.lists n.0 w h.numbers e)) ∙ no_number newer none);
+  lists = λ w e. front_itself v n w e h (sym (front.at w.row.key (number_among v.slots v.lists n.0 w h e)));
   places = record { at = λ p. refl };
 }
-  where
-    no_number : (o : Option VersionNo) → is_none o ≡ true → option_map (λ (m : VersionNo). m.0) o ≡ None
-    no_number None q = refl
-    no_number (Some m) q = absurd (true≢false (sym q))
 
 -- the key of the place is that of the version
 pub key_there : (v : VersionsData) (n : VersionNo) (p : Place) (k : RowKey) (w : Version) → IfSome (version_at v.slots n) (λ w. p ≡ place_of w) → k ≡ key_at p → version_at v.slots n ≡ Some w → k ≡ w.row.key

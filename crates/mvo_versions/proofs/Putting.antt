@@ -8,7 +8,7 @@ use Rattle.std.proofs.lemmas.List.Sums.{sum_by-cons}
 use Rattle.mvo_chain.specs.declared.version.Version.{Version}
 use Rattle.mvo_chain.specs.declared.version.VersionNo.{VersionNo}
 use Rattle.mvo_chain.specs.Slots.{Slots, version_at, with_room, with_slot, hole_count, IsHole}
-use Rattle.mvo_hash.specs.Lists.{Lists, numbers_of, newest_of, is_among, IsFresh, IsHeld, IsNewer}
+use Rattle.mvo_hash.specs.Lists.{Lists, numbers_of, is_among, IsFresh, IsHeld, IsNewer}
 use Rattle.mvo_range.specs.declared.place.Place.{Place}
 use Rattle.mvo_range.specs.Place.{Map as Places}
 use Rattle.mvo_validate.specs.Entries.{key_at}
@@ -16,10 +16,10 @@ use Rattle.mvo_visible.specs.Fronts.{with_new}
 use Rattle.mvo_representation.specs.Indexes.{HasNumbers, place_of}
 use Rattle.mvo_representation.proofs.Numbers.{numbers_added}
 use Rattle.mvo_versions.specs.Data.{VersionsData}
-use Rattle.mvo_versions.specs.Changes.{IsRoomed, is_slot_at, is_number_at, is_one_at}
+use Rattle.mvo_versions.specs.Changes.{IsRoomed, is_slot_at, is_number_at}
 use Rattle.mvo_versions.specs.Runs.{runs_at, entry_of, passes, one_less, is_newest_at, entered, AreCounted}
 use Rattle.mvo_versions.proofs.Counting.{runs_alike, newest_is}
-use Rattle.mvo_versions.proofs.Entries.{entered_has, given_back, one_at_passes}
+use Rattle.mvo_versions.proofs.Entries.{entered_has, given_back}
 use Rattle.mvo_versions.proofs.Indexing.{hole_inside, hole_empty, room_same, room_numbers, emptied_again, empty_fresh, number_among, at_key}
 use Rattle.mvo_versions.proofs.Counted.{comes_runs}
 
@@ -122,6 +122,3 @@ joins_like slots lists p n newer h t front none =
     no_number : (o : Option VersionNo) → is_none o ≡ true → option_map (λ (m : VersionNo). m.0) o ≡ None
     no_number None q = refl
     no_number (Some m) q = absurd (true≢false (sym q))
-
-pub joins_newest : (slots : Slots) (lists : Lists) (p : Place) (newest : Option VersionNo) (b : Bool) → b ≡ is_one_at slots p newest → option_map (λ (m : VersionNo). m.0) newest ≡ newest_of (numbers_of lists (key_at p)) → b ≡ is_newest_at slots lists p
-joins_newest slots lists p newest b e n = e ∙ one_at_passes slots p newest ∙ ap (passes (is_number_at slots p)) n

@@ -56,8 +56,9 @@ impl Model for Indexed {
 }
 
 impl Indexed {
-    ghost use Rattle.std.specs.Prelude.{◌≡◌, ◌≤◌, ◌<◌, ◌^◌, IfOk, OnErr, IsSome, IfSome, option_copied};
+    ghost use Rattle.std.specs.Prelude.{◌≡◌, ◌≤◌, ◌<◌, ◌^◌, IfOk, OnErr, IsSome, IfSome, Some, option_copied};
     ghost use Rattle.mvo_chain.specs.Slots.{version_at};
+    ghost use Rattle.mvo_hash.specs.Lists.{IsNewer};
     ghost use Rattle.mvo_word.specs.declared.held.Held.TheVariants.{By};
     ghost use Rattle.mvo_representation.specs.Steps.{ended_by};
     ghost use Rattle.mvo_types.specs.declared.limits.TheConstants.{MAX_STAMP as LIMIT};
@@ -196,23 +197,21 @@ impl Indexed {
         self.chains.set_end(number, end);
     }
 
-    /// Brings the version to the front of those of its key. Takes no memory, and constant time
-    /// beside that of the ordered index; it changes nothing where the version is the newest.
-    pub fn bring_to_front(&mut self, number: VersionNo)
-        requires { IsSome (version_at self.old.slots number) }
+    /// Brings the version to the front of those of its key, where `newer` is the next newer one.
+    /// Takes no memory, and constant time beside that of the ordered index.
+    #[inline(never)]
+    pub fn bring_to_front(&mut self, number: VersionNo, newer: VersionNo)
+        requires live { IsSome (version_at self.old.slots number) }
+        requires newer { IsNewer self.old.lists number.0 (Some newer.0) }
         ensures front { IsInFront self.old self.new number }
         ensures indexed { AreIndexed self.new }
     {
-        let newer = self.index.newer(number);
-        if newer.is_none() {
-            return;
-        }
         let place = place_of(&self.chains, number);
         let joins = joins(&self.chains, &self.index, None, place);
         // The place has an entry, so counting a run takes no memory.
         let _ = enter(&mut self.order, place, joins);
         let older = self.index.older(number);
-        leave(&mut self.order, &self.chains, place, newer, older);
+        leave(&mut self.order, &self.chains, place, Some(newer), older);
         self.index.bring_to_front(place.row_key(), number);
     }
 }

@@ -160,7 +160,10 @@ impl Versions {
         requires { IsSome (version_at self.old.slots number) }
         ensures { IsInFront self.old self.new number }
     {
+        let Some(newer) = self.indexed.index().newer(number) else {
+            return;
+        };
         unless_ended(&mut self.skips, self.indexed.chains(), number);
-        self.indexed.bring_to_front(number);
+        self.indexed.bring_to_front(number, newer);
     }
 }

@@ -1,5 +1,6 @@
 //! How lists of a transaction take memory, and keep it for the next transaction.
-ghost use Rattle.std.specs.Prelude.{◌≡◌, [], ◌<◌, ◌≤◌, OnOk, OnErr, vec_len, vec_capacity};
+ghost use Rattle.std.specs.Prelude.{◌≡◌, ◌-◌, [], ◌<◌, ◌≤◌, nat_lt, nat_le, OnOk, OnErr, vec_len, vec_capacity};
+ghost use Rattle.std.specs.VecDeque.{deque_len, deque_capacity};
 
 use std::alloc::AllocError;
 use std::collections::VecDeque;
@@ -13,6 +14,22 @@ const SEVERAL: usize = 4;
 
 // Room for more items than this, behind those that are stored, is given back.
 const SPARE: usize = 8;
+
+/// Whether there is room for one item more.
+#[inline(always)]
+pub fn has_room_for_one<T>(items: &Vec<T>) -> bool
+    ensures { result ≡ nat_lt (vec_len items.now) (vec_capacity items.now) }
+{
+    items.len() < items.capacity()
+}
+
+/// Whether there is room for two words more.
+#[inline(always)]
+pub fn has_room_for_two<T>(words: &VecDeque<T>) -> bool
+    ensures { result ≡ nat_le 2 (deque_capacity words.now - deque_len words.now) }
+{
+    words.capacity().saturating_sub(words.len()) >= 2
+}
 
 /// Sees to it that there is room for one item more. The first one takes no more memory than it
 /// needs: many transactions have one operation, and their lists are kept.

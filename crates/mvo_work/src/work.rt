@@ -1,4 +1,4 @@
-ghost use Rattle.std.specs.Prelude.{◌≡◌, ◌-◌, ◌++◌, ◌∷◌, [], ◌<◌, ◌≤◌, not, ◌==◌, drop, is_some, length, slice_get, IfOk, OnOk, OnErr};
+ghost use Rattle.std.specs.Prelude.{◌≡◌, ◌-◌, ◌++◌, ◌∷◌, [], ◌<◌, ◌≤◌, ◌↔◌, IsTrue, not, ◌==◌, drop, is_some, length, slice_get, IfOk, OnOk, OnErr};
 ghost use Rattle.mvo_types.specs.AnswerData.{answer_data};
 ghost use Rattle.mvo_model.specs.History.{net_write};
 ghost use Rattle.mvo_theory.specs.Entries.{entries, written_keys};
@@ -9,7 +9,10 @@ ghost use Rattle.mvo_work.specs.Limits.{MayFollow};
 ghost use Rattle.mvo_work.specs.Work.{HasRoom};
 
 use crate::lists::Lists;
-use crate::memory::{clear_items, clear_words, reserve_few, reserve_one, take_items};
+use crate::memory::{
+    clear_items, clear_words, has_room_for_one, has_room_for_two, reserve_few, reserve_one,
+    take_items,
+};
 use crate::operations::Operations;
 use crate::told::{entry_of, is_among, key_written, note_write, push_reserved};
 use crate::word_place::WordPlace;
@@ -129,6 +132,32 @@ impl Work {
     /// nothing but the room.
     #[inline(always)]
     pub fn make_room(&mut self) -> Result<(), AllocError>
+        ensures same { self.new ≡
+            record self.old { room = self.new.room; word_room = self.new.word_room } }
+        ensures ok { OnOk result (HasRoom self.new) }
+        ensures err { OnErr result (¬ HasRoom self.old) }
+    {
+        if self.has_room() {
+            return Ok(());
+        }
+        self.grow()
+    }
+
+    /// Whether there is room for an operation and two words more.
+    #[inline(always)]
+    fn has_room(&self) -> bool
+        ensures { IsTrue result ↔ HasRoom self.now }
+    {
+        let lists = &*self.lists;
+        has_room_for_one(&lists.operations)
+            && lists.looked_at.has_room()
+            && has_room_for_one(&lists.written)
+            && has_room_for_two(&lists.words)
+    }
+
+    /// `make_room` where a list has to grow. That is seldom, so it lies apart from the callers.
+    #[inline(never)]
+    fn grow(&mut self) -> Result<(), AllocError>
         ensures same { self.new ≡
             record self.old { room = self.new.room; word_room = self.new.word_room } }
         ensures ok { OnOk result (HasRoom self.new) }

@@ -62,6 +62,11 @@ fn at_most_64_lists_are_kept(rt: HostRuntime) -> Result<(), Fail> {
 }
 
 #[test]
+fn a_list_with_room_for_128_is_kept(rt: HostRuntime) -> Result<(), Fail> {
+    keeps(&rt, rt.alloc(), 3, 128, 3)
+}
+
+#[test]
 fn a_list_with_room_for_more_than_128_is_not_kept(rt: HostRuntime) -> Result<(), Fail> {
     keeps(&rt, rt.alloc(), 3, 129, 0)
 }

@@ -5,7 +5,7 @@ use Rattle.mvo_types.specs.AnswerData.AnswerData.{Updated}
 use Rattle.mvo_work.specs.declared.word_place.WordPlace.TheVariants.{Begin, End}
 use Rattle.mvo_work.specs.Limits.{MayFollow}
 use Rattle.mvo_core.specs.Keeping.{HasDoneMore, IsWritten}
-use Rattle.mvo_core.proofs.Recorded.{unfinished_roomy, there_then, room_then, history_then, all_room_then}
+use Rattle.mvo_core.proofs.Recorded.{unfinished_roomy, there_then, history_then, all_room_then}
 use Rattle.mvo_core.proofs.operating.put_instead.Goals as goal
 
 pub put-requires-clause-there : goal.put-requires-clause-there

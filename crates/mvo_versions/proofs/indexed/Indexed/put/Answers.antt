@@ -4,7 +4,6 @@ use Rattle.mvo_types.specs.RowData.{RowData}
 use Rattle.mvo_chain.specs.Slots.{added, with_room, with_slot}
 use Rattle.mvo_visible.specs.Fronts.{with_new}
 use Rattle.mvo_representation.specs.Steps.{fresh}
-use Rattle.mvo_versions.specs.Runs.{entered}
 use Rattle.mvo_versions.proofs.Counted.{indexed, few_at}
 use Rattle.mvo_versions.proofs.Putting.{fresh_number, undone, undone_right, put_right, put_there, places_back}
 use Rattle.mvo_versions.proofs.indexed.Indexed.put.Goals as goal

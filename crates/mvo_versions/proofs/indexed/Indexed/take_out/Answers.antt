@@ -7,10 +7,10 @@ use Rattle.mvo_versions.proofs.Going.{is_held, live_among, went}
 use Rattle.mvo_versions.proofs.indexed.Indexed.take_out.Goals as goal
 
 pub newer-newer-requires : goal.newer-newer-requires
-newer-newer-requires c = is_held (record { slots = c.self.inside.chains; lists = c.self.inside.index.versions; places = c.self.inside.order }) c.args.number (subst (λ (v : VersionsData). IsSome (version_at v.slots c.args.number)) (sym c.self.view_is) c.requires) c.self.invariant
+newer-newer-requires c = is_held (record { slots = c.self.inside.chains; lists = c.self.inside.index.versions; places = c.self.inside.order }) c.args.number (subst (λ (v : VersionsData). IsSome (version_at v.slots c.args.number)) (sym c.self.view_is) c.requires) c.self.invariant.numbers
 
 pub older-older-requires : goal.older-older-requires
-older-older-requires c = is_held (record { slots = c.self.inside.chains; lists = c.self.inside.index.versions; places = c.self.inside.order }) c.args.number (subst (λ (v : VersionsData). IsSome (version_at v.slots c.args.number)) (sym c.self.view_is) c.requires) c.self.invariant
+older-older-requires c = is_held (record { slots = c.self.inside.chains; lists = c.self.inside.index.versions; places = c.self.inside.order }) c.args.number (subst (λ (v : VersionsData). IsSome (version_at v.slots c.args.number)) (sym c.self.view_is) c.requires) c.self.invariant.numbers
 
 pub remove-requires : goal.remove-requires
 remove-requires c =

@@ -1,9 +1,24 @@
-use Rattle.std.proofs.Common.{IsSome, sym, subst}
+use Rattle.std.proofs.Common.{None, IsSome, sym, subst}
 use Rattle.mvo_chain.specs.Slots.{version_at}
+use Rattle.mvo_hash.specs.Lists.{IsHeld, IsNewer}
 use Rattle.mvo_versions.specs.Data.{VersionsData}
+use Rattle.mvo_versions.specs.Changes.{IsInFront}
 use Rattle.mvo_versions.specs.Skips.{IsUnlessEnded}
+use Rattle.mvo_versions.proofs.Going.{is_held, stays_front}
 use Rattle.mvo_versions.proofs.Kept.{front_has}
 use Rattle.mvo_versions.proofs.versions.Versions.bring_to_front.Goals as goal
+
+pub newer-requires : goal.newer-requires
+newer-requires c =
+    subst (λ ls. IsHeld ls c.args.number.0) (sym c.index.ensures)
+    (is_held c.self.inside.indexed c.args.number (subst (λ (v : VersionsData). IsSome (version_at v.slots c.args.number)) (sym c.self.view_is) c.requires) c.self.invariant.numbers)
+
+-- it is the newest already
+pub returns-in_default : goal.returns-in_default
+returns-in_default c =
+    subst (λ (v : VersionsData). IsInFront v v c.args.number) c.self.view_is
+    (stays_front c.self.inside.indexed c.args.number c.self.invariant.numbers
+    (subst (λ ls. IsNewer ls c.args.number.0 None) c.index.ensures c.in_default.ensures))
 
 pub invariant_of-self : goal.invariant_of-self
 invariant_of-self c =
