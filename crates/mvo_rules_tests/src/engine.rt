@@ -11,7 +11,7 @@ use mvo_range::{Place, RangeIndex};
 use mvo_txn::{TxState, TxnTable};
 use mvo_types::{Entry, MAX_STAMP, Refusal, Row, RowKey, Stamp, TxId};
 use mvo_validate::{Check, check_entry};
-use mvo_visible::{Shown, ended_by, names, shown};
+use mvo_visible::{Shown, ended_by, names, shown, shown_at_once};
 use mvo_word::{Held, Word};
 use std::alloc::{AllocError, Global};
 
@@ -117,6 +117,10 @@ impl Engine {
     pub fn shown_to(&self, id: TxId, key: RowKey) -> Shown {
         let at = Stamp(id.0);
         shown(&self.chains, &self.index, &self.table, at, id, key)
+    }
+
+    pub fn shown_at_once_to(&self, id: TxId, key: RowKey) -> Option<Shown> {
+        shown_at_once(&self.chains, &self.index.walk(key), Stamp(id.0))
     }
 
     fn scan(&mut self, tx: &mut Open, lo: u64, hi: u64) -> Result<(), AllocError> {

@@ -49,6 +49,7 @@ fn compare_shown(rt: &impl Abort, engine: &Engine, at: Stamp, key: RowKey, count
             let shown = engine.shown_to(tx.id, key);
             let want = wanted(engine, tx, key, counts);
             same_at(rt, &shown, &want, tx.id.0);
+            compare_at_once(rt, engine, tx.id, key, want);
             if shown.depends_on.is_some() {
                 count(&mut counts.speculative);
             }
@@ -58,6 +59,14 @@ fn compare_shown(rt: &impl Abort, engine: &Engine, at: Stamp, key: RowKey, count
     if engine.table.state(id).is_none() {
         let want = shown_of_others(engine, at, key);
         same_at(rt, &engine.shown_to(id, key), &want, id.0);
+        compare_at_once(rt, engine, id, key, want);
+    }
+}
+
+/// Compares what is told by the first version alone, where that tells it.
+fn compare_at_once(rt: &impl Abort, engine: &Engine, id: TxId, key: RowKey, want: Shown) {
+    if let Some(shown) = engine.shown_at_once_to(id, key) {
+        same_at(rt, &shown, &want, id.0);
     }
 }
 

@@ -12,7 +12,7 @@ use mvo_range::Walk;
 use mvo_txn::TxnTable;
 use mvo_types::{Entry, RowKey, Stamp, TxId};
 use mvo_validate::{Check, check_entry};
-use mvo_visible::{Shown, shown_on};
+use mvo_visible::{Shown, shown_at_once, shown_on};
 
 impl Versions {
     ghost use Rattle.std.specs.Prelude.{◌≡◌, filter, map};
@@ -28,6 +28,20 @@ impl Versions {
 
     /// The version of a key that the transaction is shown, where the versions stand in order.
     pub fn shown<P>(&self, table: &TxnTable<P>, reader: TxId, key: RowKey) -> Shown
+        ensures { let vs = versions_at self.now.slots self.now.lists key in
+            IsInOrder (state_of table.now) reader.0 reader.0 vs →
+            result ≡ shown_to (state_of table.now) reader.0 reader.0 vs }
+    {
+        let walk = self.indexed.index().walk(key);
+        match shown_at_once(self.indexed.chains(), &walk, Stamp(reader.0)) {
+            Some(shown) => shown,
+            None => self.shown_by_walk(table, reader, key),
+        }
+    }
+
+    /// The same by a walk past what tells nothing.
+    #[inline(never)]
+    fn shown_by_walk<P>(&self, table: &TxnTable<P>, reader: TxId, key: RowKey) -> Shown
         ensures { let vs = versions_at self.now.slots self.now.lists key in
             IsInOrder (state_of table.now) reader.0 reader.0 vs →
             result ≡ shown_to (state_of table.now) reader.0 reader.0 vs }

@@ -1,4 +1,5 @@
 pub mod Decides
+pub mod First
 pub mod Walks
 pub mod Settled
 pub mod Passed

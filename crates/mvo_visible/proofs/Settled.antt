@@ -1,6 +1,6 @@
 -- A version whose words alone say that its put is settled, and that nobody has ended it.
-use Rattle.std.proofs.Common.{◌≡◌, ℕ, ◌<◌, ◌≤◌, Bool, true, false, not, ◌&&◌, ◌||◌, cond, eqb, ltb, List, [], ◌∷◌, Option, None, Some, refl, sym, ap, ◌∙◌, inl, inr, arith}
-use Rattle.std.proofs.lemmas.Bool.{cases_Bool, cond-true, cond-false, eq-eqb, ne_eqb, ltb-true, lt-ltb, le-ltb, leb-true, and_parts}
+use Rattle.std.proofs.Common.{◌≡◌, ℕ, ◌<◌, ◌≤◌, true, false, not, ◌&&◌, ◌||◌, cond, ltb, [], ◌∷◌, Option, None, Some, refl, sym, ap, ◌∙◌, inl, inr, arith}
+use Rattle.std.proofs.lemmas.Bool.{cases_Bool, cond-true, cond-false, eq-eqb, ne_eqb, ltb-true, leb-true, and_parts}
 use Rattle.std.specs.Option.{option_map, option_or}
 use Rattle.mvo_types.specs.declared.ids.Stamp.{Stamp}
 use Rattle.mvo_word.specs.declared.held.Held.{Held}
@@ -10,7 +10,6 @@ use Rattle.mvo_chain.specs.declared.version.VersionNo.{VersionNo}
 use Rattle.mvo_visible.specs.declared.walked.Walked.{Walked}
 use Rattle.mvo_visible.specs.declared.seen.Seen.{Seen}
 use Rattle.mvo_visible.specs.declared.seen.Seen.TheVariants.{Settled}
-use Rattle.mvo_visible.specs.declared.change.Change.{Change}
 use Rattle.mvo_visible.specs.Words.{States, seen_of, names}
 use Rattle.mvo_visible.specs.Changes.{is_at, changes_by, done_with, deciding, later, put_of, removal_of}
 use Rattle.mvo_visible.specs.Walked.{walked_on, with_put, is_from, is_last_at, is_last, settled_at, settled_put}

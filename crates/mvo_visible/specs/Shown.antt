@@ -1,17 +1,19 @@
 -- The version that a transaction is shown.
 use Rattle.std.specs.Prelude.{◌≡◌, ℕ, ◌≤◌, ◌<◌, Bool, false, cond, List, [], ◌∷◌, Option, None, Some, ⊤}
 use Rattle.std.specs.List.{AllByRecursion, list_any}
+use Rattle.std.specs.Option.{option_map}
 use Rattle.mvo_types.specs.declared.row.RowKey.{RowKey}
 use Rattle.mvo_chain.specs.declared.version.VersionNo.{VersionNo}
-use Rattle.mvo_chain.specs.Slots.{Slots}
+use Rattle.mvo_chain.specs.Slots.{Slots, version_at}
 use Rattle.mvo_hash.specs.Lists.{Lists}
 use Rattle.mvo_visible.specs.declared.seen.Seen.TheVariants.{Settled}
 use Rattle.mvo_types.specs.declared.ids.Stamp.{Stamp}
 use Rattle.mvo_visible.specs.declared.change.Change.{Change}
 use Rattle.mvo_visible.specs.declared.outcome.Shown.{Shown}
 use Rattle.mvo_visible.specs.Words.{States, seen_of}
-use Rattle.mvo_visible.specs.Versions.{Numbered, versions_at, is_own, own_newest}
+use Rattle.mvo_visible.specs.Versions.{Numbered, versions_at, versions_by, is_own, own_newest}
 use Rattle.mvo_visible.specs.Changes.{changes_of, owner_with, deciding}
+use Rattle.mvo_visible.specs.Walked.{settled_put_of}
 
 abbrev pub shown_by : Option Change → Shown
 shown_by None = record { version = None; depends_on = None }
@@ -26,6 +28,14 @@ own_or own version change =
 abbrev pub shown_to : States → ℕ → ℕ → List Numbered → Shown
 shown_to states b reader vs =
     own_or (list_any (is_own reader) vs) (own_newest reader vs) (deciding b (changes_of states vs))
+
+-- what the words of the first version alone tell below b, if they do, and that nothing is shown
+-- where there is none
+abbrev pub first_shown : ℕ → Slots → List VersionNo → Option Shown
+first_shown b slots [] = Some (record { version = None; depends_on = None })
+first_shown b slots (n ∷ ns) =
+    option_map (λ s. record { version = Some n; depends_on = None })
+    (settled_put_of b (version_at slots n))
 
 -- behind a put that is settled with the stamp s nothing has a greater one, and nobody who is
 -- Preparing has that
@@ -57,3 +67,9 @@ pub record IsInOrder (states : States) (b reader : ℕ) (vs : List Numbered) : T
 abbrev pub AllHaveFallingStamps : States → Slots → Lists → Type 0
 AllHaveFallingStamps states slots lists =
     (key : RowKey) → HasFallingStamps states (versions_at slots lists key)
+
+-- everyone is shown this of the versions with these numbers, where they stand in order
+abbrev pub IsShownToAll : ℕ → Slots → List VersionNo → Shown → Type 0
+IsShownToAll b slots ns shown =
+    (states : States) → (reader : ℕ) → IsInOrder states b reader (versions_by slots ns)
+    → shown ≡ shown_to states b reader (versions_by slots ns)

@@ -56,6 +56,10 @@ settled_at b Infinity end' = None
 abbrev pub settled_put : ℕ → Version → Option Stamp
 settled_put b v = settled_at b v.begin v.end
 
+abbrev pub settled_put_of : ℕ → Option Version → Option Stamp
+settled_put_of b None = None
+settled_put_of b (Some v) = settled_put b v
+
 -- what is found over one version more, with a put of this stamp
 abbrev pub with_put : Walked → VersionNo → Stamp → Walked
 with_put w n s = record {

@@ -15,5 +15,5 @@ pub use conflict::ended_by;
 pub use laws::laws_of_order;
 pub use outcome::Shown;
 pub use seen::{Seen, names, seen_by_others};
-pub use visible::{shown, shown_on};
+pub use visible::{shown, shown_at_once, shown_on};
 pub use walked::is_later;

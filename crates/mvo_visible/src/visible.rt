@@ -1,8 +1,8 @@
-ghost use Rattle.std.specs.Prelude.{◌≡◌, ◌||◌, cond};
+ghost use Rattle.std.specs.Prelude.{◌≡◌, ◌||◌, cond, IfSome};
 ghost use Rattle.mvo_visible.specs.Words as words;
 ghost use Rattle.mvo_txn.specs.Txns.{state_of};
 ghost use Rattle.mvo_visible.specs.Versions.{is_own_newest, versions_at, versions_by};
-ghost use Rattle.mvo_visible.specs.Shown.{IsInOrder, own_or, shown_to};
+ghost use Rattle.mvo_visible.specs.Shown.{first_shown, IsInOrder, IsShownToAll, own_or, shown_to};
 ghost use Rattle.mvo_visible.specs.Walked.{walked_on};
 
 use crate::outcome::Shown;
@@ -71,6 +71,29 @@ pub fn shown_on<P>(
         }
     }
     shown_by(walked)
+}
+
+/// What everyone with the begin `at` is shown of a walk over the versions of a key, where that is
+/// told without a look at the table: nothing of a walk over none, and the first version if its put
+/// is a timestamp below `at` and it isn't ended below `at`. It is mostly so.
+#[inline(always)]
+pub fn shown_at_once(chains: &Chains, walk: &Versions<'_>, at: Stamp) -> Option<Shown>
+    ensures first { result ≡ first_shown at.0 chains.now walk.now }
+    ensures shown { IfSome result (IsShownToAll at.0 chains.now walk.now) }
+{
+    let Some(number) = walk.peek() else {
+        return Some(Shown {
+            version: None,
+            depends_on: None,
+        });
+    };
+    match settled_put(chains.get(number)?, at) {
+        Some(_) => Some(Shown {
+            version: Some(number),
+            depends_on: None,
+        }),
+        None => None,
+    }
 }
 
 /// What is found, over one version more.

@@ -4,7 +4,7 @@ use Rattle.mvo_visible.specs.Versions.{versions_at, versions_by}
 use Rattle.mvo_visible.specs.Shown.{IsInOrder, shown_to}
 use Rattle.mvo_versions.specs.Data.{VersionsData}
 use Rattle.mvo_versions.proofs.Past.{shown_past}
-use Rattle.mvo_versions.proofs.versions.Versions.shown.Goals as goal
+use Rattle.mvo_versions.proofs.versions.Versions.shown_by_walk.Goals as goal
 
 pub returns : goal.returns
 returns g c =
