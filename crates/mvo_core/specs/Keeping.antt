@@ -33,10 +33,10 @@ pub record IsWritten (old new : Txns (Node Transaction)) (t : ℕ)
 -- what was kept of it has become this, and then the table has come to this
 pub record IsWrittenThen (old new : Txns (Node Transaction)) (t : ℕ)
     (change : Transaction → Transaction → Type 0)
-    (then : Txns (Node Transaction) → Txns (Node Transaction)) : Type 0 where
+    (next : Txns (Node Transaction) → Txns (Node Transaction)) : Type 0 where
   pub between : Txns (Node Transaction)
   pub written : IsWritten old between t change
-  pub is : new ≡ then between
+  pub is : new ≡ next between
 
 -- as much is done
 pub record HasDoneAsMuch (old new : Transaction) : Type 0 where

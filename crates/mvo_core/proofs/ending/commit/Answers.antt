@@ -7,7 +7,7 @@ use Rattle.mvo_core.proofs.ending.commit.Goals as goal
 
 pub returns-clause-left : goal.returns-clause-left
 returns-clause-left c =
-    let node = c.commit-end.result.1.now in
+    let node = c.commit-node.result.1.now in
     let after : Transaction = record node.own { work = c.take_operations.new.self } in
     let handed : HasHandedOver node.own after = record {
       history = ap (λ w. w.history) c.take_operations.ensures.left;
@@ -16,4 +16,4 @@ returns-clause-left c =
       checked = refl;
       valid = refl;
     } in
-    written_changed c.args.table.now c.args.tx.0 node after HasHandedOver (sym c.commit-end.ensures.value) handed (Committed c.commit-end.result.0)
+    written_changed c.args.table.now c.args.tx.0 node after HasHandedOver (sym c.commit-node.ensures.value) handed (Committed c.commit-node.result.0)

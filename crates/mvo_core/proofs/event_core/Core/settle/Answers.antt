@@ -53,8 +53,8 @@ returns-in-WaitsFor-clause-answer c = λ opening steps s h.
     let g : StandsFor opening steps s old = subst (StandsFor opening steps s) (sym c.self.view_is) h in
     waits_for opening steps s old g c.args.tx c.in-WaitsFor.ensures.0.none c.in-WaitsFor.other c.in-WaitsFor.ensures.1
 
-pub commit-end-requires : goal.commit-end-requires
-commit-end-requires c =
+pub commit-place-requires : goal.commit-place-requires
+commit-place-requires c =
     let f = c.self.inside in
     let i = c.self.invariant.stands in
     let old : CoreData = core_data f in
@@ -63,15 +63,15 @@ commit-end-requires c =
 pub report_settled-requires : goal.report_settled-requires
 report_settled-requires c = λ none.
     let f = c.self.inside in
-    ap (λ d. d.dependents) (data_changed f.table c.commit-end.new.table c.args.tx HasHandedOver (Committed c.commit-end.result.0) c.commit-end.ensures.left) ∙ c.in-Ready.ensures.2 none
+    ap (λ d. d.dependents) (data_changed f.table c.commit-place.new.table c.args.tx HasHandedOver (Committed c.commit-place.result.0) c.commit-place.ensures.left) ∙ c.in-Ready.ensures.2 none
 
 pub settle-requires : goal.settle-requires
 settle-requires c =
     let f = c.self.inside in
     let i = c.self.invariant.stands in
     let old : CoreData = core_data f in
-    ap (open_end_at f.tale) c.commit-end.ensures.place
-    ∙ place_there i.opening i.steps i.state old i.stands c.args.tx c.in-Ready.ensures.0.none c.commit-end.result.0 c.commit-end.ensures.end
+    ap (open_end_at f.tale) c.commit-place.ensures.place
+    ∙ place_there i.opening i.steps i.state old i.stands c.args.tx c.in-Ready.ensures.0.none c.commit-place.result.0 c.commit-place.ensures.end
 
 pub invariant_of-self : goal.invariant_of-self
 invariant_of-self c =
@@ -79,15 +79,15 @@ invariant_of-self c =
     let i = c.self.invariant.stands in
     let old : CoreData = core_data f in
     let none = c.in-Ready.ensures.0.none in
-    let end = c.commit-end.result.0 in
-    let entry : StoredCommit = record { id = c.args.tx.0; end = end.0; history = history_told c.commit-end.result.2.told.items } in
+    let end = c.commit-place.result.0 in
+    let entry : StoredCommit = record { id = c.args.tx.0; end = end.0; history = history_told c.commit-place.result.2.told.items } in
     record {
       stands =
           stands_on i (Settle c.args.tx.0) Accepted (record old { table = c.report_settled.new.table; tale = c.settle.new.self })
-          (commits_leads i.opening i.steps i.state old i.stands c.args.tx none end c.commit-end.ensures.end c.commit-end.new.table c.report_settled.new.table c.commit-end.ensures.left c.report_settled.ensures.told
-          c.report_settled.ensures.graph entry refl refl c.commit-end.ensures.told c.in-Ready.ensures.1 c.in-Ready.ensures.0.valid_is
-          c.settle.new.self (c.settle.ensures ∙ ap (λ p. slice_set f.tale p (Settled entry)) c.commit-end.ensures.place));
-      waiting = committed_waits f.table c.commit-end.new.table c.report_settled.new.table c.args.tx end f.versions f.waiting c.commit-end.ensures.end c.commit-end.ensures.left c.report_settled.ensures.told c.self.invariant.waiting;
+          (commits_leads i.opening i.steps i.state old i.stands c.args.tx none end c.commit-place.ensures.end c.commit-place.new.table c.report_settled.new.table c.commit-place.ensures.left c.report_settled.ensures.told
+          c.report_settled.ensures.graph entry refl refl c.commit-place.ensures.told c.in-Ready.ensures.1 c.in-Ready.ensures.0.valid_is
+          c.settle.new.self (c.settle.ensures ∙ ap (λ p. slice_set f.tale p (Settled entry)) c.commit-place.ensures.place));
+      waiting = committed_waits f.table c.commit-place.new.table c.report_settled.new.table c.args.tx end f.versions f.waiting c.commit-place.ensures.end c.commit-place.ensures.left c.report_settled.ensures.told c.self.invariant.waiting;
     }
 
 pub returns-clause-step : goal.returns-clause-step
@@ -96,15 +96,15 @@ returns-clause-step c = λ opening steps s h.
     let old : CoreData = core_data f in
     let g : StandsFor opening steps s old = subst (StandsFor opening steps s) (sym c.self.view_is) h in
     let none = c.in-Ready.ensures.0.none in
-    let end = c.commit-end.result.0 in
-    let entry : StoredCommit = record { id = c.args.tx.0; end = end.0; history = history_told c.commit-end.result.2.told.items } in
-    commits_leads opening steps s old g c.args.tx none end c.commit-end.ensures.end c.commit-end.new.table c.report_settled.new.table c.commit-end.ensures.left c.report_settled.ensures.told
-    c.report_settled.ensures.graph entry refl refl c.commit-end.ensures.told c.in-Ready.ensures.1 c.in-Ready.ensures.0.valid_is
-    c.settle.new.self (c.settle.ensures ∙ ap (λ p. slice_set f.tale p (Settled entry)) c.commit-end.ensures.place)
+    let end = c.commit-place.result.0 in
+    let entry : StoredCommit = record { id = c.args.tx.0; end = end.0; history = history_told c.commit-place.result.2.told.items } in
+    commits_leads opening steps s old g c.args.tx none end c.commit-place.ensures.end c.commit-place.new.table c.report_settled.new.table c.commit-place.ensures.left c.report_settled.ensures.told
+    c.report_settled.ensures.graph entry refl refl c.commit-place.ensures.told c.in-Ready.ensures.1 c.in-Ready.ensures.0.valid_is
+    c.settle.new.self (c.settle.ensures ∙ ap (λ p. slice_set f.tale p (Settled entry)) c.commit-place.ensures.place)
 
 pub returns-clause-answer : goal.returns-clause-answer
 returns-clause-answer c = λ opening steps s h.
     let f = c.self.inside in
     let old : CoreData = core_data f in
     let g : StandsFor opening steps s old = subst (StandsFor opening steps s) (sym c.self.view_is) h in
-    commits_as opening steps s old g c.args.tx c.in-Ready.ensures.0.none c.in-Ready.ensures.1 c.commit-end.result.0 c.commit-end.ensures.end
+    commits_as opening steps s old g c.args.tx c.in-Ready.ensures.0.none c.in-Ready.ensures.1 c.commit-place.result.0 c.commit-place.ensures.end
