@@ -49,7 +49,7 @@ fn whole(table: &mut TxnTable<Kept>) -> Result<u64> {
             table.prepare(id)?;
         }
         if let Some(TxState::Preparing(_)) = table.state(id) {
-            table.commit(id);
+            let _ = table.commit(id);
         }
         if let Some(TxState::Committed(_)) = table.state(id) {
             let kept = table.terminate(id);

@@ -73,7 +73,7 @@ module _ (versions : VersionsData) (table : Txns (Node Transaction)) (t : ℕ) (
   no_next = sym (ap (λ ps. slice_get ps 0) (no_word (words_in table t) none))
 
 -- ---- an answer is told
-inserted_twice : {X : Type 0} (m : FinMap nat_cmp X) (k : ℕ) (x y : X) → insert (insert m k x) k y ≡ insert m k y
+pub inserted_twice : {X : Type 0} (m : FinMap nat_cmp X) (k : ℕ) (x y : X) → insert (insert m k x) k y ≡ insert m k y
 inserted_twice m k x y = same_map nat_cmp_total nat_cmp-IsAntisymmetric (insert (insert m k x) k y) (insert m k y) (λ q.
     ⊎_elim
     (λ e. subst (λ n. get (insert (insert m k x) k y) n ≡ get (insert m k y) n) (sym e) (get_inserted (insert m k x) k y ∙ sym (get_inserted m k y)))

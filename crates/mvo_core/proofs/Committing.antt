@@ -46,7 +46,7 @@ use Rattle.mvo_core.specs.Own.{is_own_valid, own_place, own_history}
 use Rattle.mvo_core.specs.Standing.{StandsFor, IsActive, IsPreparing, HasWorks, words_in}
 use Rattle.mvo_core.specs.Causes.{why_not_preparing, flag_of}
 use Rattle.mvo_core.specs.Aborting.{IsGivenUp}
-use Rattle.mvo_core.specs.Keeping.{IsWritten, HasHandedOver}
+use Rattle.mvo_core.specs.Keeping.{IsWrittenThen, HasHandedOver}
 use Rattle.mvo_core.specs.Steps.{LeadsOn, settled_as}
 use Rattle.mvo_core.proofs.Carried.{works_carried}
 use Rattle.mvo_core.proofs.EndCauses.{not_settled_is, preparing_unended, or_first, or_last}
@@ -140,7 +140,7 @@ module _ (opening : Map) (steps : List Step) (s : State) (c : CoreData) (h : Sta
       let x = preparing_there opening steps s c h t.0 end' was in
       ap (λ (n : ℕ). settlement.Committed (record { 0 = n })) (sym x.2 ∙ sym (ap end_at x.1)) ∙ sym (ap (settled_as s t.0) (none_at (awaited s t.0) (told None least)))
 
-  module _ (end' : Stamp) (was : state_of c.table t.0 ≡ Some (Preparing end')) (untold reported : Txns (Node Transaction)) (is : untold ≡ txns.after_change c.table t.0 (Committed end')) (tells : IsReported deps.after_commit untold reported t) where
+  module _ (end' : Stamp) (was : state_of c.table t.0 ≡ Some (Preparing end')) where
     abbrev there : (x : StampedTx) × (preparing_of t.0 s.stamped ≡ Some x) × (x.end ≡ end'.0)
     there = preparing_there opening steps s c h t.0 end' was
 
@@ -148,23 +148,24 @@ module _ (opening : Map) (steps : List Step) (s : State) (c : CoreData) (h : Sta
     x = there.0
 
     abbrev place : ℕ
-    place = own_place (own_of reported t.0)
+    place = own_place (own_of c.table t.0)
 
     kept : IsKeptOfPreparing opening steps s c h t.0 x
     kept = kept_of_preparing opening steps s c h t.0 x there.1
 
-    own_then : own_of reported t.0 ≡ own_of c.table t.0
-    own_then = own_same deps.after_commit c.table untold reported t (Committed end') is tells t.0
-
-    pub own_there : IsSome (own_of reported t.0)
-    own_there = ap is_some (own_then ∙ kept.kept)
-
     pub place_there : open_end_at c.tale place ≡ Some end'.0
-    place_there = ap (λ o. open_end_at c.tale (own_place o)) own_then ∙ place_open opening steps s c h t.0 x there.1 ∙ ap (λ (n : ℕ). Some n) there.2
+    place_there = place_open opening steps s c h t.0 x there.1 ∙ ap (λ (n : ℕ). Some n) there.2
 
-    module _ (graph : KeepsGraphAtCommit untold reported t) (table : Txns (Node Transaction)) (handed : IsWritten reported table t.0 HasHandedOver) (entry : StoredCommit) (id : entry.id ≡ t.0) (ends : entry.end ≡ end'.0) (history : entry.history ≡ own_history (own_of reported t.0)) where
-      change : IsOwnChanged reported table t.0 HasHandedOver
-      change = own_changed reported table t.0 HasHandedOver handed
+    module _ (untold table : Txns (Node Transaction)) (handed : IsWrittenThen c.table untold t.0 HasHandedOver (λ y. txns.after_change y t.0 (Committed end'))) (tells : IsReported deps.after_commit untold table t)
+        (graph : KeepsGraphAtCommit untold table t) (entry : StoredCommit) (id : entry.id ≡ t.0) (ends : entry.end ≡ end'.0) (history : entry.history ≡ own_history (own_of c.table t.0)) where
+      abbrev taken : Txns (Node Transaction)
+      taken = handed.between
+
+      change : IsOwnChanged c.table taken t.0 HasHandedOver
+      change = own_changed c.table taken t.0 HasHandedOver handed.written
+
+      beside : (u : ℕ) → u ≢ t.0 → own_of table u ≡ own_of c.table u
+      beside u ne = own_same deps.after_commit taken untold table t (Committed end') handed.is tells u ∙ change.beside u ne
 
       at : open_end_at c.tale place ≡ Some entry.end
       at = place_there ∙ ap (λ (n : ℕ). Some n) (sym ends)
@@ -173,34 +174,31 @@ module _ (opening : Map) (steps : List Step) (s : State) (c : CoreData) (h : Sta
       x_ends = there.2 ∙ sym ends
 
       history_is : x.history ≡ entry.history
-      history_is = sym (history ∙ ap own_history own_then ∙ ap own_history kept.kept ∙ ap (λ own. own.work.history) (sym kept.own_is) ∙ kept.same.history)
+      history_is = sym (history ∙ ap own_history kept.kept ∙ ap (λ own. own.work.history) (sym kept.own_is) ∙ kept.same.history)
 
       -- ---- what is kept of the others
-      works_then : HasWorks s reported c.tale
-      works_then = works_carried s c.table reported c.tale (says_same deps.after_commit c.table untold reported t (Committed end') is tells) h.works
-
       active_beside : AllByRecursion (λ r. r.id ≢ t.0) s.active
       active_beside = each_weaker (λ r. AllByRecursion (λ y. y.id ≢ r.id) s.stamped) (λ r. r.id ≢ t.0)
           (λ r k q. (found_holds (λ y. y.id ≢ r.id) t.0 s.stamped x there.1 k).0 (kept.is ∙ sym q)) s.active h.versions.kept.numbered.apart
 
       works_after : HasWorks (after_commit s t.0 x.end) table (slice_set c.tale place (Settled entry))
       works_after = record {
-        active = each_both (λ r. r.id ≢ t.0) (IsActive reported) (IsActive table) (λ r ne w. record { own = w.own; kept = change.beside r.id ne ∙ w.kept; history = w.history }) s.active active_beside works_then.active;
-        preparing = each_map (with_settled x.end) (λ y. (y.settled ≡ false → (y.id == t.0) ≡ (y.end == x.end)) × (y.settled ≡ false → IsPreparing reported c.tale y)) (λ y. y.settled ≡ false → IsPreparing table (slice_set c.tale place (Settled entry)) y)
+        active = each_both (λ r. r.id ≢ t.0) (IsActive c.table) (IsActive table) (λ r ne w. record { own = w.own; kept = beside r.id ne ∙ w.kept; history = w.history }) s.active active_beside h.works.active;
+        preparing = each_map (with_settled x.end) (λ y. (y.settled ≡ false → (y.id == t.0) ≡ (y.end == x.end)) × (y.settled ≡ false → IsPreparing c.table c.tale y)) (λ y. y.settled ≡ false → IsPreparing table (slice_set c.tale place (Settled entry)) y)
             (λ y p o.
             let parts = or_parts y.settled (y.end == x.end) o in
             let w = p.1 parts.0 in
             record {
               own = w.own;
-              kept = change.beside y.id (apart_by y.id t.0 (p.0 parts.0 ∙ parts.1)) ∙ w.kept;
+              kept = beside y.id (apart_by y.id t.0 (p.0 parts.0 ∙ parts.1)) ∙ w.kept;
               history = w.history;
               checked = λ v. w.checked v ∙ sym (ap (λ (b : Bool). cond b 0 y.checked) parts.1);
               valid = w.valid;
               place = open_beside c.tale place w.own.place (Settled entry) entry.end y.end at w.place (λ q. apart_by y.end x.end parts.1 (q ∙ sym x_ends));
             })
             s.stamped
-            (each_both (λ y. y.settled ≡ false → (y.id == t.0) ≡ (y.end == x.end)) (λ y. y.settled ≡ false → IsPreparing reported c.tale y) (λ y. (y.settled ≡ false → (y.id == t.0) ≡ (y.end == x.end)) × (y.settled ≡ false → IsPreparing reported c.tale y)) (λ y a b. (a, b)) s.stamped
-            (alone s h.versions.kept.single h.versions.kept.sound.rising t.0 x there.1) works_then.preparing);
+            (each_both (λ y. y.settled ≡ false → (y.id == t.0) ≡ (y.end == x.end)) (λ y. y.settled ≡ false → IsPreparing c.table c.tale y) (λ y. (y.settled ≡ false → (y.id == t.0) ≡ (y.end == x.end)) × (y.settled ≡ false → IsPreparing c.table c.tale y)) (λ y a b. (a, b)) s.stamped
+            (alone s h.versions.kept.single h.versions.kept.sound.rising t.0 x there.1) h.works.preparing);
       }
 
       is_commit : AllByRecursion (IsCommitOf entry) s.stamped
@@ -224,24 +222,30 @@ module _ (opening : Map) (steps : List Step) (s : State) (c : CoreData) (h : Sta
       after_is : HasNoneOpen c.table (data_of c.table t).on → after_settle s t.0 ≡ after_commit s t.0 x.end
       after_is least = ap (after_settle_unless s t.0) (none_at (awaited s t.0) (told None least)) ∙ ap (after_commit_of s t.0) there.1
 
+      before : state_of taken t.0 ≡ Some (Preparing end')
+      before = change.states t.0 ∙ was
+
       here : state_of table t.0 ≡ Some (Committed end')
-      here = change.states t.0 ∙ stands_now deps.after_commit c.table untold reported t (Committed end') is tells (Preparing end') was
+      here = stands_now deps.after_commit taken untold table t (Committed end') handed.is tells (Preparing end') before
+
+      others : (u : ℕ) → u ≢ t.0 → state_of table u ≡ state_of c.table u
+      others u ne = others_stand deps.after_commit taken untold table t (Committed end') handed.is tells u ne ∙ change.states u
 
       same_words : words_in c.table ≡ words_in table
-      same_words = words_same deps.after_commit c.table untold reported t (Committed end') is tells ∙ sym (words_stay reported table t.0 HasHandedOver change change.changed.words)
+      same_words = sym (words_stay c.table taken t.0 HasHandedOver change change.changed.words) ∙ words_same deps.after_commit taken untold table t (Committed end') handed.is tells
 
       stands_committed : HasNoneOpen c.table (data_of c.table t).on → is_own_valid (own_of c.table t.0) ≡ true
           → StandsFor opening (steps ++ Rattle.mvo_theory.specs.Calls.steps_of s (Settle t.0) Accepted) (after_settle s t.0) (record c { table = table; tale = slice_set c.tale place (Settled entry) })
       stands_committed least v = stands_then opening steps s c h (Settle t.0) Accepted table c.versions.lists (slice_set c.tale place (Settled entry)) (may v) refl h.versions.numbers
           (subst (λ z. Rattle.mvo_representation.specs.Dependencies.HasDependencies z table) (ap (after_commit_of s t.0) there.1 ∙ sym (after_is least))
-          (change.dependencies (after_commit_now s t.0) (commit_in_table opening steps s c.table untold reported t end' h.versions.kept h.dependencies was is tells graph)))
-          (commit_in_order s.start (state_of c.table) (state_of table) c.versions.slots c.versions.lists t.0 end' (λ u ne. change.states u ∙ others_stand deps.after_commit c.table untold reported t (Committed end') is tells u ne) was here h.order)
+          (commit_in_table opening steps s taken untold table t end' h.versions.kept (change.dependencies s h.dependencies) before handed.is tells graph))
+          (commit_in_order s.start (state_of c.table) (state_of table) c.versions.slots c.versions.lists t.0 end' others was here h.order)
           (subst (λ z. HasWordLists z c.versions.slots (words_in table)) (sym (after_is least))
           (subst (HasWordLists (after_commit s t.0 x.end) c.versions.slots) same_words
           (commit_in_lists opening steps s (state_of c.table) c.versions.slots c.versions.lists c.versions.places (words_in c.table) t.0 x h.versions there.1 h.words)))
           (subst (λ z. HasRest z table (slice_set c.tale place (Settled entry)) c) (sym (after_is least)) rest)
 
-      pub commits_leads : HasNoneOpen c.table (data_of c.table t).on → is_own_valid (own_of c.table t.0) ≡ true → (tale : List Slot) → tale ≡ slice_set c.tale (own_place (own_of reported t.0)) (Settled entry)
+      pub commits_leads : HasNoneOpen c.table (data_of c.table t).on → is_own_valid (own_of c.table t.0) ≡ true → (tale : List Slot) → tale ≡ slice_set c.tale (own_place (own_of c.table t.0)) (Settled entry)
           → LeadsOn opening steps s (Settle t.0) Accepted (record c { table = table; tale = tale })
       commits_leads least v tale left = record {
         may = may v;

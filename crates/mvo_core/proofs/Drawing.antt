@@ -42,7 +42,7 @@ use Rattle.mvo_core.specs.Standing.{StandsFor, IsActive, IsPreparing, HasWorks, 
 use Rattle.mvo_core.specs.Causes.{why_not_active, flag_of}
 use Rattle.mvo_core.specs.Aborting.{IsGivenUp}
 use Rattle.mvo_core.specs.Fronts.{comes_at_draw, numbers_in, AreInFront}
-use Rattle.mvo_core.specs.Keeping.{IsWritten, IsPlaced, with_own_at}
+use Rattle.mvo_core.specs.Keeping.{IsWritten, IsWrittenThen, IsPlaced, with_own_at}
 use Rattle.mvo_core.specs.Steps.{came, LeadsOn}
 use Rattle.mvo_core.proofs.SamePlaces.{stands_by_places}
 use Rattle.mvo_core.proofs.CausesTold.{none_active, own_of_active}
@@ -119,9 +119,6 @@ module _ (opening : Map) (steps : List Step) (s : State) (c : CoreData) (h : Sta
 
     abbrev r : ActiveTx
     r = found.0
-
-    pub own_there : IsSome (own_of c.table t.0)
-    own_there = ap is_some (own_of_active opening steps s c h t.0 was_active).kept
 
     module _ (placed : Txns (Node Transaction)) (change : IsOwnChanged c.table placed t.0 (IsPlaced (length c.tale))) where
       pub still_active : state_of placed t.0 ≡ Some Active
@@ -247,30 +244,23 @@ module _ (opening : Map) (steps : List Step) (s : State) (c : CoreData) (h : Sta
           (stands_by_places opening _ _ _ versions.places front.places (drawn free))
 
     -- by what the table answers: with the clock below its limit, the end
-    module _ (place : ℕ) (last : place ≡ length c.tale) (placed : Txns (Node Transaction)) (written : IsWritten c.table placed t.0 (IsPlaced place)) (e : Stamp) (drawn : e.0 ≡ c.table.clock + 1) (tale : List Slot) (opened : tale ≡ c.tale ++ Open e ∷ []) (versions : VersionsData) (front : AreInFront (comes_at_draw (state_of c.table) t.0) c.versions versions (words_in c.table t.0)) (lt : c.table.clock < MAX_STAMP) where
-      change : IsOwnChanged c.table placed t.0 (IsPlaced (length c.tale))
-      change = own_changed c.table placed t.0 (IsPlaced (length c.tale)) (subst (λ (n : ℕ). IsWritten c.table placed t.0 (IsPlaced n)) last written)
-
-      same_clock : placed.clock ≡ c.table.clock
-      same_clock = clock_written c.table placed t.0 (IsPlaced place) written
-
-      pub active_there : state_of placed t.0 ≡ Some Active
-      active_there = still_active placed change
-
-      tale_is : tale ≡ c.tale ++ Open (record { 0 = placed.clock + 1 }) ∷ []
-      tale_is = opened ∙ ap (λ (n : ℕ). c.tale ++ Open (record { 0 = n }) ∷ []) (drawn ∙ ap (λ (n : ℕ). n + 1) (sym same_clock))
-
+    module _ (place : ℕ) (last : place ≡ length c.tale) (e : Stamp) (drawn : e.0 ≡ c.table.clock + 1) (tale : List Slot) (opened : tale ≡ c.tale ++ Open e ∷ []) (versions : VersionsData) (front : AreInFront (comes_at_draw (state_of c.table) t.0) c.versions versions (words_in c.table t.0)) (lt : c.table.clock < MAX_STAMP) where
       free : why_not_precommit s t.0 ≡ None
       free = why false (over_limit MAX_STAMP c.table.clock lt)
 
-      unspent : spent_clock placed.clock ≡ None
-      unspent = ap spent_clock same_clock ∙ ap (λ (b : Bool). cond b (Some ClockSpent) None) (over_limit MAX_STAMP c.table.clock lt)
+      pub unspent : spent_clock c.table.clock ≡ None
+      unspent = ap (λ (b : Bool). cond b (Some ClockSpent) None) (over_limit MAX_STAMP c.table.clock lt)
 
-      pub draw_leads : (result : Result Stamp Refusal) (table : Txns (Node Transaction)) → OnOk result (table ≡ txns.after_prepare placed t.0) → IfErr result (λ why. spent_clock placed.clock ≡ Some why)
+      pub draw_leads : (result : Result Stamp Refusal) (table : Txns (Node Transaction)) → OnOk result (IsWrittenThen c.table table t.0 (IsPlaced place) (λ x. txns.after_prepare x t.0)) → IfErr result (λ why. spent_clock c.table.clock ≡ Some why)
           → LeadsOn opening steps s (Precommit t.0) (came result) (record c { versions = versions; table = table; tale = tale })
-      draw_leads (Ok d) new is spent = record {
-        may = (free, tt);
-        stands = subst (λ x. StandsFor opening (steps ++ theory.steps_of s (Precommit t.0) Accepted) (after_precommit s t.0) (record c { versions = versions; table = x; tale = tale })) (sym is)
-            (stands_drawn placed change free versions tale front tale_is);
-      }
-      draw_leads (Err r) new is spent = absurd (none_refusal r (sym unspent ∙ spent))
+      draw_leads (Ok d) new w spent =
+          let placed = w.between in
+          let change = own_changed c.table placed t.0 (IsPlaced (length c.tale)) (subst (λ (n : ℕ). IsWritten c.table placed t.0 (IsPlaced n)) last w.written) in
+          let same_clock = clock_written c.table placed t.0 (IsPlaced place) w.written in
+          let tale_is : tale ≡ c.tale ++ Open (record { 0 = placed.clock + 1 }) ∷ [] = opened ∙ ap (λ (n : ℕ). c.tale ++ Open (record { 0 = n }) ∷ []) (drawn ∙ ap (λ (n : ℕ). n + 1) (sym same_clock)) in
+          record {
+            may = (free, tt);
+            stands = subst (λ x. StandsFor opening (steps ++ theory.steps_of s (Precommit t.0) Accepted) (after_precommit s t.0) (record c { versions = versions; table = x; tale = tale })) (sym w.is)
+                (stands_drawn placed change free versions tale front tale_is);
+          }
+      draw_leads (Err r) new w spent = absurd (none_refusal r (sym unspent ∙ spent))

@@ -39,6 +39,7 @@ pub mod Inserting
 pub mod NoneLeft
 pub mod OneReplaced
 pub mod Opening
+pub mod WrittenThen
 pub mod Committing
 pub mod Validating
 pub mod Drawing

@@ -37,7 +37,7 @@ use Rattle.mvo_core.specs.Causes.{why_not_active}
 use Rattle.mvo_core.specs.Collecting.{IsTaken}
 use Rattle.mvo_core.specs.Data.{CoreData}
 use Rattle.mvo_core.specs.Fronts.{comes_at_draw, AreInFront}
-use Rattle.mvo_core.specs.Keeping.{IsWritten, IsPlaced, HasHandedOver}
+use Rattle.mvo_core.specs.Keeping.{IsWritten, IsWrittenThen, IsPlaced, HasHandedOver}
 use Rattle.mvo_core.specs.Standing.{StandsFor, words_in}
 use Rattle.mvo_core.proofs.Drawing.{clock_written, was_active, others, here, over_limit}
 use Rattle.mvo_core.proofs.OwnChanged.{IsOwnChanged, own_changed}
@@ -103,45 +103,46 @@ taken_so start old new w w' Nothing q = q.0
 none_refusal : (r : Refusal) → ◌≡◌ {A = Option Refusal} None (Some r) → ⊥
 none_refusal r q = cc
 
-module _ (opening : Map) (steps : List Step) (s : State) (c : CoreData) (h : StandsFor opening steps s c) (t : TxId) (none : why_not_active c.table t.0 ≡ None) (place : ℕ) (last : place ≡ length c.tale) (placed : Txns (Node Transaction)) (written : IsWritten c.table placed t.0 (IsPlaced place))
-    (e : Stamp) (drawn : e.0 ≡ c.table.clock + 1) (versions : VersionsData) (front : AreInFront (comes_at_draw (state_of c.table) t.0) c.versions versions (words_in c.table t.0)) (lt : c.table.clock < MAX_STAMP) where
-  change : IsOwnChanged c.table placed t.0 (IsPlaced (length c.tale))
-  change = own_changed c.table placed t.0 (IsPlaced (length c.tale)) (subst (λ (n : ℕ). IsWritten c.table placed t.0 (IsPlaced n)) last written)
+module _ (opening : Map) (steps : List Step) (s : State) (c : CoreData) (h : StandsFor opening steps s c) (t : TxId) (none : why_not_active c.table t.0 ≡ None) (place : ℕ) (last : place ≡ length c.tale) (e : Stamp) (drawn : e.0 ≡ c.table.clock + 1) (versions : VersionsData)
+    (front : AreInFront (comes_at_draw (state_of c.table) t.0) c.versions versions (words_in c.table t.0)) where
+  module _ (placed : Txns (Node Transaction)) (written : IsWritten c.table placed t.0 (IsPlaced place)) where
+    change : IsOwnChanged c.table placed t.0 (IsPlaced (length c.tale))
+    change = own_changed c.table placed t.0 (IsPlaced (length c.tale)) (subst (λ (n : ℕ). IsWritten c.table placed t.0 (IsPlaced n)) last written)
 
-  same_clock : placed.clock ≡ c.table.clock
-  same_clock = clock_written c.table placed t.0 (IsPlaced place) written
+    same_clock : placed.clock ≡ c.table.clock
+    same_clock = clock_written c.table placed t.0 (IsPlaced place) written
 
-  end_is : e ≡ record { 0 = placed.clock + 1 }
-  end_is = λ i. record { 0 = (drawn ∙ ap (λ (n : ℕ). n + 1) (sym same_clock)) i }
+    end_is : e ≡ record { 0 = placed.clock + 1 }
+    end_is = λ i. record { 0 = (drawn ∙ ap (λ (n : ℕ). n + 1) (sym same_clock)) i }
 
-  prepared_waits : (w roomy w' : WaitingData) → roomy ≡ record w { ended_room = roomy.ended_room }
+    prepared_waits : (w roomy w' : WaitingData) → roomy ≡ record w { ended_room = roomy.ended_room }
+        → w' ≡ record roomy { ended = roomy.ended ++ waiting_drawn e (end_numbers (words_in c.table t.0)); ended_room = w'.ended_room }
+        → AreWaiting c.table.clock (state_of c.table) c.versions.slots w
+        → AreWaiting (placed.clock + 1) (state_of (txns.after_prepare placed t.0)) versions.slots w'
+    prepared_waits w roomy w' room is waits =
+        let states' = state_of (txns.after_prepare placed t.0) in
+        let ns = end_numbers (words_in c.table t.0) in
+        let roomy_waits = waits_roomy_ended c.table.clock (state_of c.table) c.versions.slots w roomy roomy.ended_room room waits in
+        let now = draw_keeps_waiting opening steps s (state_of c.table) states' c.versions (words_in c.table) roomy t.0 e ns (stands_with opening steps s c h roomy roomy_waits)
+        (was_active opening steps s c h t none) (others opening steps s c h t none placed change)
+        (subst (λ (x : Stamp). states' t.0 ≡ Some (Preparing x)) (sym end_is) (here opening steps s c h t none placed change))
+        (drawn ∙ ap (λ (n : ℕ). n + 1) h.dependencies.stands.clock)
+        (λ n x at named. ends_are_listed s c.versions.slots (words_in c.table) t.0 n x h.words at named) in
+        let clock : s.clock + 1 ≡ placed.clock + 1 = ap (λ (n : ℕ). n + 1) (sym (same_clock ∙ h.dependencies.stands.clock)) in
+        waits_roomy_ended (placed.clock + 1) states' versions.slots (record roomy { ended = roomy.ended ++ waiting_drawn e ns }) w' w'.ended_room
+        is
+        (subst (λ ss. AreWaiting (placed.clock + 1) states' ss (record roomy { ended = roomy.ended ++ waiting_drawn e ns })) (sym front.slots)
+        (subst (λ (n : ℕ). AreWaiting n states' c.versions.slots (record roomy { ended = roomy.ended ++ waiting_drawn e ns })) clock now))
+
+  pub drawn_waits : c.table.clock < MAX_STAMP → (w roomy w' : WaitingData) → roomy ≡ record w { ended_room = roomy.ended_room }
       → w' ≡ record roomy { ended = roomy.ended ++ waiting_drawn e (end_numbers (words_in c.table t.0)); ended_room = w'.ended_room }
       → AreWaiting c.table.clock (state_of c.table) c.versions.slots w
-      → AreWaiting (placed.clock + 1) (state_of (txns.after_prepare placed t.0)) versions.slots w'
-  prepared_waits w roomy w' room is waits =
-      let states' = state_of (txns.after_prepare placed t.0) in
-      let ns = end_numbers (words_in c.table t.0) in
-      let roomy_waits = waits_roomy_ended c.table.clock (state_of c.table) c.versions.slots w roomy roomy.ended_room room waits in
-      let now = draw_keeps_waiting opening steps s (state_of c.table) states' c.versions (words_in c.table) roomy t.0 e ns (stands_with opening steps s c h roomy roomy_waits)
-      (was_active opening steps s c h t none) (others opening steps s c h t none placed change)
-      (subst (λ (x : Stamp). states' t.0 ≡ Some (Preparing x)) (sym end_is) (here opening steps s c h t none placed change))
-      (drawn ∙ ap (λ (n : ℕ). n + 1) h.dependencies.stands.clock)
-      (λ n x at named. ends_are_listed s c.versions.slots (words_in c.table) t.0 n x h.words at named) in
-      let clock : s.clock + 1 ≡ placed.clock + 1 = ap (λ (n : ℕ). n + 1) (sym (same_clock ∙ h.dependencies.stands.clock)) in
-      waits_roomy_ended (placed.clock + 1) states' versions.slots (record roomy { ended = roomy.ended ++ waiting_drawn e ns }) w' w'.ended_room
-      is
-      (subst (λ ss. AreWaiting (placed.clock + 1) states' ss (record roomy { ended = roomy.ended ++ waiting_drawn e ns })) (sym front.slots)
-      (subst (λ (n : ℕ). AreWaiting n states' c.versions.slots (record roomy { ended = roomy.ended ++ waiting_drawn e ns })) clock now))
-
-  pub drawn_waits : (w roomy w' : WaitingData) → roomy ≡ record w { ended_room = roomy.ended_room }
-      → w' ≡ record roomy { ended = roomy.ended ++ waiting_drawn e (end_numbers (words_in c.table t.0)); ended_room = w'.ended_room }
-      → AreWaiting c.table.clock (state_of c.table) c.versions.slots w
-      → (result : Result Stamp Refusal) (table : Txns (Node Transaction)) → OnOk result (table ≡ txns.after_prepare placed t.0) → IfErr result (λ why. spent_clock placed.clock ≡ Some why)
+      → (result : Result Stamp Refusal) (table : Txns (Node Transaction)) → OnOk result (IsWrittenThen c.table table t.0 (IsPlaced place) (λ x. txns.after_prepare x t.0)) → IfErr result (λ why. spent_clock c.table.clock ≡ Some why)
       → AreWaiting table.clock (state_of table) versions.slots w'
-  drawn_waits w roomy w' room is waits (Ok d) table made spent =
-      subst (λ (x : Txns (Node Transaction)). AreWaiting x.clock (state_of x) versions.slots w') (sym made) (prepared_waits w roomy w' room is waits)
-  drawn_waits w roomy w' room is waits (Err why) table made spent =
-      absurd (none_refusal why (sym (ap spent_clock same_clock ∙ ap (λ b. Rattle.std.proofs.Common.cond b (Some Rattle.mvo_types.specs.declared.refusal.Refusal.TheVariants.ClockSpent) None) (over_limit MAX_STAMP c.table.clock lt)) ∙ spent))
+  drawn_waits lt w roomy w' room is waits (Ok d) table made spent =
+      subst (λ (x : Txns (Node Transaction)). AreWaiting x.clock (state_of x) versions.slots w') (sym made.is) (prepared_waits made.between made.written w roomy w' room is waits)
+  drawn_waits lt w roomy w' room is waits (Err why) table made spent =
+      absurd (none_refusal why (sym (ap (λ b. Rattle.std.proofs.Common.cond b (Some Rattle.mvo_types.specs.declared.refusal.Refusal.TheVariants.ClockSpent) None) (over_limit MAX_STAMP c.table.clock lt)) ∙ spent))
 
 -- ---- one stands otherwise, and is reported
 reported_clock : (f : deps.DependencyData → deps.DependencyData) (old untold new : Txns (Node Transaction)) (t : TxId) (state : TxState) → untold ≡ txns.after_change old t.0 state → IsReported f untold new t → new.clock ≡ old.clock
@@ -163,12 +164,15 @@ aborted_waits old untold table t v new w ws unended is told front h =
     (λ e q. absurd (none_end e (ap (λ o. end_in (phase_as o)) (sym now) ∙ q))) h)
 
 -- it is settled
-pub committed_waits : (old untold reported table : Txns (Node Transaction)) (t : TxId) (e : Stamp) (v : VersionsData) (w : WaitingData) → state_of old t.0 ≡ Some (Preparing e)
-    → untold ≡ txns.after_change old t.0 (Committed e) → IsReported deps.after_commit untold reported t → IsWritten reported table t.0 HasHandedOver
+pub committed_waits : (old untold table : Txns (Node Transaction)) (t : TxId) (e : Stamp) (v : VersionsData) (w : WaitingData) → state_of old t.0 ≡ Some (Preparing e)
+    → IsWrittenThen old untold t.0 HasHandedOver (λ x. txns.after_change x t.0 (Committed e)) → IsReported deps.after_commit untold table t
     → AreWaiting old.clock (state_of old) v.slots w → AreWaiting table.clock (state_of table) v.slots w
-committed_waits old untold reported table t e v w was is told handed h =
-    let now = stands_now deps.after_commit old untold reported t (Committed e) is told (Preparing e) was in
-    let clock = reported_clock deps.after_commit old untold reported t (Committed e) is told in
-    waits_alike reported table v.slots w (alike_written reported table t.0 HasHandedOver handed)
-    (waits_beside old reported t.0 v.slots w (omega (arith, clock)) (others_stand deps.after_commit old untold reported t (Committed e) is told)
-    (λ d q. ap (λ o. end_in (phase_as o)) was ∙ sym (ap (λ o. end_in (phase_as o)) now) ∙ q) h)
+committed_waits old untold table t e v w was written told h =
+    let handed = written.between in
+    let alike = alike_written old handed t.0 HasHandedOver written.written in
+    let before : state_of handed t.0 ≡ Some (Preparing e) = alike.states t.0 ∙ was in
+    let now = stands_now deps.after_commit handed untold table t (Committed e) written.is told (Preparing e) before in
+    let clock = reported_clock deps.after_commit handed untold table t (Committed e) written.is told in
+    waits_beside handed table t.0 v.slots w (omega (arith, clock)) (others_stand deps.after_commit handed untold table t (Committed e) written.is told)
+    (λ d q. ap (λ o. end_in (phase_as o)) before ∙ sym (ap (λ o. end_in (phase_as o)) now) ∙ q)
+    (waits_alike old handed v.slots w alike h)

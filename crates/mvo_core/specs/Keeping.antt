@@ -30,6 +30,14 @@ pub record IsWritten (old new : Txns (Node Transaction)) (t : ℕ)
   pub is : new ≡ with_own old t after
   pub changed : change before after
 
+-- what was kept of it has become this, and then the table has come to this
+pub record IsWrittenThen (old new : Txns (Node Transaction)) (t : ℕ)
+    (change : Transaction → Transaction → Type 0)
+    (next : Txns (Node Transaction) → Txns (Node Transaction)) : Type 0 where
+  pub between : Txns (Node Transaction)
+  pub written : IsWritten old between t change
+  pub is : new ≡ next between
+
 -- as much is done
 pub record HasDoneAsMuch (old new : Transaction) : Type 0 where
   pub history : new.work.history ≡ old.work.history

@@ -1,9 +1,10 @@
 //! How a transaction ends.
-ghost use Rattle.std.specs.Prelude.{◌≡◌, ◌≤◌, [], false, Some, IsSome, is_none, length};
+ghost use Rattle.std.specs.Prelude.{◌≡◌, ◌≤◌, [], false, Some, IsSome, IfOk, IfErr, OnOk, OnErr, is_none, length};
 ghost use Rattle.mvo_theory.specs.Entries.{written_keys};
 ghost use Rattle.mvo_theory.specs.Told.{history_told};
 ghost use Rattle.mvo_theory.specs.Limits.{AreLimited};
-ghost use Rattle.mvo_txn.specs.Txns.{state_of};
+ghost use Rattle.mvo_txn.specs.Txns.{state_of, spent_clock, IsPreparing};
+ghost use Rattle.mvo_txn.specs.Txns.{after_prepare, after_change};
 ghost use Rattle.mvo_deps.specs.Data.{after_commit};
 ghost use Rattle.mvo_deps.specs.Nodes.{data_of, IsReported};
 ghost use Rattle.mvo_deps.specs.Graph.{KeepsGraphAtCommit};
@@ -16,7 +17,7 @@ ghost use Rattle.mvo_core.specs.Data.{own_of};
 ghost use Rattle.mvo_core.specs.Standing.{words_in};
 ghost use Rattle.mvo_core.specs.Own.{own_place, own_history};
 ghost use Rattle.mvo_core.specs.Own.{own_check};
-ghost use Rattle.mvo_core.specs.Keeping.{IsWritten, IsPlaced, IsCounted, HasHandedOver};
+ghost use Rattle.mvo_core.specs.Keeping.{IsWritten, IsWrittenThen, IsPlaced, IsCounted, HasHandedOver};
 ghost use Rattle.mvo_core.specs.Aborting.{HasOpenPlace, tale_left};
 ghost use Rattle.mvo_core.specs.Collecting.{WaitBehind};
 ghost use Rattle.mvo_core.specs.Fronts.{passes, comes_at_draw, IsInFrontIf, AreInFront};
@@ -64,9 +65,15 @@ impl Core {
         let end = Stamp(clock + 1);
         self.waiting.make_room_for_ended(count)?;
         let place = self.tale.open(end)?;
-        draw_words(&mut self.versions, &mut self.waiting, &self.table, tx, end);
-        keep_place(&mut self.table, tx, place);
-        self.table.prepare(tx)
+        draw_words(
+            &mut self.versions,
+            &mut self.waiting,
+            &self.table,
+            tx,
+            count,
+            end,
+        );
+        prepare(&mut self.table, tx, place, end)
     }
 
     /// Checks the next entry of a Preparing transaction, in the order of the first look. After
@@ -96,9 +103,8 @@ impl Core {
             Readiness::WaitsFor(other) => return Ok(Settlement::Waiting(other)),
             Readiness::Ready(has_dependents) => has_dependents,
         };
-        let end = self.table.commit(tx);
+        let (end, place, operations) = commit(&mut self.table, tx);
         report_settled(&mut self.table, tx, has_dependents);
-        let (place, operations) = take_operations(&mut self.table, tx);
         let Operations { told, written } = operations;
         let entry = TaleEntry {
             id: tx,
@@ -170,15 +176,19 @@ fn place_of(table: &Table, tx: TxId) -> usize
     }
 }
 
-/// Keeps the transaction's place in the tale. None of its entries is checked yet.
-fn keep_place(table: &mut Table, tx: TxId, place: usize)
-    requires { IsSome (own_of table.old tx.0) }
-    ensures { IsWritten table.old table.new tx.0 (IsPlaced place) }
+/// Makes an Active transaction Preparing by one look, with the next timestamp as its end, and keeps
+/// its place in the tale. None of its entries is checked yet.
+fn prepare(table: &mut Table, tx: TxId, place: usize, end: Stamp) -> Result<Stamp, Refusal>
+    requires { state_of table.old tx.0 ≡ Some TxState.Active }
+    ensures end { IfOk result (λ drawn. drawn ≡ end) }
+    ensures ok { OnOk result (IsWrittenThen table.old table.new tx.0 (IsPlaced place)
+        (λ placed. after_prepare placed tx.0)) }
+    ensures refused { IfErr result (λ why. spent_clock table.old.clock ≡ Some why) }
+    ensures err { OnErr result (table.new ≡ table.old) }
 {
-    match table.get_mut(tx) {
-        Some(node) => node.own.keep_place(place),
-        None => unreachable!(),
-    }
+    let node = table.prepare(tx)?;
+    node.own.keep_place(place);
+    Ok(end)
 }
 
 /// Counts a check, and says whether an entry is left.
@@ -205,30 +215,42 @@ fn report_settled(table: &mut Table, tx: TxId, has_dependents: bool)
     }
 }
 
-/// Takes the transaction's operations out, with its place in the tale.
-fn take_operations(table: &mut Table, tx: TxId) -> (usize, Operations)
-    requires { IsSome (own_of table.old tx.0) }
-    ensures place { result.0 ≡ own_place (own_of table.old tx.0) }
-    ensures told { history_told result.1.told.items ≡ own_history (own_of table.old tx.0) }
-    ensures written { result.1.written.items ≡ written_keys (own_history (own_of table.old tx.0)) }
+/// Settles a Preparing transaction by one look: answers its end and its place in the tale, with its
+/// operations, which are taken out.
+fn commit(table: &mut Table, tx: TxId) -> (Stamp, usize, Operations)
+    requires { IsPreparing (state_of table.old tx.0) }
+    ensures end { state_of table.old tx.0 ≡ Some (TxState.Preparing result.0) }
+    ensures place { result.1 ≡ own_place (own_of table.old tx.0) }
+    ensures told { history_told result.2.told.items ≡ own_history (own_of table.old tx.0) }
+    ensures written { result.2.written.items ≡ written_keys (own_history (own_of table.old tx.0)) }
     ensures limits { AreLimited (own_history (own_of table.old tx.0)) }
-    ensures left { IsWritten table.old table.new tx.0 HasHandedOver }
+    ensures left { IsWrittenThen table.old table.new tx.0 HasHandedOver
+        (λ handed. after_change handed tx.0 (TxState.Committed result.0)) }
 {
-    match table.get_mut(tx) {
-        Some(node) => (node.own.place, node.own.work.take_operations()),
-        None => unreachable!(),
-    }
+    let (end, node) = table.commit(tx);
+    (end, node.own.place, node.own.work.take_operations())
 }
 
 /// What the words of the transaction come to as it draws this end, in the order of writing. What it
 /// put comes to the front of its key, and so does what it ended whose put has no stamp. What it
-/// ended waits behind the others.
-fn draw_words(versions: &mut Versions, waiting: &mut Waiting, table: &Table, tx: TxId, end: Stamp)
-    requires { length (words_in table.now tx.0) ≤ waiting.old.ended_room }
+/// ended waits behind the others. One that has written nothing isn't looked up.
+fn draw_words(
+    versions: &mut Versions,
+    waiting: &mut Waiting,
+    table: &Table,
+    tx: TxId,
+    count: usize,
+    end: Stamp,
+)
+    requires count { count ≡ length (words_in table.now tx.0) }
+    requires room { count ≤ waiting.old.ended_room }
     ensures fronts { AreInFront (comes_at_draw (state_of table.now) tx.0) versions.old versions.new
         (words_in table.now tx.0) }
     ensures waits { WaitBehind end (words_in table.now tx.0) waiting.old waiting.new }
 {
+    if count == 0 {
+        return;
+    }
     if let Some(seat) = table.get(tx) {
         draw_all(versions, waiting, table, tx, &seat.kept.own.work, end);
     }

@@ -57,7 +57,7 @@ fn settle(table: &mut Table, id: TxId, aborts: bool) {
             report_abort(table, id);
         }
         Some(TxState::Preparing(_)) => {
-            table.commit(id);
+            let _ = table.commit(id);
             report_commit(table, id);
         }
         _ => {}

@@ -94,18 +94,18 @@ fn step(
             Ok(standing(id, TxState::Aborted, kept))
         }
         Some(TxState::Active) => {
-            let end = table.prepare(id)?;
-            same(rt, &end, &table.clock());
-            Ok(standing(id, TxState::Preparing(end), kept))
+            *table.prepare(id)? = draw / 2;
+            Ok(standing(id, TxState::Preparing(table.clock()), draw / 2))
         }
         Some(TxState::Preparing(_)) if draw % 4 == 0 => {
             table.abort(id);
             Ok(standing(id, TxState::Aborted, kept))
         }
         Some(TxState::Preparing(_)) => {
-            let end = table.commit(id);
+            let (end, lent) = table.commit(id);
+            *lent = draw / 3;
             same(rt, &state, &TxState::Preparing(end));
-            Ok(standing(id, TxState::Committed(end), kept))
+            Ok(standing(id, TxState::Committed(end), draw / 3))
         }
         Some(TxState::Committed(_)) | Some(TxState::Aborted) => {
             same(rt, &table.terminate(id), &kept);

@@ -2,9 +2,7 @@
 use Rattle.std.proofs.Common.{◌≡◌, ℕ, ◌<◌, ◌≤◌, true, false, eqb, Option, Some, None, refl, sym, ap, subst, ◌∙◌, arith, ⊎_elim}
 use Rattle.std.proofs.lemmas.Bool.{cases_eq, eqb-true, false≢true}
 use Rattle.std.proofs.lemmas.Cmp.{nat_cmp_total}
-use Rattle.std.proofs.lemmas.List.{set-get_or}
 use Rattle.std.proofs.lemmas.Option.{none-some}
-use Rattle.std.specs.Prelude.{slice_set}
 use Rattle.std.specs.Option.{option_map}
 use Rattle.std.specs.Ordering.{nat_cmp}
 use Rattle.std.specs.FinMap as map
@@ -17,11 +15,11 @@ use Rattle.mvo_txn.specs.declared.directory.Directory.{Directory}
 use Rattle.mvo_txn.specs.declared.state.TxState.{TxState}
 use Rattle.mvo_txn.specs.declared.state.TxState.TheVariants.{Active, Preparing, Committed, Aborted}
 use Rattle.mvo_txn.specs.Queue.{open_end}
-use Rattle.mvo_txn.specs.Seats.{SeatMap}
+use Rattle.mvo_txn.specs.Seats.{SeatMap, with_state, with_state_at, with_kept, with_kept_at}
 use Rattle.mvo_txn.specs.Directory.{is_of, Knows, KnowsAlike, Notes, Forgets}
 use Rattle.mvo_txn.specs.Chairs.{seats_of, AreSeats}
 use Rattle.mvo_txn.proofs.Held.{get_held, one_put, one_gone}
-use Rattle.mvo_txn.proofs.Stamps.{get_removed, get_left}
+use Rattle.mvo_txn.proofs.Stamps.{get_inserted, get_beside, get_removed, get_left}
 use Rattle.mvo_txn.proofs.Chairs.{not_true, chair_of, look_at, look_none, look_put, look_gone, at_set, at_others, len_seats, directory_alike, directory_written, directory_put, directory_gone}
 
 module _ {P : Type 0} where
@@ -114,9 +112,18 @@ pub left_out : {X : Type 0} (m : map.FinMap nat_cmp X) (id : ℕ) → map.get m 
 left_out m id none = map.same_map nat_cmp_total map.nat_cmp-IsAntisymmetric m (map.remove m id) (λ q.
     ⊎_elim (λ is. ap (map.get m) is ∙ none ∙ sym (ap (map.get (map.remove m id)) is ∙ get_removed m id)) (λ ne. sym (get_left m id q ne)) (cases_eq q id))
 
--- a chair that is written back changes nothing
-pub written_back : {P : Type 0} (s : Slab (Chair P)) (n : ℕ) (c : Chair P) → get s n ≡ Some c → with_value s n c ≡ s
-written_back s n c here = ap (λ slots. record s { slots = slots }) (ap (slice_set s.slots n) (sym here) ∙ set-get_or s.slots n None)
+-- what was put at an id is replaced
+put_twice : {X : Type 0} (m : map.FinMap nat_cmp X) (id : ℕ) (a b : X) → map.insert (map.insert m id a) id b ≡ map.insert m id b
+put_twice m id a b = map.same_map nat_cmp_total map.nat_cmp-IsAntisymmetric (map.insert (map.insert m id a) id b) (map.insert m id b) (λ q.
+    ⊎_elim (λ is. ap (map.get (map.insert (map.insert m id a) id b)) is ∙ get_inserted (map.insert m id a) id b ∙ sym (ap (map.get (map.insert m id b)) is ∙ get_inserted m id b))
+    (λ ne. get_beside (map.insert m id a) id b q ne ∙ get_beside m id a q ne ∙ sym (get_beside m id b q ne)) (cases_eq q id))
+
+-- one that has another state, and of which this is kept
+pub restated : {P : Type 0} (m : SeatMap P) (id : ℕ) (state : TxState) (old : Seat P) (kept : P) → map.get m id ≡ Some old → map.insert m id (record { state = state; kept = kept }) ≡ with_kept (with_state m id state) id kept
+restated {P} m id state old kept there =
+    let stood : Seat P = record old { state = state } in
+    sym (ap (λ o. with_kept (with_state_at o m id state) id kept) there
+    ∙ ap (λ o. with_kept_at o (map.insert m id stood) id kept) (get_inserted m id stood) ∙ put_twice m id stood (record { state = state; kept = kept }))
 
 -- one that isn't Preparing has no open end
 pub not_open : (state : TxState) → ((end : Stamp) → state ≡ Preparing end → ⊥) → open_end (Some state) ≡ None

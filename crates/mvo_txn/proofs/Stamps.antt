@@ -16,7 +16,7 @@ use Rattle.mvo_txn.specs.Queue.{stamp_in, open_end}
 tied : (a b : ℕ) → a ≡ b → eq_by_cmp nat_cmp a b ≡ true
 tied a b e = unsigned_tied a b ∙ eq-eqb a b e
 
-apart_by : (t : Bool) (a b : ℕ) → eqb a b ≡ t → a ≢ b → t ≡ false
+pub apart_by : (t : Bool) (a b : ℕ) → eqb a b ≡ t → a ≢ b → t ≡ false
 apart_by true a b e ne = absurd (ne (eqb-true a b e))
 apart_by false a b e ne = refl
 

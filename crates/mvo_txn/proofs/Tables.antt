@@ -1,8 +1,8 @@
 -- Each call keeps the queues those of the seats.
-use Rattle.std.proofs.Common.{◌≡◌, ◌≢◌, ℕ, ◌+◌, ◌<◌, ◌≤◌, List, [], ◌∷◌, ◌++◌, Option, Some, None, refl, sym, ap, subst, ◌∙◌, arith, ⊎_elim}
+use Rattle.std.proofs.Common.{◌≡◌, ◌≢◌, ℕ, Bool, true, false, eqb, ◌+◌, ◌<◌, ◌≤◌, List, [], ◌∷◌, ◌++◌, Option, Some, None, refl, sym, ap, subst, ◌∙◌, arith, ⊎_elim}
 use Rattle.std.specs.Prelude.{cond}
 use Rattle.std.proofs.Common.{leb}
-use Rattle.std.proofs.lemmas.Bool.{cases_eq}
+use Rattle.std.proofs.lemmas.Bool.{cases_eq, eq-eqb}
 use Rattle.std.proofs.lemmas.Bool.Decides.{leb_tells}
 use Rattle.mvo_types.specs.declared.refusal.Refusal.TheVariants.{TableFull, ClockSpent}
 use Rattle.std.proofs.lemmas.Option.{none-some}
@@ -19,22 +19,30 @@ use Rattle.mvo_txn.specs.declared.mark.Mark.{Mark}
 use Rattle.mvo_txn.specs.declared.queue.Queue.{Queue}
 use Rattle.mvo_txn.specs.declared.seat.Seat.{Seat}
 use Rattle.mvo_txn.specs.Seats.{SeatMap, state_in, with_state, with_state_at, with_kept, with_kept_at}
-use Rattle.mvo_txn.specs.Queue.{stamp_in, open_end, IsListing, IsQueue}
+use Rattle.mvo_txn.specs.Queue.{stamp_in, stamp_without, open_end, IsListing, IsQueue}
 use Rattle.mvo_txn.specs.Sound.{IsQueueOf, IsSound, KeepsForm}
 use Rattle.mvo_txn.specs.Txns.{IsUnended, IsEnded, spent_clock}
 use Rattle.mvo_txn.proofs.Queues.{queue_same, queue_behind, listing_less, listed_below}
-use Rattle.mvo_txn.proofs.Stamps.{get_inserted, get_beside, get_removed, get_left, len_replaced, len_grown, len_left, same_begins, same_ends, same_beside}
+use Rattle.mvo_txn.proofs.Stamps.{apart_by, get_inserted, get_beside, get_removed, get_left, len_replaced, len_grown, len_left, same_begins, same_ends, same_beside}
 
 room_kept : (q r : Queue) → KeepsForm q r → MAX_UNFINISHED < deque_capacity q.marks → MAX_UNFINISHED < deque_capacity r.marks
 room_kept q r same room = let e = same.room in omega (arith, e, room)
+
+-- one counts no longer
+fewer_at : (b : Bool) (o : Option ℕ) (stamp : ℕ) → cond b None o ≡ Some stamp → o ≡ Some stamp
+fewer_at true o stamp e = absurd (none-some stamp e)
+fewer_at false o stamp e = e
+
+fewer : (f : ℕ → Option ℕ) (gone id stamp : ℕ) → stamp_without gone f id ≡ Some stamp → f id ≡ Some stamp
+fewer f gone id stamp e = fewer_at (eqb id gone) (f id) stamp e
 
 module _ {P : Type 0} where
   -- ---- one queue
   abbrev pub Keeps : Kind → SeatMap P → List Mark → List Mark → Type 0
   Keeps kind m old new = (high : ℕ) → IsQueue (stamp_in kind m) high old → IsQueue (stamp_in kind m) high new
 
-  abbrev pub Trims : Kind → SeatMap P → List Mark → List Mark → Type 0
-  Trims kind m old new = (high : ℕ) → IsListing (stamp_in kind m) high old → IsQueue (stamp_in kind m) high new
+  abbrev pub Trims : Kind → SeatMap P → ℕ → List Mark → List Mark → Type 0
+  Trims kind m gone old new = (high : ℕ) → IsListing (stamp_without gone (stamp_in kind m)) high old → IsQueue (stamp_without gone (stamp_in kind m)) high new
 
   pub queue_roomy : (kind : Kind) (clock : ℕ) (m : SeatMap P) (q r : Queue) → KeepsForm q r → Keeps q.kind m q.marks.items r.marks.items → IsQueueOf kind clock m q → IsQueueOf kind clock m r
   queue_roomy kind clock m q r same kept is = record {
@@ -43,13 +51,23 @@ module _ {P : Type 0} where
     queue = subst (λ k. IsQueue (stamp_in k m) (clock + 1) r.marks.items) is.kind_is (kept (clock + 1) (subst (λ k. IsQueue (stamp_in k m) (clock + 1) q.marks.items) (sym is.kind_is) is.queue));
   }
 
-  queue_trimmed : (kind : Kind) (clock : ℕ) (m n : SeatMap P) (q r : Queue) → KeepsForm q r → Trims q.kind n q.marks.items r.marks.items → ((id stamp : ℕ) → stamp_in kind n id ≡ Some stamp → stamp_in kind m id ≡ Some stamp) → IsQueueOf kind clock m q → IsQueueOf kind clock n r
-  queue_trimmed kind clock m n q r same trims less is = record {
+  queue_trimmed : (kind : Kind) (clock : ℕ) (m n : SeatMap P) (gone : ℕ) (q r : Queue) → KeepsForm q r → Trims q.kind m gone q.marks.items r.marks.items → ((id : ℕ) → stamp_in kind n id ≡ stamp_without gone (stamp_in kind m) id) → IsQueueOf kind clock m q
+      → IsQueueOf kind clock n r
+  queue_trimmed kind clock m n gone q r same trims now is = record {
     kind_is = same.kind ∙ is.kind_is;
     room = room_kept q r same is.room;
-    queue = subst (λ k. Trims k n q.marks.items r.marks.items) is.kind_is trims (clock + 1)
-        (listing_less (stamp_in kind m) (stamp_in kind n) (clock + 1) q.marks.items less is.queue.listing);
+    queue = queue_same (stamp_without gone (stamp_in kind m)) (stamp_in kind n) (clock + 1) (clock + 1) r.marks.items (omega arith) now
+        (subst (λ k. Trims k m gone q.marks.items r.marks.items) is.kind_is trims (clock + 1)
+        (listing_less (stamp_in kind m) (stamp_without gone (stamp_in kind m)) (clock + 1) q.marks.items (fewer (stamp_in kind m) gone) is.queue.listing));
   }
+
+  -- one counts no longer, and the others count as before
+  without : (kind : Kind) (m n : SeatMap P) (gone : ℕ) → stamp_in kind n gone ≡ None → ((i : ℕ) → i ≢ gone → get n i ≡ get m i) → (id : ℕ) → stamp_in kind n id ≡ stamp_without gone (stamp_in kind m) id
+  without kind m n gone none others id =
+      ⊎_elim
+      (λ is. ap (stamp_in kind n) is ∙ none ∙ sym (ap (λ b. cond b None (stamp_in kind m id)) (eq-eqb id gone is)))
+      (λ ne. same_beside kind m n id (others id ne) ∙ sym (ap (λ b. cond b None (stamp_in kind m id)) (apart_by (eqb id gone) id gone refl ne)))
+      (cases_eq id gone)
 
   queue_untouched : (kind : Kind) (clock later : ℕ) (m n : SeatMap P) (q : Queue) → clock ≤ later → ((id : ℕ) → stamp_in kind n id ≡ stamp_in kind m id) → IsQueueOf kind clock m q → IsQueueOf kind later n q
   queue_untouched kind clock later m n q le same is = record {
@@ -149,32 +167,17 @@ module _ {P : Type 0} where
         open_ends_are = queue_pushed OpenEnd clock m (insert m id seat) e e' id same items (ap open_end active) (ap (λ o. open_end (option_map (λ s. s.state) o)) (get_inserted m id seat)) (get_beside m id seat) s.open_ends_are;
       })
 
-  fewer_ends : (m : SeatMap P) (id : ℕ) (new : Seat P) → open_end (Some new.state) ≡ None → (i stamp : ℕ) → stamp_in OpenEnd (insert m id new) i ≡ Some stamp → stamp_in OpenEnd m i ≡ Some stamp
-  fewer_ends m id new closed i stamp e =
-      ⊎_elim
-      (λ is. absurd (none-some stamp (sym (ap (stamp_in OpenEnd (insert m id new)) is ∙ ap (λ o. open_end (option_map (λ s. s.state) o)) (get_inserted m id new) ∙ closed) ∙ e)))
-      (λ ne. sym (same_beside OpenEnd m (insert m id new) i (get_beside m id new i ne)) ∙ e)
-      (cases_eq i id)
-
-  -- one that has no open end any more
-  pub no_open_end : (m n : SeatMap P) (id : ℕ) (before after : TxState) → state_in m id ≡ Some before → open_end (Some after) ≡ None → n ≡ with_state m id after → stamp_in OpenEnd n id ≡ None
-  no_open_end m n id before after was closed is =
-      let old = seat_at (get m id) before was in
-      let seat : Seat P = record { state = after; kept = old.0.kept } in
-      ap (λ x. stamp_in OpenEnd x id) (is ∙ ap (λ o. with_state_at o m id after) old.1.0)
-      ∙ ap (λ o. open_end (option_map (λ s. s.state) o)) (get_inserted m id seat) ∙ closed
-
   pub sound_closed : (clock : ℕ) (m n : SeatMap P) (b e e' : Queue) (id : ℕ) (before after : TxState) → state_in m id ≡ Some before → open_end (Some after) ≡ None
-      → n ≡ with_state m id after → KeepsForm e e' → Trims e.kind n e.marks.items e'.marks.items → IsSound clock m b e → IsSound clock n b e'
+      → n ≡ with_state m id after → KeepsForm e e' → Trims e.kind m id e.marks.items e'.marks.items → IsSound clock m b e → IsSound clock n b e'
   sound_closed clock m n b e e' id before after was closed is same trims s =
       let old = seat_at (get m id) before was in
       let seat : Seat P = record { state = after; kept = old.0.kept } in
-      let is_inserted = is ∙ ap (λ o. with_state_at o m id after) old.1.0 in
-      subst (λ n. IsSound clock n b e') (sym is_inserted) (record {
+      subst (λ n. IsSound clock n b e') (sym (is ∙ ap (λ o. with_state_at o m id after) old.1.0)) (record {
         stamped = s.stamped;
         few = let same_len = len_replaced m id old.0 seat old.1.0 in omega (arith, s.few);
         begins_are = queue_untouched Begin clock clock m (insert m id seat) b (omega arith) (same_begins m id old.0 seat old.1.0) s.begins_are;
-        open_ends_are = queue_trimmed OpenEnd clock m (insert m id seat) e e' same (subst (λ n. Trims e.kind n e.marks.items e'.marks.items) is_inserted trims) (fewer_ends m id seat closed) s.open_ends_are;
+        open_ends_are = queue_trimmed OpenEnd clock m (insert m id seat) id e e' same trims
+            (without OpenEnd m (insert m id seat) id (ap (λ o. open_end (option_map (λ s. s.state) o)) (get_inserted m id seat) ∙ closed) (get_beside m id seat)) s.open_ends_are;
       })
 
   pub sound_kept : (clock : ℕ) (m : SeatMap P) (b e : Queue) (id : ℕ) (kept : P) → IsSound clock m b e → IsSound clock (with_kept m id kept) b e
@@ -191,17 +194,6 @@ module _ {P : Type 0} where
             }
       ] refl
 
-  fewer_begins : (m : SeatMap P) (id i stamp : ℕ) → stamp_in Begin (remove m id) i ≡ Some stamp → stamp_in Begin m i ≡ Some stamp
-  fewer_begins m id i stamp e =
-      ⊎_elim
-      (λ is. absurd (none-some stamp (sym (ap (λ j. option_map (λ _. i) (get (remove m id) j)) is ∙ ap (option_map (λ _. i)) (get_removed m id)) ∙ e)))
-      (λ ne. sym (same_beside Begin m (remove m id) i (get_left m id i ne)) ∙ e)
-      (cases_eq i id)
-
-  -- one that has left
-  pub no_begin : (m n : SeatMap P) (id : ℕ) → n ≡ remove m id → stamp_in Begin n id ≡ None
-  no_begin m n id is = ap (λ x. option_map (λ _. id) (get x id)) is ∙ ap (option_map (λ _. id)) (get_removed m id)
-
   same_ends_left : (m : SeatMap P) (id : ℕ) → open_end (state_in m id) ≡ None → (i : ℕ) → stamp_in OpenEnd (remove m id) i ≡ stamp_in OpenEnd m i
   same_ends_left m id closed i =
       ⊎_elim
@@ -210,12 +202,12 @@ module _ {P : Type 0} where
       (cases_eq i id)
 
   pub sound_left : (clock : ℕ) (m n : SeatMap P) (b b' e : Queue) (id : ℕ) → open_end (state_in m id) ≡ None → n ≡ remove m id → KeepsForm b b'
-      → Trims b.kind n b.marks.items b'.marks.items → IsSound clock m b e → IsSound clock n b' e
+      → Trims b.kind m id b.marks.items b'.marks.items → IsSound clock m b e → IsSound clock n b' e
   sound_left clock m n b b' e id closed is same trims s =
       subst (λ n. IsSound clock n b' e) (sym is) (record {
         stamped = s.stamped;
         few = let less = len_left m id in omega (arith, s.few);
-        begins_are = queue_trimmed Begin clock m (remove m id) b b' same (subst (λ n. Trims b.kind n b.marks.items b'.marks.items) is trims) (fewer_begins m id) s.begins_are;
+        begins_are = queue_trimmed Begin clock m (remove m id) id b b' same trims (without Begin m (remove m id) id (ap (option_map (λ _. id)) (get_removed m id)) (get_left m id)) s.begins_are;
         open_ends_are = queue_untouched OpenEnd clock clock m (remove m id) e (omega arith) (same_ends_left m id closed) s.open_ends_are;
       })
 

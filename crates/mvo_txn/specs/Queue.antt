@@ -1,5 +1,5 @@
 -- Queues of transactions by a timestamp.
-use Rattle.std.specs.Prelude.{ℕ, ◌≡◌, ◌+◌, ◌≤◌, ◌⊎◌, Bool, eqb, Option, Some, None, List, [], ◌∷◌, ◌++◌}
+use Rattle.std.specs.Prelude.{ℕ, ◌≡◌, ◌+◌, ◌≤◌, ◌⊎◌, ◌==◌, if◌then◌else◌, Bool, eqb, Option, Some, None, List, [], ◌∷◌, ◌++◌}
 use Rattle.mvo_txn.specs.declared.state.TxState.{TxState}
 use Rattle.mvo_txn.specs.declared.state.TxState.TheVariants.{Active, Preparing, Committed, Aborted}
 use Rattle.std.specs.Option.{option_map, option_eq}
@@ -21,6 +21,10 @@ open_end (Some Aborted) = None
 abbrev pub stamp_in : {P : Type 0} → Kind → SeatMap P → ℕ → Option ℕ
 stamp_in Begin m id = option_map (λ _. id) (map.get m id)
 stamp_in OpenEnd m id = open_end (state_in m id)
+
+-- the same, where one transaction doesn't count
+abbrev pub stamp_without : ℕ → (ℕ → Option ℕ) → ℕ → Option ℕ
+stamp_without gone stamp_of id = if id == gone then None else stamp_of id
 
 -- whether the mark's transaction counts, with the mark's timestamp
 abbrev pub is_current : (ℕ → Option ℕ) → Mark → Bool

@@ -7,7 +7,7 @@ use Rattle.mvo_txn.specs.declared.queue.Queue.{Queue}
 use Rattle.mvo_txn.specs.declared.mark.Kind.{Kind}
 use Rattle.mvo_txn.specs.declared.mark.Kind.TheVariants.{Begin, OpenEnd}
 use Rattle.mvo_txn.specs.Seats.{SeatMap}
-use Rattle.mvo_txn.specs.Queue.{stamp_in, IsRising, IsQueue, Keeps, Trims}
+use Rattle.mvo_txn.specs.Queue.{stamp_in, stamp_without, IsRising, IsQueue, Keeps, Trims}
 
 -- the queue is one of all that count by this timestamp, up to the clock, and has room for more
 -- than may be unfinished
@@ -38,6 +38,7 @@ HasPlace m old new = (high : ℕ) → IsRising 1 high old.marks.items
 abbrev pub KeepsQueue : {P : Type 0} → SeatMap P → Queue → Queue → Type 0
 KeepsQueue m old new = Keeps (stamp_in old.kind m) old.marks.items new.marks.items
 
--- it becomes one, though its first need not have counted
-abbrev pub TrimsQueue : {P : Type 0} → SeatMap P → Queue → Queue → Type 0
-TrimsQueue m old new = Trims (stamp_in old.kind m) old.marks.items new.marks.items
+-- it becomes one of those beside this transaction, though its first need not have counted
+abbrev pub TrimsQueue : {P : Type 0} → SeatMap P → ℕ → Queue → Queue → Type 0
+TrimsQueue m gone old new =
+    Trims (stamp_without gone (stamp_in old.kind m)) old.marks.items new.marks.items

@@ -1,5 +1,5 @@
-ghost use Rattle.std.specs.Prelude.{◌≡◌, None};
-ghost use Rattle.mvo_txn.specs.Queue.{stamp_in, is_current};
+ghost use Rattle.std.specs.Prelude.{◌≡◌};
+ghost use Rattle.mvo_txn.specs.Queue.{stamp_in, stamp_without, is_current};
 
 use crate::seats::Seats;
 use crate::state::TxState;
@@ -37,10 +37,9 @@ impl Kind {
         self.stamp_in(seats, mark.id) == Some(mark.stamp)
     }
 
-    /// The same, where it is known that one transaction doesn't count: that one isn't looked up.
+    /// The same, where one transaction is to count no longer: that one isn't looked up.
     pub(crate) fn is_left<P>(self, seats: &Seats<P>, mark: Mark, gone: u64) -> bool
-        requires { stamp_in self seats.now gone ≡ None }
-        ensures { result ≡ is_current (stamp_in self seats.now) mark }
+        ensures { result ≡ is_current (stamp_without gone (stamp_in self seats.now)) mark }
     {
         mark.id != gone && self.is_current(seats, mark)
     }

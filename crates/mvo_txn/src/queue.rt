@@ -1,6 +1,6 @@
-ghost use Rattle.std.specs.Prelude.{◌≡◌, ◌+◌, ◌<◌, [], None, drop, IfOk};
+ghost use Rattle.std.specs.Prelude.{◌≡◌, ◌+◌, ◌<◌, [], drop, IfOk};
 ghost use Rattle.std.specs.VecDeque.{deque_len, deque_capacity};
-ghost use Rattle.mvo_txn.specs.Queue.{first_stamp, stamp_in, with_mark};
+ghost use Rattle.mvo_txn.specs.Queue.{first_stamp, with_mark};
 ghost use Rattle.mvo_txn.specs.Sound.{KeepsForm, KeepsQueue, TrimsQueue, HasPlace};
 
 use crate::mark::{Kind, Mark};
@@ -62,12 +62,11 @@ impl Queue {
         let _ = self.marks.push_back(Mark { stamp, id });
     }
 
-    /// Drops from the front those that no longer count, as `gone` doesn't.
+    /// Drops from the front those that no longer count, and `gone`, which is to count no longer.
     #[inline(always)]
     pub(crate) fn trim<P>(&mut self, seats: &Seats<P>, gone: u64)
-        requires { stamp_in self.old.kind seats.now gone ≡ None }
         ensures form { KeepsForm self.old self.new }
-        ensures kept { TrimsQueue seats.now self.old self.new }
+        ensures kept { TrimsQueue seats.now gone self.old self.new }
     {
         while let Some(mark) = self.marks.front() {
             if self.kind.is_left(seats, *mark, gone) {

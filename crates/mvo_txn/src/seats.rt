@@ -4,7 +4,7 @@ ghost use Rattle.std.specs.Option.{option_copied_mut, IfNone};
 ghost use Rattle.std.specs.FinMap as map;
 ghost use Rattle.std.specs.Borrow.{sem};
 ghost use Rattle.mvo_types.specs.declared.limits.TheConstants.{MAX_UNFINISHED};
-ghost use Rattle.mvo_txn.specs.Lends.{LendsKeptOfSeats};
+ghost use Rattle.mvo_txn.specs.Lends.{LendsKeptOfSeats, LendsRestated, LendsSettled};
 ghost use Rattle.mvo_txn.specs.Queue.{open_end};
 ghost use Rattle.mvo_txn.specs.Seats.{kept_in, state_in, with_state};
 
@@ -113,23 +113,44 @@ impl<P> Seats<P> {
         }
     }
 
-    /// Settles a Preparing transaction, and answers its end. Another stays as it is.
-    pub(crate) fn commit(&mut self, id: u64) -> Option<Stamp>
-        ensures end { IfSome result (λ end. state_in self.old id ≡ Some (TxState.Preparing end)) }
-        ensures settled { IfSome result (λ end.
-            self.new ≡ with_state self.old id (TxState.Committed end)) }
-        ensures none { IfNone result (open_end (state_in self.old id) ≡ None) }
-        ensures same { IfNone result (self.new ≡ self.old) }
+    /// Gives a transaction that has a seat another state, and lends what is kept of it, by one look.
+    #[inline(always)]
+    pub(crate) fn restate(&mut self, id: u64, state: TxState) -> &mut P
+        requires { IsSome (map.get self.old id) }
+        ensures* writes_back { sem 𝓛 (LendsRestated P.row self.entry id state result) }
+        ensures value { Some result.now ≡ kept_in self.old id }
     {
         let Some(number) = self.directory.find(&self.chairs, id) else {
-            return None;
+            unreachable!()
         };
-        let chair = self.chairs.get_mut(number)?;
+        match self.chairs.get_mut(number) {
+            Some(chair) => {
+                chair.seat.state = state;
+                &mut chair.seat.kept
+            }
+            None => unreachable!(),
+        }
+    }
+
+    /// Settles a Preparing transaction by one look: answers its end, and lends what is kept of it.
+    #[inline(always)]
+    pub(crate) fn commit(&mut self, id: u64) -> (Stamp, &mut P)
+        requires { IsSome (open_end (state_in self.old id)) }
+        ensures* writes_back { sem 𝓛 (LendsSettled P.row self.entry id result) }
+        ensures end { state_in self.old id ≡ Some (TxState.Preparing result.0) }
+        ensures value { kept_in self.old id ≡ Some result.1.now }
+    {
+        let Some(number) = self.directory.find(&self.chairs, id) else {
+            unreachable!()
+        };
+        let Some(chair) = self.chairs.get_mut(number) else {
+            unreachable!()
+        };
         let TxState::Preparing(end) = chair.seat.state else {
-            return None;
+            unreachable!()
         };
         chair.seat.state = TxState::Committed(end);
-        Some(end)
+        (end, &mut chair.seat.kept)
     }
 
     /// Gives a new transaction a seat. It takes memory only to list an id whose place is another's.

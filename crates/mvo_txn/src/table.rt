@@ -3,7 +3,7 @@ ghost use Rattle.std.specs.Option.{option_copied_mut};
 ghost use Rattle.std.specs.FinMap as map;
 ghost use Rattle.std.specs.Borrow.{sem};
 ghost use Rattle.mvo_types.specs.declared.limits.TheConstants.{MAX_STAMP};
-ghost use Rattle.mvo_txn.specs.Lends.{LendsKept};
+ghost use Rattle.mvo_txn.specs.Lends.{LendsKept, LendsPrepared, LendsCommitted};
 ghost use Rattle.mvo_txn.specs.Txns.{no_txns, state_of, kept_of, IsPreparing, IsUnended, IsEnded, IsTable};
 ghost use Rattle.mvo_txn.specs.Txns.{after_begin, after_prepare, after_change, after_terminate};
 ghost use Rattle.mvo_txn.specs.Txns.{why_not_begun, spent_clock, IsRefusal, IsOldestBegin, IsLowWater};
@@ -151,38 +151,36 @@ impl<P> TxnTable<P> {
         Ok(TxId(id))
     }
 
-    /// Draws the end timestamp of an Active transaction, which is Preparing from then on. It is
-    /// refused where the clock is spent alone, and takes no memory.
-    pub fn prepare(&mut self, id: TxId) -> Result<Stamp, Refusal>
+    /// Draws the end timestamp of an Active transaction, which is Preparing from then on, and lends
+    /// what is kept of it. The end is the clock then. It is refused where the clock is spent alone,
+    /// and takes no memory.
+    pub fn prepare(&mut self, id: TxId) -> Result<&mut P, Refusal>
         requires { state_of self.old id.0 ≡ Some TxState.Active }
-        ensures end { IfOk result (λ end. end.0 ≡ self.new.clock) }
-        ensures ok { OnOk result (self.new ≡ after_prepare self.old id.0) }
+        ensures* writes_back { sem 𝓛 (LendsPrepared P.row self.entry id.0 result) }
+        ensures value { IfOk result (λ kept. kept_of self.old id.0 ≡ Some kept.now) }
         ensures no_cause { OnOk result (spent_clock self.old.clock ≡ None) }
         ensures refused { IfErr result (λ why. spent_clock self.old.clock ≡ Some why) }
-        ensures err { OnErr result (self.new ≡ self.old) }
     {
         if self.clock >= MAX_STAMP {
             return Err(Refusal::ClockSpent);
         }
         let end = self.clock + 1;
         self.open_ends.make_room(&self.seats);
-        self.seats.set_state(id.0, TxState::Preparing(Stamp(end)));
         self.open_ends.push(end, id.0);
         self.clock = end;
-        Ok(Stamp(end))
+        Ok(self.seats.restate(id.0, TxState::Preparing(Stamp(end))))
     }
 
-    /// Settles a Preparing transaction, and answers its end timestamp.
-    pub fn commit(&mut self, id: TxId) -> Stamp
+    /// Settles a Preparing transaction, and answers its end timestamp, with what is kept of it for
+    /// writing.
+    pub fn commit(&mut self, id: TxId) -> (Stamp, &mut P)
         requires { IsPreparing (state_of self.old id.0) }
-        ensures end { state_of self.old id.0 ≡ Some (TxState.Preparing result) }
-        ensures committed { self.new ≡ after_change self.old id.0 (TxState.Committed result) }
+        ensures* writes_back { sem 𝓛 (LendsCommitted P.row self.entry id.0 result) }
+        ensures end { state_of self.old id.0 ≡ Some (TxState.Preparing result.0) }
+        ensures value { kept_of self.old id.0 ≡ Some result.1.now }
     {
-        let Some(end) = self.seats.commit(id.0) else {
-            unreachable!()
-        };
         self.open_ends.trim(&self.seats, id.0);
-        end
+        self.seats.commit(id.0)
     }
 
     /// Undoes an Active or Preparing transaction.
@@ -190,8 +188,8 @@ impl<P> TxnTable<P> {
         requires { IsUnended (state_of self.old id.0) }
         ensures { self.new ≡ after_change self.old id.0 TxState.Aborted }
     {
-        self.seats.set_state(id.0, TxState::Aborted);
         self.open_ends.trim(&self.seats, id.0);
+        self.seats.set_state(id.0, TxState::Aborted);
     }
 
     /// Lets a Committed or Aborted transaction leave, and answers what was kept of it.
@@ -200,8 +198,8 @@ impl<P> TxnTable<P> {
         ensures kept { kept_of self.old id.0 ≡ Some result }
         ensures gone { self.new ≡ after_terminate self.old id.0 }
     {
-        let seat = self.seats.remove(id.0).unwrap();
         self.begins.trim(&self.seats, id.0);
+        let seat = self.seats.remove(id.0).unwrap();
         let Seat { state: _, kept } = seat;
         kept
     }

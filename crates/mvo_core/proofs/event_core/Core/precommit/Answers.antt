@@ -11,7 +11,7 @@ use Rattle.mvo_core.specs.Standing.{StandsFor, Stands}
 use Rattle.mvo_core.specs.Steps.{came, LeadsOn}
 use Rattle.mvo_core.proofs.Begun.{stands_on}
 use Rattle.mvo_core.proofs.Refused.{came_spent}
-use Rattle.mvo_core.proofs.Drawing.{precommit_refused, clock_spent_leads, memory_spent_leads, ends_below, active_there, draw_leads}
+use Rattle.mvo_core.proofs.Drawing.{precommit_refused, clock_spent_leads, memory_spent_leads, ends_below, was_active, draw_leads}
 use Rattle.mvo_txn.specs.Txns.{state_of}
 use Rattle.mvo_tale.specs.declared.slot.Slot.{Slot}
 use Rattle.mvo_core.proofs.Waits.{waits_roomy_ended}
@@ -56,24 +56,23 @@ prepare-requires c =
     let f = c.self.inside in
     let i = c.self.invariant.stands in
     let old : CoreData = core_data f in
-    let drawn : Stamp = record { 0 = c.clock-clock.result.0 + 1 } in
-    active_there i.opening i.steps i.state old i.stands c.args.tx (sym c.active-refusal.ensures.refusal ∙ c.in_default.is) c.in_ok-place.place c.in_ok-place.ensures.place c.keep_place.new.table c.keep_place.ensures
-    drawn (ap (λ n. n + 1) c.clock-clock.ensures.value) c.open.new.self c.in_ok-place.ensures.ok c.draw_words.new.versions c.draw_words.ensures.fronts
-    (subst (λ n. n < MAX_STAMP) c.clock-clock.ensures.value c.if-clock-ge-MAX_STAMP.false)
+    was_active i.opening i.steps i.state old i.stands c.args.tx (sym c.active-refusal.ensures.refusal ∙ c.in_default.is)
 
 pub invariant_of-self-2 : goal.invariant_of-self-2
 invariant_of-self-2 c =
     let f = c.self.inside in
     let i = c.self.invariant.stands in
     let old : CoreData = core_data f in
+    let none = sym c.active-refusal.ensures.refusal ∙ c.in_default.is in
     let drawn : Stamp = record { 0 = c.clock-clock.result.0 + 1 } in
+    let unspent = subst (λ n. n < MAX_STAMP) c.clock-clock.ensures.value c.if-clock-ge-MAX_STAMP.false in
     record {
       stands =
-          stands_on i (Precommit c.args.tx.0) (came c.prepare.result) (record old { versions = c.draw_words.new.versions; table = c.prepare.new.self; tale = c.open.new.self })
-          (draw_leads i.opening i.steps i.state old i.stands c.args.tx (sym c.active-refusal.ensures.refusal ∙ c.in_default.is) c.in_ok-place.place c.in_ok-place.ensures.place c.keep_place.new.table c.keep_place.ensures
+          stands_on i (Precommit c.args.tx.0) (came c.prepare.result) (record old { versions = c.draw_words.new.versions; table = c.prepare.new.table; tale = c.open.new.self })
+          (draw_leads i.opening i.steps i.state old i.stands c.args.tx none c.in_ok-place.place c.in_ok-place.ensures.place
           drawn (ap (λ n. n + 1) c.clock-clock.ensures.value) c.open.new.self c.in_ok-place.ensures.ok c.draw_words.new.versions c.draw_words.ensures.fronts
-          (subst (λ n. n < MAX_STAMP) c.clock-clock.ensures.value c.if-clock-ge-MAX_STAMP.false) c.prepare.result c.prepare.new.self c.prepare.ensures.ok c.prepare.ensures.refused);
-      waiting = drawn_waits i.opening i.steps i.state old i.stands c.args.tx (sym c.active-refusal.ensures.refusal ∙ c.in_default.is) c.in_ok-place.place c.in_ok-place.ensures.place c.keep_place.new.table c.keep_place.ensures drawn (ap (λ n. n + 1) c.clock-clock.ensures.value) c.draw_words.new.versions c.draw_words.ensures.fronts (subst (λ n. n < MAX_STAMP) c.clock-clock.ensures.value c.if-clock-ge-MAX_STAMP.false) f.waiting c.make_room_for_ended.new.self c.draw_words.new.waiting c.make_room_for_ended.ensures.same c.draw_words.ensures.waits c.self.invariant.waiting c.prepare.result c.prepare.new.self c.prepare.ensures.ok c.prepare.ensures.refused;
+          unspent c.prepare.result c.prepare.new.table c.prepare.ensures.ok c.prepare.ensures.refused);
+      waiting = drawn_waits i.opening i.steps i.state old i.stands c.args.tx none c.in_ok-place.place c.in_ok-place.ensures.place drawn (ap (λ n. n + 1) c.clock-clock.ensures.value) c.draw_words.new.versions c.draw_words.ensures.fronts unspent f.waiting c.make_room_for_ended.new.self c.draw_words.new.waiting c.make_room_for_ended.ensures.same c.draw_words.ensures.waits c.self.invariant.waiting c.prepare.result c.prepare.new.table c.prepare.ensures.ok c.prepare.ensures.refused;
     }
 
 pub returns-clause-step : goal.returns-clause-step
@@ -82,9 +81,9 @@ returns-clause-step c = λ opening steps s h.
     let old : CoreData = core_data f in
     let g : StandsFor opening steps s old = subst (StandsFor opening steps s) (sym c.self.view_is) h in
     let drawn : Stamp = record { 0 = c.clock-clock.result.0 + 1 } in
-    draw_leads opening steps s old g c.args.tx (sym c.active-refusal.ensures.refusal ∙ c.in_default.is) c.in_ok-place.place c.in_ok-place.ensures.place c.keep_place.new.table c.keep_place.ensures
+    draw_leads opening steps s old g c.args.tx (sym c.active-refusal.ensures.refusal ∙ c.in_default.is) c.in_ok-place.place c.in_ok-place.ensures.place
     drawn (ap (λ n. n + 1) c.clock-clock.ensures.value) c.open.new.self c.in_ok-place.ensures.ok c.draw_words.new.versions c.draw_words.ensures.fronts
-    (subst (λ n. n < MAX_STAMP) c.clock-clock.ensures.value c.if-clock-ge-MAX_STAMP.false) c.prepare.result c.prepare.new.self c.prepare.ensures.ok c.prepare.ensures.refused
+    (subst (λ n. n < MAX_STAMP) c.clock-clock.ensures.value c.if-clock-ge-MAX_STAMP.false) c.prepare.result c.prepare.new.table c.prepare.ensures.ok c.prepare.ensures.refused
 
 pub returns-in_err-make_room_for_ended-clause-step : goal.returns-in_err-make_room_for_ended-clause-step
 returns-in_err-make_room_for_ended-clause-step c = λ opening steps s h.
@@ -112,8 +111,5 @@ invariant_of-self-in_err-place c =
       waiting = waits_roomy_ended f.table.clock (state_of f.table) f.versions.slots f.waiting c.make_room_for_ended.new.self c.make_room_for_ended.new.self.ended_room c.make_room_for_ended.ensures.same c.self.invariant.waiting;
     }
 
-pub draw_words-requires : goal.draw_words-requires
-draw_words-requires c =
-    let count = c.active-refusal.ensures.words in
-    let room = c.in_ok-make_room_for_ended.ensures.ok in
-    omega (arith, count, room)
+pub draw_words-requires-clause-room : goal.draw_words-requires-clause-room
+draw_words-requires-clause-room c = let room = c.in_ok-make_room_for_ended.ensures.ok in omega (arith, room)

@@ -5,8 +5,7 @@ use Rattle.mvo_theory.specs.Told.{history_told}
 use Rattle.mvo_theory.specs.Calls.Call.{Settle}
 use Rattle.mvo_theory.specs.Calls.Result.{Accepted, Refused}
 use Rattle.mvo_txn.specs.declared.state.TxState.TheVariants.{Committed}
-use Rattle.mvo_deps.specs.Nodes.{data_in, data_of}
-use Rattle.mvo_deps.proofs.Looks.{kept_restated}
+use Rattle.mvo_txn.specs.Txns.{IsPreparing as StandsPreparing}
 use Rattle.mvo_tale.specs.declared.slot.Slot.TheVariants.{Settled}
 use Rattle.mvo_tale.specs.Stored.{StoredCommit}
 use Rattle.mvo_tale.specs.Slots.{open_end_at}
@@ -14,10 +13,12 @@ use Rattle.mvo_core.specs.Data.{CoreData}
 use Rattle.mvo_core.specs.View.{core_data}
 use Rattle.mvo_core.specs.Causes.{why_not_preparing}
 use Rattle.mvo_core.specs.Standing.{StandsFor}
+use Rattle.mvo_core.specs.Keeping.{HasHandedOver}
 use Rattle.mvo_core.specs.Steps.{LeadsOn}
 use Rattle.mvo_core.proofs.Begun.{stands_on}
-use Rattle.mvo_core.proofs.Committing.{settle_refused, unvalidated_leads, waits_leads, waits_for, own_there, place_there, commits_leads, commits_as}
+use Rattle.mvo_core.proofs.Committing.{settle_refused, unvalidated_leads, waits_leads, waits_for, prepared, place_there, commits_leads, commits_as}
 use Rattle.mvo_core.proofs.WaitsOn.{committed_waits}
+use Rattle.mvo_core.proofs.WrittenThen.{data_changed}
 use Rattle.mvo_core.proofs.event_core.Core.settle.Goals as goal
 
 pub returns-in-Refused-clause-step : goal.returns-in-Refused-clause-step
@@ -52,26 +53,25 @@ returns-in-WaitsFor-clause-answer c = λ opening steps s h.
     let g : StandsFor opening steps s old = subst (StandsFor opening steps s) (sym c.self.view_is) h in
     waits_for opening steps s old g c.args.tx c.in-WaitsFor.ensures.0.none c.in-WaitsFor.other c.in-WaitsFor.ensures.1
 
-pub report_settled-requires : goal.report_settled-requires
-report_settled-requires c = λ none.
-    let f = c.self.inside in
-    ap (λ t. (data_of t c.args.tx).dependents) c.commit-end.ensures.committed
-    ∙ ap (λ o. (data_in o).dependents) (kept_restated f.table.seats c.args.tx.0 (Committed c.commit-end.result) c.args.tx.0) ∙ c.in-Ready.ensures.2 none
-
-pub take_operations-place-requires : goal.take_operations-place-requires
-take_operations-place-requires c =
+pub commit-place-requires : goal.commit-place-requires
+commit-place-requires c =
     let f = c.self.inside in
     let i = c.self.invariant.stands in
     let old : CoreData = core_data f in
-    own_there i.opening i.steps i.state old i.stands c.args.tx c.in-Ready.ensures.0.none c.commit-end.result c.commit-end.ensures.end c.commit-end.new.self c.report_settled.new.table c.commit-end.ensures.committed c.report_settled.ensures.told
+    subst StandsPreparing (sym (prepared i.opening i.steps i.state old i.stands c.args.tx c.in-Ready.ensures.0.none).1) refl
+
+pub report_settled-requires : goal.report_settled-requires
+report_settled-requires c = λ none.
+    let f = c.self.inside in
+    ap (λ d. d.dependents) (data_changed f.table c.commit-place.new.table c.args.tx HasHandedOver (Committed c.commit-place.result.0) c.commit-place.ensures.left) ∙ c.in-Ready.ensures.2 none
 
 pub settle-requires : goal.settle-requires
 settle-requires c =
     let f = c.self.inside in
     let i = c.self.invariant.stands in
     let old : CoreData = core_data f in
-    ap (open_end_at f.tale) c.take_operations-place.ensures.place
-    ∙ place_there i.opening i.steps i.state old i.stands c.args.tx c.in-Ready.ensures.0.none c.commit-end.result c.commit-end.ensures.end c.commit-end.new.self c.report_settled.new.table c.commit-end.ensures.committed c.report_settled.ensures.told
+    ap (open_end_at f.tale) c.commit-place.ensures.place
+    ∙ place_there i.opening i.steps i.state old i.stands c.args.tx c.in-Ready.ensures.0.none c.commit-place.result.0 c.commit-place.ensures.end
 
 pub invariant_of-self : goal.invariant_of-self
 invariant_of-self c =
@@ -79,14 +79,15 @@ invariant_of-self c =
     let i = c.self.invariant.stands in
     let old : CoreData = core_data f in
     let none = c.in-Ready.ensures.0.none in
-    let entry : StoredCommit = record { id = c.args.tx.0; end = c.commit-end.result.0; history = history_told c.take_operations-place.result.1.told.items } in
+    let end = c.commit-place.result.0 in
+    let entry : StoredCommit = record { id = c.args.tx.0; end = end.0; history = history_told c.commit-place.result.2.told.items } in
     record {
       stands =
-          stands_on i (Settle c.args.tx.0) Accepted (record old { table = c.take_operations-place.new.table; tale = c.settle.new.self })
-          (commits_leads i.opening i.steps i.state old i.stands c.args.tx none c.commit-end.result c.commit-end.ensures.end c.commit-end.new.self c.report_settled.new.table c.commit-end.ensures.committed c.report_settled.ensures.told
-          c.report_settled.ensures.graph c.take_operations-place.new.table c.take_operations-place.ensures.left entry refl refl c.take_operations-place.ensures.told c.in-Ready.ensures.1 c.in-Ready.ensures.0.valid_is
-          c.settle.new.self (c.settle.ensures ∙ ap (λ p. slice_set f.tale p (Settled entry)) c.take_operations-place.ensures.place));
-      waiting = committed_waits f.table c.commit-end.new.self c.report_settled.new.table c.take_operations-place.new.table c.args.tx c.commit-end.result f.versions f.waiting c.commit-end.ensures.end c.commit-end.ensures.committed c.report_settled.ensures.told c.take_operations-place.ensures.left c.self.invariant.waiting;
+          stands_on i (Settle c.args.tx.0) Accepted (record old { table = c.report_settled.new.table; tale = c.settle.new.self })
+          (commits_leads i.opening i.steps i.state old i.stands c.args.tx none end c.commit-place.ensures.end c.commit-place.new.table c.report_settled.new.table c.commit-place.ensures.left c.report_settled.ensures.told
+          c.report_settled.ensures.graph entry refl refl c.commit-place.ensures.told c.in-Ready.ensures.1 c.in-Ready.ensures.0.valid_is
+          c.settle.new.self (c.settle.ensures ∙ ap (λ p. slice_set f.tale p (Settled entry)) c.commit-place.ensures.place));
+      waiting = committed_waits f.table c.commit-place.new.table c.report_settled.new.table c.args.tx end f.versions f.waiting c.commit-place.ensures.end c.commit-place.ensures.left c.report_settled.ensures.told c.self.invariant.waiting;
     }
 
 pub returns-clause-step : goal.returns-clause-step
@@ -95,14 +96,15 @@ returns-clause-step c = λ opening steps s h.
     let old : CoreData = core_data f in
     let g : StandsFor opening steps s old = subst (StandsFor opening steps s) (sym c.self.view_is) h in
     let none = c.in-Ready.ensures.0.none in
-    let entry : StoredCommit = record { id = c.args.tx.0; end = c.commit-end.result.0; history = history_told c.take_operations-place.result.1.told.items } in
-    commits_leads opening steps s old g c.args.tx none c.commit-end.result c.commit-end.ensures.end c.commit-end.new.self c.report_settled.new.table c.commit-end.ensures.committed c.report_settled.ensures.told
-    c.report_settled.ensures.graph c.take_operations-place.new.table c.take_operations-place.ensures.left entry refl refl c.take_operations-place.ensures.told c.in-Ready.ensures.1 c.in-Ready.ensures.0.valid_is
-    c.settle.new.self (c.settle.ensures ∙ ap (λ p. slice_set f.tale p (Settled entry)) c.take_operations-place.ensures.place)
+    let end = c.commit-place.result.0 in
+    let entry : StoredCommit = record { id = c.args.tx.0; end = end.0; history = history_told c.commit-place.result.2.told.items } in
+    commits_leads opening steps s old g c.args.tx none end c.commit-place.ensures.end c.commit-place.new.table c.report_settled.new.table c.commit-place.ensures.left c.report_settled.ensures.told
+    c.report_settled.ensures.graph entry refl refl c.commit-place.ensures.told c.in-Ready.ensures.1 c.in-Ready.ensures.0.valid_is
+    c.settle.new.self (c.settle.ensures ∙ ap (λ p. slice_set f.tale p (Settled entry)) c.commit-place.ensures.place)
 
 pub returns-clause-answer : goal.returns-clause-answer
 returns-clause-answer c = λ opening steps s h.
     let f = c.self.inside in
     let old : CoreData = core_data f in
     let g : StandsFor opening steps s old = subst (StandsFor opening steps s) (sym c.self.view_is) h in
-    commits_as opening steps s old g c.args.tx c.in-Ready.ensures.0.none c.in-Ready.ensures.1 c.commit-end.result c.commit-end.ensures.end
+    commits_as opening steps s old g c.args.tx c.in-Ready.ensures.0.none c.in-Ready.ensures.1 c.commit-place.result.0 c.commit-place.ensures.end

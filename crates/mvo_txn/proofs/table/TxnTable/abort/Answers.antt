@@ -1,8 +1,7 @@
-use Rattle.std.proofs.Common.{◌≡◌, None, refl, sym, ap, ◌∙◌, subst}
+use Rattle.std.proofs.Common.{refl, ap, ◌∙◌}
 use Rattle.mvo_txn.specs.declared.state.TxState.TheVariants.{Aborted}
-use Rattle.mvo_txn.specs.Queue.{stamp_in}
 use Rattle.mvo_txn.specs.Txns.{state_of}
-use Rattle.mvo_txn.proofs.Tables.{no_open_end, sound_closed, unended_state}
+use Rattle.mvo_txn.proofs.Tables.{sound_closed, unended_state}
 use Rattle.mvo_txn.proofs.table.TxnTable.abort.Goals as goal
 
 pub invariant_of-self : goal.invariant_of-self
@@ -12,10 +11,3 @@ invariant_of-self g c =
     before.0 Aborted
     (ap (λ t. state_of t c.args.id.0) c.self.view_is ∙ before.1) refl
     c.set_state.ensures c.trim.ensures.form c.trim.ensures.kept c.self.invariant
-
-pub trim-requires : goal.trim-requires
-trim-requires g c =
-    let before = unended_state (state_of c.args.self.now c.args.id.0) c.requires in
-    subst (λ k. stamp_in k c.set_state.new.self c.args.id.0 ≡ None) (sym c.self.invariant.open_ends_are.kind_is)
-    (no_open_end c.self.inside.seats c.set_state.new.self c.args.id.0 before.0 Aborted
-    (ap (λ t. state_of t c.args.id.0) c.self.view_is ∙ before.1) refl c.set_state.ensures)

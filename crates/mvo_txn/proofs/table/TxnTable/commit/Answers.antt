@@ -1,22 +1,14 @@
-use Rattle.std.proofs.Common.{◌≡◌, None, refl, sym, ap, ◌∙◌, subst, IsSome}
-use Rattle.std.proofs.lemmas.Bool.{false≢true}
+use Rattle.std.proofs.Common.{refl}
 use Rattle.mvo_txn.specs.declared.state.TxState.TheVariants.{Preparing, Committed}
-use Rattle.mvo_txn.specs.Queue.{open_end, stamp_in}
-use Rattle.mvo_txn.specs.Txns.{state_of}
-use Rattle.mvo_txn.proofs.Tables.{no_open_end, sound_closed}
+use Rattle.mvo_txn.specs.Seats.{with_state}
+use Rattle.mvo_txn.proofs.Tables.{sound_closed, sound_kept}
 use Rattle.mvo_txn.proofs.table.TxnTable.commit.Goals as goal
 
-pub unreachable-requires : goal.unreachable-requires
-unreachable-requires g c =
-    false≢true (subst IsSome (ap (λ t. open_end (state_of t c.args.id.0)) (sym c.self.view_is) ∙ c.in_default.ensures.none) c.requires)
-
-pub invariant_of-self : goal.invariant_of-self
-invariant_of-self g c =
-    sound_closed c.self.inside.clock c.self.inside.seats c.commit.new.self c.self.inside.begins c.self.inside.open_ends c.trim.new.self c.args.id.0
-    (Preparing c.in-Some.end) (Committed c.in-Some.end) c.in-Some.ensures.end refl
-    c.in-Some.ensures.settled c.trim.ensures.form c.trim.ensures.kept c.self.invariant
-
-pub trim-requires : goal.trim-requires
-trim-requires g c =
-    subst (λ k. stamp_in k c.commit.new.self c.args.id.0 ≡ None) (sym c.self.invariant.open_ends_are.kind_is)
-    (no_open_end c.self.inside.seats c.commit.new.self c.args.id.0 (Preparing c.in-Some.end) (Committed c.in-Some.end) c.in-Some.ensures.end refl c.in-Some.ensures.settled)
+pub invariant_of-self-lent : goal.invariant_of-self-lent
+invariant_of-self-lent g c = λ w.
+    let end = c.commit.result.0 in
+    let after = with_state c.self.inside.seats c.args.id.0 (Committed end) in
+    sound_kept c.self.inside.clock after c.self.inside.begins c.trim.new.self c.args.id.0 w
+    (sound_closed c.self.inside.clock c.self.inside.seats after c.self.inside.begins c.self.inside.open_ends c.trim.new.self c.args.id.0
+    (Preparing end) (Committed end) c.commit.ensures.end refl
+    refl c.trim.ensures.form c.trim.ensures.kept c.self.invariant)

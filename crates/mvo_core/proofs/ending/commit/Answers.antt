@@ -1,12 +1,13 @@
-use Rattle.std.proofs.Common.{ap, refl}
+use Rattle.std.proofs.Common.{ap, sym, refl}
+use Rattle.mvo_txn.specs.declared.state.TxState.TheVariants.{Committed}
 use Rattle.mvo_core.specs.declared.transaction.Transaction.{Transaction}
 use Rattle.mvo_core.specs.Keeping.{HasHandedOver}
-use Rattle.mvo_core.proofs.Written.{written}
-use Rattle.mvo_core.proofs.ending.take_operations.Goals as goal
+use Rattle.mvo_core.proofs.WrittenThen.{written_changed}
+use Rattle.mvo_core.proofs.ending.commit.Goals as goal
 
 pub returns-clause-left : goal.returns-clause-left
 returns-clause-left c =
-    let node = c.in-Some.node.now in
+    let node = c.commit-node.result.1.now in
     let after : Transaction = record node.own { work = c.take_operations.new.self } in
     let handed : HasHandedOver node.own after = record {
       history = ap (λ w. w.history) c.take_operations.ensures.left;
@@ -15,4 +16,4 @@ returns-clause-left c =
       checked = refl;
       valid = refl;
     } in
-    written c.args.table.now c.args.tx.0 node after HasHandedOver c.in-Some.ensures.value handed
+    written_changed c.args.table.now c.args.tx.0 node after HasHandedOver (sym c.commit-node.ensures.value) handed (Committed c.commit-node.result.0)
