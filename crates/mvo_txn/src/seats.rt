@@ -113,7 +113,7 @@ impl<P> Seats<P> {
         }
     }
 
-    /// Gives a transaction that has a seat another state, and lends what is kept of it.
+    /// Gives a transaction with a seat another state, and lends what is kept of it, by one look.
     #[inline(always)]
     pub(crate) fn restate(&mut self, id: u64, state: TxState) -> &mut P
         requires { IsSome (map.get self.old id) }
