@@ -1,6 +1,6 @@
 -- A Preparing transaction is settled: what the core stands for then.
 use Rattle.std.proofs.Common.{◌≡◌, ◌≢◌, ℕ, ◌<◌, Bool, true, false, not, cond, List, ◌++◌, append-nil, Option, None, Some, map, refl, sym, ap, ◌∙◌, subst}
-use Rattle.std.specs.Prelude.{IsSome, ◌==◌, ◌||◌, slice_set, MatchOption}
+use Rattle.std.specs.Prelude.{◌==◌, ◌||◌, slice_set, MatchOption}
 use Rattle.std.specs.Option.{is_some, option_map}
 use Rattle.std.specs.List.{AllByRecursion}
 use Rattle.std.proofs.lemmas.Bool.{eq-eqb, false≢true}
@@ -14,7 +14,7 @@ use Rattle.mvo_theory.specs.State.{State, StampedTx, preparing_of}
 use Rattle.mvo_types.specs.Causes.{when}
 use Rattle.mvo_theory.specs.Causes.{was_valid, why_not_settle, awaited, end_at, end_of}
 use Rattle.mvo_theory.specs.Changes.{with_settled, after_commit}
-use Rattle.mvo_theory.specs.Steps.{after_commit_of, after_commit_now, after_settle_unless, after_settle}
+use Rattle.mvo_theory.specs.Steps.{after_commit_of, after_settle_unless, after_settle}
 use Rattle.mvo_theory.specs.Calls.{IsRefusal, MayCome, steps_unless}
 use Rattle.mvo_theory.specs.Calls.Call.{Settle}
 use Rattle.mvo_theory.specs.Calls.Result.{Accepted, Refused}
@@ -48,12 +48,11 @@ use Rattle.mvo_core.specs.Causes.{why_not_preparing, flag_of}
 use Rattle.mvo_core.specs.Aborting.{IsGivenUp}
 use Rattle.mvo_core.specs.Keeping.{IsWrittenThen, HasHandedOver}
 use Rattle.mvo_core.specs.Steps.{LeadsOn, settled_as}
-use Rattle.mvo_core.proofs.Carried.{works_carried}
 use Rattle.mvo_core.proofs.EndCauses.{not_settled_is, preparing_unended, or_first, or_last}
 use Rattle.mvo_core.proofs.EndLaws.{awaited_told, commit_in_table, commit_in_order, commit_in_lists}
 use Rattle.mvo_core.proofs.GivenUp.{settle_given_up}
 use Rattle.mvo_core.proofs.OwnChanged.{IsOwnChanged, own_changed, words_stay}
-use Rattle.mvo_core.proofs.Reporting.{own_same, says_same, words_same, stands_now, others_stand}
+use Rattle.mvo_core.proofs.Reporting.{own_same, words_same, stands_now, others_stand}
 use Rattle.mvo_core.proofs.Rest.{HasRest, preparing_there, stands_then}
 use Rattle.mvo_core.proofs.KeptTale.{tale_settled}
 use Rattle.mvo_core.proofs.TaleMoves.{IsCommitOf, open_beside}

@@ -1,7 +1,7 @@
 -- An Active transaction draws its end: what the core stands for then.
 use Rattle.std.proofs.Common.{◌≡◌, ◌≢◌, inl, ℕ, ◌+◌, ◌<◌, ◌≤◌, Bool, true, false, not, cond, List, [], ◌∷◌, ◌++◌, append-nil, length, Option, None, Some, refl, sym, ap, ◌∙◌, subst, arith}
-use Rattle.std.specs.Prelude.{IsSome, ◌==◌, nat_le, Result, Ok, Err, OnOk, IfErr}
-use Rattle.std.specs.Option.{is_some, option_map}
+use Rattle.std.specs.Prelude.{◌==◌, nat_le, Result, Ok, Err, OnOk, IfErr}
+use Rattle.std.specs.Option.{option_map}
 use Rattle.std.specs.List.{AllByRecursion}
 use Rattle.std.proofs.lemmas.Bool.{eq-eqb, false≢true, le-leb, leb-true}
 use Rattle.mvo_types.specs.declared.limits.TheConstants.{MAX_STAMP}
@@ -45,7 +45,7 @@ use Rattle.mvo_core.specs.Fronts.{comes_at_draw, numbers_in, AreInFront}
 use Rattle.mvo_core.specs.Keeping.{IsWritten, IsWrittenThen, IsPlaced, with_own_at}
 use Rattle.mvo_core.specs.Steps.{came, LeadsOn}
 use Rattle.mvo_core.proofs.SamePlaces.{stands_by_places}
-use Rattle.mvo_core.proofs.CausesTold.{none_active, own_of_active}
+use Rattle.mvo_core.proofs.CausesTold.{none_active}
 use Rattle.mvo_core.proofs.EndCauses.{not_precommitted_is, or_first, or_last}
 use Rattle.mvo_core.proofs.EndLaws.{precommit_in_table, draw_in_order, precommit_in_lists, lists_are_written, fronts_in_numbers}
 use Rattle.mvo_core.proofs.GivenUp.{precommit_given_up}

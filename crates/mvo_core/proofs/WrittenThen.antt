@@ -1,5 +1,5 @@
 -- One look writes what is kept of a transaction, and how it stands, as two would.
-use Rattle.std.proofs.Common.{◌≡◌, ℕ, ◌+◌, Option, None, Some, refl, sym, ap, ◌∙◌, subst}
+use Rattle.std.proofs.Common.{◌≡◌, ℕ, ◌+◌, Option, None, Some, refl, sym, ap, ◌∙◌}
 use Rattle.std.specs.FinMap.{get, insert}
 use Rattle.std.specs.Option.{option_map}
 use Rattle.mvo_types.specs.declared.ids.TxId.{TxId}
@@ -14,7 +14,6 @@ use Rattle.mvo_deps.specs.Nodes.{data_in, data_of}
 use Rattle.mvo_deps.proofs.Calls.{written_alike}
 use Rattle.mvo_deps.proofs.Looks.{kept_restated}
 use Rattle.mvo_core.specs.declared.transaction.Transaction.{Transaction}
-use Rattle.mvo_core.specs.Data.{own_of}
 use Rattle.mvo_core.specs.Keeping.{IsWritten, IsWrittenThen, with_own_at}
 use Rattle.mvo_core.proofs.Alone.{inserted_twice}
 use Rattle.mvo_core.proofs.Written.{written}
