@@ -25,6 +25,7 @@ pub fn find(slots: &[Slot], home: usize, key: RowKey) -> Option<usize>
 }
 
 // Where the key stands before its home, where it isn't behind. Few searches come here.
+#[cold]
 #[inline(never)]
 fn find_before(slots: &[Slot], home: usize, key: RowKey) -> Option<usize>
     requires within { home ≤ length slots.now }
@@ -73,6 +74,7 @@ pub fn free(slots: &[Slot], home: usize) -> usize
 }
 
 // The first slot that holds no key.
+#[cold]
 #[inline(never)]
 fn first_free(slots: &[Slot]) -> usize
     requires { HasUnused slots.now }
