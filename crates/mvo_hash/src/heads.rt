@@ -64,6 +64,7 @@ impl Heads {
     }
 
     /// The number of a key.
+    #[inline(always)]
     pub fn get(&self, key: RowKey) -> Option<u32>
         ensures { result ≡ map.get self.now.numbers key }
     {

@@ -93,6 +93,7 @@ impl OpenTable {
         self.get_by_hash(key, self.hash(key))
     }
 
+    #[inline(always)]
     pub(crate) fn get_by_hash(&self, key: RowKey, hash: u64) -> Option<u32>
         requires { IsHash self.now key hash }
         ensures { result ≡ map.get self.now.numbers key }

@@ -6,6 +6,7 @@ use mvo_types::RowKey;
 
 /// Where the key stands: the search begins at its home, goes on at the first slot where it comes to
 /// the end, and ends at the first slot that is empty.
+#[inline(always)]
 pub fn find(slots: &[Slot], home: usize, key: RowKey) -> Option<usize>
     requires within { home ≤ length slots.now }
     requires reached { IsReached slots.now home key }
