@@ -51,14 +51,15 @@ module _ {P : Type 0} where
     queue = subst (λ k. IsQueue (stamp_in k m) (clock + 1) r.marks.items) is.kind_is (kept (clock + 1) (subst (λ k. IsQueue (stamp_in k m) (clock + 1) q.marks.items) (sym is.kind_is) is.queue));
   }
 
-  queue_trimmed : (kind : Kind) (clock : ℕ) (m n : SeatMap P) (gone : ℕ) (q r : Queue) → KeepsForm q r → Trims q.kind m gone q.marks.items r.marks.items → ((id : ℕ) → stamp_in kind n id ≡ stamp_without gone (stamp_in kind m) id) → IsQueueOf kind clock m q
-      → IsQueueOf kind clock n r
-  queue_trimmed kind clock m n gone q r same trims now is = record {
+  -- it was trimmed where the seats were x
+  queue_trimmed : (kind : Kind) (clock : ℕ) (m x n : SeatMap P) (gone : ℕ) (q r : Queue) → KeepsForm q r → Trims q.kind x gone q.marks.items r.marks.items → ((id stamp : ℕ) → stamp_in kind x id ≡ Some stamp → stamp_in kind m id ≡ Some stamp)
+      → ((id : ℕ) → stamp_in kind n id ≡ stamp_without gone (stamp_in kind x) id) → IsQueueOf kind clock m q → IsQueueOf kind clock n r
+  queue_trimmed kind clock m x n gone q r same trims less now is = record {
     kind_is = same.kind ∙ is.kind_is;
     room = room_kept q r same is.room;
-    queue = queue_same (stamp_without gone (stamp_in kind m)) (stamp_in kind n) (clock + 1) (clock + 1) r.marks.items (omega arith) now
-        (subst (λ k. Trims k m gone q.marks.items r.marks.items) is.kind_is trims (clock + 1)
-        (listing_less (stamp_in kind m) (stamp_without gone (stamp_in kind m)) (clock + 1) q.marks.items (fewer (stamp_in kind m) gone) is.queue.listing));
+    queue = queue_same (stamp_without gone (stamp_in kind x)) (stamp_in kind n) (clock + 1) (clock + 1) r.marks.items (omega arith) now
+        (subst (λ k. Trims k x gone q.marks.items r.marks.items) is.kind_is trims (clock + 1)
+        (listing_less (stamp_in kind m) (stamp_without gone (stamp_in kind x)) (clock + 1) q.marks.items (λ id stamp e. less id stamp (fewer (stamp_in kind x) gone id stamp e)) is.queue.listing));
   }
 
   -- one counts no longer, and the others count as before
@@ -176,7 +177,7 @@ module _ {P : Type 0} where
         stamped = s.stamped;
         few = let same_len = len_replaced m id old.0 seat old.1.0 in omega (arith, s.few);
         begins_are = queue_untouched Begin clock clock m (insert m id seat) b (omega arith) (same_begins m id old.0 seat old.1.0) s.begins_are;
-        open_ends_are = queue_trimmed OpenEnd clock m (insert m id seat) id e e' same trims
+        open_ends_are = queue_trimmed OpenEnd clock m m (insert m id seat) id e e' same trims (λ i stamp e. e)
             (without OpenEnd m (insert m id seat) id (ap (λ o. open_end (option_map (λ s. s.state) o)) (get_inserted m id seat) ∙ closed) (get_beside m id seat)) s.open_ends_are;
       })
 
@@ -194,6 +195,13 @@ module _ {P : Type 0} where
             }
       ] refl
 
+  fewer_begins : (m : SeatMap P) (id i stamp : ℕ) → stamp_in Begin (remove m id) i ≡ Some stamp → stamp_in Begin m i ≡ Some stamp
+  fewer_begins m id i stamp e =
+      ⊎_elim
+      (λ is. absurd (none-some stamp (sym (ap (λ j. option_map (λ _. i) (get (remove m id) j)) is ∙ ap (option_map (λ _. i)) (get_removed m id)) ∙ e)))
+      (λ ne. sym (same_beside Begin m (remove m id) i (get_left m id i ne)) ∙ e)
+      (cases_eq i id)
+
   same_ends_left : (m : SeatMap P) (id : ℕ) → open_end (state_in m id) ≡ None → (i : ℕ) → stamp_in OpenEnd (remove m id) i ≡ stamp_in OpenEnd m i
   same_ends_left m id closed i =
       ⊎_elim
@@ -202,12 +210,13 @@ module _ {P : Type 0} where
       (cases_eq i id)
 
   pub sound_left : (clock : ℕ) (m n : SeatMap P) (b b' e : Queue) (id : ℕ) → open_end (state_in m id) ≡ None → n ≡ remove m id → KeepsForm b b'
-      → Trims b.kind m id b.marks.items b'.marks.items → IsSound clock m b e → IsSound clock n b' e
+      → Trims b.kind n id b.marks.items b'.marks.items → IsSound clock m b e → IsSound clock n b' e
   sound_left clock m n b b' e id closed is same trims s =
       subst (λ n. IsSound clock n b' e) (sym is) (record {
         stamped = s.stamped;
         few = let less = len_left m id in omega (arith, s.few);
-        begins_are = queue_trimmed Begin clock m (remove m id) id b b' same trims (without Begin m (remove m id) id (ap (option_map (λ _. id)) (get_removed m id)) (get_left m id)) s.begins_are;
+        begins_are = queue_trimmed Begin clock m (remove m id) (remove m id) id b b' same (subst (λ n. Trims b.kind n id b.marks.items b'.marks.items) is trims) (fewer_begins m id)
+            (without Begin (remove m id) (remove m id) id (ap (option_map (λ _. id)) (get_removed m id)) (λ i ne. refl)) s.begins_are;
         open_ends_are = queue_untouched OpenEnd clock clock m (remove m id) e (omega arith) (same_ends_left m id closed) s.open_ends_are;
       })
 

@@ -198,8 +198,8 @@ impl<P> TxnTable<P> {
         ensures kept { kept_of self.old id.0 ≡ Some result }
         ensures gone { self.new ≡ after_terminate self.old id.0 }
     {
-        self.begins.trim(&self.seats, id.0);
         let seat = self.seats.remove(id.0).unwrap();
+        self.begins.trim(&self.seats, id.0);
         let Seat { state: _, kept } = seat;
         kept
     }
