@@ -12,16 +12,17 @@ ghost use Rattle.mvo_core.specs.Keeping.{HasDoneMore, IsRecorded};
 
 use crate::transaction::Table;
 use mvo_deps::{register, register_all};
+use mvo_txn::Located;
 use mvo_types::{Answer, Op, TxId};
 use mvo_work::WordPlace;
 use std::alloc::AllocError;
 
 /// Room for one more operation of the transaction, and for the words that it may put.
 #[inline(always)]
-pub fn make_room(table: &mut Table, tx: TxId) -> Result<(), AllocError>
-    requires { IsSome (own_of table.old tx.0) }
-    ensures ok { OnOk result (IsWritten table.old table.new tx.0 HasMadeRoom) }
-    ensures err { OnErr result (IsWritten table.old table.new tx.0 HasDoneAsMuch) }
+pub fn make_room(table: &mut Table, tx: Located) -> Result<(), AllocError>
+    requires { IsSome (own_of table.old tx.id.0) }
+    ensures ok { OnOk result (IsWritten table.old table.new tx.id.0 HasMadeRoom) }
+    ensures err { OnErr result (IsWritten table.old table.new tx.id.0 HasDoneAsMuch) }
 {
     match table.get_mut(tx) {
         Some(node) => node.own.work.make_room(),
@@ -31,9 +32,9 @@ pub fn make_room(table: &mut Table, tx: TxId) -> Result<(), AllocError>
 
 /// Lets the transaction depend on the other, if there is one.
 #[inline(always)]
-pub fn depend(table: &mut Table, tx: TxId, on: Option<TxId>) -> Result<(), AllocError>
-    requires { IsUnfinished table.old tx }
-    ensures ok { OnOk result (table.new ≡ after_register_all table.old tx (option_to_list on)) }
+pub fn depend(table: &mut Table, tx: Located, on: Option<TxId>) -> Result<(), AllocError>
+    requires { IsUnfinished table.old tx.id }
+    ensures ok { OnOk result (table.new ≡ after_register_all table.old tx.id (option_to_list on)) }
     ensures err { OnErr result (table.new ≡ table.old) }
 {
     match on {
@@ -44,12 +45,12 @@ pub fn depend(table: &mut Table, tx: TxId, on: Option<TxId>) -> Result<(), Alloc
 
 /// Tells the transaction the answer to its operation.
 #[inline(always)]
-fn tell(table: &mut Table, tx: TxId, op: Op, answer: Answer)
-    requires there { IsSome (own_of table.old tx.0) }
-    requires room { IfSome (own_of table.old tx.0) (λ own. 0 < own.work.room) }
-    requires limits { IfSome (own_of table.old tx.0) (λ own.
+fn tell(table: &mut Table, tx: Located, op: Op, answer: Answer)
+    requires there { IsSome (own_of table.old tx.id.0) }
+    requires room { IfSome (own_of table.old tx.id.0) (λ own. 0 < own.work.room) }
+    requires limits { IfSome (own_of table.old tx.id.0) (λ own.
         MayFollow own.work.history op (answer_data answer)) }
-    ensures { IsWritten table.old table.new tx.0 (IsTold op (answer_data answer)) }
+    ensures { IsWritten table.old table.new tx.id.0 (IsTold op (answer_data answer)) }
 {
     match table.get_mut(tx) {
         Some(node) => node.own.work.tell(op, answer),
@@ -62,17 +63,17 @@ fn tell(table: &mut Table, tx: TxId, op: Op, answer: Answer)
 #[inline(always)]
 pub fn write(
     table: &mut Table,
-    tx: TxId,
+    tx: Located,
     op: Op,
     answer: Answer,
     word: WordPlace,
     other: Option<WordPlace>,
 )
-    requires there { IsSome (own_of table.old tx.0) }
-    requires room { IfSome (own_of table.old tx.0) (λ own. HasRoom own.work) }
-    requires limits { IfSome (own_of table.old tx.0) (λ own.
+    requires there { IsSome (own_of table.old tx.id.0) }
+    requires room { IfSome (own_of table.old tx.id.0) (λ own. HasRoom own.work) }
+    requires limits { IfSome (own_of table.old tx.id.0) (λ own.
         MayFollow own.work.history op (answer_data answer)) }
-    ensures { IsWritten table.old table.new tx.0
+    ensures { IsWritten table.old table.new tx.id.0
         (HasDoneMore op (answer_data answer) (word ∷ option_to_list other)) }
 {
     match table.get_mut(tx) {
@@ -86,17 +87,17 @@ pub fn write(
 #[inline(always)]
 pub fn record_answer(
     table: &mut Table,
-    tx: TxId,
+    tx: Located,
     on: Option<TxId>,
     op: Op,
     answer: Answer,
 ) -> Result<(), AllocError>
-    requires there { IsSome (own_of table.old tx.0) }
-    requires limits { IfSome (own_of table.old tx.0) (λ own.
+    requires there { IsSome (own_of table.old tx.id.0) }
+    requires limits { IfSome (own_of table.old tx.id.0) (λ own.
         MayFollow own.work.history op (answer_data answer)) }
     ensures ok { OnOk result
-        (IsRecorded table.old table.new tx (option_to_list on) op (answer_data answer)) }
-    ensures err { OnErr result (IsWritten table.old table.new tx.0 HasDoneAsMuch) }
+        (IsRecorded table.old table.new tx.id (option_to_list on) op (answer_data answer)) }
+    ensures err { OnErr result (IsWritten table.old table.new tx.id.0 HasDoneAsMuch) }
 {
     match on {
         Some(on) => record_depending(table, tx, on, op, answer),
@@ -108,17 +109,17 @@ pub fn record_answer(
 #[inline(never)]
 fn record_depending(
     table: &mut Table,
-    tx: TxId,
+    tx: Located,
     on: TxId,
     op: Op,
     answer: Answer,
 ) -> Result<(), AllocError>
-    requires there { IsSome (own_of table.old tx.0) }
-    requires limits { IfSome (own_of table.old tx.0) (λ own.
+    requires there { IsSome (own_of table.old tx.id.0) }
+    requires limits { IfSome (own_of table.old tx.id.0) (λ own.
         MayFollow own.work.history op (answer_data answer)) }
     ensures ok { OnOk result
-        (IsRecorded table.old table.new tx (on ∷ []) op (answer_data answer)) }
-    ensures err { OnErr result (IsWritten table.old table.new tx.0 HasDoneAsMuch) }
+        (IsRecorded table.old table.new tx.id (on ∷ []) op (answer_data answer)) }
+    ensures err { OnErr result (IsWritten table.old table.new tx.id.0 HasDoneAsMuch) }
 {
     make_room(table, tx)?;
     register(table, tx, on)?;
@@ -128,12 +129,12 @@ fn record_depending(
 
 /// Tells the transaction an answer, or does nothing, by one look at it.
 #[inline(always)]
-fn record_alone(table: &mut Table, tx: TxId, op: Op, answer: Answer) -> Result<(), AllocError>
-    requires there { IsSome (own_of table.old tx.0) }
-    requires limits { IfSome (own_of table.old tx.0) (λ own.
+fn record_alone(table: &mut Table, tx: Located, op: Op, answer: Answer) -> Result<(), AllocError>
+    requires there { IsSome (own_of table.old tx.id.0) }
+    requires limits { IfSome (own_of table.old tx.id.0) (λ own.
         MayFollow own.work.history op (answer_data answer)) }
-    ensures ok { OnOk result (IsRecorded table.old table.new tx [] op (answer_data answer)) }
-    ensures err { OnErr result (IsWritten table.old table.new tx.0 HasDoneAsMuch) }
+    ensures ok { OnOk result (IsRecorded table.old table.new tx.id [] op (answer_data answer)) }
+    ensures err { OnErr result (IsWritten table.old table.new tx.id.0 HasDoneAsMuch) }
 {
     match table.get_mut(tx) {
         Some(node) => node.own.record(op, answer),
@@ -144,16 +145,16 @@ fn record_alone(table: &mut Table, tx: TxId, op: Op, answer: Answer) -> Result<(
 /// Tells the transaction an answer, and lets it depend on the others; or does neither.
 pub fn record_answer_on(
     table: &mut Table,
-    tx: TxId,
+    tx: Located,
     on: &[TxId],
     op: Op,
     answer: Answer,
 ) -> Result<(), AllocError>
-    requires there { IsSome (own_of table.old tx.0) }
-    requires limits { IfSome (own_of table.old tx.0) (λ own.
+    requires there { IsSome (own_of table.old tx.id.0) }
+    requires limits { IfSome (own_of table.old tx.id.0) (λ own.
         MayFollow own.work.history op (answer_data answer)) }
-    ensures ok { OnOk result (IsRecorded table.old table.new tx on.now op (answer_data answer)) }
-    ensures err { OnErr result (IsWritten table.old table.new tx.0 HasDoneAsMuch) }
+    ensures ok { OnOk result (IsRecorded table.old table.new tx.id on.now op (answer_data answer)) }
+    ensures err { OnErr result (IsWritten table.old table.new tx.id.0 HasDoneAsMuch) }
 {
     make_room(table, tx)?;
     register_all(table, tx, on)?;

@@ -33,7 +33,7 @@ use mvo_chain::VersionNo;
 use mvo_collect::Waiting;
 use mvo_deps::{report_abort, report_commit};
 use mvo_tale::{Tale, TaleEntry};
-use mvo_txn::TxState;
+use mvo_txn::{Located, TxState};
 use mvo_types::{MAX_STAMP, Refusal, Stamp, TxId};
 use mvo_versions::Versions;
 use mvo_visible::{Seen, names, seen_by_others};
@@ -54,6 +54,8 @@ impl Core {
         ensures step { IsStep self.old (Precommit tx.0) result self.new }
         ensures end { IfOk result (λ e. e.0 ≡ self.old.table.clock + 1) }
     {
+        let seat = self.table.seat_of(tx);
+        let tx = Located { id: tx, seat };
         let (refusal, count) = active(&self.table, tx);
         if let Some(refusal) = refusal {
             return Err(self.give_up(tx, refusal));
@@ -83,6 +85,8 @@ impl Core {
         ensures step { IsStep self.old (Validate tx.0) result self.new }
         ensures answer { IfOk result (IsValidation self.old tx.0) }
     {
+        let seat = self.table.seat_of(tx);
+        let tx = Located { id: tx, seat };
         match check_next(&self.versions, &self.table, tx) {
             NextCheck::Refused(refusal) => Err(self.give_up(tx, refusal)),
             NextCheck::Valid => Ok(Validation::Valid),
@@ -97,6 +101,8 @@ impl Core {
         ensures step { IsStep self.old (Settle tx.0) result self.new }
         ensures answer { IfOk result (IsSettlement self.old tx.0) }
     {
+        let seat = self.table.seat_of(tx);
+        let tx = Located { id: tx, seat };
         let has_dependents = match readiness_of(&self.table, tx) {
             Readiness::Refused(refusal) => return Err(self.give_up(tx, refusal)),
             Readiness::NotValidated => return Err(Refusal::NotValidated),
@@ -107,8 +113,8 @@ impl Core {
         report_settled(&mut self.table, tx, has_dependents);
         let Operations { told, written } = operations;
         let entry = TaleEntry {
-            id: tx,
-            begin: Stamp(tx.0),
+            id: tx.id,
+            begin: Stamp(tx.id.0),
             end,
             operations: told,
             written,
@@ -122,6 +128,8 @@ impl Core {
     pub fn rollback_tx(&mut self, tx: TxId) -> Result<(), Refusal>
         ensures step { IsStep self.old (Rollback tx.0) result self.new }
     {
+        let seat = self.table.seat_of(tx);
+        let tx = Located { id: tx, seat };
         if let Some(refusal) = not_undone(&self.table, tx) {
             return Err(refusal);
         }
@@ -130,10 +138,10 @@ impl Core {
     }
 
     /// The refusal, by which the transaction is Aborted if it is a failure.
-    pub(crate) fn give_up(&mut self, tx: TxId, refusal: Refusal) -> Refusal
-        requires { MayGiveUp self.old tx.0 refusal }
+    pub(crate) fn give_up(&mut self, tx: Located, refusal: Refusal) -> Refusal
+        requires { MayGiveUp self.old tx.id.0 refusal }
         ensures same { result ≡ refusal }
-        ensures left { IsGivenUp self.old tx.0 refusal self.new }
+        ensures left { IsGivenUp self.old tx.id.0 refusal self.new }
     {
         if is_failure(refusal) {
             self.abort(tx);
@@ -143,9 +151,9 @@ impl Core {
 
     /// Aborts an Active or Preparing transaction: its words fall silent, those that depend on it
     /// are flagged, and what it put comes to the front.
-    fn abort(&mut self, tx: TxId)
-        requires { IsUnended (state_of self.old.table tx.0) }
-        ensures { IsAborted self.old tx.0 self.new }
+    fn abort(&mut self, tx: Located)
+        requires { IsUnended (state_of self.old.table tx.id.0) }
+        ensures { IsAborted self.old tx.id.0 self.new }
     {
         leave_tale(&mut self.tale, &self.table, tx);
         self.table.abort(tx);
@@ -155,34 +163,26 @@ impl Core {
 }
 
 /// Empties the place of a Preparing transaction in the tale.
-fn leave_tale(tale: &mut Tale, table: &Table, tx: TxId)
-    requires { HasOpenPlace (state_of table.now tx.0) tale.old (own_place (own_of table.now tx.0)) }
+fn leave_tale(tale: &mut Tale, table: &Table, tx: Located)
+    requires { HasOpenPlace (state_of table.now tx.id.0) tale.old (own_place (own_of table.now tx.id.0)) }
     ensures { tale.new ≡
-        tale_left (state_of table.now tx.0) tale.old (own_place (own_of table.now tx.0)) }
+        tale_left (state_of table.now tx.id.0) tale.old (own_place (own_of table.now tx.id.0)) }
 {
-    if let Some(TxState::Preparing(_)) = table.state(tx) {
-        let place = place_of(table, tx);
-        tale.leave(place);
-    }
-}
-
-/// The transaction's place in the tale.
-fn place_of(table: &Table, tx: TxId) -> usize
-    ensures { result ≡ own_place (own_of table.now tx.0) }
-{
-    match table.get(tx) {
-        Some(seat) => seat.kept.own.place,
-        None => 0,
+    let Some(seat) = table.get(tx) else {
+        return;
+    };
+    if let TxState::Preparing(_) = seat.state {
+        tale.leave(seat.kept.own.place);
     }
 }
 
 /// Makes an Active transaction Preparing by one look, with the next timestamp as its end, and keeps
 /// its place in the tale. None of its entries is checked yet.
-fn prepare(table: &mut Table, tx: TxId, place: usize, end: Stamp) -> Result<Stamp, Refusal>
-    requires { state_of table.old tx.0 ≡ Some TxState.Active }
+fn prepare(table: &mut Table, tx: Located, place: usize, end: Stamp) -> Result<Stamp, Refusal>
+    requires { state_of table.old tx.id.0 ≡ Some TxState.Active }
     ensures end { IfOk result (λ drawn. drawn ≡ end) }
-    ensures ok { OnOk result (IsWrittenThen table.old table.new tx.0 (IsPlaced place)
-        (λ placed. after_prepare placed tx.0)) }
+    ensures ok { OnOk result (IsWrittenThen table.old table.new tx.id.0 (IsPlaced place)
+        (λ placed. after_prepare placed tx.id.0)) }
     ensures refused { IfErr result (λ why. spent_clock table.old.clock ≡ Some why) }
     ensures err { OnErr result (table.new ≡ table.old) }
 {
@@ -192,10 +192,10 @@ fn prepare(table: &mut Table, tx: TxId, place: usize, end: Stamp) -> Result<Stam
 }
 
 /// Counts a check, and says whether an entry is left.
-fn count_check(table: &mut Table, tx: TxId) -> Validation
-    requires { IsSome (own_of table.old tx.0) }
-    ensures counted { IsWritten table.old table.new tx.0 IsCounted }
-    ensures answer { result ≡ own_check (own_of table.old tx.0) }
+fn count_check(table: &mut Table, tx: Located) -> Validation
+    requires { IsSome (own_of table.old tx.id.0) }
+    ensures counted { IsWritten table.old table.new tx.id.0 IsCounted }
+    ensures answer { result ≡ own_check (own_of table.old tx.id.0) }
 {
     match table.get_mut(tx) {
         Some(node) => node.own.count_check(),
@@ -205,10 +205,10 @@ fn count_check(table: &mut Table, tx: TxId) -> Validation
 
 /// Tells those that depend on the transaction that it is committed. Where nobody does, it isn't
 /// looked up.
-fn report_settled(table: &mut Table, tx: TxId, has_dependents: bool)
-    requires { has_dependents ≡ false → (data_of table.old tx).dependents ≡ [] }
-    ensures told { IsReported after_commit table.old table.new tx }
-    ensures graph { KeepsGraphAtCommit table.old table.new tx }
+fn report_settled(table: &mut Table, tx: Located, has_dependents: bool)
+    requires { has_dependents ≡ false → (data_of table.old tx.id).dependents ≡ [] }
+    ensures told { IsReported after_commit table.old table.new tx.id }
+    ensures graph { KeepsGraphAtCommit table.old table.new tx.id }
 {
     if has_dependents {
         report_commit(table, tx);
@@ -217,15 +217,15 @@ fn report_settled(table: &mut Table, tx: TxId, has_dependents: bool)
 
 /// Settles a Preparing transaction by one look: answers its end and its place in the tale, with its
 /// operations, which are taken out.
-fn commit(table: &mut Table, tx: TxId) -> (Stamp, usize, Operations)
-    requires { IsPreparing (state_of table.old tx.0) }
-    ensures end { state_of table.old tx.0 ≡ Some (TxState.Preparing result.0) }
-    ensures place { result.1 ≡ own_place (own_of table.old tx.0) }
-    ensures told { history_told result.2.told.items ≡ own_history (own_of table.old tx.0) }
-    ensures written { result.2.written.items ≡ written_keys (own_history (own_of table.old tx.0)) }
-    ensures limits { AreLimited (own_history (own_of table.old tx.0)) }
-    ensures left { IsWrittenThen table.old table.new tx.0 HasHandedOver
-        (λ handed. after_change handed tx.0 (TxState.Committed result.0)) }
+fn commit(table: &mut Table, tx: Located) -> (Stamp, usize, Operations)
+    requires { IsPreparing (state_of table.old tx.id.0) }
+    ensures end { state_of table.old tx.id.0 ≡ Some (TxState.Preparing result.0) }
+    ensures place { result.1 ≡ own_place (own_of table.old tx.id.0) }
+    ensures told { history_told result.2.told.items ≡ own_history (own_of table.old tx.id.0) }
+    ensures written { result.2.written.items ≡ written_keys (own_history (own_of table.old tx.id.0)) }
+    ensures limits { AreLimited (own_history (own_of table.old tx.id.0)) }
+    ensures left { IsWrittenThen table.old table.new tx.id.0 HasHandedOver
+        (λ handed. after_change handed tx.id.0 (TxState.Committed result.0)) }
 {
     let (end, node) = table.commit(tx);
     (end, node.own.place, node.own.work.take_operations())
@@ -238,21 +238,21 @@ fn draw_words(
     versions: &mut Versions,
     waiting: &mut Waiting,
     table: &Table,
-    tx: TxId,
+    tx: Located,
     count: usize,
     end: Stamp,
 )
-    requires count { count ≡ length (words_in table.now tx.0) }
+    requires count { count ≡ length (words_in table.now tx.id.0) }
     requires room { count ≤ waiting.old.ended_room }
-    ensures fronts { AreInFront (comes_at_draw (state_of table.now) tx.0) versions.old versions.new
-        (words_in table.now tx.0) }
-    ensures waits { WaitBehind end (words_in table.now tx.0) waiting.old waiting.new }
+    ensures fronts { AreInFront (comes_at_draw (state_of table.now) tx.id.0) versions.old versions.new
+        (words_in table.now tx.id.0) }
+    ensures waits { WaitBehind end (words_in table.now tx.id.0) waiting.old waiting.new }
 {
     if count == 0 {
         return;
     }
     if let Some(seat) = table.get(tx) {
-        draw_all(versions, waiting, table, tx, &seat.kept.own.work, end);
+        draw_all(versions, waiting, table, tx.id, &seat.kept.own.work, end);
     }
 }
 
@@ -280,11 +280,11 @@ fn draw_all(
 }
 
 /// Brings to the front of their keys what the transaction put, in the order of writing.
-fn bring_puts(versions: &mut Versions, table: &Table, tx: TxId)
-    ensures { AreInFront (is_put_by tx.0) versions.old versions.new (words_in table.now tx.0) }
+fn bring_puts(versions: &mut Versions, table: &Table, tx: Located)
+    ensures { AreInFront (is_put_by tx.id.0) versions.old versions.new (words_in table.now tx.id.0) }
 {
     if let Some(seat) = table.get(tx) {
-        bring_each_put(versions, tx, &seat.kept.own.work);
+        bring_each_put(versions, tx.id, &seat.kept.own.work);
     }
 }
 

@@ -13,7 +13,7 @@ use crate::answers::Finishing;
 use crate::collecting::count_off;
 use crate::event_core::Core;
 use crate::transaction::Table;
-use mvo_txn::TxState;
+use mvo_txn::{Located, TxState};
 use mvo_types::{Refusal, TxId};
 use mvo_versions::Versions;
 use mvo_visible::names;
@@ -33,6 +33,8 @@ impl Core {
         ensures step { IsStep self.old (Finish tx.0) result self.new }
         ensures answer { IfOk result (IsFinishing self.old tx.0) }
     {
+        let seat = self.table.seat_of(tx);
+        let tx = Located { id: tx, seat };
         let (word, has_words) = final_word(&self.table, tx)?;
         let (replaced, next) = replace_next(
             &mut self.versions,
@@ -53,11 +55,11 @@ impl Core {
 
 /// What the words of a Committed or Aborted transaction say in the end, and whether words are left
 /// on its list. Refused: NoSuchTransaction, NotEnded.
-fn final_word(table: &Table, tx: TxId) -> Result<(Word, bool), Refusal>
-    requires { HasDrawnEnd table.now.clock (state_of table.now tx.0) }
-    ensures ok { IfOk result (λ r. IsFinalWord (state_of table.now tx.0) r.0) }
-    ensures words { IfOk result (λ r. r.1 ≡ nat_lt 0 (length (words_in table.now tx.0))) }
-    ensures err { IfErr result (λ r. why_not_finished (state_of table.now tx.0) ≡ Some r) }
+fn final_word(table: &Table, tx: Located) -> Result<(Word, bool), Refusal>
+    requires { HasDrawnEnd table.now.clock (state_of table.now tx.id.0) }
+    ensures ok { IfOk result (λ r. IsFinalWord (state_of table.now tx.id.0) r.0) }
+    ensures words { IfOk result (λ r. r.1 ≡ nat_lt 0 (length (words_in table.now tx.id.0))) }
+    ensures err { IfErr result (λ r. why_not_finished (state_of table.now tx.id.0) ≡ Some r) }
 {
     // An end is at most the clock, and so a word can hold it.
     let _clock = table.clock();
@@ -79,22 +81,22 @@ fn final_word(table: &Table, tx: TxId) -> Result<(Word, bool), Refusal>
 fn replace_next(
     versions: &mut Versions,
     table: &mut Table,
-    tx: TxId,
+    tx: Located,
     word: Word,
     has_words: bool,
 ) -> (Option<WordPlace>, Option<WordPlace>)
-    requires there { IsSome (own_of table.old tx.0) }
-    requires words { has_words ≡ nat_lt 0 (length (words_in table.old tx.0)) }
-    ensures replaced { IsOneReplaced versions.old versions.new table.old table.new tx.0 word }
+    requires there { IsSome (own_of table.old tx.id.0) }
+    requires words { has_words ≡ nat_lt 0 (length (words_in table.old tx.id.0)) }
+    ensures replaced { IsOneReplaced versions.old versions.new table.old table.new tx.id.0 word }
     ensures first { result.0 ≡
-        slice_get (from_own versions.old.slots tx.0 (words_in table.old tx.0)) 0 }
-    ensures next { result.1 ≡ slice_get (words_in table.new tx.0) 0 }
+        slice_get (from_own versions.old.slots tx.id.0 (words_in table.old tx.id.0)) 0 }
+    ensures next { result.1 ≡ slice_get (words_in table.new tx.id.0) 0 }
 {
     if !has_words {
         return (None, None);
     }
     match table.get_mut(tx) {
-        Some(node) => replace_first(versions, &mut node.own.work, tx, word),
+        Some(node) => replace_first(versions, &mut node.own.work, tx.id, word),
         None => unreachable!(),
     }
 }

@@ -7,6 +7,7 @@ ghost use Rattle.mvo_core.specs.Holding.{own_told};
 use crate::equal::same_operations;
 use crate::event_core::Core;
 use crate::transaction::Table;
+use mvo_txn::Located;
 use mvo_types::{Answer, Op, TxId};
 
 impl Core {
@@ -18,13 +19,15 @@ impl Core {
     pub fn holds(&self, tx: TxId, told: &[(Op, Answer)]) -> bool
         ensures { HoldsJust self.now tx.0 (history_told told.now) result }
     {
+        let seat = self.table.seat_of(tx);
+        let tx = Located { id: tx, seat };
         has_told(&self.table, tx, told)
     }
 }
 
 /// Whether these are the operations of the transaction.
-fn has_told(table: &Table, tx: TxId, told: &[(Op, Answer)]) -> bool
-    ensures { IsTrue result ↔ (own_told (own_of table.now tx.0) ≡ Some (history_told told.now)) }
+fn has_told(table: &Table, tx: Located, told: &[(Op, Answer)]) -> bool
+    ensures { IsTrue result ↔ (own_told (own_of table.now tx.id.0) ≡ Some (history_told told.now)) }
 {
     match table.get(tx) {
         Some(seat) => same_operations(seat.kept.own.work.operations(), told),

@@ -9,7 +9,7 @@ ghost use Rattle.mvo_core.specs.Own.{own_entry};
 use crate::refusing::not_preparing_in;
 use crate::transaction::{Table, Transaction};
 use mvo_deps::Node;
-use mvo_txn::{Seat, TxState};
+use mvo_txn::{Located, Seat, TxState};
 use mvo_types::{Entry, Refusal, Stamp, TxId};
 use mvo_validate::Check;
 use mvo_versions::Versions;
@@ -29,8 +29,8 @@ pub enum NextCheck {
 
 /// Checks the next entry of the transaction, where the versions stand in order, by one look at it.
 #[inline(always)]
-pub fn check_next(versions: &Versions, table: &Table, tx: TxId) -> NextCheck
-    ensures { IsNextCheck table.now versions.now tx result }
+pub fn check_next(versions: &Versions, table: &Table, tx: Located) -> NextCheck
+    ensures { IsNextCheck table.now versions.now tx.id result }
 {
     let Some(seat) = table.get(tx) else {
         return NextCheck::Refused(Refusal::NoSuchTransaction);
@@ -41,7 +41,7 @@ pub fn check_next(versions: &Versions, table: &Table, tx: TxId) -> NextCheck
     if seat.kept.own.valid {
         return NextCheck::Valid;
     }
-    match next_change(versions, table, tx, seat) {
+    match next_change(versions, table, tx.id, seat) {
         Some(stamp) => NextCheck::Differs(stamp),
         None => NextCheck::Same,
     }

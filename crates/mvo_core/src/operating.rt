@@ -21,6 +21,7 @@ use crate::event_core::Core;
 use crate::refusing::{not_looked, not_put, not_removed};
 use crate::transaction::Table;
 use mvo_chain::VersionNo;
+use mvo_txn::Located;
 use mvo_types::{Answer, Cause, Entry, MAX_STAMP, Op, Refusal, Row, RowKey, TxId};
 use mvo_versions::Versions;
 use mvo_visible::ended_by;
@@ -38,10 +39,12 @@ impl Core {
         ensures step { IsStep self.old (Do tx.0 (Op.Read key)) result self.new }
         ensures answer { IfOk result (IsAnswered self.old tx.0 (Op.Read key)) }
     {
+        let seat = self.table.seat_of(tx);
+        let tx = Located { id: tx, seat };
         if let Some(refusal) = not_looked(&self.table, tx, key.table, Entry::Key(key)) {
             return Err(self.give_up(tx, refusal));
         }
-        let found = self.versions.shown(&self.table, tx, key);
+        let found = self.versions.shown(&self.table, tx.id, key);
         let row = row_at(&self.versions, found.version)?;
         let kept = copy_of(&row)?;
         let (op, told) = (Op::Read(key), Answer::Found(kept));
@@ -55,11 +58,13 @@ impl Core {
         ensures step { IsStep self.old (Do tx.0 (Op.Insert row)) result self.new }
         ensures answer { IfOk result (IsAnswered self.old tx.0 (Op.Insert row)) }
     {
+        let seat = self.table.seat_of(tx);
+        let tx = Located { id: tx, seat };
         let key = row.row_key();
         if let Some(refusal) = not_put(&self.table, tx, &row) {
             return Err(self.give_up(tx, refusal));
         }
-        let found = self.versions.shown(&self.table, tx, key);
+        let found = self.versions.shown(&self.table, tx.id, key);
         if found.version.is_some() {
             let (op, told) = (Op::Insert(row), Answer::Exists);
             record_answer(&mut self.table, tx, found.depends_on, op, told)?;
@@ -79,12 +84,14 @@ impl Core {
         ensures step { IsStep self.old (Do tx.0 (Op.Update row)) result self.new }
         ensures answer { IfOk result (IsAnswered self.old tx.0 (Op.Update row)) }
     {
+        let seat = self.table.seat_of(tx);
+        let tx = Located { id: tx, seat };
         let key = row.row_key();
         if let Some(refusal) = not_put(&self.table, tx, &row) {
             return Err(self.give_up(tx, refusal));
         }
-        let found = self.versions.shown(&self.table, tx, key);
-        if let Some(cause) = in_the_way(&self.versions, &self.table, tx, found.version) {
+        let found = self.versions.shown(&self.table, tx.id, key);
+        if let Some(cause) = in_the_way(&self.versions, &self.table, tx.id, found.version) {
             return Err(self.give_up(tx, Refusal::WriteConflict(cause)));
         }
         let on = found.depends_on;
@@ -107,11 +114,13 @@ impl Core {
         ensures step { IsStep self.old (Do tx.0 (Op.Delete key)) result self.new }
         ensures answer { IfOk result (IsAnswered self.old tx.0 (Op.Delete key)) }
     {
+        let seat = self.table.seat_of(tx);
+        let tx = Located { id: tx, seat };
         if let Some(refusal) = not_removed(&self.table, tx, key) {
             return Err(self.give_up(tx, refusal));
         }
-        let found = self.versions.shown(&self.table, tx, key);
-        if let Some(cause) = in_the_way(&self.versions, &self.table, tx, found.version) {
+        let found = self.versions.shown(&self.table, tx.id, key);
+        if let Some(cause) = in_the_way(&self.versions, &self.table, tx.id, found.version) {
             return Err(self.give_up(tx, Refusal::WriteConflict(cause)));
         }
         let on = found.depends_on;
@@ -171,21 +180,21 @@ fn in_the_way(
 fn put(
     versions: &mut Versions,
     table: &mut Table,
-    tx: TxId,
+    tx: Located,
     row: &Row,
     like: Option<VersionNo>,
     on: Option<TxId>,
 ) -> Result<VersionNo, AllocError>
-    requires id { tx.0 < 2 ^ 63 }
-    requires there { IsUnfinished table.old tx }
-    ensures ok { IfOk result (λ n. IsPut versions.old versions.new row.now tx.0 n) }
+    requires id { tx.id.0 < 2 ^ 63 }
+    requires there { IsUnfinished table.old tx.id }
+    ensures ok { IfOk result (λ n. IsPut versions.old versions.new row.now tx.id.0 n) }
     ensures depends { OnOk result
-        (table.new ≡ after_register_all table.old tx (option_to_list on)) }
+        (table.new ≡ after_register_all table.old tx.id (option_to_list on)) }
     ensures err { OnErr result (HasSameVersions versions.old versions.new) }
     ensures alone { OnErr result (table.new ≡ table.old) }
     ensures indexed { AreIndexed versions.old → AreIndexed versions.new }
 {
-    let number = versions.put(row.copy()?, tx, like)?;
+    let number = versions.put(row.copy()?, tx.id, like)?;
     let Ok(()) = depend(table, tx, on) else {
         let _ = versions.take_out(number);
         return Err(AllocError);
@@ -198,17 +207,17 @@ fn put(
 fn insert_row(
     versions: &mut Versions,
     table: &mut Table,
-    tx: TxId,
+    tx: Located,
     row: Row,
     on: Option<TxId>,
 ) -> Result<(), AllocError>
-    requires there { IsSome (own_of table.old tx.0) }
-    requires limits { IfSome (own_of table.old tx.0) (λ own.
+    requires there { IsSome (own_of table.old tx.id.0) }
+    requires limits { IfSome (own_of table.old tx.id.0) (λ own.
         MayFollow own.work.history (Op.Insert row) Inserted) }
-    ensures ok { OnOk result (IsInserted versions.old versions.new table.old table.new tx
+    ensures ok { OnOk result (IsInserted versions.old versions.new table.old table.new tx.id
         (option_to_list on) row) }
     ensures err { OnErr result (HasSameVersions versions.old versions.new) }
-    ensures alone { OnErr result (IsWritten table.old table.new tx.0 HasDoneAsMuch) }
+    ensures alone { OnErr result (IsWritten table.old table.new tx.id.0 HasDoneAsMuch) }
     ensures indexed { AreIndexed versions.old → AreIndexed versions.new }
 {
     let clock = table.clock();
@@ -225,25 +234,25 @@ fn insert_row(
 fn remove(
     versions: &mut Versions,
     table: &mut Table,
-    tx: TxId,
+    tx: Located,
     number: VersionNo,
     key: RowKey,
     on: Option<TxId>,
 ) -> Result<(), AllocError>
-    requires there { IsSome (own_of table.old tx.0) }
-    requires limits { IfSome (own_of table.old tx.0) (λ own.
+    requires there { IsSome (own_of table.old tx.id.0) }
+    requires limits { IfSome (own_of table.old tx.id.0) (λ own.
         MayFollow own.work.history (Op.Delete key) Deleted) }
     requires live { IsSome (version_at versions.old.slots number) }
-    ensures ok { OnOk result (IsRemoved versions.old versions.new table.old table.new tx
+    ensures ok { OnOk result (IsRemoved versions.old versions.new table.old table.new tx.id
         (option_to_list on) number key) }
-    ensures err { OnErr result (IsWritten table.old table.new tx.0 HasDoneAsMuch) }
+    ensures err { OnErr result (IsWritten table.old table.new tx.id.0 HasDoneAsMuch) }
     ensures same { OnErr result (versions.new ≡ versions.old) }
 {
     let clock = table.clock();
     prove!(clock.0 <= MAX_STAMP);
     make_room(table, tx)?;
     depend(table, tx, on)?;
-    versions.end(number, tx);
+    versions.end(number, tx.id);
     let word = WordPlace::End(number);
     write(table, tx, Op::Delete(key), Answer::Deleted, word, None);
     Ok(())
@@ -254,24 +263,24 @@ fn remove(
 fn put_instead(
     versions: &mut Versions,
     table: &mut Table,
-    tx: TxId,
+    tx: Located,
     number: VersionNo,
     row: Row,
     on: Option<TxId>,
 ) -> Result<(), AllocError>
-    requires there { IsSome (own_of table.old tx.0) }
-    requires limits { IfSome (own_of table.old tx.0) (λ own.
+    requires there { IsSome (own_of table.old tx.id.0) }
+    requires limits { IfSome (own_of table.old tx.id.0) (λ own.
         MayFollow own.work.history (Op.Update row) Updated) }
     requires live { IsSome (version_at versions.old.slots number) }
-    ensures ok { OnOk result (IsReplaced versions.old versions.new table.old table.new tx
+    ensures ok { OnOk result (IsReplaced versions.old versions.new table.old table.new tx.id
         (option_to_list on) number row) }
-    ensures err { OnErr result (IsLeft versions.old versions.new table.old table.new tx) }
+    ensures err { OnErr result (IsLeft versions.old versions.new table.old table.new tx.id) }
 {
     let clock = table.clock();
     prove!(clock.0 <= MAX_STAMP);
     make_room(table, tx)?;
     let place = put(versions, table, tx, &row, Some(number), on)?;
-    versions.end(number, tx);
+    versions.end(number, tx.id);
     let (end, begin) = (WordPlace::End(number), WordPlace::Begin(place));
     write(
         table,

@@ -4,6 +4,7 @@ ghost use Rattle.mvo_core.specs.Settling.{IsReadiness};
 use crate::refusing::not_preparing_in;
 use crate::transaction::Table;
 use mvo_deps::waiting_for;
+use mvo_txn::Located;
 use mvo_types::{Refusal, TxId};
 
 /// What one look at a transaction that is to be settled tells.
@@ -21,8 +22,8 @@ pub enum Readiness {
 
 /// Whether the transaction may be settled, by one look at it.
 #[inline(always)]
-pub fn readiness_of(table: &Table, tx: TxId) -> Readiness
-    ensures { IsReadiness table.now tx result }
+pub fn readiness_of(table: &Table, tx: Located) -> Readiness
+    ensures { IsReadiness table.now tx.id result }
 {
     let Some(seat) = table.get(tx) else {
         return Readiness::Refused(Refusal::NoSuchTransaction);

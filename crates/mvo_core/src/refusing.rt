@@ -10,8 +10,8 @@ ghost use Rattle.mvo_txn.specs.Txns.{state_of};
 
 use crate::transaction::{Table, Transaction};
 use mvo_deps::{Dependencies, Node};
-use mvo_txn::{Seat, TxState};
-use mvo_types::{Entry, MAX_DATA_LEN, MAX_TABLE, Refusal, Row, RowKey, TxId};
+use mvo_txn::{Located, Seat, TxState};
+use mvo_types::{Entry, MAX_DATA_LEN, MAX_TABLE, Refusal, Row, RowKey};
 use mvo_work::Work;
 
 /// The refusal by the flag, if it is set.
@@ -38,9 +38,9 @@ fn not_active_in(seat: &Seat<Node<Transaction>>) -> Option<Refusal>
 }
 
 /// Why the transaction may not be called as an Active one, and how many words its list has.
-pub fn active(table: &Table, tx: TxId) -> (Option<Refusal>, usize)
-    ensures refusal { result.0 ≡ why_not_active table.now tx.0 }
-    ensures words { result.1 ≡ length (words_in table.now tx.0) }
+pub fn active(table: &Table, tx: Located) -> (Option<Refusal>, usize)
+    ensures refusal { result.0 ≡ why_not_active table.now tx.id.0 }
+    ensures words { result.1 ≡ length (words_in table.now tx.id.0) }
 {
     match table.get(tx) {
         Some(seat) => (not_active_in(seat), seat.kept.own.work.word_count()),
@@ -62,22 +62,24 @@ pub fn not_preparing_in(seat: &Seat<Node<Transaction>>) -> Option<Refusal>
 }
 
 /// Why the transaction may not be undone.
-pub fn not_undone(table: &Table, tx: TxId) -> Option<Refusal>
-    ensures { result ≡ why_not_undo (state_of table.now tx.0) }
+pub fn not_undone(table: &Table, tx: Located) -> Option<Refusal>
+    ensures { result ≡ why_not_undo (state_of table.now tx.id.0) }
 {
-    match table.state(tx) {
-        None => Some(Refusal::NoSuchTransaction),
-        Some(TxState::Active) => None,
-        Some(TxState::Preparing(_)) => None,
-        Some(TxState::Committed(_)) => Some(Refusal::Ended),
-        Some(TxState::Aborted) => Some(Refusal::Ended),
+    let Some(seat) = table.get(tx) else {
+        return Some(Refusal::NoSuchTransaction);
+    };
+    match seat.state {
+        TxState::Active => None,
+        TxState::Preparing(_) => None,
+        TxState::Committed(_) => Some(Refusal::Ended),
+        TxState::Aborted => Some(Refusal::Ended),
     }
 }
 
 /// Why the transaction may not look at the entry, which is of this table.
 #[inline(always)]
-pub fn not_looked(table: &Table, tx: TxId, of: u8, entry: Entry) -> Option<Refusal>
-    ensures { result ≡ why_not_look table.now tx.0 of entry }
+pub fn not_looked(table: &Table, tx: Located, of: u8, entry: Entry) -> Option<Refusal>
+    ensures { result ≡ why_not_look table.now tx.id.0 of entry }
 {
     let Some(seat) = table.get(tx) else {
         return Some(Refusal::NoSuchTransaction);
@@ -109,8 +111,8 @@ fn not_written(work: &Work, key: RowKey) -> Option<Refusal>
 }
 
 /// Why the transaction may not put the row, before it is looked who stands in the way.
-pub fn not_put(table: &Table, tx: TxId, row: &Row) -> Option<Refusal>
-    ensures { result ≡ why_not_put table.now tx.0 row.now }
+pub fn not_put(table: &Table, tx: Located, row: &Row) -> Option<Refusal>
+    ensures { result ≡ why_not_put table.now tx.id.0 row.now }
 {
     let Some(seat) = table.get(tx) else {
         return Some(Refusal::NoSuchTransaction);
@@ -129,8 +131,8 @@ pub fn not_put(table: &Table, tx: TxId, row: &Row) -> Option<Refusal>
 }
 
 /// Why the transaction may not remove the key's row, before it is looked who stands in the way.
-pub fn not_removed(table: &Table, tx: TxId, key: RowKey) -> Option<Refusal>
-    ensures { result ≡ why_not_remove table.now tx.0 key }
+pub fn not_removed(table: &Table, tx: Located, key: RowKey) -> Option<Refusal>
+    ensures { result ≡ why_not_remove table.now tx.id.0 key }
 {
     let Some(seat) = table.get(tx) else {
         return Some(Refusal::NoSuchTransaction);

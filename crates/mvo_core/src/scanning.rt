@@ -14,6 +14,7 @@ use crate::refusing::not_looked;
 use crate::transaction::Table;
 use mvo_chain::VersionNo;
 use mvo_range::Place;
+use mvo_txn::Located;
 use mvo_types::{Answer, Entry, MAX_DATA_LEN, Op, Refusal, Row, Stamp, TxId};
 use mvo_versions::Versions;
 use mvo_visible::{Seen, seen_by_others};
@@ -40,12 +41,14 @@ impl Core {
         ensures step { IsStep self.old (Do tx.0 (Op.Scan table lo hi)) result self.new }
         ensures answer { IfOk result (IsAnswered self.old tx.0 (Op.Scan table lo hi)) }
     {
+        let seat = self.table.seat_of(tx);
+        let tx = Located { id: tx, seat };
         if let Some(refusal) = not_looked(&self.table, tx, table, Entry::Range(table, lo, hi)) {
             return Err(self.give_up(tx, refusal));
         }
         let alloc = self.alloc;
         let (versions, start) = (&self.versions, self.start);
-        let scanned = scan_places(alloc, versions, &self.table, start, tx, table, lo, hi)?;
+        let scanned = scan_places(alloc, versions, &self.table, start, tx.id, table, lo, hi)?;
         let Scanned { rows, on } = scanned;
         let kept = copies_of(alloc, &rows)?;
         let (op, told) = (Op::Scan(table, lo, hi), Answer::Rows(kept));

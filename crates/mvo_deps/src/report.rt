@@ -5,15 +5,15 @@ ghost use Rattle.mvo_deps.specs.Graph.{KeepsGraphAtCommit, KeepsGraphAtAbort};
 
 use crate::node::Node;
 use crate::outcome::Outcome;
-use mvo_txn::TxnTable;
+use mvo_txn::{Located, TxnTable};
 use mvo_types::TxId;
 
 /// Tells those that depend on a transaction that it is committed: each waits for one less.
 ///
 /// It takes no memory, and time by the number of those that it tells.
-pub fn report_commit<P>(table: &mut TxnTable<Node<P>>, on: TxId)
-    ensures told { IsReported after_commit table.old table.new on }
-    ensures graph { KeepsGraphAtCommit table.old table.new on }
+pub fn report_commit<P>(table: &mut TxnTable<Node<P>>, on: Located)
+    ensures told { IsReported after_commit table.old table.new on.id }
+    ensures graph { KeepsGraphAtCommit table.old table.new on.id }
 {
     report(table, on, Outcome::Committed);
 }
@@ -22,16 +22,16 @@ pub fn report_commit<P>(table: &mut TxnTable<Node<P>>, on: TxId)
 /// unless it was flagged, and waits for one less.
 ///
 /// It takes no memory, and time by the number of those that it tells.
-pub fn report_abort<P>(table: &mut TxnTable<Node<P>>, on: TxId)
-    ensures told { IsReported (after_abort on) table.old table.new on }
-    ensures graph { KeepsGraphAtAbort table.old table.new on }
+pub fn report_abort<P>(table: &mut TxnTable<Node<P>>, on: Located)
+    ensures told { IsReported (after_abort on.id) table.old table.new on.id }
+    ensures graph { KeepsGraphAtAbort table.old table.new on.id }
 {
-    report(table, on, Outcome::Aborted(on));
+    report(table, on, Outcome::Aborted(on.id));
 }
 
 #[inline(always)]
-fn report<P>(table: &mut TxnTable<Node<P>>, on: TxId, outcome: Outcome)
-    ensures { IsReported (noted outcome) table.old table.new on }
+fn report<P>(table: &mut TxnTable<Node<P>>, on: Located, outcome: Outcome)
+    ensures { IsReported (noted outcome) table.old table.new on.id }
 {
     let Some(node) = table.get_mut(on) else {
         return;
@@ -52,7 +52,9 @@ fn note_each<P>(table: &mut TxnTable<Node<P>>, ids: &[TxId], outcome: Outcome)
 fn note<P>(table: &mut TxnTable<Node<P>>, id: TxId, outcome: Outcome)
     ensures { table.new ≡ after_change table.old id.0 (noted outcome) }
 {
-    if let Some(node) = table.get_mut(id) {
+    let seat = table.seat_of(id);
+    let tx = Located { id, seat };
+    if let Some(node) = table.get_mut(tx) {
         node.dependencies.note(outcome);
     }
 }

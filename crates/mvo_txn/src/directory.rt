@@ -30,9 +30,22 @@ impl Directory {
         })
     }
 
-    /// The number of an id's seat.
+    /// The number of an id's seat, which is looked for at this number first.
     #[inline(always)]
-    pub(crate) fn find<P>(&self, chairs: &Slab<Chair<P>>, id: u64) -> Option<usize>
+    pub(crate) fn find<P>(&self, chairs: &Slab<Chair<P>>, id: u64, first: usize) -> Option<usize>
+        ensures found { IfSome result (λ n. is_of (get chairs.now n) id ≡ true) }
+        ensures none { IfNone result ((n : ℕ) → Knows self.now id n
+            → is_of (get chairs.now n) id ≡ false) }
+    {
+        if is_of(chairs, first, id) {
+            return Some(first);
+        }
+        self.search(chairs, id)
+    }
+
+    /// The same, wherever the seat is.
+    #[inline(never)]
+    pub(crate) fn search<P>(&self, chairs: &Slab<Chair<P>>, id: u64) -> Option<usize>
         ensures found { IfSome result (λ n. is_of (get chairs.now n) id ≡ true) }
         ensures none { IfNone result ((n : ℕ) → Knows self.now id n
             → is_of (get chairs.now n) id ≡ false) }
@@ -45,7 +58,6 @@ impl Directory {
     }
 
     // The number of the seat of an id that stands at no place.
-    #[inline(never)]
     fn displaced_seat<P>(&self, chairs: &Slab<Chair<P>>, id: u64) -> Option<usize>
         ensures found { IfSome result (λ n. is_of (get chairs.now n) id ≡ true) }
         ensures none { IfNone result ((n : ℕ) → displaced self.now id ≡ Some n

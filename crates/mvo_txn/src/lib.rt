@@ -6,6 +6,7 @@
 
 mod chair;
 mod directory;
+mod located;
 mod mark;
 mod queue;
 mod seat;
@@ -13,6 +14,7 @@ mod seats;
 mod state;
 mod table;
 
+pub use located::{Located, SeatNo};
 pub use seat::Seat;
 pub use state::TxState;
 pub use table::TxnTable;

@@ -18,7 +18,7 @@ impl Kind {
     pub(crate) fn stamp_in<P>(self, seats: &Seats<P>, id: u64) -> Option<u64>
         ensures { result ≡ stamp_in self seats.now id }
     {
-        let Some(seat) = seats.get(id) else {
+        let Some(seat) = seats.at_place(id) else {
             return None;
         };
         match self {

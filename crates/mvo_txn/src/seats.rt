@@ -58,16 +58,34 @@ impl<P> Seats<P> {
         self.chairs.len()
     }
 
-    /// The seat of a transaction.
+    /// The number of a transaction's seat, if it has one, and any number else.
     #[inline(always)]
-    pub(crate) fn get(&self, id: u64) -> Option<&Seat<P>>
+    pub(crate) fn number_of(&self, id: u64) -> usize {
+        // The chair at the id's place is nearly always the id's: one look at it is enough then.
+        let hint = self.directory.hinted(id);
+        match self.directory.find(&self.chairs, id, hint) {
+            Some(number) => number,
+            None => hint,
+        }
+    }
+
+    /// The seat of a transaction, which is looked for at this number first.
+    #[inline(always)]
+    pub(crate) fn get(&self, id: u64, first: usize) -> Option<&Seat<P>>
         ensures { option_copied result ≡ map.get self.now id }
     {
-        // The chair at the id's place is nearly always the id's: one look at it is enough then.
-        match self.chairs.get(self.directory.hinted(id)) {
+        match self.chairs.get(first) {
             Some(chair) if chair.id == id => Some(&chair.seat),
             _ => self.sought(id),
         }
+    }
+
+    /// The same, which is looked for at the id's place first.
+    #[inline(always)]
+    pub(crate) fn at_place(&self, id: u64) -> Option<&Seat<P>>
+        ensures { option_copied result ≡ map.get self.now id }
+    {
+        self.get(id, self.directory.hinted(id))
     }
 
     /// The same, wherever the seat is.
@@ -75,7 +93,7 @@ impl<P> Seats<P> {
     fn sought(&self, id: u64) -> Option<&Seat<P>>
         ensures { option_copied result ≡ map.get self.now id }
     {
-        let Some(number) = self.directory.find(&self.chairs, id) else {
+        let Some(number) = self.directory.search(&self.chairs, id) else {
             return None;
         };
         match self.chairs.get(number) {
@@ -86,11 +104,11 @@ impl<P> Seats<P> {
 
     /// What is kept of a transaction, for writing.
     #[inline(always)]
-    pub(crate) fn kept_mut(&mut self, id: u64) -> Option<&mut P>
+    pub(crate) fn kept_mut(&mut self, id: u64, first: usize) -> Option<&mut P>
         ensures* writes_back { sem 𝓛 (LendsKeptOfSeats P.row self.entry id result) }
         ensures value { option_copied_mut result ≡ kept_in self.old id }
     {
-        let Some(number) = self.directory.find(&self.chairs, id) else {
+        let Some(number) = self.directory.find(&self.chairs, id, first) else {
             return None;
         };
         match self.chairs.get_mut(number) {
@@ -100,11 +118,11 @@ impl<P> Seats<P> {
     }
 
     /// Gives a transaction that has a seat another state.
-    pub(crate) fn set_state(&mut self, id: u64, state: TxState)
+    pub(crate) fn set_state(&mut self, id: u64, first: usize, state: TxState)
         requires { IsSome (map.get self.old id) }
         ensures { self.new ≡ with_state self.old id state }
     {
-        let Some(number) = self.directory.find(&self.chairs, id) else {
+        let Some(number) = self.directory.find(&self.chairs, id, first) else {
             unreachable!()
         };
         match self.chairs.get_mut(number) {
@@ -115,12 +133,12 @@ impl<P> Seats<P> {
 
     /// Gives a transaction with a seat another state, and lends what is kept of it, by one look.
     #[inline(always)]
-    pub(crate) fn restate(&mut self, id: u64, state: TxState) -> &mut P
+    pub(crate) fn restate(&mut self, id: u64, first: usize, state: TxState) -> &mut P
         requires { IsSome (map.get self.old id) }
         ensures* writes_back { sem 𝓛 (LendsRestated P.row self.entry id state result) }
         ensures value { Some result.now ≡ kept_in self.old id }
     {
-        let Some(number) = self.directory.find(&self.chairs, id) else {
+        let Some(number) = self.directory.find(&self.chairs, id, first) else {
             unreachable!()
         };
         match self.chairs.get_mut(number) {
@@ -134,13 +152,13 @@ impl<P> Seats<P> {
 
     /// Settles a Preparing transaction by one look: answers its end, and lends what is kept of it.
     #[inline(always)]
-    pub(crate) fn commit(&mut self, id: u64) -> (Stamp, &mut P)
+    pub(crate) fn commit(&mut self, id: u64, first: usize) -> (Stamp, &mut P)
         requires { IsSome (open_end (state_in self.old id)) }
         ensures* writes_back { sem 𝓛 (LendsSettled P.row self.entry id result) }
         ensures end { state_in self.old id ≡ Some (TxState.Preparing result.0) }
         ensures value { kept_in self.old id ≡ Some result.1.now }
     {
-        let Some(number) = self.directory.find(&self.chairs, id) else {
+        let Some(number) = self.directory.find(&self.chairs, id, first) else {
             unreachable!()
         };
         let Some(chair) = self.chairs.get_mut(number) else {
@@ -169,11 +187,11 @@ impl<P> Seats<P> {
     }
 
     /// Takes a transaction's seat away, and answers what was there.
-    pub(crate) fn remove(&mut self, id: u64) -> Option<Seat<P>>
+    pub(crate) fn remove(&mut self, id: u64, first: usize) -> Option<Seat<P>>
         ensures before { result ≡ map.get self.old id }
         ensures gone { self.new ≡ map.remove self.old id }
     {
-        let Some(number) = self.directory.find(&self.chairs, id) else {
+        let Some(number) = self.directory.find(&self.chairs, id, first) else {
             return None;
         };
         let chair = self.chairs.remove(number);

@@ -8,6 +8,7 @@ ghost use Rattle.mvo_txn.specs.Txns.{no_txns, state_of, kept_of, IsPreparing, Is
 ghost use Rattle.mvo_txn.specs.Txns.{after_begin, after_prepare, after_change, after_terminate};
 ghost use Rattle.mvo_txn.specs.Txns.{why_not_begun, spent_clock, IsRefusal, IsOldestBegin, IsLowWater};
 
+use crate::located::{Located, SeatNo};
 use crate::mark::Kind;
 use crate::queue::Queue;
 use crate::seat::Seat;
@@ -89,27 +90,33 @@ impl<P> TxnTable<P> {
     pub fn state(&self, id: TxId) -> Option<TxState>
         ensures { result ≡ state_of self.now id.0 }
     {
-        match self.seats.get(id.0) {
+        match self.seats.at_place(id.0) {
             Some(seat) => Some(seat.state),
             None => None,
         }
     }
 
+    /// The number of the transaction's seat, for calls that look at it later.
+    #[inline(always)]
+    pub fn seat_of(&self, id: TxId) -> SeatNo {
+        SeatNo(self.seats.number_of(id.0))
+    }
+
     /// How the transaction stands, with what is kept of it.
     #[inline(always)]
-    pub fn get(&self, id: TxId) -> Option<&Seat<P>>
-        ensures { option_copied result ≡ map.get self.now.seats id.0 }
+    pub fn get(&self, tx: Located) -> Option<&Seat<P>>
+        ensures { option_copied result ≡ map.get self.now.seats tx.id.0 }
     {
-        self.seats.get(id.0)
+        self.seats.get(tx.id.0, tx.seat.0)
     }
 
     /// What is kept of the transaction, for writing.
     #[inline(always)]
-    pub fn get_mut(&mut self, id: TxId) -> Option<&mut P>
-        ensures* writes_back { sem 𝓛 (LendsKept P.row self.entry id.0 result) }
-        ensures value { option_copied_mut result ≡ kept_of self.old id.0 }
+    pub fn get_mut(&mut self, tx: Located) -> Option<&mut P>
+        ensures* writes_back { sem 𝓛 (LendsKept P.row self.entry tx.id.0 result) }
+        ensures value { option_copied_mut result ≡ kept_of self.old tx.id.0 }
     {
-        self.seats.kept_mut(id.0)
+        self.seats.kept_mut(tx.id.0, tx.seat.0)
     }
 
     /// Why no transaction begins, but for want of memory, if there is a cause.
@@ -154,10 +161,10 @@ impl<P> TxnTable<P> {
     /// Draws the end timestamp of an Active transaction, which is Preparing from then on, and lends
     /// what is kept of it. The end is the clock then. It is refused where the clock is spent alone,
     /// and takes no memory.
-    pub fn prepare(&mut self, id: TxId) -> Result<&mut P, Refusal>
-        requires { state_of self.old id.0 ≡ Some TxState.Active }
-        ensures* writes_back { sem 𝓛 (LendsPrepared P.row self.entry id.0 result) }
-        ensures value { IfOk result (λ kept. kept_of self.old id.0 ≡ Some kept.now) }
+    pub fn prepare(&mut self, tx: Located) -> Result<&mut P, Refusal>
+        requires { state_of self.old tx.id.0 ≡ Some TxState.Active }
+        ensures* writes_back { sem 𝓛 (LendsPrepared P.row self.entry tx.id.0 result) }
+        ensures value { IfOk result (λ kept. kept_of self.old tx.id.0 ≡ Some kept.now) }
         ensures no_cause { OnOk result (spent_clock self.old.clock ≡ None) }
         ensures refused { IfErr result (λ why. spent_clock self.old.clock ≡ Some why) }
     {
@@ -166,40 +173,43 @@ impl<P> TxnTable<P> {
         }
         let end = self.clock + 1;
         self.open_ends.make_room(&self.seats);
-        self.open_ends.push(end, id.0);
+        self.open_ends.push(end, tx.id.0);
         self.clock = end;
-        Ok(self.seats.restate(id.0, TxState::Preparing(Stamp(end))))
+        Ok(
+            self.seats
+                .restate(tx.id.0, tx.seat.0, TxState::Preparing(Stamp(end))),
+        )
     }
 
     /// Settles a Preparing transaction, and answers its end timestamp, with what is kept of it for
     /// writing.
-    pub fn commit(&mut self, id: TxId) -> (Stamp, &mut P)
-        requires { IsPreparing (state_of self.old id.0) }
-        ensures* writes_back { sem 𝓛 (LendsCommitted P.row self.entry id.0 result) }
-        ensures end { state_of self.old id.0 ≡ Some (TxState.Preparing result.0) }
-        ensures value { kept_of self.old id.0 ≡ Some result.1.now }
+    pub fn commit(&mut self, tx: Located) -> (Stamp, &mut P)
+        requires { IsPreparing (state_of self.old tx.id.0) }
+        ensures* writes_back { sem 𝓛 (LendsCommitted P.row self.entry tx.id.0 result) }
+        ensures end { state_of self.old tx.id.0 ≡ Some (TxState.Preparing result.0) }
+        ensures value { kept_of self.old tx.id.0 ≡ Some result.1.now }
     {
-        self.open_ends.trim(&self.seats, id.0);
-        self.seats.commit(id.0)
+        self.open_ends.trim(&self.seats, tx.id.0);
+        self.seats.commit(tx.id.0, tx.seat.0)
     }
 
     /// Undoes an Active or Preparing transaction.
-    pub fn abort(&mut self, id: TxId)
-        requires { IsUnended (state_of self.old id.0) }
-        ensures { self.new ≡ after_change self.old id.0 TxState.Aborted }
+    pub fn abort(&mut self, tx: Located)
+        requires { IsUnended (state_of self.old tx.id.0) }
+        ensures { self.new ≡ after_change self.old tx.id.0 TxState.Aborted }
     {
-        self.open_ends.trim(&self.seats, id.0);
-        self.seats.set_state(id.0, TxState::Aborted);
+        self.open_ends.trim(&self.seats, tx.id.0);
+        self.seats.set_state(tx.id.0, tx.seat.0, TxState::Aborted);
     }
 
     /// Lets a Committed or Aborted transaction leave, and answers what was kept of it.
-    pub fn terminate(&mut self, id: TxId) -> P
-        requires { IsEnded (state_of self.old id.0) }
-        ensures kept { kept_of self.old id.0 ≡ Some result }
-        ensures gone { self.new ≡ after_terminate self.old id.0 }
+    pub fn terminate(&mut self, tx: Located) -> P
+        requires { IsEnded (state_of self.old tx.id.0) }
+        ensures kept { kept_of self.old tx.id.0 ≡ Some result }
+        ensures gone { self.new ≡ after_terminate self.old tx.id.0 }
     {
-        let seat = self.seats.remove(id.0).unwrap();
-        self.begins.trim(&self.seats, id.0);
+        let seat = self.seats.remove(tx.id.0, tx.seat.0).unwrap();
+        self.begins.trim(&self.seats, tx.id.0);
         let Seat { state: _, kept } = seat;
         kept
     }

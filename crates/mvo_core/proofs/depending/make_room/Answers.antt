@@ -18,9 +18,9 @@ returns-clause-ok c =
       valid = refl;
     } in
     on_ok (HasRoom c.make_room.new.self)
-    (IsWritten c.args.table.now (after_write c.args.table.now c.args.tx.0 (record node { own = after })) c.args.tx.0 HasMadeRoom)
+    (IsWritten c.args.table.now (after_write c.args.table.now c.args.tx.id.0 (record node { own = after })) c.args.tx.id.0 HasMadeRoom)
     c.make_room.result c.make_room.ensures.ok
-    (λ room. written c.args.table.now c.args.tx.0 node after HasMadeRoom c.in-Some.ensures.value (record { same = same; room = room }))
+    (λ room. written c.args.table.now c.args.tx.id.0 node after HasMadeRoom c.in-Some.ensures.value (record { same = same; room = room }))
 
 pub returns-clause-err : goal.returns-clause-err
 returns-clause-err c =
@@ -34,6 +34,6 @@ returns-clause-err c =
       valid = refl;
     } in
     always_err
-    (IsWritten c.args.table.now (after_write c.args.table.now c.args.tx.0 (record node { own = after })) c.args.tx.0 HasDoneAsMuch)
+    (IsWritten c.args.table.now (after_write c.args.table.now c.args.tx.id.0 (record node { own = after })) c.args.tx.id.0 HasDoneAsMuch)
     c.make_room.result
-    (written c.args.table.now c.args.tx.0 node after HasDoneAsMuch c.in-Some.ensures.value same)
+    (written c.args.table.now c.args.tx.id.0 node after HasDoneAsMuch c.in-Some.ensures.value same)

@@ -10,6 +10,6 @@ pub returns-clause-ok : goal.returns-clause-ok
 returns-clause-ok c =
     let node = c.in-Some.node.now in
     on_ok (IsTold c.args.op (answer_data c.args.answer) node.own c.record.new.self)
-    (IsRecorded c.args.table.now (after_write c.args.table.now c.args.tx.0 (record node { own = c.record.new.self })) c.args.tx [] c.args.op (answer_data c.args.answer))
+    (IsRecorded c.args.table.now (after_write c.args.table.now c.args.tx.id.0 (record node { own = c.record.new.self })) c.args.tx.id [] c.args.op (answer_data c.args.answer))
     c.record.result c.record.ensures.ok
-    (λ told. recorded_alone c.args.table.now c.args.tx node c.record.new.self c.args.op (answer_data c.args.answer) c.in-Some.ensures.value told)
+    (λ told. recorded_alone c.args.table.now c.args.tx.id node c.record.new.self c.args.op (answer_data c.args.answer) c.in-Some.ensures.value told)

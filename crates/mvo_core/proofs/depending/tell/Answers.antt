@@ -16,4 +16,4 @@ returns c =
       checked = refl;
       valid = refl;
     } in
-    written c.args.table.now c.args.tx.0 node after (IsTold c.args.op (answer_data c.args.answer)) c.in-Some.ensures.value told
+    written c.args.table.now c.args.tx.id.0 node after (IsTold c.args.op (answer_data c.args.answer)) c.in-Some.ensures.value told

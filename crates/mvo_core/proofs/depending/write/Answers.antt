@@ -7,5 +7,5 @@ use Rattle.mvo_core.proofs.depending.write.Goals as goal
 
 pub returns : goal.returns
 returns c =
-    written c.args.table.now c.args.tx.0 c.in-Some.node.now c.write.new.self (HasDoneMore c.args.op (answer_data c.args.answer) (c.args.word ∷ option_to_list c.args.other)) c.in-Some.ensures.value
+    written c.args.table.now c.args.tx.id.0 c.in-Some.node.now c.write.new.self (HasDoneMore c.args.op (answer_data c.args.answer) (c.args.word ∷ option_to_list c.args.other)) c.in-Some.ensures.value
     c.write.ensures

@@ -16,4 +16,4 @@ returns-clause-left c =
       checked = refl;
       valid = refl;
     } in
-    written_changed c.args.table.now c.args.tx.0 node after HasHandedOver (sym c.commit-node.ensures.value) handed (Committed c.commit-node.result.0)
+    written_changed c.args.table.now c.args.tx.id.0 node after HasHandedOver (sym c.commit-node.ensures.value) handed (Committed c.commit-node.result.0)

@@ -4,7 +4,7 @@ use Rattle.mvo_core.proofs.operating.put.Goals as goal
 
 pub returns-in_default-clause-err : goal.returns-in_default-clause-err
 returns-in_default-clause-err c =
-    taken_back c.args.versions.now c.put.new.self c.take_out.new.self _ c.args.tx.0 c.in_ok-number.number c.in_ok-number.ensures.ok c.take_out.ensures.gone
+    taken_back c.args.versions.now c.put.new.self c.take_out.new.self _ c.args.tx.id.0 c.in_ok-number.number c.in_ok-number.ensures.ok c.take_out.ensures.gone
 
 pub take_out-requires : goal.take_out-requires
 take_out-requires c =

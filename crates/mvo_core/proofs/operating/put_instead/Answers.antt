@@ -9,19 +9,19 @@ use Rattle.mvo_core.proofs.Recorded.{unfinished_roomy, there_then, history_then,
 use Rattle.mvo_core.proofs.operating.put_instead.Goals as goal
 
 pub put-requires-clause-there : goal.put-requires-clause-there
-put-requires-clause-there c = unfinished_roomy c.args.table.now c.make_room.new.table c.args.tx c.in_ok-make_room.ensures.ok
+put-requires-clause-there c = unfinished_roomy c.args.table.now c.make_room.new.table c.args.tx.id c.in_ok-make_room.ensures.ok
 
 pub write-requires-clause-there : goal.write-requires-clause-there
 write-requires-clause-there c =
-    there_then c.args.table.now c.make_room.new.table c.args.tx c.in_ok-make_room.ensures.ok (option_to_list c.args.on) c.put.new.table c.in_ok-place.ensures.depends
+    there_then c.args.table.now c.make_room.new.table c.args.tx.id c.in_ok-make_room.ensures.ok (option_to_list c.args.on) c.put.new.table c.in_ok-place.ensures.depends
 
 pub write-requires-clause-room : goal.write-requires-clause-room
 write-requires-clause-room c =
-    all_room_then c.args.table.now c.make_room.new.table c.args.tx c.in_ok-make_room.ensures.ok (option_to_list c.args.on) c.put.new.table c.in_ok-place.ensures.depends
+    all_room_then c.args.table.now c.make_room.new.table c.args.tx.id c.in_ok-make_room.ensures.ok (option_to_list c.args.on) c.put.new.table c.in_ok-place.ensures.depends
 
 pub write-requires-clause-limits : goal.write-requires-clause-limits
 write-requires-clause-limits c =
-    history_then c.args.table.now c.make_room.new.table c.args.tx c.in_ok-make_room.ensures.ok (option_to_list c.args.on) c.put.new.table c.in_ok-place.ensures.depends
+    history_then c.args.table.now c.make_room.new.table c.args.tx.id c.in_ok-make_room.ensures.ok (option_to_list c.args.on) c.put.new.table c.in_ok-place.ensures.depends
     (λ ts. MayFollow ts (Update c.args.row) Updated) c.requires.limits
 
 pub returns-clause-ok : goal.returns-clause-ok
@@ -34,6 +34,6 @@ returns-clause-ok c = record {
   recorded = record {
     roomy = c.make_room.new.table;
     room = c.in_ok-make_room.ensures.ok;
-    done = subst (λ table. IsWritten table c.write.new.table c.args.tx.0 (HasDoneMore (Update c.args.row) Updated (End c.args.number ∷ Begin c.in_ok-place.place ∷ []))) c.in_ok-place.ensures.depends c.write.ensures;
+    done = subst (λ table. IsWritten table c.write.new.table c.args.tx.id.0 (HasDoneMore (Update c.args.row) Updated (End c.args.number ∷ Begin c.in_ok-place.place ∷ []))) c.in_ok-place.ensures.depends c.write.ensures;
   };
 }

@@ -9,19 +9,19 @@ use Rattle.mvo_core.proofs.Recorded.{unfinished_roomy, there_then, history_then,
 use Rattle.mvo_core.proofs.operating.remove.Goals as goal
 
 pub depend-requires : goal.depend-requires
-depend-requires c = unfinished_roomy c.args.table.now c.make_room.new.table c.args.tx c.in_ok-make_room.ensures.ok
+depend-requires c = unfinished_roomy c.args.table.now c.make_room.new.table c.args.tx.id c.in_ok-make_room.ensures.ok
 
 pub write-requires-clause-there : goal.write-requires-clause-there
 write-requires-clause-there c =
-    there_then c.args.table.now c.make_room.new.table c.args.tx c.in_ok-make_room.ensures.ok (option_to_list c.args.on) c.depend.new.table c.in_ok-depend.ensures.ok
+    there_then c.args.table.now c.make_room.new.table c.args.tx.id c.in_ok-make_room.ensures.ok (option_to_list c.args.on) c.depend.new.table c.in_ok-depend.ensures.ok
 
 pub write-requires-clause-room : goal.write-requires-clause-room
 write-requires-clause-room c =
-    all_room_then c.args.table.now c.make_room.new.table c.args.tx c.in_ok-make_room.ensures.ok (option_to_list c.args.on) c.depend.new.table c.in_ok-depend.ensures.ok
+    all_room_then c.args.table.now c.make_room.new.table c.args.tx.id c.in_ok-make_room.ensures.ok (option_to_list c.args.on) c.depend.new.table c.in_ok-depend.ensures.ok
 
 pub write-requires-clause-limits : goal.write-requires-clause-limits
 write-requires-clause-limits c =
-    history_then c.args.table.now c.make_room.new.table c.args.tx c.in_ok-make_room.ensures.ok (option_to_list c.args.on) c.depend.new.table c.in_ok-depend.ensures.ok
+    history_then c.args.table.now c.make_room.new.table c.args.tx.id c.in_ok-make_room.ensures.ok (option_to_list c.args.on) c.depend.new.table c.in_ok-depend.ensures.ok
     (λ ts. MayFollow ts (Delete c.args.key) Deleted) c.requires.limits
 
 pub returns-clause-ok : goal.returns-clause-ok
@@ -30,6 +30,6 @@ returns-clause-ok c = record {
   recorded = record {
     roomy = c.make_room.new.table;
     room = c.in_ok-make_room.ensures.ok;
-    done = subst (λ table. IsWritten table c.write.new.table c.args.tx.0 (HasDoneMore (Delete c.args.key) Deleted (End c.args.number ∷ []))) c.in_ok-depend.ensures.ok c.write.ensures;
+    done = subst (λ table. IsWritten table c.write.new.table c.args.tx.id.0 (HasDoneMore (Delete c.args.key) Deleted (End c.args.number ∷ []))) c.in_ok-depend.ensures.ok c.write.ensures;
   };
 }

@@ -4,6 +4,6 @@ use Rattle.mvo_deps.proofs.registration.register_all.Given as goal
 
 abbrev pub invariant-loop-id : goal.invariant-loop-id
 invariant-loop-id g l = record {
-  done : l.table ≡ after_register_all l.initial.table l.tx (take l.id-index l.on);
-  noted : IsNoted l.initial.table l.table l.tx (length (data_of l.initial.table l.tx).on);
+  done : l.table ≡ after_register_all l.initial.table l.tx.id (take l.id-index l.on);
+  noted : IsNoted l.initial.table l.table l.tx.id (length (data_of l.initial.table l.tx.id).on);
 }

@@ -13,25 +13,25 @@ leave_tale-requires c =
     let f = c.self.inside in
     let i = c.self.invariant.stands in
     let old : CoreData = core_data f in
-    has_open_place i.opening i.steps i.state old i.stands c.args.tx.0
+    has_open_place i.opening i.steps i.state old i.stands c.args.tx.id.0
 
 pub invariant_of-self : goal.invariant_of-self
 invariant_of-self c =
     let f = c.self.inside in
     let i = c.self.invariant.stands in
     let old : CoreData = core_data f in
-    let unended : IsUnended (state_of f.table c.args.tx.0) = subst (λ (v : CoreData). IsUnended (state_of v.table c.args.tx.0)) (sym c.self.view_is) c.requires in
+    let unended : IsUnended (state_of f.table c.args.tx.id.0) = subst (λ (v : CoreData). IsUnended (state_of v.table c.args.tx.id.0)) (sym c.self.view_is) c.requires in
     record {
       stands =
-          stands_aborted i.opening i.steps i.state old i.stands c.args.tx unended c.abort.new.self c.report_abort.new.table c.abort.ensures c.report_abort.ensures.told c.report_abort.ensures.graph i.closed
+          stands_aborted i.opening i.steps i.state old i.stands c.args.tx.id unended c.abort.new.self c.report_abort.new.table c.abort.ensures c.report_abort.ensures.told c.report_abort.ensures.graph i.closed
           c.bring_puts.new.versions c.leave_tale.new.tale c.bring_puts.ensures c.leave_tale.ensures;
-      waiting = aborted_waits f.table c.abort.new.self c.report_abort.new.table c.args.tx f.versions c.bring_puts.new.versions f.waiting (words_in c.report_abort.new.table c.args.tx.0) unended c.abort.ensures c.report_abort.ensures.told c.bring_puts.ensures c.self.invariant.waiting;
+      waiting = aborted_waits f.table c.abort.new.self c.report_abort.new.table c.args.tx.id f.versions c.bring_puts.new.versions f.waiting (words_in c.report_abort.new.table c.args.tx.id.0) unended c.abort.ensures c.report_abort.ensures.told c.bring_puts.ensures c.self.invariant.waiting;
     }
 
 pub returns : goal.returns
 returns c = λ opening steps s h.
     let f = c.self.inside in
     let old : CoreData = core_data f in
-    let unended : IsUnended (state_of f.table c.args.tx.0) = subst (λ (v : CoreData). IsUnended (state_of v.table c.args.tx.0)) (sym c.self.view_is) c.requires in
-    stands_undone opening steps s old (subst (StandsFor opening steps s) (sym c.self.view_is) h) c.args.tx unended c.abort.new.self c.report_abort.new.table c.abort.ensures c.report_abort.ensures.told c.report_abort.ensures.graph
+    let unended : IsUnended (state_of f.table c.args.tx.id.0) = subst (λ (v : CoreData). IsUnended (state_of v.table c.args.tx.id.0)) (sym c.self.view_is) c.requires in
+    stands_undone opening steps s old (subst (StandsFor opening steps s) (sym c.self.view_is) h) c.args.tx.id unended c.abort.new.self c.report_abort.new.table c.abort.ensures c.report_abort.ensures.told c.report_abort.ensures.graph
     c.bring_puts.new.versions c.leave_tale.new.tale c.bring_puts.ensures c.leave_tale.ensures
