@@ -92,9 +92,15 @@ impl Directory {
     pub(crate) fn forget(&mut self, id: u64)
         ensures { Forgets self.old self.new id }
     {
-        if !self.displaced.is_empty() {
+        if self.has_displaced() {
             self.displaced.remove(&id);
         }
+    }
+
+    /// Whether an id is listed whose place is another's.
+    #[inline(always)]
+    pub(crate) fn has_displaced(&self) -> bool {
+        !self.displaced.is_empty()
     }
 
     /// The seat that stands at the id's place.

@@ -61,11 +61,20 @@ impl<P> Seats<P> {
     /// The number of a transaction's seat, if it has one, and any number else.
     #[inline(always)]
     pub(crate) fn number_of(&self, id: u64) -> usize {
-        // The chair at the id's place is nearly always the id's: one look at it is enough then.
+        // Where each id has its own place, that is where the number is, if it is anywhere.
         let hint = self.directory.hinted(id);
-        match self.directory.find(&self.chairs, id, hint) {
+        if self.directory.has_displaced() {
+            return self.searched(id, hint);
+        }
+        hint
+    }
+
+    /// The same, wherever the seat is.
+    #[cold]
+    fn searched(&self, id: u64, none: usize) -> usize {
+        match self.directory.search(&self.chairs, id) {
             Some(number) => number,
-            None => hint,
+            None => none,
         }
     }
 
