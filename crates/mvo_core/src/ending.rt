@@ -164,7 +164,8 @@ impl Core {
 
 /// Empties the place of a Preparing transaction in the tale.
 fn leave_tale(tale: &mut Tale, table: &Table, tx: Located)
-    requires { HasOpenPlace (state_of table.now tx.id.0) tale.old (own_place (own_of table.now tx.id.0)) }
+    requires { HasOpenPlace (state_of table.now tx.id.0) tale.old
+        (own_place (own_of table.now tx.id.0)) }
     ensures { tale.new ≡
         tale_left (state_of table.now tx.id.0) tale.old (own_place (own_of table.now tx.id.0)) }
 {
@@ -222,7 +223,8 @@ fn commit(table: &mut Table, tx: Located) -> (Stamp, usize, Operations)
     ensures end { state_of table.old tx.id.0 ≡ Some (TxState.Preparing result.0) }
     ensures place { result.1 ≡ own_place (own_of table.old tx.id.0) }
     ensures told { history_told result.2.told.items ≡ own_history (own_of table.old tx.id.0) }
-    ensures written { result.2.written.items ≡ written_keys (own_history (own_of table.old tx.id.0)) }
+    ensures written { result.2.written.items ≡
+        written_keys (own_history (own_of table.old tx.id.0)) }
     ensures limits { AreLimited (own_history (own_of table.old tx.id.0)) }
     ensures left { IsWrittenThen table.old table.new tx.id.0 HasHandedOver
         (λ handed. after_change handed tx.id.0 (TxState.Committed result.0)) }
@@ -244,8 +246,8 @@ fn draw_words(
 )
     requires count { count ≡ length (words_in table.now tx.id.0) }
     requires room { count ≤ waiting.old.ended_room }
-    ensures fronts { AreInFront (comes_at_draw (state_of table.now) tx.id.0) versions.old versions.new
-        (words_in table.now tx.id.0) }
+    ensures fronts { AreInFront (comes_at_draw (state_of table.now) tx.id.0)
+        versions.old versions.new (words_in table.now tx.id.0) }
     ensures waits { WaitBehind end (words_in table.now tx.id.0) waiting.old waiting.new }
 {
     if count == 0 {
@@ -281,7 +283,8 @@ fn draw_all(
 
 /// Brings to the front of their keys what the transaction put, in the order of writing.
 fn bring_puts(versions: &mut Versions, table: &Table, tx: Located)
-    ensures { AreInFront (is_put_by tx.id.0) versions.old versions.new (words_in table.now tx.id.0) }
+    ensures { AreInFront (is_put_by tx.id.0) versions.old versions.new
+        (words_in table.now tx.id.0) }
 {
     if let Some(seat) = table.get(tx) {
         bring_each_put(versions, tx.id, &seat.kept.own.work);

@@ -1,4 +1,4 @@
-ghost use Rattle.std.specs.Prelude.{◌≡◌, ◌%◌, ℕ, true, false, Some, IfOk, IfSome, OnOk, OnErr};
+ghost use Rattle.std.specs.Prelude.{◌≡◌, ◌%◌, ℕ, true, false, Some, None, IfOk, IfSome, OnOk, OnErr};
 ghost use Rattle.std.specs.Bool.{OnTrue, OnFalse};
 ghost use Rattle.std.specs.Option.{IfNone};
 ghost use Rattle.slab.specs.Slab.{get};
@@ -92,15 +92,17 @@ impl Directory {
     pub(crate) fn forget(&mut self, id: u64)
         ensures { Forgets self.old self.new id }
     {
-        if self.has_displaced() {
+        if !self.displaced.is_empty() {
             self.displaced.remove(&id);
         }
     }
 
     /// Whether an id is listed whose place is another's.
     #[inline(always)]
-    pub(crate) fn has_displaced(&self) -> bool {
-        !self.displaced.is_empty()
+    pub(crate) fn has_displaced(&self) -> bool
+        ensures { OnFalse result ((id : ℕ) → displaced self.now id ≡ None) }
+    {
+        self.displaced.len() > 0
     }
 
     /// The seat that stands at the id's place.
