@@ -1,6 +1,6 @@
 use crate::watch::{mixed, tell};
 use anyhow::Result;
-use mvo_txn::{TxState, TxnTable};
+use mvo_txn::{Located, TxState, TxnTable};
 use mvo_types::{Stamp, TxId};
 use std::rt::Clock;
 use std::time::Instant;
@@ -45,14 +45,16 @@ fn whole(table: &mut TxnTable<Kept>) -> Result<u64> {
     let mut sum = 0u64;
     for at in 0..WHOLE {
         let id = table.begin([at; 24])?;
+        let seat = table.seat_of(id);
+        let tx = Located { id, seat };
         if let Some(TxState::Active) = table.state(id) {
-            table.prepare(id)?;
+            table.prepare(tx)?;
         }
         if let Some(TxState::Preparing(_)) = table.state(id) {
-            let _ = table.commit(id);
+            let _ = table.commit(tx);
         }
         if let Some(TxState::Committed(_)) = table.state(id) {
-            let kept = table.terminate(id);
+            let kept = table.terminate(tx);
             sum = sum.wrapping_add(kept[3]);
         }
         sum = sum.wrapping_add(table.oldest_begin().0);

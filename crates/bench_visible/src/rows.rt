@@ -3,7 +3,7 @@ use anyhow::Result;
 use mvo_chain::{Chains, VersionNo};
 use mvo_hash::HashIndex;
 use mvo_range::{Place, RangeIndex};
-use mvo_txn::{TxState, TxnTable};
+use mvo_txn::{Located, TxState, TxnTable};
 use mvo_types::{MAX_STAMP, Row, RowKey, Stamp, TxId};
 use mvo_word::Word;
 use std::alloc::Global;
@@ -80,8 +80,9 @@ impl Rows {
             self.end(number, by(id));
         }
         self.put(index, by(id))?;
+        let seat = self.table.seat_of(id);
         if prepares && self.table.state(id) == Some(TxState::Active) {
-            self.table.prepare(id)?;
+            self.table.prepare(Located { id, seat })?;
         }
         Ok(())
     }

@@ -2,7 +2,7 @@ use crate::equal::same;
 use mvo_deps::{
     Dependencies, Node, register, register_all, report_abort, report_commit, waiting_for,
 };
-use mvo_txn::{TxState, TxnTable};
+use mvo_txn::{Located, TxState, TxnTable};
 use mvo_types::{Refusal, Stamp, TxId};
 use std::alloc::{AllocError, Global};
 use std::process::Abort;
@@ -43,22 +43,30 @@ fn begin(table: &mut Table, alloc: Global) -> Result<TxId, Refusal> {
     })
 }
 
+fn located(table: &Table, id: TxId) -> Located {
+    let seat = table.seat_of(id);
+    Located { id, seat }
+}
+
 fn prepare(table: &mut Table, id: TxId) -> Result<(), Refusal> {
+    let seat = table.seat_of(id);
     if let Some(TxState::Active) = table.state(id) {
-        table.prepare(id)?;
+        table.prepare(Located { id, seat })?;
     }
     Ok(())
 }
 
 fn settle(table: &mut Table, id: TxId, aborts: bool) {
+    let seat = table.seat_of(id);
+    let tx = Located { id, seat };
     match table.state(id) {
         Some(TxState::Preparing(_)) if aborts => {
-            table.abort(id);
-            report_abort(table, id);
+            table.abort(tx);
+            report_abort(table, tx);
         }
         Some(TxState::Preparing(_)) => {
-            let _ = table.commit(id);
-            report_commit(table, id);
+            let _ = table.commit(tx);
+            report_commit(table, tx);
         }
         _ => {}
     }
@@ -73,7 +81,7 @@ fn is_preparing(table: &Table, id: TxId) -> bool {
 
 /// For whom a transaction waits.
 fn awaited(table: &Table, id: TxId) -> Option<TxId> {
-    match table.get(id) {
+    match table.get(located(table, id)) {
         Some(seat) => waiting_for(table, &seat.kept.dependencies),
         None => None,
     }
@@ -94,7 +102,7 @@ fn compare(rt: &impl Abort, table: &Table, plain: &Plain) {
         }
     }
     same(rt, &awaited(table, plain.id), &least);
-    if let Some(seat) = table.get(plain.id) {
+    if let Some(seat) = table.get(located(table, plain.id)) {
         same(rt, &seat.kept.own, &7);
         same(rt, &seat.kept.dependencies.unsettled(), &unsettled);
         same(rt, &seat.kept.dependencies.aborted(), &plain.aborted);
@@ -106,8 +114,9 @@ fn depend(table: &mut Table, plain: &mut Plain, on: TxId) -> Result<(), AllocErr
     if !is_preparing(table, on) || on.0 >= plain.id.0 {
         return Ok(());
     }
-    register(table, plain.id, on)?;
-    register(table, plain.id, on)?;
+    let tx = located(table, plain.id);
+    register(table, tx, on)?;
+    register(table, tx, on)?;
     if !plain.on.contains(&on) {
         plain.on.push(on)?;
     }
@@ -210,8 +219,9 @@ fn is_as_a_plain_list(rt: HostRuntime) -> Result<(), Fail> {
 }
 
 fn depend_on_all(table: &mut Table, id: TxId, on: &[TxId]) -> Result<(), AllocError> {
+    let seat = table.seat_of(id);
     match table.state(id) {
-        Some(_) => register_all(table, id, on),
+        Some(_) => register_all(table, Located { id, seat }, on),
         None => Ok(()),
     }
 }
@@ -224,7 +234,8 @@ fn depend_on_three(table: &mut Table, alloc: Global) -> Result<(), Fail> {
     for id in 1..=4 {
         prepare(table, TxId(id))?;
     }
-    register(table, TxId(5), TxId(3))?;
+    let fifth = located(table, TxId(5));
+    register(table, fifth, TxId(3))?;
     depend_on_all(table, TxId(5), &[TxId(4), TxId(2), TxId(4), TxId(3)])?;
     Ok(())
 }
@@ -234,7 +245,7 @@ fn wait_for_three(rt: &impl Abort, table: &mut Table) {
     let on = [TxId(2), TxId(3), TxId(4)];
     for (settled, id) in on.iter().enumerate() {
         same(rt, &awaited(table, TxId(5)), &Some(*id));
-        if let Some(seat) = table.get(TxId(5)) {
+        if let Some(seat) = table.get(located(table, TxId(5))) {
             same(
                 rt,
                 &seat.kept.dependencies.unsettled(),

@@ -8,7 +8,7 @@ use crate::open::{Open, Written};
 use mvo_chain::{Chains, VersionNo};
 use mvo_hash::HashIndex;
 use mvo_range::{Place, RangeIndex};
-use mvo_txn::{TxState, TxnTable};
+use mvo_txn::{Located, TxState, TxnTable};
 use mvo_types::{Entry, MAX_STAMP, Refusal, Row, RowKey, Stamp, TxId};
 use mvo_validate::{Check, check_entry};
 use mvo_visible::{Shown, ended_by, names, shown, shown_at_once};
@@ -200,7 +200,8 @@ impl Engine {
             count(&mut self.counts.strange);
             return Ok(());
         }
-        if self.table.prepare(tx.id).is_err() {
+        let (id, seat) = (tx.id, self.table.seat_of(tx.id));
+        if self.table.prepare(Located { id, seat }).is_err() {
             return Err(AllocError);
         }
         for word in tx.words.iter() {
@@ -297,9 +298,10 @@ impl Engine {
             count(&mut self.counts.waits);
             return;
         }
-        match self.table.state(tx.id) {
+        let (id, seat) = (tx.id, self.table.seat_of(tx.id));
+        match self.table.state(id) {
             Some(TxState::Preparing(_)) => {
-                let _ = self.table.commit(tx.id);
+                let _ = self.table.commit(Located { id, seat });
                 count(&mut self.counts.committed);
             }
             _ => count(&mut self.counts.strange),
@@ -308,9 +310,10 @@ impl Engine {
 
     /// Withdraws it, and brings the versions that it put to the front of their keys.
     pub fn abort(&mut self, aborted: &Open) -> Result<(), AllocError> {
-        match self.table.state(aborted.id) {
-            Some(TxState::Active) => self.table.abort(aborted.id),
-            Some(TxState::Preparing(_)) => self.table.abort(aborted.id),
+        let (id, seat) = (aborted.id, self.table.seat_of(aborted.id));
+        match self.table.state(id) {
+            Some(TxState::Active) => self.table.abort(Located { id, seat }),
+            Some(TxState::Preparing(_)) => self.table.abort(Located { id, seat }),
             _ => count(&mut self.counts.strange),
         }
         for tx in self.open.iter_mut() {
@@ -334,12 +337,13 @@ impl Engine {
             self.replace(tx.id, word, end);
             return;
         }
-        match self.table.state(tx.id) {
+        let (id, seat) = (tx.id, self.table.seat_of(tx.id));
+        match self.table.state(id) {
             Some(TxState::Committed(_)) => {
-                let _ = self.table.terminate(tx.id);
+                let _ = self.table.terminate(Located { id, seat });
             }
             Some(TxState::Aborted) => {
-                let _ = self.table.terminate(tx.id);
+                let _ = self.table.terminate(Located { id, seat });
             }
             _ => count(&mut self.counts.strange),
         }

@@ -1,5 +1,5 @@
 use crate::equal::{holds, same};
-use mvo_txn::{TxState, TxnTable};
+use mvo_txn::{Located, SeatNo, TxState, TxnTable};
 use mvo_types::{MAX_STAMP, MAX_UNFINISHED, Refusal, Stamp, TxId};
 use std::process::Abort;
 use std::test::Fail;
@@ -63,12 +63,23 @@ fn compare(rt: &impl Abort, table: &TxnTable<u64>, list: &Vec<Plain>, clock: u64
     same(rt, &table.oldest_begin(), &Stamp(plain_oldest(list, clock)));
     same(rt, &table.low_water(), &Stamp(plain_low_water(list, clock)));
     same(rt, &table.state(plain.id), &Some(plain.state));
+    let tx = Located {
+        id: plain.id,
+        seat: seat_for(table, plain.id, clock),
+    };
     holds(
         rt,
-        table
-            .get(plain.id)
-            .is_some_and(|seat| seat.kept == plain.kept),
+        table.get(tx).is_some_and(|seat| seat.kept == plain.kept),
     );
+}
+
+/// The number of the transaction's seat, or at times of another's, by which it is found too.
+fn seat_for<P>(table: &TxnTable<P>, id: TxId, draw: u64) -> SeatNo {
+    if draw % 3 == 0 {
+        table.seat_of(TxId(draw))
+    } else {
+        table.seat_of(id)
+    }
 }
 
 /// The transaction with this state.
@@ -84,31 +95,33 @@ fn step(
     draw: u64,
 ) -> Result<Option<Plain>, Refusal> {
     let Plain { id, state, kept } = plain;
-    if let Some(kept) = table.get_mut(id) {
+    let seat = seat_for(table, id, draw);
+    let tx = Located { id, seat };
+    if let Some(kept) = table.get_mut(tx) {
         *kept = draw;
     }
-    let kept = if table.get(id).is_some() { draw } else { kept };
+    let kept = if table.get(tx).is_some() { draw } else { kept };
     match table.state(id) {
         Some(TxState::Active) if draw % 4 == 0 => {
-            table.abort(id);
+            table.abort(tx);
             Ok(standing(id, TxState::Aborted, kept))
         }
         Some(TxState::Active) => {
-            *table.prepare(id)? = draw / 2;
+            *table.prepare(tx)? = draw / 2;
             Ok(standing(id, TxState::Preparing(table.clock()), draw / 2))
         }
         Some(TxState::Preparing(_)) if draw % 4 == 0 => {
-            table.abort(id);
+            table.abort(tx);
             Ok(standing(id, TxState::Aborted, kept))
         }
         Some(TxState::Preparing(_)) => {
-            let (end, lent) = table.commit(id);
+            let (end, lent) = table.commit(tx);
             *lent = draw / 3;
             same(rt, &state, &TxState::Preparing(end));
             Ok(standing(id, TxState::Committed(end), draw / 3))
         }
         Some(TxState::Committed(_)) | Some(TxState::Aborted) => {
-            same(rt, &table.terminate(id), &kept);
+            same(rt, &table.terminate(tx), &kept);
             same(rt, &table.state(id), &None);
             Ok(None)
         }
@@ -202,8 +215,10 @@ fn draw_last(rt: &impl Abort, table: &mut TxnTable<()>) -> Result<(), Refusal> {
     let id = table.begin(())?;
     same(rt, &id, &TxId(MAX_STAMP));
     same(rt, &table.begin(()).err(), &Some(Refusal::ClockSpent));
+    let seat = table.seat_of(id);
+    let tx = Located { id, seat };
     if let Some(TxState::Active) = table.state(id) {
-        same(rt, &table.prepare(id).err(), &Some(Refusal::ClockSpent));
+        same(rt, &table.prepare(tx).err(), &Some(Refusal::ClockSpent));
     }
     same(rt, &table.low_water(), &Stamp(MAX_STAMP));
     Ok(())

@@ -175,10 +175,8 @@ impl<P> TxnTable<P> {
         self.open_ends.make_room(&self.seats);
         self.open_ends.push(end, tx.id.0);
         self.clock = end;
-        Ok(
-            self.seats
-                .restate(tx.id.0, tx.seat.0, TxState::Preparing(Stamp(end))),
-        )
+        let state = TxState::Preparing(Stamp(end));
+        Ok(self.seats.restate(tx.id.0, tx.seat.0, state))
     }
 
     /// Settles a Preparing transaction, and answers its end timestamp, with what is kept of it for
