@@ -1,6 +1,7 @@
 use crate::equal::{holds, same};
 use mvo_txn::{Located, SeatNo, TxState, TxnTable};
 use mvo_types::{MAX_STAMP, MAX_UNFINISHED, Refusal, Stamp, TxId};
+use std::alloc::{AllocError, Global};
 use std::process::Abort;
 use std::test::Fail;
 
@@ -228,5 +229,49 @@ fn draw_last(rt: &impl Abort, table: &mut TxnTable<()>) -> Result<(), Refusal> {
 fn draws_until_the_clock_is_spent(rt: HostRuntime) -> Result<(), Fail> {
     let mut table = TxnTable::new(rt.alloc(), Stamp(MAX_STAMP - 1))?;
     draw_last(&rt, &mut table)?;
+    Ok(())
+}
+
+/// Begins a transaction, which leaves at once.
+fn pass(table: &mut TxnTable<()>) -> Result<(), Refusal> {
+    let id = table.begin(())?;
+    let seat = table.seat_of(id);
+    let tx = Located { id, seat };
+    if let Some(TxState::Active) = table.state(id) {
+        table.abort(tx);
+    }
+    if let Some(TxState::Aborted) = table.state(id) {
+        table.terminate(tx);
+    }
+    Ok(())
+}
+
+/// The numbers of two seats differ.
+fn differ(rt: &impl Abort, one: SeatNo, other: SeatNo, alloc: Global) -> Result<(), AllocError> {
+    let one = format!(in alloc; "{one:?}")?;
+    let other = format!(in alloc; "{other:?}")?;
+    holds(rt, one != other);
+    Ok(())
+}
+
+/// Two begin, and one more with an id that has the place of the first one's.
+fn begin_three(rt: &impl Abort, table: &mut TxnTable<()>, alloc: Global) -> Result<(), Refusal> {
+    let first = table.begin(())?;
+    let second = table.begin(())?;
+    for _ in 2..4_096u64 {
+        pass(table)?;
+    }
+    let third = table.begin(())?;
+    same(rt, &third, &TxId(first.0.saturating_add(4_096)));
+    differ(rt, table.seat_of(first), table.seat_of(second), alloc)?;
+    differ(rt, table.seat_of(second), table.seat_of(third), alloc)?;
+    differ(rt, table.seat_of(third), table.seat_of(first), alloc)?;
+    Ok(())
+}
+
+#[test]
+fn each_has_a_seat_of_its_own(rt: HostRuntime) -> Result<(), Fail> {
+    let mut table = TxnTable::new(rt.alloc(), Stamp(0))?;
+    begin_three(&rt, &mut table, rt.alloc())?;
     Ok(())
 }
