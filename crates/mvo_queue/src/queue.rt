@@ -1,5 +1,7 @@
 ghost use Rattle.std.specs.Prelude.{◌≡◌, ◌+◌, ◌-◌, ◌^◌, ◌<◌, ◌≤◌, ◌++◌, ◌∷◌, []};
-ghost use Rattle.std.specs.Prelude.{length, drop, take, slice_get, slice_set, OnOk, OnErr, option_copied};
+ghost use Rattle.std.specs.Prelude.{length, drop, take, slice_get, slice_set, IfOk, OnOk, OnErr, option_copied};
+ghost use Rattle.std.specs.VecDeque.{deque_capacity};
+ghost use Rattle.mvo_queue.specs.declared.place.TheConstants.{PIECE};
 
 use crate::place::{PIECE, Place};
 use std::alloc::{AllocError, Global};
@@ -14,6 +16,8 @@ const MAX_PIECES: usize = usize::MAX / PIECE;
 pub struct Queue<T> {
     // None holds more than 1,024 items, and those behind the last item are empty.
     pieces: VecDeque<VecDeque<T>>,
+    // The piece that was emptied last, for the next that is added.
+    spare: Option<VecDeque<T>>,
     // How many items are gone from the first piece.
     skipped: usize,
     len: usize,
@@ -23,6 +27,7 @@ impl<T: Drop> Drop for Queue<T> {
     fn drop(self) {
         let Queue {
             pieces: _,
+            spare: _,
             skipped: _,
             len: _,
         } = self;
@@ -46,6 +51,22 @@ impl<T> Model for Queue<T> {
         IsInPieces (λ p. p.items) (λ p. p.cap) PIECE q.skipped q.len q.pieces.items };
 }
 
+/// A piece without items that has room for all that it will hold: the spare one, if it is such.
+fn empty_piece<T: Drop>(
+    alloc: Global,
+    spare: Option<VecDeque<T>>,
+) -> Result<VecDeque<T>, AllocError>
+    ensures items { IfOk result (λ piece. piece.items ≡ []) }
+    ensures capacity { IfOk result (λ piece. PIECE ≤ deque_capacity piece) }
+{
+    if let Some(piece) = spare {
+        if piece.is_empty() && piece.capacity() >= PIECE {
+            return Ok(piece);
+        }
+    }
+    VecDeque::with_capacity(alloc, PIECE)
+}
+
 impl<T> Queue<T> {
     /// No items. It takes no memory.
     pub fn new(alloc: Global) -> Queue<T>
@@ -53,6 +74,7 @@ impl<T> Queue<T> {
     {
         Queue {
             pieces: VecDeque::new(alloc),
+            spare: None,
             skipped: 0,
             len: 0,
         }
@@ -84,6 +106,7 @@ impl<T> Queue<T> {
     }
 
     /// Puts another item in the place of one.
+    #[inline(always)]
     pub fn set(&mut self, at: usize, item: T)
     where
         T: Drop,
@@ -94,8 +117,8 @@ impl<T> Queue<T> {
         self.pieces[place.piece][place.inner] = item;
     }
 
-    /// Adds an item behind the others. It takes memory for 1,024 items, where it takes any.
-    /// Refused, it changes nothing.
+    /// Adds an item behind the others. It takes memory for 1,024 items, where it takes any: none
+    /// where a piece is kept that was emptied. Refused, it changes nothing.
     pub fn push_back(&mut self, item: T) -> Result<(), AllocError>
     where
         T: Drop,
@@ -139,7 +162,8 @@ impl<T> Queue<T> {
         Ok(())
     }
 
-    /// Takes the first item off, if there is one. The memory of a piece goes with its last item.
+    /// Takes the first item off, if there is one. The memory of a piece that was emptied is kept
+    /// for the next piece, and that of the one before it goes.
     pub fn pop_front(&mut self) -> Option<T>
     where
         T: Drop,
@@ -153,7 +177,7 @@ impl<T> Queue<T> {
         self.len -= 1;
         self.skipped += 1;
         if self.skipped == PIECE {
-            self.pieces.pop_front();
+            self.spare = self.pieces.pop_front();
             self.skipped = 0;
         }
         item
@@ -191,7 +215,7 @@ impl<T> Queue<T> {
         if self.pieces.len() >= MAX_PIECES {
             return Err(AllocError);
         }
-        let piece = VecDeque::with_capacity(*self.pieces.allocator(), PIECE)?;
+        let piece = empty_piece(*self.pieces.allocator(), self.spare.take())?;
         self.pieces.push_back(piece)?;
         Ok(())
     }

@@ -169,8 +169,9 @@ impl Work {
         self.lists.words.reserve(2)
     }
 
-    /// Adds an operation with its answer.
-    #[inline(always)]
+    /// Adds an operation with its answer. It stands once, so that what a transaction goes through
+    /// has less code to fetch.
+    #[inline(never)]
     pub fn tell(&mut self, op: Op, answer: Answer)
         requires room { 0 < self.old.room }
         requires limits { MayFollow self.old.history op (answer_data answer) }
