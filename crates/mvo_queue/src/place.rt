@@ -2,7 +2,7 @@ ghost use Rattle.std.specs.Prelude.{◌+◌, ◌-◌, ◌<◌, ◌^◌};
 ghost use Rattle.mvo_queue.specs.Cut.{IsInPiece};
 
 /// How many items a piece holds.
-pub(crate) const PIECE: usize = 1024;
+pub(crate) const PIECE: usize = 128;
 
 /// Where an item of a queue lies: in which piece, and behind how many others of that piece.
 #[derive(Clone, Copy)]

@@ -11,10 +11,10 @@ use std::marker::Model;
 /// How many pieces there are at most.
 const MAX_PIECES: usize = usize::MAX / PIECE;
 
-/// A queue kept in pieces of 1,024 items, so that no growth copies an item. Contracts see the
+/// A queue kept in pieces of 128 items, so that no growth copies an item. Contracts see the
 /// items, the first one in front, and for how many more there is room.
 pub struct Queue<T> {
-    // None holds more than 1,024 items, and those behind the last item are empty.
+    // None holds more than 128 items, and those behind the last item are empty.
     pieces: VecDeque<VecDeque<T>>,
     // The piece that was emptied last, for the next that is added.
     spare: Option<VecDeque<T>>,
@@ -117,7 +117,7 @@ impl<T> Queue<T> {
         self.pieces[place.piece][place.inner] = item;
     }
 
-    /// Adds an item behind the others. It takes memory for 1,024 items, where it takes any: none
+    /// Adds an item behind the others. It takes memory for 128 items, where it takes any: none
     /// where a piece is kept that was emptied. Refused, it changes nothing.
     pub fn push_back(&mut self, item: T) -> Result<(), AllocError>
     where

@@ -79,7 +79,7 @@ fn fill_and_empty(rt: &impl Abort, alloc: Global, count: u64) -> Result<(), Allo
 
 #[test]
 fn a_piece_less_one_and_one_and_one_more(rt: HostRuntime) -> Result<(), Fail> {
-    for count in [0, 1, 1023, 1024, 1025, 2047, 2048, 2049] {
+    for count in [0, 1, 127, 128, 129, 255, 256, 257] {
         fill_and_empty(&rt, rt.alloc(), count)?;
     }
     Ok(())

@@ -8,8 +8,8 @@ use Rattle.mvo_queue.proofs.queue.Queue.add_piece.Goals as goal
 pub invariant_of-self-2 : goal.invariant_of-self-2
 invariant_of-self-2 g c =
     let piece = c.in_ok-piece.piece in
-    let few : (length c.self.inside.pieces.items + 1) * 1024 < 2 ^ 64 = omega (arith, c.if-len-ge-MAX_PIECES.false, c.len.ensures, c.self.inside.pieces.ok.0) in
-    subst (λ ps. IsInPieces (λ p. p.items) (λ p. p.cap) 1024 c.self.inside.skipped c.self.inside.len ps) (sym c.in_ok-push_back.ensures.items)
+    let few : (length c.self.inside.pieces.items + 1) * 128 < 2 ^ 64 = omega (arith, c.if-len-ge-MAX_PIECES.false, c.len.ensures, c.self.inside.pieces.ok.0) in
+    subst (λ ps. IsInPieces (λ p. p.items) (λ p. p.cap) 128 c.self.inside.skipped c.self.inside.len ps) (sym c.in_ok-push_back.ensures.items)
     (pieces_more c.self.invariant piece c.in_ok-piece.ensures.items c.in_ok-piece.ensures.capacity few)
 
 pub returns-clause-ok : goal.returns-clause-ok
@@ -20,4 +20,4 @@ returns-clause-ok g c =
     same_queue _ _ _ _
     (ap (flat_map (λ p. p.items)) c.in_ok-push_back.ensures.items ∙ items_more c.self.invariant piece c.in_ok-piece.ensures.items)
     (omega arith)
-    ∙ ap (λ q. record { items = q.items; room = q.room + 1024 }) c.self.view_is
+    ∙ ap (λ q. record { items = q.items; room = q.room + 128 }) c.self.view_is

@@ -44,7 +44,7 @@ pub returns-clause-room : goal.returns-clause-room
 returns-clause-room g c =
     let within = c.self.invariant.within in
     let count : c.self.inside.len ≡ length c.args.self.now.items = seen_len c.self.invariant c.args.self.now _ c.self.view_is in
-    let room : length c.self.inside.pieces.items * 1024 - (c.self.inside.skipped + c.self.inside.len) ≡ c.args.self.now.room = seen_room c.self.invariant c.args.self.now _ c.self.view_is in
+    let room : length c.self.inside.pieces.items * 128 - (c.self.inside.skipped + c.self.inside.len) ≡ c.args.self.now.room = seen_room c.self.invariant c.args.self.now _ c.self.view_is in
     let pieces = length-set c.self.inside.pieces.items c.of-place.result.piece c.pop_back.new.self in
     let rest = ap length (returns-clause-rest g c) in
     let less = length-take (length c.args.self.now.items - 1) c.args.self.now.items in

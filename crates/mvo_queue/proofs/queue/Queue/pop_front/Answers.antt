@@ -14,7 +14,7 @@ index_mut-requires g c =
 
 pub invariant_of-self : goal.invariant_of-self
 invariant_of-self g c =
-    subst (λ ps. IsInPieces (λ p. p.items) (λ p. p.cap) 1024 0 (c.self.inside.len - 1) ps) (sym c.pop_front.ensures.rest)
+    subst (λ ps. IsInPieces (λ p. p.items) (λ p. p.cap) 128 0 (c.self.inside.len - 1) ps) (sym c.pop_front.ensures.rest)
     (pieces_used c.self.invariant (omega arith) c.index_mut.result.now c.pop_front-item.new.self c.index_mut.ensures.value c.pop_front-item.ensures.rest c.if-self-eq-PIECE.true)
 
 pub returns-then-self-eq-PIECE-clause-item : goal.returns-then-self-eq-PIECE-clause-item
@@ -45,7 +45,7 @@ returns-then-self-eq-PIECE-clause-rest g c =
     let within = c.self.invariant.within in
     let y = c.pop_front-item.new.self in
     let pieces = ap length c.pop_front.ensures.rest ∙ length-drop 1 (set inside.pieces.items 0 y) ∙ ap (λ (n : ℕ). n - 1) (length-set inside.pieces.items 0 y) in
-    same_queue _ (drop 1 (flat_map (λ q. q.items) inside.pieces.items)) _ (length inside.pieces.items * 1024 - (inside.skipped + inside.len))
+    same_queue _ (drop 1 (flat_map (λ q. q.items) inside.pieces.items)) _ (length inside.pieces.items * 128 - (inside.skipped + inside.len))
     (ap (flat_map (λ q. q.items)) c.pop_front.ensures.rest
     ∙ items_used c.self.invariant (omega arith) c.index_mut.result.now y c.index_mut.ensures.value c.pop_front-item.ensures.rest c.if-self-eq-PIECE.true)
     (omega arith)
@@ -56,7 +56,7 @@ returns-else-self-eq-PIECE-clause-rest g c =
     let inside = c.self.inside in
     let y = c.pop_front-item.new.self in
     let pieces = length-set inside.pieces.items 0 y in
-    same_queue _ (drop 1 (flat_map (λ q. q.items) inside.pieces.items)) _ (length inside.pieces.items * 1024 - (inside.skipped + inside.len))
+    same_queue _ (drop 1 (flat_map (λ q. q.items) inside.pieces.items)) _ (length inside.pieces.items * 128 - (inside.skipped + inside.len))
     (items_front c.self.invariant (omega arith) c.index_mut.result.now y c.index_mut.ensures.value c.pop_front-item.ensures.rest)
     (omega arith)
     ∙ ap (λ q. record { items = drop 1 q.items; room = q.room }) c.self.view_is

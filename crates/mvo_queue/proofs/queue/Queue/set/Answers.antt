@@ -35,7 +35,7 @@ returns g c =
     let inside = c.self.inside in
     let y = deque_with_item p c.of-place.result.inner c.args.item in
     let pieces = length-set inside.pieces.items c.of-place.result.piece y in
-    same_queue _ (slice_set (flat_map (λ q. q.items) inside.pieces.items) c.args.at c.args.item) _ (length inside.pieces.items * 1024 - (inside.skipped + inside.len))
+    same_queue _ (slice_set (flat_map (λ q. q.items) inside.pieces.items) c.args.at c.args.item) _ (length inside.pieces.items * 128 - (inside.skipped + inside.len))
     (items_set c.self.invariant c.args.at _ _ c.of-place.ensures (omega arith) p c.index_mut.ensures.value y c.args.item refl)
     (omega arith)
     ∙ ap (λ q. record { items = slice_set q.items c.args.at c.args.item; room = q.room }) c.self.view_is
