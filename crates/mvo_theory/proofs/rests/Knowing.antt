@@ -34,12 +34,12 @@ use Rattle.mvo_theory.proofs.Depends.{depends_more}
 use Rattle.mvo_theory.proofs.LastWriter.{found_in}
 use Rattle.mvo_theory.proofs.Phases.{IsUnended}
 use Rattle.mvo_theory.proofs.Who.{active_holds, id_of, active_done, active_after_prepare, preparing_after_check, preparing_settled, unended_rolled_back, unended_done, unended_after_prepare, unended_after_check, unended_settled}
-use Rattle.mvo_rests.specs.Course.{Course, start_behind, trims_after, with_steps, with_trim}
-use Rattle.mvo_rests.specs.Resting.{DependsNow, RestsOn, RestsOnNoAborted}
-use Rattle.mvo_rests.specs.Known.{IsFlag, KnowsOne, KnowsRests}
-use Rattle.mvo_rests.proofs.Looking.{depends_in, depends_out}
-use Rattle.mvo_rests.proofs.Reached.{reached, in_timeline, its_end, its_id, unaborted}
-use Rattle.mvo_rests.proofs.Resting.{split_last, IsNoAnswer, AbortsNone, rests_later, aborted_push, knows_later, no_abort, start_trimmed, start_later, knows_trimmed, flag_aborted}
+use Rattle.mvo_theory.specs.rests.Course.{Course, start_behind, trims_after, with_steps, with_trim}
+use Rattle.mvo_theory.specs.rests.Resting.{DependsNow, RestsOn, RestsOnNoAborted}
+use Rattle.mvo_theory.specs.rests.Known.{IsFlag, KnowsOne, KnowsRests}
+use Rattle.mvo_theory.proofs.rests.Looking.{depends_in, depends_out}
+use Rattle.mvo_theory.proofs.rests.Reached.{reached, in_timeline, its_end, its_id, unaborted}
+use Rattle.mvo_theory.proofs.rests.Resting.{split_last, IsNoAnswer, AbortsNone, rests_later, aborted_push, knows_later, no_abort, start_trimmed, start_later, knows_trimmed, flag_aborted}
 
 abbrev ActiveKnown : Course → ActiveTx → Type 0
 ActiveKnown c r = KnowsOne c r.id r.depends_on r.aborted_dependency

@@ -16,7 +16,7 @@ use Rattle.mvo_theory.specs.Entries.{entry_of}
 use Rattle.mvo_theory.specs.Ranges.{Row, shows, pass, puts, is_row_of}
 use Rattle.mvo_theory.specs.Snapshots.{ended_in, is_aborted}
 use Rattle.mvo_theory.specs.Traced.{IsLastWriter}
-use Rattle.mvo_rests.specs.Course.{Course, start_behind}
+use Rattle.mvo_theory.specs.rests.Course.{Course, start_behind}
 
 -- whether one that is Preparing or Committed with an end above m and below b put a row of the key
 -- that passes

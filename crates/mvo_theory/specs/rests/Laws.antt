@@ -7,9 +7,9 @@ use Rattle.mvo_theory.specs.Causes.{awaited}
 use Rattle.mvo_theory.specs.Calls.{Call, Result, MayCome, after_call, steps_of, IsKept}
 use Rattle.mvo_theory.specs.Calls.Call.{Do, Precommit, Validate, Settle}
 use Rattle.mvo_theory.specs.Calls.Result.{Accepted, Refused}
-use Rattle.mvo_rests.specs.Course.{Course, trims_after}
-use Rattle.mvo_rests.specs.Resting.{RestsOnNoAborted, IsFirstAborted, IsFirstAwaited, AwaitsNone}
-use Rattle.mvo_rests.specs.Known.{KnowsRests}
+use Rattle.mvo_theory.specs.rests.Course.{Course, trims_after}
+use Rattle.mvo_theory.specs.rests.Resting.{RestsOnNoAborted, IsFirstAborted, IsFirstAwaited, AwaitsNone}
+use Rattle.mvo_theory.specs.rests.Known.{KnowsRests}
 
 -- DependencyAborted names the first aborted one of those on whom t rests, and where it isn't
 -- answered, nor a cause that comes before it, t rests on none that was aborted.

@@ -1,4 +1,4 @@
-ghost use Rattle.mvo_rests.specs.Laws.{EachCallTells, EachSettlingTells, OpensKnowing, EachCallKnows};
+ghost use Rattle.mvo_theory.specs.rests.Laws.{EachCallTells, EachSettlingTells, OpensKnowing, EachCallKnows};
 
 /// The laws of resting. In each state that calls lead to, a transaction depends on just those on
 /// whom it rests by what happened, and on no others: DependencyAborted is answered exactly where

@@ -18,8 +18,8 @@ use Rattle.mvo_theory.proofs.There.{IsThere, There}
 use Rattle.mvo_theory.proofs.LastWriter.{preparing_there, found_in}
 use Rattle.mvo_theory.proofs.AfterTrace.{rising_all}
 use Rattle.mvo_theory.proofs.Traced.{ends_differ}
-use Rattle.mvo_rests.specs.Course.{Course}
-use Rattle.mvo_rests.specs.Resting.{RestsOn}
+use Rattle.mvo_theory.specs.rests.Course.{Course}
+use Rattle.mvo_theory.specs.rests.Resting.{RestsOn}
 
 same_end : (m n : ℕ) → ◌≡◌ {A = Phase} (Preparing m) (Preparing n) → m ≡ n
 same_end m n e = cc

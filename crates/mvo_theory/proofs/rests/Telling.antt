@@ -29,11 +29,11 @@ use Rattle.mvo_theory.proofs.Commits.{split_at}
 use Rattle.mvo_theory.proofs.Firsts.{FirstOf, first_is, none_is, none_refusal, when_none, when_some, flagged_some, conflicts_some, differs_some, runs, prepares}
 use Rattle.mvo_theory.proofs.LastWriter.{preparing_phase, preparing_there, found_in}
 use Rattle.mvo_theory.proofs.Who.{active_holds, preparing_settled}
-use Rattle.mvo_rests.specs.Course.{Course}
-use Rattle.mvo_rests.specs.Resting.{RestsOn, RestsOnNoAborted}
-use Rattle.mvo_rests.specs.Known.{IsFlag, KnowsOne, KnowsRests}
-use Rattle.mvo_rests.specs.Laws.{TellsAborted, TellsRests, TellsSettling}
-use Rattle.mvo_rests.proofs.Reached.{reached, in_timeline, its_id}
+use Rattle.mvo_theory.specs.rests.Course.{Course}
+use Rattle.mvo_theory.specs.rests.Resting.{RestsOn, RestsOnNoAborted}
+use Rattle.mvo_theory.specs.rests.Known.{IsFlag, KnowsOne, KnowsRests}
+use Rattle.mvo_theory.specs.rests.Laws.{TellsAborted, TellsRests, TellsSettling}
+use Rattle.mvo_theory.proofs.rests.Reached.{reached, in_timeline, its_id}
 
 -- ---- which causes name an aborted one
 abbrev names_aborted : Refusal → Bool

@@ -13,9 +13,9 @@ use Rattle.mvo_theory.specs.Dependencies.{has_end}
 use Rattle.mvo_theory.specs.Changes.{aborted_dependency_after}
 use Rattle.mvo_theory.specs.Traced.{is_abort_of}
 use Rattle.mvo_theory.specs.Snapshots.{is_aborted}
-use Rattle.mvo_rests.specs.Course.{Course, start_behind, with_steps, with_trim}
-use Rattle.mvo_rests.specs.Resting.{DependsNow, RestsOn, RestsOnNoAborted, IsFirstAborted}
-use Rattle.mvo_rests.specs.Known.{IsFlag, KnowsOne}
+use Rattle.mvo_theory.specs.rests.Course.{Course, start_behind, with_steps, with_trim}
+use Rattle.mvo_theory.specs.rests.Resting.{DependsNow, RestsOn, RestsOnNoAborted, IsFirstAborted}
+use Rattle.mvo_theory.specs.rests.Known.{IsFlag, KnowsOne}
 
 -- ---- one step more
 same_head : {X : Type 0} (x y : X) (xs ys : List X) → x ∷ xs ≡ y ∷ ys → x ≡ y

@@ -1,6 +1,6 @@
-use Rattle.mvo_rests.proofs.Knowing.{known_opened, known_after_call}
-use Rattle.mvo_rests.proofs.Telling.{told_rests, told_settling}
-use Rattle.mvo_rests.proofs.laws.laws_of_rests.Goals as goal
+use Rattle.mvo_theory.proofs.rests.Knowing.{known_opened, known_after_call}
+use Rattle.mvo_theory.proofs.rests.Telling.{told_rests, told_settling}
+use Rattle.mvo_theory.proofs.rests.laws.laws_of_rests.Goals as goal
 
 pub returns-clause-tells : goal.returns-clause-tells
 returns-clause-tells c = λ course s call r k h m. told_rests course s k h call r m

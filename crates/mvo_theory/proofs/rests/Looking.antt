@@ -32,7 +32,7 @@ use Rattle.mvo_theory.proofs.Exact.{IsDeciding}
 use Rattle.mvo_theory.proofs.LastWriter.{preparing_phase, preparing_there, found_in}
 use Rattle.mvo_theory.proofs.Deciding.{last_in_trace}
 use Rattle.mvo_theory.proofs.Who.{active_holds, id_of}
-use Rattle.mvo_rests.specs.Resting.{is_put_between, LooksAt, DependsNow}
+use Rattle.mvo_theory.specs.rests.Resting.{is_put_between, LooksAt, DependsNow}
 
 -- ---- the rows where the history starts
 abbrev told_of : List Step → ℕ × ℕ → History

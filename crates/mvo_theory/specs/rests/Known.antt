@@ -3,8 +3,8 @@ use Rattle.std.specs.Prelude.{ℕ, ◌≡◌, ◌≤◌, true, false, List, leng
 use Rattle.std.specs.List.{AllByRecursion}
 use Rattle.mvo_theory.specs.Dependencies.{has_end}
 use Rattle.mvo_theory.specs.State.{State, ActiveTx, StampedTx}
-use Rattle.mvo_rests.specs.Course.{Course, start_behind}
-use Rattle.mvo_rests.specs.Resting.{RestsOn, RestsOnNoAborted, IsFirstAborted}
+use Rattle.mvo_theory.specs.rests.Course.{Course, start_behind}
+use Rattle.mvo_theory.specs.rests.Resting.{RestsOn, RestsOnNoAborted, IsFirstAborted}
 
 -- the first of them that was aborted, if one was
 abbrev pub IsFlag : Course → ℕ → Option ℕ → Type 0
