@@ -1,7 +1,7 @@
 //! Runs jobs over a store, prints what came of them, and makes their commits durable.
 ghost use Rattle.mvo_engine.specs.Opened.{IsNamedBy};
 
-use crate::session_work::SessionWork;
+use crate::jobs::session_work::SessionWork;
 use mvo_disk::Disk;
 use mvo_engine::{Engine, Fresh, Gate, OpenGate, Run};
 use mvo_front::{Job, Outcome, run};

@@ -1,5 +1,4 @@
 //! Jobs over a store: each is a script that a session of the engine runs, many at once.
-#![tactic(auto)]
 
 mod ended;
 mod lines;

@@ -1,5 +1,5 @@
-use crate::lines::Lines;
-use crate::replies::replies_to;
+use crate::jobs::lines::Lines;
+use crate::jobs::replies::replies_to;
 use mvo_disk::Disk;
 use mvo_engine::{Engine, Gate, Place, Run};
 use mvo_front::{Job, Outcome, Work};

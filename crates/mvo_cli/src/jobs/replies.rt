@@ -1,5 +1,5 @@
 //! The replies to the lines of a script.
-use crate::lines::Lines;
+use crate::jobs::lines::Lines;
 use mvo_disk::Disk;
 use mvo_engine::{Gate, Run};
 use mvo_script::LineReply;

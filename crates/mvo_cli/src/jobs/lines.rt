@@ -1,4 +1,4 @@
-use crate::ended::ends_transaction;
+use crate::jobs::ended::ends_transaction;
 use mvo_core::Settlement;
 use mvo_disk::Disk;
 use mvo_engine::{Gate, Run, Session};

@@ -1,6 +1,6 @@
 use Rattle.mvo_engine.specs.Opened.{fresh_opening}
 use Rattle.mvo_engine.specs.Watching.{nothing_watched}
-use Rattle.mvo_jobs.proofs.running.work_over.Given as goal
+use Rattle.mvo_cli.proofs.jobs.running.work_over.Given as goal
 
 abbrev pub ghosts-work_in-L-Ledger : goal.ghosts-work_in-L-Ledger
 ghosts-work_in-L-Ledger g a = record { name = a.fresh.ledger; parts = a.fresh.parts }
