@@ -17,7 +17,7 @@ use Rattle.mvo_types.proofs.Maps.{keys_total, exact_keys}
 use Rattle.mvo_model.specs.History.{after_effect}
 use Rattle.mvo_group.specs.Data.{RecordData, GroupData}
 use Rattle.mvo_pair.specs.Data.{Numbered, key_of}
-use Rattle.mvo_image.specs.Rows.{kept_of, kept_in, rows_of, after_record, after_groups}
+use Rattle.mvo_places.specs.Rows.{kept_of, kept_in, rows_of, after_record, after_groups}
 use Rattle.mvo_ckpt.specs.Writes.{Stamped, stamped, writes_in, writes_of, is_at, is_written, last_writes, later_of, last_write, record_of, records_of}
 use Rattle.mvo_ckpt.specs.Ended.{left_in, lives_after}
 use Rattle.mvo_ckpt.specs.Laws.{KeepsRows}

@@ -11,7 +11,7 @@ use Rattle.mvo_frame.specs.Frames.{IsSegment, mark_after}
 use Rattle.mvo_pair.specs.Data.{EntryData, Numbered, live_of, AreApart}
 use Rattle.mvo_pair.specs.Files.{AreEntries, AreNumbers}
 use Rattle.mvo_pair.specs.declared.pair.Pair.{Pair}
-use Rattle.mvo_image.specs.Rows.{rows_of, after_groups}
+use Rattle.mvo_places.specs.Rows.{rows_of, after_groups}
 use Rattle.mvo_ckpt.specs.Writes.{writes_of, last_write, records_of, gone_of}
 use Rattle.mvo_places.specs.Places.{PlaceMap, ArePlaces, file_of, taken_over}
 use Rattle.mvo_ckpt.specs.Ended.{ended, left_in, lives_after}

@@ -6,7 +6,7 @@ use Rattle.mvo_types.specs.declared.ids.TxId.{TxId}
 use Rattle.mvo_types.specs.declared.ids.Stamp.{Stamp}
 use Rattle.mvo_types.specs.declared.refusal.Refusal.{Refusal}
 use Rattle.mvo_types.specs.Keys.{Map}
-use Rattle.mvo_run.specs.Opening.{Opening}
+use Rattle.mvo_engine.specs.run.Opening.{Opening}
 use Rattle.mvo_group.specs.Data.{GroupData}
 use Rattle.mvo_model.specs.History.{History}
 use Rattle.mvo_theory.specs.State.{State, StampedTx, preparing_of, opened}
@@ -26,7 +26,7 @@ use Rattle.mvo_core.specs.Steps.{came, IsStep, IsSettlement, settled_as}
 use Rattle.mvo_core.specs.Collecting.{StandsAsBefore}
 use Rattle.mvo_core.specs.Holding.{HoldsJust}
 use Rattle.mvo_core.specs.Receipts.{Receipt, receipt, receipt_of}
-use Rattle.mvo_run.specs.Watching.{Watched}
+use Rattle.mvo_engine.specs.run.Watching.{Watched}
 use Rattle.mvo_engine.specs.Booked.{IsBooked}
 use Rattle.mvo_engine.specs.Sound.{IsSoundCore}
 use Rattle.mvo_engine.specs.States.{SendsState}

@@ -24,7 +24,7 @@ use Rattle.mvo_world.proofs.Chain.{groups_stay, group_of_next}
 use Rattle.mvo_world.proofs.Moves.{groups_closed}
 use Rattle.mvo_world.proofs.Sound.{same_closed}
 use Rattle.mvo_world.proofs.Standing.{mark_after-append, groups_push}
-use Rattle.mvo_run.specs.Opening.{Opening}
+use Rattle.mvo_engine.specs.run.Opening.{Opening}
 use Rattle.mvo_engine.specs.Sound.{IsSoundCore, last_mark}
 use Rattle.mvo_engine.specs.Legal.{IsLegalCore}
 use Rattle.mvo_engine.specs.States.{SendsState}

@@ -1,3 +1,4 @@
+pub mod run
 pub mod Rings
 pub mod CoreSound
 pub mod Collected
@@ -9,3 +10,4 @@ pub mod Starts
 pub mod Booked
 pub mod SentRows
 pub mod Flushed
+pub mod day

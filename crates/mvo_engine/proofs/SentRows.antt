@@ -9,7 +9,7 @@ use Rattle.mvo_types.specs.Keys.{Map}
 use Rattle.mvo_model.specs.History.{after_history}
 use Rattle.mvo_model.specs.Trace.{Step}
 use Rattle.mvo_disk.specs.declared.disk.Disk.{Ghosts}
-use Rattle.mvo_run.specs.Opening.{Opening}
+use Rattle.mvo_engine.specs.run.Opening.{Opening}
 use Rattle.mvo_group.specs.Data.{GroupData}
 use Rattle.mvo_theory.specs.State.{State, StampedTx, Marks, timeline, after_settled}
 use Rattle.mvo_theory.specs.Marks.{Commit, settled_to}

@@ -16,7 +16,7 @@ use Rattle.mvo_store.specs.Standing.{Gives, GivesOr, FollowsMark, HasSlots, Keep
 use Rattle.mvo_store.specs.Calls.{StoreCall, IsStoreStep}
 use Rattle.mvo_store.proofs.Taken.{KeepsTaken, IsQuiet, left_taken, quiet_taken, quiet_rows, refused_rows}
 use Rattle.mvo_world.proofs.Standing.{mark_after-append, opening_pending}
-use Rattle.mvo_run.specs.Opening.{Opening}
+use Rattle.mvo_engine.specs.run.Opening.{Opening}
 use Rattle.mvo_engine.specs.Opening.{WasFormatted}
 use Rattle.mvo_engine.specs.Sound.{IsSoundStore, GivesReceived, last_mark}
 

@@ -16,8 +16,8 @@ use Rattle.mvo_store.specs.StoreData.{StoreData}
 use Rattle.mvo_store.specs.Standing.{KeepsRows}
 use Rattle.mvo_marks.specs.Marks.{SeatData}
 use Rattle.mvo_world.specs.WorldData.{WorldData}
-use Rattle.mvo_run.specs.Rings.{RingName, ring_of, ring_from}
-use Rattle.mvo_run.specs.Opening.{Opening, opening_of}
+use Rattle.mvo_engine.specs.run.Rings.{RingName, ring_of, ring_from}
+use Rattle.mvo_engine.specs.run.Opening.{Opening, opening_of}
 use Rattle.mvo_engine.specs.Opening.{GaveWhenOpened, WasFormatted}
 
 -- Core and store of a world as its opening gave it. Of a disk that has lied only the mark is known

@@ -17,10 +17,10 @@ use Rattle.mvo_pair.specs.Loading.{LoadsAs}
 use Rattle.mvo_pair.specs.declared.pair.Pair.{Pair}
 use Rattle.mvo_manifest.specs.Data.{ManifestData}
 use Rattle.mvo_manifest.specs.Rules.{IsManifest}
-use Rattle.mvo_image.specs.Rows.{rows_of}
-use Rattle.mvo_image.specs.Opens.{Image, Outcome, Pairs}
-use Rattle.mvo_image.specs.Gives.{HaveLive}
-use Rattle.mvo_image.proofs.Apart.{distinct_front}
+use Rattle.mvo_places.specs.Rows.{rows_of}
+use Rattle.mvo_recovery.specs.image.Opens.{Image, Outcome, Pairs}
+use Rattle.mvo_recovery.specs.image.Gives.{HaveLive}
+use Rattle.mvo_recovery.proofs.image.Apart.{distinct_front}
 use Rattle.mvo_places.specs.declared.place.Place.{Place}
 use Rattle.mvo_places.specs.Places.{PlaceMap, ArePlaces, file_of, places_in, places_of}
 use Rattle.mvo_places.proofs.Rising.{live_numbers_rise}

@@ -10,7 +10,7 @@ use Rattle.mvo_pair.specs.Answers.{Found, IsFound, Goes, After, file_refusal}
 use Rattle.mvo_pair.specs.Data.{Numbered, live_of}
 use Rattle.mvo_pair.specs.Files.{HasEntries, HasNumbers, IsOtherVersion, data_magic, delta_magic}
 use Rattle.mvo_pair.specs.Loading.{LoadsAs}
-use Rattle.mvo_image.specs.Files.{SegmentIs}
+use Rattle.mvo_recovery.specs.image.Files.{SegmentIs}
 use Rattle.mvo_load.specs.Read.{IsMisread}
 
 unread : {X : Type 0} (file : ℕ) (Other : Type 0) (Holds : X → Type 0) (u : Unread) → IsFound Other Holds (Err u) → IsMisread (file_refusal file u)

@@ -2,9 +2,9 @@
 ghost use Rattle.std.specs.Prelude.{◌≡◌, ◌<◌, ◌+◌, ◌^◌, List, [], Some, IfOk};
 ghost use Rattle.mvo_pair.specs.Data.{Numbered};
 ghost use Rattle.mvo_pair.specs.Data.{AreApart};
-ghost use Rattle.mvo_image.specs.Rows.{rows_of};
-ghost use Rattle.mvo_image.specs.Opens.{Segments, OpensWith};
-ghost use Rattle.mvo_image.specs.Files.{SegmentSays};
+ghost use Rattle.mvo_places.specs.Rows.{rows_of};
+ghost use Rattle.mvo_recovery.specs.image.Opens.{Segments, OpensWith};
+ghost use Rattle.mvo_recovery.specs.image.Files.{SegmentSays};
 ghost use Rattle.mvo_load.specs.Leading.{LeadsOn};
 ghost use Rattle.mvo_load.specs.Parts.{Joins, HaveRows, HavePlaces};
 ghost use Rattle.mvo_disk.specs.Disk.{IsHonest};

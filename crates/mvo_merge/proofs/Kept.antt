@@ -10,7 +10,7 @@ use Rattle.mvo_types.specs.declared.row.RowKey.{RowKey}
 use Rattle.mvo_types.specs.RowData.{ContentData}
 use Rattle.mvo_types.specs.Keys.{key_cmp}
 use Rattle.mvo_pair.specs.Data.{EntryData, Numbered, key_of, keys_of}
-use Rattle.mvo_image.specs.Rows.{kept_of, kept_in}
+use Rattle.mvo_places.specs.Rows.{kept_of, kept_in}
 use Rattle.mvo_places.proofs.Keys.{eq}
 use Rattle.mvo_merge.specs.Merged.{entries_of, merged, of_left, of_right, without, live_after, under}
 use Rattle.mvo_merge.specs.Laws.{AreLate, LiveInEither, KeepsRows, StaysApart, OwnKeys}

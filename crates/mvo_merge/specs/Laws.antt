@@ -7,7 +7,7 @@ use Rattle.mvo_pair.specs.Data.{EntryData, Numbered, live_of, AreApart}
 use Rattle.mvo_pair.specs.Files.{AreEntries, AreNumbers, HasEntries, HasNumbers}
 use Rattle.mvo_pair.specs.Loading.{LoadsAs}
 use Rattle.mvo_pair.specs.declared.pair.Pair.{Pair}
-use Rattle.mvo_image.specs.Rows.{rows_of}
+use Rattle.mvo_places.specs.Rows.{rows_of}
 use Rattle.mvo_places.specs.Places.{PlaceMap, Rise, ArePlaces, file_of}
 use Rattle.mvo_merge.specs.Merged.{numbers_of, merged, renumbering_of, of_left, of_right, renumbered}
 use Rattle.mvo_merge.specs.Merged.{entries_of, without, live_after, under}

@@ -21,9 +21,9 @@ use Rattle.mvo_script.specs.Checkpointing.{IsCheckpoint}
 use Rattle.mvo_script.specs.Merging.{merge}
 use Rattle.mvo_script.specs.declared.bound.BoundTx.{BoundTx}
 use Rattle.mvo_script.specs.declared.driver.Driver.{Driver}
-use Rattle.mvo_line.specs.declared.line.Line.{Line}
-use Rattle.mvo_line.specs.declared.line.Line.TheVariants as line
-use Rattle.mvo_line.specs.declared.line.RowText.{RowText}
+use Rattle.mvo_script.specs.declared.line.line.Line.{Line}
+use Rattle.mvo_script.specs.declared.line.line.Line.TheVariants as line
+use Rattle.mvo_script.specs.declared.line.line.RowText.{RowText}
 use Rattle.mvo_store.specs.Seen.{mark_of}
 use Rattle.mvo_script.specs.declared.names.Names.{Names}
 

@@ -11,8 +11,8 @@ use Rattle.mvo_recovery.specs.Settled.{IsSettled, other_slot}
 use Rattle.mvo_recovery.proofs.Named.{named_is_no_slot, pairs_named, slot_below}
 use Rattle.mvo_recovery.proofs.Pairs.{delta_among}
 use Rattle.mvo_recovery.proofs.Framed.{files_stay_others}
-use Rattle.mvo_beside.specs.Seen.{CountsStay}
-use Rattle.mvo_beside.proofs.Seen.{seen_stays, seen_where_counts_stay, seen_beside_install, stays_unnamed}
+use Rattle.mvo_recovery.specs.beside.Seen.{CountsStay}
+use Rattle.mvo_recovery.proofs.beside.Seen.{seen_stays, seen_where_counts_stay, seen_beside_install, stays_unnamed}
 use Rattle.mvo_store.specs.declared.install.Install.{Install as InstallData}
 use Rattle.mvo_store.specs.declared.limits.TheConstants.{MAX_GENERATION}
 use Rattle.mvo_store.specs.declared.due.Due.{Due}

@@ -27,10 +27,10 @@ use Rattle.mvo_recovery.specs.Merging.{MergeData, merged}
 use Rattle.mvo_recovery.proofs.Merged.{named_merged, manifest_merged}
 use Rattle.mvo_recovery.proofs.Pairs.{few_records, delta_named}
 use Rattle.mvo_recovery.proofs.Gained.{counted_of}
-use Rattle.mvo_beside.specs.Seen.{SeenData, grown, WasSeen, pairs_now, NumbersNow}
-use Rattle.mvo_beside.proofs.Seen.{left_now, right_now, in_left, in_right}
-use Rattle.mvo_beside.proofs.Two.{rise_one, few_one, has_first, has_second}
-use Rattle.mvo_beside.proofs.Ready.{are_left, are_right, few_late}
+use Rattle.mvo_recovery.specs.beside.Seen.{SeenData, grown, WasSeen, pairs_now, NumbersNow}
+use Rattle.mvo_recovery.proofs.beside.Seen.{left_now, right_now, in_left, in_right}
+use Rattle.mvo_recovery.proofs.beside.Two.{rise_one, few_one, has_first, has_second}
+use Rattle.mvo_recovery.proofs.beside.Ready.{are_left, are_right, few_late}
 use Rattle.mvo_store.specs.declared.step.Step.TheVariants.{Close}
 use Rattle.mvo_store.specs.declared.merge_stage.MergeStage.{MergeStage}
 use Rattle.mvo_store.specs.declared.merge_stage.MergeStage.TheVariants.{Delta as MergeAtDelta}

@@ -12,9 +12,9 @@ use Rattle.mvo_pair.specs.Writing.{place_behind}
 use Rattle.mvo_pair.proofs.Appends.{length-delta}
 use Rattle.mvo_manifest.specs.Data.{ManifestData, pair_files}
 use Rattle.mvo_manifest.specs.Rules.{IsManifest}
-use Rattle.mvo_image.specs.Opens.{Image}
+use Rattle.mvo_recovery.specs.image.Opens.{Image}
 use Rattle.mvo_recovery.proofs.Pairs.{pairs_apart, same_data, same_delta, data_no_delta, data_among, delta_among}
-use Rattle.mvo_beside.specs.Seen.{CountsStay}
+use Rattle.mvo_recovery.specs.beside.Seen.{CountsStay}
 
 -- where bytes are written behind them
 pub counted_before : (version below count : ℕ) (ns old new bytes : List ℕ) → Holds old (place_behind count) bytes new → HasNumbers version below count ns old → HasNumbers version below count ns new

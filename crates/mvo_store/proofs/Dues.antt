@@ -32,12 +32,12 @@ use Rattle.mvo_recovery.specs.Parts.{IsLastFile, Parts}
 use Rattle.mvo_recovery.specs.Settled.{IsSettled, other_slot}
 use Rattle.mvo_recovery.specs.Checkpoint.{NewNumbers, raise, lives_after, checkpointed, checkpointed_parts}
 use Rattle.mvo_recovery.specs.Merging.{merged}
-use Rattle.mvo_beside.specs.Seen.{pairs_now}
-use Rattle.mvo_beside.proofs.Proved.{places_beside}
+use Rattle.mvo_recovery.specs.beside.Seen.{pairs_now}
+use Rattle.mvo_recovery.proofs.beside.Proved.{places_beside}
 use Rattle.mvo_recovery.proofs.Named.{slot_below, last_named, named_is_no_slot, last_once}
 use Rattle.mvo_recovery.proofs.Checkpointed.{last_stays, last_after}
 use Rattle.mvo_recovery.proofs.Installed.{after_install as settled_after}
-use Rattle.mvo_recovery.proofs.Beside.{rotated_last}
+use Rattle.mvo_recovery.proofs.Rotating.{rotated_last}
 use Rattle.mvo_store.specs.declared.step.Step.TheVariants.{Close, Open}
 use Rattle.mvo_store.specs.declared.due.Due.{Due}
 use Rattle.mvo_store.specs.declared.due.Due.TheVariants.{MergeDelta, Install}

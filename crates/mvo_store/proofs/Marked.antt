@@ -9,14 +9,14 @@ use Rattle.mvo_format.specs.declared.header.TheConstants.{HEADER_LEN, VERSION}
 use Rattle.mvo_frame.specs.Frames.{Frames, sized, mark_after}
 use Rattle.mvo_pair.specs.declared.pair.Pair.{Pair}
 use Rattle.mvo_manifest.specs.Rules.{PairsRise, IsManifest, IsFile}
-use Rattle.mvo_image.specs.Opens.{Outcome}
-use Rattle.mvo_image.specs.Gives.{HaveGroups}
-use Rattle.mvo_image.specs.Files.{SegmentSays}
+use Rattle.mvo_recovery.specs.image.Opens.{Outcome}
+use Rattle.mvo_recovery.specs.image.Gives.{HaveGroups}
+use Rattle.mvo_recovery.specs.image.Files.{SegmentSays}
 use Rattle.mvo_store.specs.Standing.{Gives, IsUp, HasSlots, MayBeLeft, KeepsRows}
 use Rattle.mvo_types.specs.declared.refusal.Refusal.{Refusal}
 use Rattle.mvo_types.specs.declared.refusal.Refusal.TheVariants.{ClockSpent, AlreadyFormatted}
 use Rattle.mvo_disk.specs.declared.disk.Disk.{Ghosts}
-use Rattle.mvo_image.proofs.Opening.{exact}
+use Rattle.mvo_recovery.proofs.image.Opening.{exact}
 use Rattle.mvo_recovery.proofs.Opened.{gives_installed, newest_stands}
 use Rattle.mvo_store.specs.Opening.{IsAnswer, IsNotOpened, IsNotOfFiles, HasSynced}
 use Rattle.std.proofs.lemmas.Bool.{lt-leb}
@@ -28,7 +28,7 @@ use Rattle.mvo_format.specs.Found.{header}
 use Rattle.mvo_frame.specs.declared.magic.TheConstants.{MAGIC}
 use Rattle.mvo_manifest.specs.Data.{ManifestData, named}
 use Rattle.mvo_manifest.specs.Slots.{IsShut, IsOpen}
-use Rattle.mvo_image.specs.Rows.{rows_of, after_groups}
+use Rattle.mvo_places.specs.Rows.{rows_of, after_groups}
 use Rattle.mvo_places.specs.Places.{PlaceTable}
 use Rattle.mvo_load.specs.Loaded.{SealedSays, IsLoaded}
 use Rattle.mvo_load.specs.Parts.{HavePlaces}

@@ -7,8 +7,8 @@ use Rattle.mvo_disk.specs.Disk.{Image, Only, AllOf, LeavesOnly, IsHonest}
 use Rattle.mvo_format.specs.declared.format.TheConstants.{FIRST_FORMAT}
 use Rattle.mvo_pair.specs.Answers.{IsOnly}
 use Rattle.mvo_pair.specs.Writing.{IsStop, CountsFaults}
-use Rattle.mvo_image.specs.Opens.{Outcome}
-use Rattle.mvo_image.specs.Files.{OpensAs}
+use Rattle.mvo_recovery.specs.image.Opens.{Outcome}
+use Rattle.mvo_recovery.specs.image.Files.{OpensAs}
 use Rattle.mvo_store.specs.declared.limits.TheConstants.{MAX_FAULTS}
 use Rattle.mvo_store.specs.Jobs.{no_jobs}
 use Rattle.mvo_store.specs.StoreData.{StoreData}

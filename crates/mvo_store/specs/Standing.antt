@@ -16,8 +16,8 @@ use Rattle.mvo_manifest.specs.Data.{ManifestData}
 use Rattle.mvo_manifest.specs.Slots.{IsShut, IsStaged}
 use Rattle.mvo_places.specs.Places.{PlaceTable, ArePlaces}
 use Rattle.mvo_merge.specs.Moved.{HaveOwnKeys}
-use Rattle.mvo_image.specs.Files.{GivesRows}
-use Rattle.mvo_image.specs.Rows.{after_groups}
+use Rattle.mvo_recovery.specs.image.Files.{GivesRows}
+use Rattle.mvo_places.specs.Rows.{after_groups}
 use Rattle.mvo_recovery.specs.Parts.{Parts, rows_of_parts, mark_of_parts, IsLastFile}
 use Rattle.mvo_recovery.specs.Settled.{IsSettled, other_slot, GivesWithOrWithout}
 use Rattle.mvo_recovery.specs.Rotation.{rotated, IsFresh, MayRotate}

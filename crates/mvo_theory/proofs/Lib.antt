@@ -62,3 +62,4 @@ pub mod Counting
 pub mod Answered
 pub mod Justified
 pub mod Written
+pub mod rests

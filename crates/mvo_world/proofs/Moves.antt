@@ -49,9 +49,9 @@ use Rattle.mvo_store.specs.Calls.StoreCall.{Take, AppendOpen as AppendOpenCall}
 use Rattle.mvo_store.proofs.Taken.{KeepsTaken, IsQuiet, left_taken, quiet_taken, quiet_rows, refused_rows, accepted_by, refused_by}
 use Rattle.mvo_store.proofs.Keeping.{OnlyNow, refused_keeps}
 use Rattle.mvo_world.specs.WorldData.{WorldData, waiting, Follow, IsLinked, IsSoundWorld, IsJustOpened}
-use Rattle.mvo_rests.specs.Course.{trims_after}
-use Rattle.mvo_rests.specs.Known.{KnowsRests}
-use Rattle.mvo_rests.proofs.Knowing.{known_opened, known_after_call, known_closed}
+use Rattle.mvo_theory.specs.rests.Course.{trims_after}
+use Rattle.mvo_theory.specs.rests.Known.{KnowsRests}
+use Rattle.mvo_theory.proofs.rests.Knowing.{known_opened, known_after_call, known_closed}
 use Rattle.mvo_world.specs.Past.{Past, course_of, happened, trimmed_by, acknowledged_by, closed_by, taken_by, with_event, opened_over}
 use Rattle.mvo_core.specs.Groups.{HaveRecordsOf}
 use Rattle.mvo_world.specs.Standing.{IsAfter, HasHonestDisk, RecoversPrefix}

@@ -4,7 +4,7 @@ use Rattle.std.specs.List.{AllByRecursion}
 use Rattle.std.proofs.lemmas.List.{append-nil, map-append}
 use Rattle.std.proofs.lemmas.List.Elements.{recursion_from_All}
 use Rattle.mvo_pair.specs.declared.pair.Pair.{Pair}
-use Rattle.mvo_image.specs.Opens.{Image}
+use Rattle.mvo_recovery.specs.image.Opens.{Image}
 use Rattle.mvo_load.specs.Files.{PairBytes, bytes_of}
 use Rattle.mvo_load.proofs.Slices.{first_and_rest, no_more}
 use Rattle.mvo_load.proofs.Unchanged.{same_image, unchanged_yet, then_unchanged, was_read, then_spent}

@@ -7,7 +7,7 @@ use Rattle.mvo_disk.specs.Disk.{IsHonest}
 use Rattle.mvo_load.proofs.Pairing.{HasFiles, front_of}
 use Rattle.std.proofs.lemmas.List.{take-append-drop}
 use Rattle.mvo_pair.specs.declared.pair.Pair.{Pair}
-use Rattle.mvo_image.specs.Opens.{Image}
+use Rattle.mvo_recovery.specs.image.Opens.{Image}
 use Rattle.mvo_load.specs.declared.part.Part.{Part}
 use Rattle.mvo_load.specs.Files.{PairBytes, bytes_of, IsPart}
 use Rattle.mvo_load.specs.Gathered.{Filed, filed_of, filed_in, MayLie}
