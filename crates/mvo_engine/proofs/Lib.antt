@@ -1,4 +1,3 @@
-pub mod run
 pub mod Rings
 pub mod CoreSound
 pub mod Collected
@@ -10,4 +9,3 @@ pub mod Starts
 pub mod Booked
 pub mod SentRows
 pub mod Flushed
-pub mod day

@@ -1,3 +1,2 @@
-pub mod line
 pub mod Turns
 pub mod LineAnswers

@@ -62,4 +62,3 @@ pub mod Counting
 pub mod Answered
 pub mod Justified
 pub mod Written
-pub mod rests
