@@ -78,6 +78,21 @@ def layers():
     return [(title, crates) for title, crates in found]
 
 
+def stands_on(crate):
+    """The crates of this repository below one, and itself, each behind those that it names."""
+    listed = dict(it for _, crates in layers() for it in crates)
+    found = []
+
+    def visit(name):
+        if name in listed and name not in found:
+            for it in listed[name]:
+                visit(it)
+            found.append(name)
+
+    visit(crate)
+    return found
+
+
 # ---- items
 
 
@@ -374,11 +389,8 @@ def exported(crate):
 
 
 def edits_of(crate):
-    """The edits of a crate: those that the gate tries, and the further ones."""
-    return [
-        *below(f"crates/{crate}/must-fail", ".edit"),
-        *below(f"scripts/edits/{crate}", ".edit"),
-    ]
+    """The edits of a crate."""
+    return below(f"edits/{crate}", ".edit")
 
 
 def changes(path):

@@ -3,14 +3,14 @@
 No clause can say that memory is refused only where a growth is, and none says of a call how large
 the lists are that it goes right for. So each place is listed that could tell large from small: one
 that makes an OutOfMemory or an AllocError itself, and one that compares something with a number
-above 1 or with a constant. scripts/growth-places has them, each with its reason.
+above 1 or with a constant. scripts/lib/growth-places has them, each with its reason.
 """
 import os
 import re
 
 from sources import blanked, closing, functions, line_at, parts, read
 
-PLACES = "scripts/growth-places"
+PLACES = "scripts/lib/growth-places"
 NUMBER = r"(?:\w+::)*(?:[A-Z][A-Z0-9_]{2,}\b(?!::)|\d[\d_]*(?:u8|u16|u32|u64|usize)?\b(?!\.))"
 SIGN = r"\s(?:<=|>=|==|!=|<|>)\s"
 CUTS = r"\.(?:min|max|clamp|take|skip|saturating_sub|checked_sub)\(\s*"

@@ -1,5 +1,5 @@
 """What a store's files come to, worked out by the rules of docs/FORMATS.md alone: nothing of the
-program is used. scripts/byte-test, scripts/image-test and scripts/random-folder-test compare what
+program is used. scripts/tests/byte-test, scripts/tests/image-test and scripts/tests/random-folder-test compare what
 opening answers with it.
 """
 import struct

@@ -1,8 +1,8 @@
-"""Whether a program that scripts/image-test runs beside the one of ./mvo is built: the gate proves and
+"""Whether a program that scripts/tests/image-test runs beside the one of ./mvo is built: the gate proves and
 builds it, as `rt run` does in its crate."""
 import os
 
-TOP = os.path.dirname(os.path.dirname(os.path.abspath(__file__)))
+from running import TOP
 
 
 def below(crate, named):

@@ -1,4 +1,4 @@
-"""What scripts/memory-test and scripts/random-folder-test share: running the program with the
+"""What scripts/tests/memory-test and scripts/tests/random-folder-test share: running the program with the
 library of front.c in front of the system's."""
 import concurrent.futures
 import mmap
@@ -11,10 +11,6 @@ import subprocess
 import sys
 
 HERE = os.path.dirname(os.path.abspath(__file__))
-# The program that ./mvo runs. It is taken or built first, where that's needed.
-FIND = [os.path.join(HERE, "program")]
-# Where there is a file system in memory, no sync takes time.
-MEMORY = "/dev/shm" if os.path.isdir("/dev/shm") else None
 PAGE = 4096
 NUMBERS = 9
 ASKED, FIRST, BEHIND, REFUSED = range(4)
@@ -22,10 +18,6 @@ THREADS, FIRST_THREAD, BEHIND_THREAD, REFUSED_THREADS, LARGEST = range(4, NUMBER
 # Behind every allocation.
 NEVER = 2**64 - 1
 PROCESSORS = len(os.sched_getaffinity(0))
-
-
-def find_program():
-    return subprocess.run(FIND, check=True, stdout=subprocess.PIPE, text=True).stdout.rstrip("\n")
 
 
 def compilers():
