@@ -19,14 +19,8 @@ use Rattle.mvo_work.specs.Limits.{MayFollow}
 use Rattle.mvo_core.specs.declared.transaction.Transaction.{Transaction}
 use Rattle.mvo_core.specs.Causes.{over_writes, is_entry_over, is_write_over, flag_of, why_not_active, why_not_put, why_not_remove}
 use Rattle.mvo_core.specs.Data.{own_of}
-use Rattle.mvo_core.proofs.Asked.{first_none, rest_none, when_none, row_is_fit, write_is_fit}
+use Rattle.mvo_core.proofs.Asked.{first_none, rest_none, when_none, row_is_fit, write_is_fit, none_key, some_key}
 use Rattle.mvo_core.proofs.CausesTold.{none_active}
-
-none_key : (k : RowKey) → ◌≡◌ {A = Option RowKey} None (Some k) → ⊥
-none_key k q = cc
-
-some_key : (k q : RowKey) → ◌≡◌ {A = Option RowKey} (Some k) (Some q) → k ≡ q
-some_key k q e = cc
 
 -- one that may be called as an Active one may be aborted
 pub unended_if_active : (table : Txns (Node Transaction)) (t : ℕ) → why_not_active table t ≡ None → IsUnended (state_of table t)

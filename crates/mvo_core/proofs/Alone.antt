@@ -26,11 +26,8 @@ use Rattle.mvo_core.specs.Data.{own_of}
 use Rattle.mvo_core.specs.Standing.{words_in}
 use Rattle.mvo_core.specs.Keeping.{IsWritten, HasMadeRoom, IsTold, IsRecorded, with_own_at}
 use Rattle.mvo_core.specs.Finishing.{from_own, HasPassed, IsFirstReplaced, IsOneReplaced}
-use Rattle.mvo_core.proofs.NoneLeft.{passed_none}
+use Rattle.mvo_core.proofs.NoneLeft.{passed_none, none_node}
 use Rattle.mvo_core.proofs.Written.{written}
-
-none_node : (n : Node Transaction) → ◌≡◌ {A = Option (Node Transaction)} None (Some n) → ⊥
-none_node n e = cc
 
 -- ---- nobody depends on it
 same_node : (node : Node Transaction) → node.dependencies.dependents ≡ [] → record node { dependencies = without_dependents node.dependencies } ≡ node

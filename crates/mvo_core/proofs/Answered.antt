@@ -48,8 +48,8 @@ use Rattle.mvo_core.specs.Standing.{StandsFor, HasWorks, IsActive, IsPreparing, 
 use Rattle.mvo_core.specs.Keeping.{HasDoneMore, IsTold, IsRecorded}
 use Rattle.mvo_core.specs.Steps.{LeadsOn}
 use Rattle.mvo_core.proofs.Laws.{answer_in_table, call_keeps}
-use Rattle.mvo_core.proofs.Carried.{stands_roomy}
-use Rattle.mvo_core.proofs.OwnChanged.{IsOwnChanged, some_own, own_registered_all, state_registered_all, own_changed, own_weaker, words_stay, words_registered}
+use Rattle.mvo_core.proofs.Carried.{stands_roomy, some_own}
+use Rattle.mvo_core.proofs.OwnChanged.{IsOwnChanged, own_registered_all, state_registered_all, own_changed, own_weaker, words_stay, words_registered}
 
 -- it has done one operation more, whatever words it has put
 pub record HasAnswered (op : Op) (a : AnswerData) (old new : Transaction) : Type 0 where

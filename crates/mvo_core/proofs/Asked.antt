@@ -29,10 +29,7 @@ use Rattle.mvo_deps.specs.Graph.{IsUnfinished}
 use Rattle.mvo_core.specs.declared.transaction.Transaction.{Transaction}
 use Rattle.mvo_core.specs.Causes.{over_writes, is_entry_over, is_write_over, flag_of, unless_active_as, why_not_active, why_not_look, why_not_put, why_not_remove}
 use Rattle.mvo_core.specs.Data.{own_of}
-use Rattle.mvo_core.proofs.CausesTold.{none_active}
-
-some_none : (r : Refusal) → ◌≡◌ {A = Option Refusal} (Some r) None → ⊥
-some_none r q = cc
+use Rattle.mvo_core.proofs.CausesTold.{none_active, some_none}
 
 -- where no cause of a list stands, none of the first one, and none of the rest
 pub first_none : (a b : Option Refusal) → or_next a b ≡ None → a ≡ None
@@ -106,10 +103,10 @@ module _ (table : Txns (Node Transaction)) (t : ℕ) where
   active_if_removed k none = first_none _ _ none
 
 -- ---- what may be written
-none_key : (k : RowKey) → ◌≡◌ {A = Option RowKey} None (Some k) → ⊥
+pub none_key : (k : RowKey) → ◌≡◌ {A = Option RowKey} None (Some k) → ⊥
 none_key k q = cc
 
-some_key : (k q : RowKey) → ◌≡◌ {A = Option RowKey} (Some k) (Some q) → k ≡ q
+pub some_key : (k q : RowKey) → ◌≡◌ {A = Option RowKey} (Some k) (Some q) → k ≡ q
 some_key k q e = cc
 
 at_most : (m n : ℕ) → nat_lt m n ≡ false → n ≤ m

@@ -40,9 +40,7 @@ use Rattle.mvo_core.specs.Standing.{StandsFor, HasWorks, IsActive, Stands, words
 use Rattle.mvo_core.specs.Steps.{came, LeadsOn}
 use Rattle.mvo_core.proofs.Laws.{why_not_begun_told, begin_in_table, begin_in_order, begin_in_lists, call_keeps}
 use Rattle.mvo_core.proofs.Carried.{SaysAsMuch, as_much, works_carried}
-
-none_own : (own : Transaction) → ◌≡◌ {A = Option Transaction} None (Some own) → ⊥
-none_own own q = cc
+use Rattle.mvo_core.proofs.WrittenThen.{none_own}
 
 refusal_as : (why : Option Refusal) (r : Refusal) → IsRefusal why r → theory.IsRefusal true why r
 refusal_as None r h = h

@@ -23,6 +23,7 @@ use Rattle.mvo_core.specs.Data.{CoreData, own_of}
 use Rattle.mvo_core.specs.Standing.{StandsFor, HasWorks, IsActive, IsPreparing, words_by, words_in}
 use Rattle.mvo_core.specs.Keeping.{IsWritten, HasDoneAsMuch, HasMadeRoom, with_own_at}
 use Rattle.mvo_core.proofs.Laws.{write_in_table}
+use Rattle.mvo_core.proofs.WrittenThen.{none_own}
 
 -- what is kept of each says as much in the other table
 abbrev pub SaysAsMuch : Txns (Node Transaction) → Txns (Node Transaction) → Type 0
@@ -48,10 +49,7 @@ works_carried s old new tale says h = record {
 }
 
 -- ---- one is written
-none_own : (own : Transaction) → ◌≡◌ {A = Option Transaction} None (Some own) → ⊥
-none_own own q = cc
-
-some_own : (p q : Transaction) → ◌≡◌ {A = Option Transaction} (Some p) (Some q) → p ≡ q
+pub some_own : (p q : Transaction) → ◌≡◌ {A = Option Transaction} (Some p) (Some q) → p ≡ q
 some_own p q e = cc
 
 none_node : (n : Node Transaction) → ◌≡◌ {A = Option (Node Transaction)} None (Some n) → ⊥

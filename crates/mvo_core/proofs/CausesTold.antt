@@ -30,7 +30,7 @@ use Rattle.mvo_core.specs.Causes.{flag_refusal, flag_of, unless_active_as, unles
 use Rattle.mvo_core.proofs.Laws.{flag_of_active_told, flag_of_preparing_told}
 
 -- ---- lists of causes
-or_next_deep : (a b c : Option Refusal) → or_next (or_next a b) c ≡ or_next a (or_next b c)
+pub or_next_deep : (a b c : Option Refusal) → or_next (or_next a b) c ≡ or_next a (or_next b c)
 or_next_deep None b c = refl
 or_next_deep (Some r) b c = refl
 
@@ -43,11 +43,11 @@ or_next_same : (a b c : Option Refusal) → (a ≡ None → b ≡ c) → or_next
 or_next_same None b c h = h refl
 or_next_same (Some r) b c h = refl
 
-or_none : (a : Option Refusal) → or_next a None ≡ a
+pub or_none : (a : Option Refusal) → or_next a None ≡ a
 or_none None = refl
 or_none (Some r) = refl
 
-some_none : (r : Refusal) → ◌≡◌ {A = Option Refusal} (Some r) None → ⊥
+pub some_none : (r : Refusal) → ◌≡◌ {A = Option Refusal} (Some r) None → ⊥
 some_none r q = cc
 
 -- ---- who may not be called so

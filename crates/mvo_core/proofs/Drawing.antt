@@ -49,10 +49,11 @@ use Rattle.mvo_core.proofs.CausesTold.{none_active}
 use Rattle.mvo_core.proofs.EndCauses.{not_precommitted_is, or_first, or_last}
 use Rattle.mvo_core.proofs.EndLaws.{precommit_in_table, draw_in_order, precommit_in_lists, lists_are_written, fronts_in_numbers}
 use Rattle.mvo_core.proofs.GivenUp.{precommit_given_up}
-use Rattle.mvo_core.proofs.OwnChanged.{IsOwnChanged, own_changed, words_stay, some_own}
+use Rattle.mvo_core.proofs.OwnChanged.{IsOwnChanged, own_changed, words_stay}
 use Rattle.mvo_core.proofs.Rest.{HasRest, stands_then}
 use Rattle.mvo_core.proofs.KeptTale.{tale_opened, ends_upto}
 use Rattle.mvo_core.proofs.TaleMoves.{open_behind, open_last}
+use Rattle.mvo_core.proofs.Carried.{some_own}
 
 -- ---- numbers
 pub over_limit : (m n : ℕ) → n < m → nat_le m n ≡ false
@@ -62,7 +63,7 @@ over_limit m n lt = go (nat_le m n) refl
     go true e = absurd (let le = leb-true m n e in omega arith)
     go false e = refl
 
-none_refusal : (r : Refusal) → ◌≡◌ {A = Option Refusal} None (Some r) → ⊥
+pub none_refusal : (r : Refusal) → ◌≡◌ {A = Option Refusal} None (Some r) → ⊥
 none_refusal r q = cc
 
 not_true : (b : Bool) → not b ≡ true → b ≡ true → ⊥

@@ -23,7 +23,6 @@ use Rattle.mvo_theory.specs.Calls.{IsRefusal}
 use Rattle.mvo_theory.proofs.Finishing.{kept_closed}
 use Rattle.mvo_theory.proofs.Groups.{closed_at_low, closed_below_low, next_group_closes}
 use Rattle.mvo_txn.specs.Txns.{state_of, IsLowWater}
-use Rattle.mvo_deps.specs.declared.node.Node.{Node}
 use Rattle.mvo_tale.specs.declared.next_records.NextRecords.{NextRecords}
 use Rattle.mvo_tale.specs.declared.slot.Slot.{Slot}
 use Rattle.mvo_tale.specs.Forgetting.{forgotten}
@@ -32,12 +31,10 @@ use Rattle.mvo_tale.specs.Records.{fits}
 use Rattle.mvo_tale.specs.Next.{AreNextRecords}
 use Rattle.mvo_tale.proofs.KeptPlaces.{tale_closed}
 use Rattle.mvo_representation.specs.DependencyLaws.{CloseInTable}
-use Rattle.mvo_representation.specs.TableLaws.{TellsLowWater}
 use Rattle.mvo_representation.specs.WordLaws.{CloseKeepsLists}
 use Rattle.mvo_representation.specs.Indexes.{all_versions}
 use Rattle.mvo_representation.specs.Table.{phases_of}
 use Rattle.mvo_representation.proofs.TableSteps.{table_closed}
-use Rattle.mvo_representation.proofs.TableMarks.{low_water_is}
 use Rattle.mvo_representation.proofs.WordsKept.{close_keeps_lists}
 use Rattle.mvo_representation.proofs.Reworded.{kept_after_close}
 use Rattle.mvo_core.specs.declared.transaction.Transaction.{Transaction}
@@ -46,14 +43,11 @@ use Rattle.mvo_core.specs.Data.{CoreData}
 use Rattle.mvo_core.specs.Standing.{StandsFor, Stands, words_in}
 use Rattle.mvo_core.specs.Closing.{IsClosedNow, IsNotClosed, HasClosed}
 use Rattle.mvo_core.proofs.KeptTale.{opens_above, next_group_kept}
-use Rattle.mvo_core.proofs.Trimmed.{stands_forgotten}
+use Rattle.mvo_core.proofs.Trimmed.{stands_forgotten, low_water_told}
 use Rattle.rtrb.specs.declared.producer.Producer.{Producer}
 
 close_in_table : CloseInTable Transaction
 close_in_table = table_closed
-
-low_water_told : TellsLowWater (Node Transaction)
-low_water_told = low_water_is
 
 close_in_lists : CloseKeepsLists
 close_in_lists = close_keeps_lists

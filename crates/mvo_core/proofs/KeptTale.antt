@@ -1,5 +1,5 @@
 -- The tale stays that of the state where a place is opened, settled, left, checked or forgotten.
-use Rattle.std.proofs.Common.{◌≡◌, ℕ, zero, suc, ◌<◌, ◌≤◌, Bool, true, false, cond, List, [], ◌∷◌, ◌++◌, append_assoc, map, length, Option, None, Some, refl, sym, ap, ◌∙◌, subst, arith}
+use Rattle.std.proofs.Common.{◌≡◌, ℕ, zero, suc, ◌<◌, ◌≤◌, Bool, true, false, cond, List, [], ◌∷◌, ◌++◌, append_assoc, map, length, Some, refl, sym, ap, ◌∙◌, subst, arith}
 use Rattle.std.specs.Prelude.{slice_set, ◌==◌, ◌||◌, ◌&&◌, nat_le, filter}
 use Rattle.std.specs.List.{AllByRecursion}
 use Rattle.std.proofs.lemmas.Bool.{ne_eqb, le-ltb, lt-ltb}
@@ -27,7 +27,7 @@ use Rattle.mvo_tale.proofs.KeptPlaces.{places_parted, places_joined}
 use Rattle.mvo_tale.proofs.NextGroups.{ends_of_places, open_ends_above, settled_to_places, places_opened}
 use Rattle.mvo_core.specs.Receipts.{Receipt, receipt, receipt_of, receipts_of, stored_commits}
 use Rattle.mvo_core.specs.Trimming.{stored_above}
-use Rattle.mvo_core.proofs.TaleMoves.{IsCommitOf, below_apart, filter_kept, places_settled, places_emptied, places_closed, places_flagged, places_checked}
+use Rattle.mvo_core.proofs.TaleMoves.{IsCommitOf, below_apart, filter_kept, places_settled, places_emptied, places_closed, places_flagged, places_checked, none_end}
 
 -- ---- those that are past
 rising_back : (xs ys : List StampedTx) → IsRising (xs ++ ys) → IsRising ys
@@ -56,9 +56,6 @@ past_apart start e (x ∷ xs) lt h =
     ∙ ap (λ (ys : List StampedTx). x ∷ ys) (past_apart start e xs lt h.1)
 
 -- ---- an open place stays where others are forgotten
-none_end : (e : ℕ) → ◌≡◌ {A = Option ℕ} None (Some e) → ⊥
-none_end e h = cc
-
 pub open_forgotten : (upto : ℕ) (slots : List Slot) (q d : ℕ) → open_end_at slots q ≡ Some d → open_end_at (forgotten upto slots) q ≡ Some d
 open_forgotten upto [] q d h = h
 open_forgotten upto (Open e ∷ slots) q d h = h

@@ -19,7 +19,7 @@ use Rattle.mvo_core.specs.Keeping.{IsWritten, with_own_at}
 use Rattle.mvo_core.specs.Finishing.{from_own, HasPassed}
 
 -- ---- to write what is kept changes nothing
-none_node : (n : Node Transaction) → ◌≡◌ {A = Option (Node Transaction)} None (Some n) → ⊥
+pub none_node : (n : Node Transaction) → ◌≡◌ {A = Option (Node Transaction)} None (Some n) → ⊥
 none_node n e = cc
 
 some_node : (n m : Node Transaction) → ◌≡◌ {A = Option (Node Transaction)} (Some n) (Some m) → n ≡ m

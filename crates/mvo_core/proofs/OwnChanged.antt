@@ -19,13 +19,8 @@ use Rattle.mvo_core.specs.Data.{own_of}
 use Rattle.mvo_core.specs.Standing.{words_by, words_in}
 use Rattle.mvo_core.specs.Keeping.{IsWritten, with_own_at}
 use Rattle.mvo_core.proofs.Laws.{write_in_table}
-use Rattle.mvo_core.proofs.Carried.{own_here, own_beside}
-
-none_own : (own : Transaction) → ◌≡◌ {A = Option Transaction} None (Some own) → ⊥
-none_own own q = cc
-
-pub some_own : (p q : Transaction) → ◌≡◌ {A = Option Transaction} (Some p) (Some q) → p ≡ q
-some_own p q e = cc
+use Rattle.mvo_core.proofs.Carried.{own_here, own_beside, some_own}
+use Rattle.mvo_core.proofs.WrittenThen.{none_own}
 
 -- ---- dependencies are registered
 own_data : (b : Bool) (f : DependencyData → DependencyData) (o : Option (Seat (Node Transaction)))

@@ -8,6 +8,7 @@ use Rattle.mvo_theory.specs.State.{State, EndedTx, ended_of}
 use Rattle.mvo_theory.specs.Words.{is_done}
 use Rattle.mvo_theory.specs.Sound.{how_many}
 use Rattle.mvo_theory.proofs.Each.{each_weaker}
+use Rattle.mvo_theory.proofs.EndSteps.{filter_same}
 use Rattle.mvo_chain.specs.declared.version.Version.{Version}
 use Rattle.mvo_chain.specs.Slots.{Slots, version_at}
 use Rattle.mvo_hash.specs.Lists.{Lists}
@@ -18,7 +19,7 @@ use Rattle.mvo_representation.specs.Laws as representation
 use Rattle.mvo_representation.specs.Words.{Ends}
 use Rattle.mvo_representation.specs.OrderLaws.{HaveNow}
 use Rattle.mvo_representation.specs.WordLists.{WordLists, HasWordLists, HaveListNow, number_at, names_at, is_place, named, finished}
-use Rattle.mvo_representation.proofs.WordPlaces.{place_same, place_apart, counted_none, filter_same}
+use Rattle.mvo_representation.proofs.WordPlaces.{place_same, place_apart, counted_none}
 use Rattle.mvo_representation.proofs.WordsFinished.{names_beside, named_before}
 use Rattle.mvo_core.specs.Finishing.{from_own}
 use Rattle.mvo_core.proofs.FinishLaws.{passing_in_lists, done_seen}

@@ -38,7 +38,7 @@ use Rattle.mvo_representation.specs.Table.{phases_of, IsShown}
 use Rattle.mvo_representation.specs.WordLists.{HasWordLists, HaveListNow}
 use Rattle.mvo_representation.proofs.OrderOperations.{delete_keeps_order, update_keeps_order}
 use Rattle.mvo_representation.proofs.OrderSlots.{added_is_now, changed_is_now}
-use Rattle.mvo_representation.proofs.Slots.{slot_changed, slot_emptied}
+use Rattle.mvo_representation.proofs.Slots.{slot_changed, slot_emptied, none_version}
 use Rattle.mvo_representation.proofs.WordsWritten.{delete_keeps_lists, update_keeps_lists}
 use Rattle.mvo_core.specs.declared.transaction.Transaction.{Transaction}
 use Rattle.mvo_core.specs.Data.{CoreData}
@@ -50,9 +50,6 @@ use Rattle.mvo_core.proofs.Answered.{HasAnswered, IsAnswered, done_so}
 use Rattle.mvo_core.proofs.InTheWay.{shown, shown_there, row_there, may_end}
 
 -- ---- slots
-none_version : (v : Version) → ◌≡◌ {A = Option Version} None (Some v) → ⊥
-none_version v q = cc
-
 -- two slots are set in either order
 set_swap : (ss : Slots) (i j : ℕ) (x y : Option Version) → i ≢ j → slice_set (slice_set ss i x) j y ≡ slice_set (slice_set ss j y) i x
 set_swap [] i j x y ne = refl

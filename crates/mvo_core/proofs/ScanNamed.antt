@@ -1,6 +1,6 @@
 -- Whom a scan is told of place by place are those whom the rules name at the keys that it meets.
-use Rattle.std.proofs.Common.{◌≡◌, ℕ, ◌+◌, ◌<◌, ◌≤◌, suc, zero, Bool, true, false, cond, ◌||◌, List, [], ◌∷◌, map, filter, Option, None, Some, refl, sym, ap, ◌∙◌, subst, arith}
-use Rattle.std.specs.Prelude.{◌==◌, ◌&&◌, not, nat_lt, nat_le, is_some, slice_index_or}
+use Rattle.std.proofs.Common.{◌≡◌, ℕ, ◌+◌, ◌<◌, ◌≤◌, suc, Bool, true, false, cond, ◌||◌, List, [], ◌∷◌, map, filter, Option, None, Some, refl, sym, ap, ◌∙◌, subst, arith}
+use Rattle.std.specs.Prelude.{◌==◌, ◌&&◌, not, nat_lt, nat_le, slice_index_or}
 use Rattle.std.specs.List.{AllByRecursion, list_any}
 use Rattle.std.specs.FinMap as fin
 use Rattle.std.specs.Ordering.{eq_by_cmp}
@@ -16,6 +16,7 @@ use Rattle.mvo_theory.specs.Ranges.{shows, is_row_of}
 use Rattle.mvo_theory.specs.Sound.{how_many}
 use Rattle.mvo_theory.specs.State.{State}
 use Rattle.mvo_theory.proofs.Each.{each_weaker}
+use Rattle.mvo_theory.proofs.Footprints.{or_left, or_right}
 use Rattle.mvo_word.specs.declared.held.Held.{Held}
 use Rattle.mvo_word.specs.declared.held.Held.TheVariants.{At, By, Infinity}
 use Rattle.mvo_txn.specs.declared.state.TxState.{TxState}
@@ -28,6 +29,7 @@ use Rattle.mvo_range.specs.Place.{place_cmp, is_between}
 use Rattle.mvo_range.proofs.Places.{exact_places, places_total}
 use Rattle.mvo_validate.specs.Entries.{key_at}
 use Rattle.mvo_deps.specs.Data.{is_among}
+use Rattle.mvo_deps.proofs.Lists.{one}
 use Rattle.mvo_visible.specs.Words.{States, seen_in, seen_of}
 use Rattle.mvo_versions.specs.Data.{VersionsData}
 use Rattle.mvo_representation.specs.Dependencies.{named_at, is_met_at, AreNamedByScan}
@@ -35,7 +37,8 @@ use Rattle.mvo_representation.specs.Indexes.{all_versions, is_of_key, HasNumbers
 use Rattle.mvo_representation.specs.Table.{phase_as, phases_of}
 use Rattle.mvo_representation.specs.Words as words
 use Rattle.mvo_representation.specs.Words.{end_in, ends_of, stamp_in, meets}
-use Rattle.mvo_representation.proofs.RangeCheckedBy.{iff, any_slot}
+use Rattle.mvo_representation.proofs.RangeCheckedBy.{iff, any_slot, in_slot, none_number, some_there}
+use Rattle.mvo_representation.proofs.ShownTo.{one_is}
 use Rattle.mvo_core.specs.Scanning.{is_below, is_up_to, is_met_by, is_met_at_place, shown_at, places_within, AreNamedAt}
 
 -- ---- what others see in a word is its stamp
@@ -73,21 +76,6 @@ not_is true = refl
 not_is false = refl
 
 -- ---- numbers
-abbrev one : Bool → ℕ
-one b = cond b 1 0
-
-one_is : (b : Bool) → 1 ≤ cond b 1 0 → b ≡ true
-one_is true l = refl
-one_is false l = absurd (omega (arith, l))
-
-or_left : (a b : Bool) → a ≡ true → (a || b) ≡ true
-or_left true b e = refl
-or_left false b e = absurd (false≢true e)
-
-or_right : (a b : Bool) → b ≡ true → (a || b) ≡ true
-or_right true b e = refl
-or_right false b e = e
-
 -- one of the numbers that passes
 record FoundAt (f : ℕ → Bool) (ns : List ℕ) : Type 0 where
   pub n : ℕ
@@ -117,23 +105,7 @@ record InSlot (slots : Slots) (f : Version → Bool) : Type 0 where
   pub at : slice_index_or slots number None ≡ Some version
   pub passes : f version ≡ true
 
-in_slot : (f : Version → Bool) (slots : Slots) → list_any f (all_versions slots) ≡ true → InSlot slots f
-in_slot f [] e = absurd (false≢true e)
-in_slot f (None ∷ ss) e = let w = in_slot f ss e in record { number = suc w.number; version = w.version; at = w.at; passes = w.passes }
-in_slot f (Some v ∷ ss) e = go (f v) refl e (λ r. in_slot f ss r)
-  where
-    go : (b : Bool) → f v ≡ b → (b || list_any f (all_versions ss)) ≡ true → (list_any f (all_versions ss) ≡ true → InSlot ss f) → InSlot (Some v ∷ ss) f
-    go true q r again = record { number = zero; version = v; at = refl; passes = q }
-    go false q r again = let w = again r in record { number = suc w.number; version = w.version; at = w.at; passes = w.passes }
-
 -- ---- places of the range
-pub some_there : (o : Option ℕ) → is_some o ≡ true → (n : ℕ) × (o ≡ Some n)
-some_there None e = absurd (false≢true e)
-some_there (Some n) e = (n, refl)
-
-none_number : (n : ℕ) → ◌≡◌ {A = Option ℕ} None (Some n) → ⊥
-none_number n q = cc
-
 -- what is so at each place of the range is so at one that is there
 pub each_entry : (P : Place → Type 0) (table lo hi : ℕ) (p : Place) (n : ℕ) (es : List (Place × ℕ)) → is_between table lo hi (p, 0) ≡ true → fin.find place_cmp p es ≡ Some n
     → AllByRecursion P (map (λ e. e.0) (filter (is_between table lo hi) es)) → P p

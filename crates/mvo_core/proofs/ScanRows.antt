@@ -4,20 +4,20 @@ use Rattle.std.specs.Prelude.{◌==◌, ◌&&◌, nat_le}
 use Rattle.std.specs.List.{AllByRecursion}
 use Rattle.std.specs.List.Sorted.{IsStrictlySortedBy}
 use Rattle.std.specs.Option.{option_to_list}
-use Rattle.std.specs.Ordering.{nat_cmp, is_lt, ordering_then, ordering_reverse}
-use Rattle.std.specs.declared.cmp.Ordering.{Ordering}
-use Rattle.std.specs.declared.cmp.Ordering.TheVariants.{Less, Equal, Greater}
+use Rattle.std.specs.Ordering.{nat_cmp, ordering_then}
+use Rattle.std.specs.declared.cmp.Ordering.TheVariants.{Less}
 use Rattle.std.specs.FinMap as fin
 use Rattle.std.specs.FinMap.{is_sorted, entries_sorted}
 use Rattle.std.specs.FinMap.Entries.{below_all}
 use Rattle.std.proofs.Math.Dec.{T}
 use Rattle.std.proofs.lemmas.Bool.{eqb-true, and_parts}
-use Rattle.std.proofs.lemmas.Cmp.{nat_cmp_total}
 use Rattle.mvo_types.specs.declared.row.RowKey.{RowKey}
 use Rattle.mvo_types.specs.RowData.{RowData}
 use Rattle.mvo_types.specs.Keys.{Map}
+use Rattle.mvo_types.proofs.Ranges.{first, second}
 use Rattle.mvo_model.specs.Serial.{scan_cmp}
 use Rattle.mvo_model.specs.Trace.{Step}
+use Rattle.mvo_model.proofs.Scans.{less_of, nat_equal, same_table}
 use Rattle.mvo_theory.specs.State.{State, ActiveTx, active_of}
 use Rattle.mvo_txn.specs.Txns.{state_of}
 use Rattle.mvo_chain.specs.declared.version.VersionNo.{VersionNo}
@@ -31,27 +31,14 @@ use Rattle.mvo_core.specs.Scanning.{row_of, row_with_sort, row_at_place, rows_at
 use Rattle.mvo_core.specs.Standing.{StandsFor}
 use Rattle.mvo_core.proofs.Looked.{shown_in, shown_there}
 
-none_row : (r : RowData) → ◌≡◌ {A = Option RowData} None (Some r) → ⊥
+pub none_row : (r : RowData) → ◌≡◌ {A = Option RowData} None (Some r) → ⊥
 none_row r q = cc
 
-some_row : (a b : RowData) → ◌≡◌ {A = Option RowData} (Some a) (Some b) → a ≡ b
+pub some_row : (a b : RowData) → ◌≡◌ {A = Option RowData} (Some a) (Some b) → a ≡ b
 some_row a b q = cc
 
 -- ---- the places of a range rise
-first : (a b : Bool) → T (a && b) → T a
-first true b h = tt
-first false b h = h
-
-second : (a b : Bool) → T (a && b) → T b
-second true b h = h
-second false b h = absurd h
-
-less_of : (o : Ordering) → T (is_lt o) → o ≡ Less
-less_of Less h = refl
-less_of Equal h = absurd h
-less_of Greater h = absurd h
-
-abbrev of_range : ℕ → ℕ → ℕ → List (Place × ℕ) → List Place
+abbrev pub of_range : ℕ → ℕ → ℕ → List (Place × ℕ) → List Place
 of_range table lo hi es = map (λ e. e.0) (filter (is_between table lo hi) es)
 
 below : (table lo hi : ℕ) (k : Place) (es : List (Place × ℕ)) → T (below_all place_cmp k es) → AllByRecursion (λ q. place_cmp k q ≡ Less) (of_range table lo hi es)
@@ -86,19 +73,6 @@ of_table table lo hi (e ∷ es) = go (is_between table lo hi e) refl (of_table t
 pub record IsAt (p : Place) (row : RowData) : Type 0 where
   pub key : row.key ≡ key_at p
   pub sort : row.sort ≡ p.sort
-
-same_table : (o p : Ordering) → o ≡ Equal → ordering_then o p ≡ Less → p ≡ Less
-same_table Less p e f = absurd cc
-same_table Equal p e f = f
-same_table Greater p e f = absurd cc
-
-nat_equal : (x y : ℕ) → x ≡ y → nat_cmp x y ≡ Equal
-nat_equal x y e = subst (λ z. nat_cmp x z ≡ Equal) e (same (nat_cmp x x) (nat_cmp_total.antisymm x x))
-  where
-    same : (o : Ordering) → o ≡ ordering_reverse o → o ≡ Equal
-    same Less f = absurd cc
-    same Equal f = refl
-    same Greater f = absurd cc
 
 less_at : (p q : Place) (a b : RowData) → IsAt p a → IsAt q b → p.table ≡ q.table → place_cmp p q ≡ Less → scan_cmp a b ≡ Less
 less_at p q a b x y e l =

@@ -21,6 +21,8 @@ use Rattle.mvo_types.specs.RowData.{RowData, ContentData, row_with}
 use Rattle.mvo_types.specs.RowLists.{is_within, rows_by_key, rows_within}
 use Rattle.mvo_types.specs.Keys.{Map, key_cmp, row_at}
 use Rattle.mvo_types.proofs.Maps.{exact_keys, keys_total}
+use Rattle.mvo_types.proofs.Ordered.{Entries}
+use Rattle.mvo_types.proofs.Ranges.{first, second}
 use Rattle.mvo_model.specs.Serial.{scan_cmp, scan}
 use Rattle.mvo_model.specs.Trace.{Step}
 use Rattle.mvo_model.proofs.Scans.{scan_is, scan_total}
@@ -36,23 +38,16 @@ use Rattle.mvo_range.specs.Place.{is_between}
 use Rattle.mvo_validate.specs.Entries.{key_at}
 use Rattle.mvo_representation.specs.Table.{place_with}
 use Rattle.mvo_representation.proofs.Proved.{rows_are_placed}
+use Rattle.mvo_representation.proofs.RowsPlaced.{none_content}
+use Rattle.mvo_representation.proofs.RangeCheckedBy.{some_there}
 use Rattle.mvo_core.specs.Data.{CoreData}
 use Rattle.mvo_core.specs.Looking.{row_shown}
 use Rattle.mvo_core.specs.Scanning.{row_of, row_with_sort, row_at_place, rows_at, places_within}
 use Rattle.mvo_core.specs.Standing.{StandsFor}
 use Rattle.mvo_core.proofs.Looked.{shown_in, row_is}
 use Rattle.mvo_core.proofs.SameRising.{IsIn, same_rising}
-use Rattle.mvo_core.proofs.ScanNamed.{each_entry, some_there}
-use Rattle.mvo_core.proofs.ScanRows.{IsAt, row_at_is, rows_rise}
-
-none_row : (r : RowData) → ◌≡◌ {A = Option RowData} None (Some r) → ⊥
-none_row r q = cc
-
-some_row : (a b : RowData) → ◌≡◌ {A = Option RowData} (Some a) (Some b) → a ≡ b
-some_row a b q = cc
-
-none_content : (h : ContentData) → ◌≡◌ {A = Option ContentData} None (Some h) → ⊥
-none_content h q = cc
+use Rattle.mvo_core.proofs.ScanNamed.{each_entry}
+use Rattle.mvo_core.proofs.ScanRows.{IsAt, row_at_is, rows_rise, none_row, of_range, some_row}
 
 some_content : (a b : ContentData) → ◌≡◌ {A = Option ContentData} (Some a) (Some b) → a ≡ b
 some_content a b q = cc
@@ -108,9 +103,6 @@ module _ {X : Type 0} where
       go false q j again = let w = again j in record { there = inr w.there; passes = w.passes }
 
 -- ---- the rows of a map
-abbrev Entries : Type 0
-Entries = List (RowKey × ContentData)
-
 abbrev whole : RowKey × ContentData → RowData
 whole e = row_with e.0 e.1
 
@@ -123,14 +115,6 @@ row_found k h (x ∷ xs) e = go (eq_by_cmp key_cmp k x.0) refl e (λ f. row_foun
         → IsIn (row_with k h) (whole x ∷ map whole xs)
     go true q f again = inl (ap (λ (j : RowKey). row_with j h) (tells_apart exact_keys k x.0 q) ∙ ap (row_with x.0) (sym (some_content x.1 h f)))
     go false q f again = inr (again f)
-
-first : (a b : Bool) → T (a && b) → T a
-first true b h = tt
-first false b h = h
-
-second : (a b : Bool) → T (a && b) → T b
-second true b h = h
-second false b h = absurd h
 
 -- an entry of a list that has the row
 pub record IsEntryOf (z : RowData) (es : Entries) : Type 0 where
@@ -192,9 +176,6 @@ module _ (m : Map) (table lo hi : ℕ) where
       record { content = e.content; row = e.row; held = fin.get-entries m z.key ∙ e.found; inside = w.passes }
 
 -- ---- the places of the range
-abbrev of_range : ℕ → ℕ → ℕ → List (Place × ℕ) → List Place
-of_range table lo hi es = map (λ e. e.0) (filter (is_between table lo hi) es)
-
 all_between : (table lo hi : ℕ) (es : List (Place × ℕ)) → AllByRecursion (λ p. is_between table lo hi (p, 0) ≡ true) (of_range table lo hi es)
 all_between table lo hi [] = tt
 all_between table lo hi (e ∷ es) = go (is_between table lo hi e) refl (all_between table lo hi es)

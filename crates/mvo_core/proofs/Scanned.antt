@@ -9,6 +9,7 @@ use Rattle.mvo_types.specs.declared.ids.TxId.{TxId}
 use Rattle.mvo_types.specs.declared.row.RowKey.{RowKey}
 use Rattle.mvo_types.specs.RowData.{RowData}
 use Rattle.mvo_theory.proofs.Each.{each_append, each_weaker}
+use Rattle.mvo_theory.proofs.OriginEnds.{or_true}
 use Rattle.mvo_range.specs.declared.place.Place.{Place}
 use Rattle.mvo_range.specs.Place.{is_between}
 use Rattle.mvo_deps.specs.Data.{is_among}
@@ -24,10 +25,6 @@ some_id a b q = cc
 
 none_id : (a : TxId) → ◌≡◌ {A = Option TxId} None (Some a) → ⊥
 none_id a q = cc
-
-or_true : (b : Bool) → (b || true) ≡ true
-or_true true = refl
-or_true false = refl
 
 -- ---- one more is named
 among_itself : (id : TxId) (on : List TxId) → is_among id (on ++ id ∷ []) ≡ true

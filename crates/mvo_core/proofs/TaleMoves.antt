@@ -12,12 +12,10 @@ use Rattle.mvo_tale.specs.declared.slot.Slot.TheVariants.{Open, Settled, Empty}
 use Rattle.mvo_tale.specs.Stored.{StoredCommit}
 use Rattle.mvo_tale.specs.Slots.{open_end_of, open_end_at, and_place, without_empty_back, or_all, closed_up}
 use Rattle.mvo_tale.specs.Timeline.{IsStoredAs, IsPlaceOf, ArePlacesOf}
+use Rattle.mvo_tale.proofs.Rising.{same_end}
 
-none_end : (e : ℕ) → ◌≡◌ {A = Option ℕ} None (Some e) → ⊥
+pub none_end : (e : ℕ) → ◌≡◌ {A = Option ℕ} None (Some e) → ⊥
 none_end e h = cc
-
-same_end : (d e : ℕ) → ◌≡◌ {A = Option ℕ} (Some d) (Some e) → d ≡ e
-same_end d e h = cc
 
 -- ---- the open places of others
 apart_ends : (o : Option ℕ) (e d : ℕ) → o ≡ Some e → o ≡ Some d → d ≢ e → ⊥

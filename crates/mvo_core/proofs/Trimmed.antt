@@ -59,7 +59,7 @@ trim_in_lists = trim_keeps_lists
 oldest_told : TellsOldestBegin (Node Transaction)
 oldest_told = oldest_begin_is
 
-low_water_told : TellsLowWater (Node Transaction)
+pub low_water_told : TellsLowWater (Node Transaction)
 low_water_told = low_water_is
 
 -- ---- what is both trimmed and in a group is forgotten

@@ -39,10 +39,11 @@ use Rattle.mvo_core.specs.Steps.{LeadsOn}
 use Rattle.mvo_core.proofs.EndCauses.{not_validated_is, preparing_unended, or_first, or_last}
 use Rattle.mvo_core.proofs.EndLaws.{change_named, stamps_fall, check_in_table, check_in_lists}
 use Rattle.mvo_core.proofs.GivenUp.{validate_given_up}
-use Rattle.mvo_core.proofs.OwnChanged.{IsOwnChanged, own_changed, words_stay, some_own}
+use Rattle.mvo_core.proofs.OwnChanged.{IsOwnChanged, own_changed, words_stay}
 use Rattle.mvo_core.proofs.Rest.{HasRest, preparing_there, stands_then}
 use Rattle.mvo_core.proofs.KeptTale.{tale_checked}
 use Rattle.mvo_core.proofs.Undone.{IsKeptOfPreparing, kept_of_preparing}
+use Rattle.mvo_core.proofs.Carried.{some_own}
 
 -- ---- what is found, and what is refused
 failed_by : (o : Option Stamp) → differs (option_map (λ stamp. stamp.0) o) ≡ option_map ValidationFailed o

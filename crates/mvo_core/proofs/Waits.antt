@@ -34,6 +34,7 @@ use Rattle.mvo_representation.proofs.OrderSlots.{added_is_now, changed_is_now}
 use Rattle.mvo_representation.proofs.Slots.{slot_filled, slot_changed}
 use Rattle.mvo_representation.proofs.TableNodes.{begun_state, begun_others, left_state, left_others}
 use Rattle.mvo_representation.proofs.WordPlaces.{names_there}
+use Rattle.mvo_representation.proofs.Decided.{none_end}
 use Rattle.mvo_collect.specs.declared.ended.Ended.{Ended}
 use Rattle.mvo_collect.specs.Waiting.{WaitingData, AreWaiting, AreRising, waits, is_buried, is_by}
 use Rattle.mvo_collect.specs.Collecting.{is_dead_in}
@@ -127,9 +128,6 @@ waits_beside old new t slots w le others here h = table_keeps_waiting old.clock 
     (λ is. subst (λ (x : ℕ). end_in (phase_as (state_of old x)) ≡ Some e) (sym is) (here e (ap (λ (x : ℕ). end_in (phase_as (state_of new x))) (sym is) ∙ q)))
     (λ ne. ap (λ o. end_in (phase_as o)) (sym (others u ne)) ∙ q)
     (cases_eq u t)) h
-
-none_end : (e : ℕ) → ◌≡◌ {A = Option ℕ} None (Some e) → ⊥
-none_end e q = cc
 
 pub waits_begun : (old new : Txns (Node Transaction)) (node : Node Transaction) (slots : Slots) (w : WaitingData) → new ≡ after_begin old node → AreWaiting old.clock (state_of old) slots w → AreWaiting new.clock (state_of new) slots w
 waits_begun old new node slots w is h = subst (λ (x : Txns (Node Transaction)). AreWaiting x.clock (state_of x) slots w) (sym is)

@@ -1,5 +1,5 @@
 -- A call that collects; and what waits where a transaction draws its end, is settled or is aborted.
-use Rattle.std.proofs.Common.{◌≡◌, ℕ, ◌+◌, ◌<◌, List, ◌++◌, length, Option, None, Some, sym, ap, ◌∙◌, subst, arith}
+use Rattle.std.proofs.Common.{◌≡◌, ℕ, ◌+◌, ◌<◌, List, ◌++◌, length, None, Some, sym, ap, ◌∙◌, subst, arith}
 use Rattle.std.specs.Prelude.{Result, Ok, Err, OnOk, IfErr}
 use Rattle.mvo_types.specs.declared.limits.TheConstants.{MAX_STAMP}
 use Rattle.mvo_types.specs.declared.ids.TxId.{TxId}
@@ -22,6 +22,7 @@ use Rattle.mvo_representation.specs.Words.{end_in, ends_of, change_below, standi
 use Rattle.mvo_representation.specs.Table.{phase_as, phases_of}
 use Rattle.mvo_representation.specs.Indexes.{all_versions}
 use Rattle.mvo_representation.specs.Order.{is_put_by}
+use Rattle.mvo_representation.proofs.Decided.{none_end}
 use Rattle.mvo_collect.specs.declared.collection.Collection.{Collection}
 use Rattle.mvo_collect.specs.declared.collection.Collection.TheVariants.{Collected, Nothing}
 use Rattle.mvo_collect.specs.Garbage.{horizon}
@@ -39,7 +40,7 @@ use Rattle.mvo_core.specs.Data.{CoreData}
 use Rattle.mvo_core.specs.Fronts.{comes_at_draw, AreInFront}
 use Rattle.mvo_core.specs.Keeping.{IsWritten, IsWrittenThen, IsPlaced, HasHandedOver}
 use Rattle.mvo_core.specs.Standing.{StandsFor, words_in}
-use Rattle.mvo_core.proofs.Drawing.{clock_written, was_active, others, here, over_limit}
+use Rattle.mvo_core.proofs.Drawing.{clock_written, was_active, others, here, over_limit, none_refusal}
 use Rattle.mvo_core.proofs.OwnChanged.{IsOwnChanged, own_changed}
 use Rattle.mvo_core.proofs.Reporting.{stands_now, others_stand}
 use Rattle.mvo_core.proofs.Undone.{was_state}
@@ -100,9 +101,6 @@ taken_so start old new w w' Collected q = (q.0, q.1)
 taken_so start old new w w' Nothing q = q.0
 
 -- ---- a transaction draws its end
-none_refusal : (r : Refusal) → ◌≡◌ {A = Option Refusal} None (Some r) → ⊥
-none_refusal r q = cc
-
 module _ (opening : Map) (steps : List Step) (s : State) (c : CoreData) (h : StandsFor opening steps s c) (t : TxId) (none : why_not_active c.table t.0 ≡ None) (place : ℕ) (last : place ≡ length c.tale) (e : Stamp) (drawn : e.0 ≡ c.table.clock + 1) (versions : VersionsData)
     (front : AreInFront (comes_at_draw (state_of c.table) t.0) c.versions versions (words_in c.table t.0)) where
   module _ (placed : Txns (Node Transaction)) (written : IsWritten c.table placed t.0 (IsPlaced place)) where
@@ -147,9 +145,6 @@ module _ (opening : Map) (steps : List Step) (s : State) (c : CoreData) (h : Sta
 -- ---- one stands otherwise, and is reported
 reported_clock : (f : deps.DependencyData → deps.DependencyData) (old untold new : Txns (Node Transaction)) (t : TxId) (state : TxState) → untold ≡ txns.after_change old t.0 state → IsReported f untold new t → new.clock ≡ old.clock
 reported_clock f old untold new t state is told = told.clock ∙ clock_changed untold t.0 without_dependents ∙ ap (λ (x : Txns (Node Transaction)). x.clock) is
-
-none_end : (e : ℕ) → ◌≡◌ {A = Option ℕ} None (Some e) → ⊥
-none_end e q = cc
 
 -- it is aborted
 pub aborted_waits : (old untold table : Txns (Node Transaction)) (t : TxId) (v new : VersionsData) (w : WaitingData) (ws : List Rattle.mvo_work.specs.declared.word_place.WordPlace.WordPlace) → IsUnended (state_of old t.0)

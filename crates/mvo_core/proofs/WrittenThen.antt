@@ -53,7 +53,7 @@ module _ (table : Txns (Node Transaction)) (t : ℕ) (node : Node Transaction) (
   }
 
 -- ---- on whom it depends stays
-none_own : (own : Transaction) → ◌≡◌ {A = Option Transaction} None (Some own) → ⊥
+pub none_own : (own : Transaction) → ◌≡◌ {A = Option Transaction} None (Some own) → ⊥
 none_own own q = cc
 
 data_written : (old new : Txns (Node Transaction)) (t : TxId) (change : Transaction → Transaction → Type 0) → IsWritten old new t.0 change → data_of new t ≡ data_of old t

@@ -14,6 +14,7 @@ use Rattle.mvo_txn.specs.Txns.{Txns, state_of, kept_of, IsEnded, after_begin, af
 use Rattle.mvo_txn.specs.Queue.{open_end}
 use Rattle.mvo_txn.proofs.Stamps.{get_inserted, get_beside, get_removed, get_left}
 use Rattle.mvo_txn.proofs.Tables.{ended_is_closed}
+use Rattle.mvo_txn.proofs.Chairs.{not_true}
 use Rattle.mvo_deps.specs.declared.node.Node.{Node}
 use Rattle.mvo_deps.specs.Data.{no_dependencies, is_among, IsApart}
 use Rattle.mvo_deps.specs.Nodes.{data_in, data_of}
@@ -21,7 +22,6 @@ use Rattle.mvo_deps.specs.Graph.{is_preparing, preparing_count, first_among, IsA
 use Rattle.mvo_deps.proofs.Apart.{among_same}
 use Rattle.mvo_deps.proofs.Lists.{count_same, first_none}
 use Rattle.mvo_deps.proofs.Looks.{kept_restated, there_restated, state_restated}
-use Rattle.mvo_deps.proofs.Registered.{not_true}
 
 module _ {P : Type 0} where
   -- what a call changes at one transaction alone, whose id it is

@@ -6,12 +6,12 @@ use Rattle.std.proofs.lemmas.Bool.{false≢true, lt-ltb}
 use Rattle.mvo_types.specs.declared.ids.TxId.{TxId}
 use Rattle.mvo_txn.specs.Txns.{Txns, state_of}
 use Rattle.mvo_txn.specs.Queue.{open_end}
+use Rattle.mvo_txn.proofs.Chairs.{not_true}
 use Rattle.mvo_deps.specs.declared.node.Node.{Node}
 use Rattle.mvo_deps.specs.Waiting.{IsLeastOpen, HasNoneOpen}
 use Rattle.mvo_deps.specs.Nodes.{data_of}
 use Rattle.mvo_deps.specs.Graph.{is_preparing, IsDependencyGraph}
 use Rattle.mvo_deps.proofs.Lists.{count_none, count_some}
-use Rattle.mvo_deps.proofs.Registered.{not_true}
 
 -- an end, if there is one
 some_of : (o : Option ℕ) → is_some o ≡ true → (n : ℕ) × (o ≡ Some n)

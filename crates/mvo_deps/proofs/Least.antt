@@ -13,7 +13,7 @@ use Rattle.mvo_deps.specs.Waiting.{IsOpen, IsLeastOpen, HasNoneOpen, IsLeast}
 use Rattle.mvo_deps.specs.Waiting.IsLeast.{Nobody, Somebody}
 use Rattle.mvo_deps.proofs.Apart.{among_behind}
 
-either : (a b : Bool) → (a || b) ≡ true → (a ≡ true) ⊎ (b ≡ true)
+pub either : (a b : Bool) → (a || b) ≡ true → (a ≡ true) ⊎ (b ≡ true)
 either true b e = inl refl
 either false b e = inr e
 

@@ -69,7 +69,7 @@ pub first_none : (ab : List TxId) → first_among ab [] ≡ None
 first_none [] = refl
 first_none (x ∷ ab) = first_none ab
 
-or_false : (b : Bool) → (b || false) ≡ b
+pub or_false : (b : Bool) → (b || false) ≡ b
 or_false true = refl
 or_false false = refl
 

@@ -1,5 +1,5 @@
 -- A dependency more keeps the graph.
-use Rattle.std.proofs.Common.{◌≡◌, ◌+◌, ◌≤◌, Bool, true, false, cond, eqb, ◌||◌, List, [], ◌∷◌, ◌++◌, Option, Some, None, refl, sym, ap, subst, ◌∙◌, arith, ◌⊎◌, inl, inr, ⊎_elim}
+use Rattle.std.proofs.Common.{◌≡◌, ◌+◌, ◌≤◌, Bool, true, false, cond, eqb, ◌||◌, List, [], ◌∷◌, ◌++◌, Option, Some, None, refl, sym, ap, subst, ◌∙◌, arith, ◌⊎◌, ⊎_elim}
 use Rattle.std.specs.Prelude.{count_by, ◌&&◌}
 use Rattle.std.proofs.lemmas.Bool.{eqb-true, eq-eqb, false≢true}
 use Rattle.std.specs.Option.{option_map, is_some}
@@ -10,14 +10,16 @@ use Rattle.mvo_txn.specs.declared.state.TxState.TheVariants.{Active, Preparing, 
 use Rattle.mvo_txn.specs.declared.seat.Seat.{Seat}
 use Rattle.mvo_txn.specs.Txns.{Txns, state_of}
 use Rattle.mvo_txn.specs.Queue.{open_end}
+use Rattle.mvo_txn.proofs.Chairs.{not_true}
 use Rattle.mvo_deps.specs.declared.node.Node.{Node}
 use Rattle.mvo_deps.specs.Data.{DependencyData, is_among, IsApart, with_dependency, with_dependent}
 use Rattle.mvo_deps.specs.Nodes.{after_change, changed_if, data_of, noted_on}
 use Rattle.mvo_deps.specs.Graph.{is_preparing, first_among, HasStopped, IsAbortedOrGone, IsDependencyGraph}
 use Rattle.mvo_deps.proofs.Apart.{apart_behind, among_behind}
 use Rattle.mvo_deps.proofs.Changes.{clock_changed}
-use Rattle.mvo_deps.proofs.Lists.{one, count_same, count_behind, first_more}
+use Rattle.mvo_deps.proofs.Lists.{one, count_same, count_behind, first_more, or_false}
 use Rattle.mvo_deps.proofs.Looks.{state_changed, there_changed, data_changed, data_gone}
+use Rattle.mvo_deps.proofs.Least.{either}
 
 -- ---- the fields after both changes
 abbrev both : TxId → TxId → Bool → Bool → DependencyData → DependencyData
@@ -48,10 +50,6 @@ dependents_is tx on false true d = refl
 dependents_is tx on false false d = refl
 
 -- ---- lists with one more, or not
-or_false : (b : Bool) → (b || false) ≡ b
-or_false true = refl
-or_false false = refl
-
 among_cond : (q id : TxId) (b : Bool) (ids : List TxId) → is_among q (cond b (ids ++ id ∷ []) ids) ≡ (is_among q ids || (b && eqb q.0 id.0))
 among_cond q id true ids = among_behind q id ids
 among_cond q id false ids = sym (or_false (is_among q ids))
@@ -61,10 +59,6 @@ and_turned true true = refl
 and_turned true false = refl
 and_turned false true = refl
 and_turned false false = refl
-
-either : (a b : Bool) → (a || b) ≡ true → (a ≡ true) ⊎ (b ≡ true)
-either true b e = inl refl
-either false b e = inr e
 
 and_right : (a b : Bool) → (a && b) ≡ true → b ≡ true
 and_right true b e = e
@@ -84,10 +78,6 @@ count_cond p id false ids e = omega arith
 
 same_cond : (b : Bool) (id : TxId) (ids : List TxId) → b ≡ false → cond b (ids ++ id ∷ []) ids ≡ ids
 same_cond b id ids e = ap (λ b. cond b (ids ++ id ∷ []) ids) e
-
-pub not_true : (b : Bool) → (b ≡ true → ⊥) → b ≡ false
-not_true true h = absurd (h refl)
-not_true false h = refl
 
 -- ---- how one stands
 pub open_not_fallen : (o : Option TxState) → is_some (open_end o) ≡ true → IsAbortedOrGone o → ⊥

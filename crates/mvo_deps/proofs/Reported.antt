@@ -10,6 +10,7 @@ use Rattle.mvo_txn.specs.declared.state.TxState.{TxState}
 use Rattle.mvo_txn.specs.declared.state.TxState.TheVariants.{Active, Preparing, Committed, Aborted}
 use Rattle.mvo_txn.specs.Txns.{Txns, state_of, IsPreparing, IsUnended, after_change as after_state}
 use Rattle.mvo_txn.specs.Queue.{open_end}
+use Rattle.mvo_txn.proofs.Chairs.{not_true}
 use Rattle.mvo_deps.specs.declared.node.Node.{Node}
 use Rattle.mvo_deps.specs.Data.{DependencyData, is_among, IsApart, without_dependents, after_commit, after_abort, first_of}
 use Rattle.mvo_deps.specs.Nodes.{after_change, changed_if, data_in, data_of, IsReported}
@@ -18,7 +19,7 @@ use Rattle.mvo_deps.proofs.Apart.{among_behind, among_same}
 use Rattle.mvo_deps.proofs.Changes.{clock_changed}
 use Rattle.mvo_deps.proofs.Lists.{one, count_closed, first_none, first_with, first_without}
 use Rattle.mvo_deps.proofs.Looks.{kept_restated, there_restated, state_restated, state_now, no_data, state_changed, there_changed, data_changed, data_gone, state_each, there_each, data_each, data_each_gone}
-use Rattle.mvo_deps.proofs.Registered.{not_true, not_fallen}
+use Rattle.mvo_deps.proofs.Registered.{not_fallen}
 
 -- the counter goes down by one, and the flag changes so
 pub record IsNoting (f : DependencyData → DependencyData) (flagged : Option TxId → Option TxId) : Type 0 where

@@ -17,6 +17,7 @@ use Rattle.mvo_theory.specs.Calls.{Call, after_call, steps_of}
 use Rattle.mvo_theory.specs.Calls.Call.{Settle}
 use Rattle.mvo_theory.specs.Calls.Result.{Accepted}
 use Rattle.mvo_theory.proofs.Who.{preparing_settled}
+use Rattle.mvo_theory.proofs.Below.{none_some, some_same}
 use Rattle.mvo_core.specs.declared.answers.Closed as closing
 use Rattle.mvo_core.specs.declared.answers.Settlement.{Settlement}
 use Rattle.mvo_core.specs.declared.answers.Settlement.TheVariants.{Committed, Waiting}
@@ -35,12 +36,6 @@ use Rattle.mvo_engine.proofs.Added.{found_weight, unless_waiting, added, weight_
 use Rattle.mvo_engine.proofs.Counted.{counted_after_call, found_holds}
 use Rattle.mvo_engine.proofs.CoreSound.{stays_sound as sound_over}
 use Rattle.mvo_engine.proofs.Starts.{start_rises, start_settled, is_quiet, quiet_adds, quiet_group}
-
-some_same : (v z : StampedTx) → ◌≡◌ {A = Option StampedTx} (Some v) (Some z) → v ≡ z
-some_same v z q = cc
-
-none_some : (z : StampedTx) → ◌≡◌ {A = Option StampedTx} None (Some z) → ⊥
-none_some z q = cc
 
 found_id : (t : ℕ) (xs : List StampedTx) (x : StampedTx) → preparing_of t xs ≡ Some x → x.id ≡ t
 found_id t [] x e = absurd (none_some x e)

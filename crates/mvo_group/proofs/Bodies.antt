@@ -24,7 +24,7 @@ data_takes n bytes x fits e =
     let long : n ≤ length bytes = ltb-false _ _ b.0 in
     subst (λ (y : List ℕ × List ℕ). Takes bytes y.0 y.1 × (length y.0 ≡ n)) (some_is (take n bytes, drop n bytes) x b.1) (record { parts = sym (take-append-drop n bytes); rest_fits = IsBytes-drop n bytes fits }, omega (arith, length-take n bytes))
 
-data_again : (text rest : List ℕ) → data_at (length text) (text ++ rest) ≡ Some (text, rest)
+pub data_again : (text rest : List ℕ) → data_at (length text) (text ++ rest) ≡ Some (text, rest)
 unfolding data_at
 data_again text rest =
     let b : ltb (length (text ++ rest)) (length text) ≡ false = le-ltb _ _ (omega (arith, length-append text rest)) in
@@ -231,7 +231,7 @@ body_of-injective g h p q e = some_is g h (sym (group_again g p) ∙ ap group_at
 
 -- ---- what `decode` answers, where reading gave d, which is a group exactly where it keeps the rules
 
-words_of : (rs : List RecordData) → AllByRecursion HasRecordWords rs → AllByRecursion (λ r. All HasWords r.writes) rs
+pub words_of : (rs : List RecordData) → AllByRecursion HasRecordWords rs → AllByRecursion (λ r. All HasWords r.writes) rs
 words_of [] all = tt
 words_of (r ∷ rs) all = (All-from_recursion HasWords r.writes all.0, words_of rs all.1)
 

@@ -19,7 +19,7 @@ among_within ls newer (m ∷ ns) n c a =
       | inr b ↦ among_within ls m ns n c.3 b
     ]
 
-all_apart : (n : ℕ) (ns : List ℕ) → is_among n ns ≡ false → AllByRecursion (λ m. eqb n m ≡ false) ns
+pub all_apart : (n : ℕ) (ns : List ℕ) → is_among n ns ≡ false → AllByRecursion (λ m. eqb n m ≡ false) ns
 all_apart n [] a = tt
 all_apart n (m ∷ ns) a = let h = or_parts (eqb n m) (is_among n ns) a in (h.0, all_apart n ns h.1)
 

@@ -6,7 +6,7 @@ use Rattle.std.specs.List.Sorted.{IsPermutation}
 use Rattle.std.specs.FinMap.{from_entries}
 use Rattle.std.proofs.lemmas.List.{append-nil, map-append}
 use Rattle.std.proofs.lemmas.List.Elements.{All-append, All-from_recursion, recursion_from_All}
-use Rattle.std.proofs.lemmas.List.Concat.{flat_map-cons, flat_map-append}
+use Rattle.std.proofs.lemmas.List.Concat.{flat_map-cons}
 use Rattle.std.proofs.lemmas.List.Sorted.{IsPermutation-refl, IsPermutation-append, IsPermutation-map, All-permutation}
 use Rattle.mvo_types.specs.declared.row.RowKey.{RowKey}
 use Rattle.mvo_types.specs.Keys.{Map}
@@ -17,6 +17,7 @@ use Rattle.mvo_pair.specs.Loading.{LoadsAs}
 use Rattle.mvo_pair.specs.declared.pair.Pair.{Pair}
 use Rattle.mvo_manifest.specs.Data.{ManifestData}
 use Rattle.mvo_manifest.specs.Rules.{IsManifest}
+use Rattle.mvo_manifest.proofs.Spelled.{all_parts}
 use Rattle.mvo_places.specs.Rows.{rows_of}
 use Rattle.mvo_recovery.specs.image.Opens.{Image, Outcome, Pairs}
 use Rattle.mvo_recovery.specs.image.Gives.{HaveLive}
@@ -24,7 +25,7 @@ use Rattle.mvo_recovery.proofs.image.Apart.{distinct_front}
 use Rattle.mvo_places.specs.declared.place.Place.{Place}
 use Rattle.mvo_places.specs.Places.{PlaceMap, ArePlaces, file_of, places_in, places_of}
 use Rattle.mvo_places.proofs.Rising.{live_numbers_rise}
-use Rattle.mvo_places.proofs.Growing.{no_places, places_grow}
+use Rattle.mvo_places.proofs.Growing.{no_places, places_grow, keys-push}
 use Rattle.mvo_places.proofs.Keys.{eq}
 use Rattle.mvo_places.proofs.Held.{first_of, keys-places_of}
 use Rattle.mvo_load.specs.Leading.{Leads}
@@ -34,20 +35,13 @@ use Rattle.mvo_load.specs.Files.{PairBytes, bytes_of, IsPart}
 use Rattle.mvo_load.specs.declared.part.Part.{Part}
 use Rattle.mvo_load.proofs.Fronts.{pair_on_disk}
 use Rattle.mvo_load.proofs.Ordered.{AreRows, all_of, same_entries, apart_each, rows_each, made_in_order}
-use Rattle.mvo_load.proofs.Pairing.{HasFiles, front_of, pair_files_fit, data_files_differ, live_push, none_alone, one_more_alone, Behind, Whole}
+use Rattle.mvo_load.proofs.Pairing.{HasFiles, pair_files_fit, data_files_differ, live_push, none_alone, one_more_alone, Behind, Whole}
 use Rattle.mvo_load.proofs.Steps.{pair_leads}
-
-abbrev Placed : Type 0
-Placed = List (RowKey × Place)
+use Rattle.mvo_load.proofs.Taken.{Placed}
 
 -- live records that lie in one data file
 abbrev pub file_all : ℕ → List Numbered → List Filed
 file_all file live = map (λ l. (file, l)) live
-
-keys-push : (lives : List (List Numbered)) (live : List Numbered) → keys_of (lives ++ live ∷ []) ≡ keys_of lives ++ map key_of live
-keys-push lives live =
-    flat_map-append (λ l. map key_of l) lives (live ∷ [])
-    ∙ ap (λ (ks : List RowKey). keys_of lives ++ ks) (flat_map-cons (λ l. map key_of l) live [] ∙ append-nil (map key_of live))
 
 -- ---- live records of pairs with their data files
 
@@ -166,7 +160,7 @@ module _ (f : Format) (image : Image) (m : ManifestData) where
 
   -- the files that the first of these pairs name
   pub front_files : (ps qs : List Pair) (gathered : List Filed) → GatheredSoFar (ps ++ qs) gathered → All AreFiles ps
-  front_files ps qs gathered here = All-from_recursion AreFiles ps (all_files ps (front_of HasFiles ps qs here.files).0)
+  front_files ps qs gathered here = All-from_recursion AreFiles ps (all_files ps (all_parts HasFiles ps qs here.files).0)
 
   abbrev pub ArePartsOf : List Pair → List Part → Type 0
   ArePartsOf ps parts = AllZip (IsPart f) (map (bytes_of f image) ps) parts

@@ -49,7 +49,7 @@ use Rattle.mvo_load.proofs.Groups.{after_push}
 
 -- ---- writes
 
-abbrev with_write : Map → Write → Map
+abbrev pub with_write : Map → Write → Map
 with_write m w = after_effect w.0 w.1 m
 
 abbrev writes_in : RecordData → List Write

@@ -12,7 +12,7 @@ use Rattle.mvo_bytes.proofs.Fields.{length-field}
 use Rattle.mvo_pair.specs.Files.{AreNumbers, HasNumbers, header, delta_magic, delta_bytes}
 use Rattle.mvo_pair.specs.Writing.{KeepsNumbers, place_behind}
 
-length-numbers : (ns : List ℕ) → length (flat_map (field 4) ns) ≡ 4 * length ns
+pub length-numbers : (ns : List ℕ) → length (flat_map (field 4) ns) ≡ 4 * length ns
 length-numbers [] = refl
 length-numbers (n ∷ ns) = ap (λ (l : List ℕ). length l) (flat_map-cons (field 4) n ns) ∙ length-append (field 4 n) (flat_map (field 4) ns) ∙ four (length-field 4 n) (length-numbers ns)
   where

@@ -10,14 +10,8 @@ use Rattle.mvo_bytes.proofs.Fields.{length-field}
 use Rattle.mvo_pair.specs.Reading.{number}
 use Rattle.mvo_pair.specs.Files.{header, delta_magic}
 use Rattle.mvo_pair.proofs.Spelled.{number_back_is, field_behind}
+use Rattle.mvo_pair.proofs.Appends.{length-numbers}
 use Rattle.mvo_pair.specs.Late.{numbers_upto, AreThoseFrom}
-
-length-numbers : (ns : List ℕ) → length (flat_map (field 4) ns) ≡ 4 * length ns
-length-numbers [] = refl
-length-numbers (n ∷ ns) = ap (λ (l : List ℕ). length l) (flat_map-cons (field 4) n ns) ∙ length-append (field 4 n) (flat_map (field 4) ns) ∙ four (length-field 4 n) (length-numbers ns)
-  where
-    four : length (field 4 n) ≡ 4 → length (flat_map (field 4) ns) ≡ 4 * length ns → length (field 4 n) + length (flat_map (field 4) ns) ≡ 4 * length (n ∷ ns)
-    four a b = omega arith
 
 -- the number at a place
 number_there : (ns : List ℕ) (i d : ℕ) → AllByRecursion (λ n. n < 256 ^ 4) ns → i < length ns → number 4 (drop (4 * i) (flat_map (field 4) ns)) ≡ get_or ns i d

@@ -62,7 +62,7 @@ pub rise-push : (lives : List (List Numbered)) (live : List Numbered) → AllByR
 rise-push [] live all up = (up, tt)
 rise-push (m ∷ lives) live all up = (all.0, rise-push lives live all.1 up)
 
-keys-push : (lives : List (List Numbered)) (live : List Numbered) → keys_of (lives ++ live ∷ []) ≡ keys_of lives ++ map key_of live
+pub keys-push : (lives : List (List Numbered)) (live : List Numbered) → keys_of (lives ++ live ∷ []) ≡ keys_of lives ++ map key_of live
 keys-push lives live =
     flat_map-append (λ l. map key_of l) lives (live ∷ [])
     ∙ ap (λ (ks : List RowKey). keys_of lives ++ ks) (flat_map-cons (λ l. map key_of l) live [] ∙ append-nil (map key_of live))

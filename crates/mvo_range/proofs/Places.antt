@@ -1,6 +1,6 @@
 -- The order of places, and what the map of a tree's entries has at a place.
 use Rattle.std.proofs.Common.{◌≡◌, ℕ, ◌<◌, ◌^◌, List, [], ◌∷◌, Option, None, Some, Bool, true, false, cond, refl, sym, ap, ◌∙◌, subst}
-use Rattle.std.specs.Prelude.{◌&&◌, fold, filter}
+use Rattle.std.specs.Prelude.{fold, filter}
 use Rattle.std.proofs.Math.Dec.{T}
 use Rattle.std.proofs.lemmas.Map.Lookups.{CmpEqualImpliesEq, exact_pairs, exact_unsigned}
 use Rattle.std.proofs.lemmas.Map.Keys.{sorted_head, sorted_tail}
@@ -23,6 +23,7 @@ use Rattle.std.proofs.lemmas.Map.Views.{All-keys_from_lookup, btree_map_contains
 use Rattle.std.specs.Ordering.{match_ordering}
 use Rattle.std.proofs.lemmas.List.Elements.{All-nil, All-cons, All-head, All-tail, All-contains, All-map}
 use Rattle.mvo_range.specs.Place.{place_cmp, Map, all_added, HasKey}
+use Rattle.mvo_types.proofs.Ordered.{both}
 
 sort_key_cmp : ℕ × ℕ → ℕ × ℕ → Ordering
 sort_key_cmp a b = ordering_then (nat_cmp a.0 b.0) (nat_cmp a.1 b.1)
@@ -59,10 +60,6 @@ pub one_gone : (es fs : List (Place × ℕ)) (k : Place) → ((q : Place) → he
 one_gone es fs k h = same_map places_total exact_places _ _ (λ q.
     get_held fs q ∙ h q ∙ ap (λ b. cond b None (held_at es q)) ((eq_by_cmp_equiv places_total).symm k q)
     ∙ sym (get-remove places_total (from_entries es) k q ∙ ap (cond (eq_by_cmp place_cmp q k) None) (get_held es q)))
-
-both : (a b : Bool) → T a → T b → T (a && b)
-both true b u v = v
-both false b u v = u
 
 below : (k : Place) (es : List (Place × ℕ)) → AllByRecursion (λ q. place_cmp k q ≡ Less) (keys_of es) → T (below_all place_cmp k es)
 below k [] h = tt

@@ -31,12 +31,6 @@ use Rattle.mvo_representation.proofs.Shown.{IsBegin, active_begins, behind_is}
 use Rattle.mvo_representation.proofs.Version.{last_change_is_one, IsShownRow, version_shown}
 use Rattle.mvo_theory.specs.State.Outcome.{Committed as WasCommitted, Aborted as WasAborted}
 
-none_end : (e : ℕ) → ◌≡◌ {A = Option ℕ} None (Some e) → ⊥
-none_end e q = cc
-
-some_end : (a b : ℕ) → ◌≡◌ {A = Option ℕ} (Some a) (Some b) → a ≡ b
-some_end a b q = cc
-
 -- ---- claims of those with an end
 abbrev EndsAt : RowKey → ℕ → Ends → Held → StampedTx → Type 0
 EndsAt k a ends w x = IsClaimed k a (has_stamp ends x.end) x.claims w

@@ -24,12 +24,13 @@ use Rattle.mvo_representation.specs.Words.{ends_of, has_stamp, NetEffect, with_e
 use Rattle.mvo_representation.specs.Words.NetEffect.{Untouched, Removed, Puts, Clash}
 use Rattle.mvo_representation.specs.Table.{phases_of}
 use Rattle.mvo_representation.proofs.Seen.{seen_at}
+use Rattle.mvo_theory.proofs.Numbers.{or_false}
 
 -- ---- the greatest number that passes
-some_end : (a b : ℕ) → ◌≡◌ {A = Option ℕ} (Some a) (Some b) → a ≡ b
+pub some_end : (a b : ℕ) → ◌≡◌ {A = Option ℕ} (Some a) (Some b) → a ≡ b
 some_end a b q = cc
 
-none_end : (e : ℕ) → ◌≡◌ {A = Option ℕ} None (Some e) → ⊥
+pub none_end : (e : ℕ) → ◌≡◌ {A = Option ℕ} None (Some e) → ⊥
 none_end e q = cc
 
 pub last_same : (f g : ℕ → Bool) (b : ℕ) → ((s : ℕ) → f s ≡ g s) → last_passing f b ≡ last_passing g b
@@ -101,10 +102,6 @@ greatest_is b (c ∷ cs) =
 -- whether a version is put or ended with the stamp
 abbrev pub changes_at : States → ℕ → Numbered → Bool
 changes_at states s e = has_stamp (ends_of (phases_of states)) s e.1.begin || has_stamp (ends_of (phases_of states)) s e.1.end
-
-or_false : (b : Bool) → (b || false) ≡ b
-or_false true = refl
-or_false false = refl
 
 any_put : (s : ℕ) (n : VersionNo) (w x : Seen) → is_stamped s (put_of n w x) ≡ is_at s w
 any_put s n Nothing x = refl

@@ -41,6 +41,7 @@ use Rattle.mvo_representation.proofs.Read.{written_depends, key_depends, read_de
 use Rattle.mvo_representation.proofs.Seen.{seen_at, owner_in, seen_owner}
 use Rattle.mvo_representation.proofs.Decided.{changes_at, unnumbered, is_change, change_any, greatest_change, last_of_versions, last_holds}
 use Rattle.mvo_representation.proofs.ShownTo.{of_key, keyed, below_keyed}
+use Rattle.mvo_representation.proofs.Slots.{none_version, some_version}
 
 -- ---- the owner of a change
 -- what the first of the words with the stamp tells of the owner is this, and nothing is told without one
@@ -75,16 +76,10 @@ owner_removed s (Speculative e t) = option_or-none (cond (e.0 == s) (Some t) Non
 none_stamp : (e : ℕ) → ◌≡◌ {A = Option ℕ} None (Some e) → ⊥
 none_stamp e q = cc
 
-none_version : (v : Version) → ◌≡◌ {A = Option Version} None (Some v) → ⊥
-none_version v q = cc
-
-some_version : (w v : Version) → ◌≡◌ {A = Option Version} (Some w) (Some v) → w ≡ v
-some_version w v q = cc
-
 some_change : (p : ℕ × NetEffect) → ◌≡◌ {A = Option (ℕ × NetEffect)} (Some p) None → ⊥
 some_change p q = cc
 
-stamp_some : (s : ℕ) (o : Option ℕ) → is_stamp s o ≡ true → o ≡ Some s
+pub stamp_some : (s : ℕ) (o : Option ℕ) → is_stamp s o ≡ true → o ≡ Some s
 stamp_some s None e = absurd (false≢true e)
 stamp_some s (Some n) e = ap Some (eqb-true n s e)
 

@@ -15,11 +15,9 @@ use Rattle.mvo_theory.specs.State.{State, StampedTx, ActiveTx, Claim, preparing_
 use Rattle.mvo_theory.specs.Claims.{has_claim}
 use Rattle.mvo_theory.specs.Changes.{after_prepare, to_stamped, without, after_abort_of_preparing, with_flag, active_with_flag, not_at}
 use Rattle.mvo_theory.specs.Phases.{phase_in}
-use Rattle.mvo_theory.specs.Sound.{IsSound, IsSingle, IsStarted, IsRising, IsPlaced}
+use Rattle.mvo_theory.specs.Sound.{IsSound, IsSingle, IsStarted, IsPlaced}
 use Rattle.mvo_theory.proofs.Each.{each_weaker, each_both, each_always, each_map, each_filter, each_append}
-use Rattle.mvo_theory.proofs.Phases.{Leads, leads_after_prepare, leads_after_abort_of_preparing}
-use Rattle.mvo_theory.proofs.Commits.{split_at}
-use Rattle.mvo_theory.proofs.Settle.{rising_before, rising_after}
+use Rattle.mvo_theory.proofs.Phases.{Leads, leads_after_prepare, leads_after_abort_of_preparing, alone_in}
 use Rattle.mvo_theory.proofs.Who.{active_holds}
 use Rattle.mvo_word.specs.declared.held.Held.{Held}
 use Rattle.mvo_word.specs.declared.held.Held.TheVariants.{At, By, Infinity}
@@ -32,12 +30,7 @@ use Rattle.mvo_representation.proofs.LastChanges.{last_change_same, history_at-n
 use Rattle.mvo_representation.proofs.Facts.{found_holds, preparing_is, phase_preparing, phase_active, end_drawn, stamp_drawn, say_nothing, is_at-none}
 use Rattle.mvo_representation.proofs.Kept.{IsVersion, each_version, standing_effect_same}
 use Rattle.mvo_representation.proofs.Quiet.{with_end, ends_turn, other_stays, own_led, still_there, known_next, stamp_other, history_at-map, rows_at-map}
-
-some_end : (a b : ℕ) → ◌≡◌ {A = Option ℕ} (Some a) (Some b) → a ≡ b
-some_end a b q = cc
-
-none_end : (e : ℕ) → ◌≡◌ {A = Option ℕ} None (Some e) → ⊥
-none_end e q = cc
+use Rattle.mvo_representation.proofs.Decided.{none_end, some_end}
 
 -- ---- another end: words at other stamps
 other_by : (b : Bool) (o e : Option ℕ) (s : ℕ) → is_stamp s e ≡ false → (b ≡ true → is_stamp s o ≡ false) → is_stamp s (cond b e o) ≡ is_stamp s o
@@ -270,18 +263,6 @@ rows_at-filter e m (x ∷ xs) n = go (x.end == e) refl (rows_at-filter e m xs n)
 
 filtered_apart : (e : ℕ) (xs : List StampedTx) → AllByRecursion (λ x. x.end ≢ e) (filter (not_at e) xs)
 filtered_apart e xs = each_filter (not_at e) (λ _. ⊤) (λ x. x.end ≢ e) (λ x n _ q. false≢true (sym (ap not (eq-eqb x.end e q)) ∙ n)) xs (each_always (λ _. ⊤) (λ _. tt) xs)
-
--- no other has its end
-alone_at : (before after : List StampedTx) (x : StampedTx) → IsRising (before ++ x ∷ after) → AllByRecursion (λ y. y.end ≡ x.end → y.id ≡ x.id) (before ++ x ∷ after)
-alone_at before after x r = each_append (λ y. y.end ≡ x.end → y.id ≡ x.id) before (x ∷ after)
-    (each_weaker (λ y. y.end < x.end) (λ y. y.end ≡ x.end → y.id ≡ x.id) (λ y lt e. absurd (omega arith)) before (rising_before before after x r))
-    (λ _. refl, each_weaker (λ y. x.end < y.end) (λ y. y.end ≡ x.end → y.id ≡ x.id) (λ y lt e. absurd (omega arith)) after (rising_after before after x r))
-
-pub alone_in : (s : State) (t : ℕ) (x : StampedTx) → preparing_of t s.stamped ≡ Some x → IsSound s → AllByRecursion (λ y. y.end ≡ x.end → y.id ≡ t) s.stamped
-alone_in s t x f k =
-    let p = split_at t s.stamped x f in
-    subst (λ (n : ℕ). AllByRecursion (λ y. y.end ≡ x.end → y.id ≡ n) s.stamped) p.3
-    (subst (AllByRecursion (λ y. y.end ≡ x.end → y.id ≡ x.id)) (sym p.2) (alone_at p.0 p.1 x (subst IsRising p.2 k.rising)))
 
 -- rollback, and a refusal that aborts, of a Preparing one: its words fall silent
 pub kept_after_abort_of_preparing : (s : State) (table table' : Phases) (vs : List Version) (t : ℕ) (x : StampedTx) → IsSound s → IsSingle s → IsStarted s → AreVersionsOf s table vs → preparing_of t s.stamped ≡ Some x → ((u : ℕ) → table' u ≡ phase_in (after_abort_of_preparing s t x.end) u) → AreVersionsOf (after_abort_of_preparing s t x.end) table' vs

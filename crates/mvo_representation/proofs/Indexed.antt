@@ -19,7 +19,8 @@ use Rattle.mvo_range.proofs.Places.{places_total, exact_places}
 use Rattle.mvo_representation.specs.Words.{NetEffect, with_effect, effect_by, effect_of, net_effect}
 use Rattle.mvo_representation.specs.Words.NetEffect.{Untouched}
 use Rattle.mvo_representation.specs.Indexes.{all_versions, and_found, versions_numbered, is_of_key, HasNumbers, place_of, is_at_place, HasPlaces}
-use Rattle.mvo_representation.proofs.Effects.{with_comm, with_assoc}
+use Rattle.mvo_representation.proofs.Effects.{with_comm, with_assoc, or_comm}
+use Rattle.mvo_deps.proofs.Lists.{one}
 
 -- ---- slots, one of which is emptied
 abbrev emptied : Slots → ℕ → Slots
@@ -64,9 +65,6 @@ versions_nothing n k (Some v ∷ xs) h =
     ap (λ b. with_effect (cond b (effect_by (n v.begin) (n v.end) (content_of v.row)) Untouched) (net_effect n k (all_versions xs))) (h zero)
     ∙ versions_nothing n k xs (λ m. h (suc m))
 
-abbrev one : Bool → ℕ
-one b = cond b 1 0
-
 found_same : (slots : Slots) (m : ℕ) (ns : List ℕ) → how_many (λ i. i == m) ns ≡ 0 → versions_numbered (emptied slots m) ns ≡ versions_numbered slots ns
 found_same slots m [] h = refl
 found_same slots m (i ∷ ns) h = go (cases_eq i m) (λ e. found_same slots m ns e)
@@ -108,11 +106,6 @@ pub index_net_effect : (n : Held → Bool) (k : RowKey) (slots : Slots) (lists :
 index_net_effect n k slots lists h = found_net_effect n k slots (numbers_of lists k) (h.at k)
 
 -- ---- places
-or_comm : (a b c : Bool) → (a || (b || c)) ≡ (b || (a || c))
-or_comm true true c = refl
-or_comm true false c = refl
-or_comm false b c = refl
-
 pub there-at : (p : Place) (xs : List Version) (v : Version) (ys : List Version) → list_any (is_at_place p) (xs ++ v ∷ ys) ≡ (is_at_place p v || list_any (is_at_place p) (xs ++ ys))
 there-at p [] v ys = refl
 there-at p (x ∷ xs) v ys = ap (λ b. is_at_place p x || b) (there-at p xs v ys) ∙ or_comm (is_at_place p x) (is_at_place p v) (list_any (is_at_place p) (xs ++ ys))

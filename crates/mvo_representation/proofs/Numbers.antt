@@ -14,11 +14,9 @@ use Rattle.mvo_chain.specs.declared.version.Version.{Version}
 use Rattle.mvo_chain.specs.Slots.{Slots}
 use Rattle.mvo_hash.specs.Lists.{Lists, or_empty, numbers_of, with_numbers, without}
 use Rattle.mvo_representation.specs.Indexes.{is_of_key, HasNumbers}
+use Rattle.mvo_deps.proofs.Lists.{one}
 
-abbrev one : Bool → ℕ
-one b = cond b 1 0
-
-numbers_with : (lists : Lists) (k : RowKey) (ns : List ℕ) (q : RowKey) → numbers_of (with_numbers lists k ns) q ≡ cond (eq_by_cmp key_cmp q k) ns (numbers_of lists q)
+pub numbers_with : (lists : Lists) (k : RowKey) (ns : List ℕ) (q : RowKey) → numbers_of (with_numbers lists k ns) q ≡ cond (eq_by_cmp key_cmp q k) ns (numbers_of lists q)
 numbers_with lists k [] q = ap or_empty (fin.get-remove keys_total lists k q) ∙ go (eq_by_cmp key_cmp q k)
   where
     go : (b : Bool) → or_empty (cond b None (fin.get lists q)) ≡ cond b [] (numbers_of lists q)

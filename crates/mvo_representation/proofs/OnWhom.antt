@@ -49,6 +49,8 @@ use Rattle.mvo_representation.proofs.Reported.{swap_eq}
 use Rattle.mvo_representation.proofs.TableTells.{phase_open}
 use Rattle.mvo_representation.proofs.Unsettled.{some_same, found_itself, alone}
 use Rattle.mvo_representation.proofs.Waited.{has_with}
+use Rattle.mvo_representation.proofs.RangeCheckedBy.{iff}
+use Rattle.mvo_representation.proofs.TableMarks.{or_second}
 
 -- ---- whom the rules name is Preparing
 abbrev IsOwner : States → Option TxId → Type 0
@@ -112,21 +114,12 @@ shown_names states b reader vs = go (list_any (is_own reader) vs) (greatest_belo
     go false (Some n) = first_names states n (changes_of states vs) (changes_name states vs)
 
 -- ---- of one state
-iff : (a b : Bool) → (a ≡ true → b ≡ true) → (b ≡ true → a ≡ true) → a ≡ b
-iff true b f g = sym (f refl)
-iff false true f g = g refl
-iff false false f g = refl
-
 or_cases : (a b : Bool) → (a || b) ≡ true → (a ≡ true) ⊎ (b ≡ true)
 or_cases true b e = inl refl
 or_cases false b e = inr e
 
 or_first : (a b : Bool) → a ≡ true → (a || b) ≡ true
 or_first a b e = ap (λ c. c || b) e
-
-or_second : (a b : Bool) → b ≡ true → (a || b) ≡ true
-or_second true b e = refl
-or_second false b e = e
 
 or_turned : (a b : Bool) → (a || b) ≡ (b || (a || false))
 or_turned true true = refl

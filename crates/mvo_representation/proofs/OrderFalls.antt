@@ -27,6 +27,7 @@ use Rattle.mvo_visible.specs.declared.seen.Seen.TheVariants.{Nothing, Settled, S
 use Rattle.mvo_visible.specs.Words.{States, seen_in, seen_of}
 use Rattle.mvo_visible.specs.Versions.{Numbered}
 use Rattle.mvo_visible.proofs.Behind.{Behind, IsUnder, to_falling, to_front}
+use Rattle.mvo_visible.proofs.Moves.{versions}
 use Rattle.mvo_representation.specs.Words.{Phases, end_in, ends_of, stamp_in, is_stamp, is_up_to, has_stamp, net_effect}
 use Rattle.mvo_representation.specs.Words.NetEffect.{Untouched}
 use Rattle.mvo_representation.specs.Versions.{IsClaimed, IsKnown, IsKnownStamp, HasItsClaims, AreVersionsOf}
@@ -36,18 +37,12 @@ use Rattle.mvo_representation.specs.Order.{EachPair, IsUpTo, is_written_by, MayP
 use Rattle.mvo_representation.specs.OrderLaws.{OrderFalls, OrderHasOwnInFront, TrimKeepsOrder}
 use Rattle.mvo_representation.proofs.Conflict.{end_has_effect}
 use Rattle.mvo_representation.proofs.Facts.{preparing_is, found_holds}
-use Rattle.mvo_representation.proofs.OrderLists.{On, OnOne, versions, pairs_weaker, pairs_from}
-use Rattle.mvo_representation.proofs.OrderPairs.{is_the_stamp, has_the_stamp, put_has_effect}
+use Rattle.mvo_representation.proofs.OrderLists.{On, OnOne, pairs_weaker, pairs_from}
+use Rattle.mvo_representation.proofs.OrderPairs.{is_the_stamp, has_the_stamp, put_has_effect, none_stamp, some_stamp}
 use Rattle.mvo_representation.proofs.OrderSteps.{order_to, order_from, always, more_at, live, at_key}
 use Rattle.mvo_representation.proofs.OrderAborts.{known_apart}
 use Rattle.mvo_representation.proofs.OrderClaims.{IsBase, none_later}
 use Rattle.mvo_representation.proofs.OrderBases.{writer_at, StandsAtStart, stands_at_start, base_at_start, base_of_settled}
-
-none_stamp : (s : ℕ) → ◌≡◌ {A = Option ℕ} None (Some s) → ⊥
-none_stamp s q = cc
-
-some_stamp : (a b : ℕ) → ◌≡◌ {A = Option ℕ} (Some a) (Some b) → a ≡ b
-some_stamp a b q = cc
 
 -- ---- a removal of a version that stands behind a settled put
 module _ (opening : Map) (steps : List Step) (s : State) (table : Phases) (vs : List Version) (h : IsKept opening steps s) (versions' : AreVersionsOf s table vs) (k : RowKey) (w v : Version) (wb : List Version) (wa : List Version) (w_in : wb ++ w ∷ wa ≡ vs) (vb : List Version) (va : List Version) (v_in : vb ++ v ∷ va ≡ vs) (kw : w.row.key ≡ k) (kv : v.row.key ≡ k)

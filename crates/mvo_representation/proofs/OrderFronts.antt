@@ -15,8 +15,9 @@ use Rattle.mvo_hash.specs.Lists.{Lists, number, numbers_of, is_among}
 use Rattle.mvo_visible.specs.Words.{names}
 use Rattle.mvo_representation.specs.Indexes.{HasNumbers}
 use Rattle.mvo_representation.specs.Order.{EachPair, HasEndedItsOwn, is_written_by, IsEndedBefore, IsWritten}
-use Rattle.mvo_representation.proofs.OrderLists.{On, OnOne, EachLater, pairs_fronted, of_key, and_key, keyed, with_keyed, numbers_fronted, some_version, pairs_weaker}
+use Rattle.mvo_representation.proofs.OrderLists.{On, OnOne, EachLater, pairs_fronted, of_key, and_key, keyed, with_keyed, numbers_fronted, pairs_weaker}
 use Rattle.mvo_representation.proofs.OrderSteps.{at_key, none_of, IsOther}
+use Rattle.mvo_representation.proofs.Slots.{some_version}
 
 abbrev pub IsNumberOf : Slots → (Version → Bool) → RowKey × ℕ → Type 0
 IsNumberOf slots test p = (v : Version) → version_at slots (number p.1) ≡ Some v → (v.row.key ≡ p.0) × (test v ≡ true)

@@ -1,5 +1,5 @@
 -- Pairs of a list, and lists of numbers of which some come to the front.
-use Rattle.std.proofs.Common.{◌≡◌, ℕ, ◌||◌, Bool, true, false, cond, not, eqb, List, [], ◌∷◌, map, Option, None, Some, refl, sym, ap, ◌∙◌, subst}
+use Rattle.std.proofs.Common.{◌≡◌, ℕ, ◌||◌, Bool, true, false, cond, not, eqb, List, [], ◌∷◌, Option, None, Some, refl, sym, ap, ◌∙◌, subst}
 use Rattle.std.specs.Prelude.{⊤}
 use Rattle.std.specs.List.{AllByRecursion}
 use Rattle.std.specs.Ordering.{eq_by_cmp}
@@ -10,11 +10,13 @@ use Rattle.mvo_chain.specs.declared.version.Version.{Version}
 use Rattle.mvo_chain.specs.Slots.{Slots, version_at}
 use Rattle.mvo_hash.specs.Lists.{Lists, number, numbers_of, is_among, without}
 use Rattle.mvo_hash.proofs.Views.{numbers_put}
-use Rattle.mvo_visible.specs.Versions.{Numbered, and_version, versions_by}
+use Rattle.mvo_visible.specs.Versions.{and_version}
 use Rattle.mvo_visible.specs.Fronts.{with_front}
+use Rattle.mvo_visible.proofs.Moves.{versions}
 use Rattle.mvo_theory.proofs.Footprints.{key_same}
 use Rattle.mvo_theory.proofs.Each.{each_weaker, each_both}
 use Rattle.mvo_representation.specs.Order.{EachPair, with_front_if, with_fronts}
+use Rattle.mvo_representation.proofs.Slots.{some_version}
 
 -- ---- pairs
 pub pairs_weaker : {X : Type 0} (P : X → Type 0) (R Q : X → X → Type 0) → ((w v : X) → P w → P v → R w v → Q w v) → (xs : List X) → AllByRecursion P xs → EachPair R xs → EachPair Q xs
@@ -25,18 +27,12 @@ pairs_weaker P R Q f (x ∷ xs) a h = (each_both P (R x) (Q x) (λ y p r. f x y 
 pub no_version : (v : Version) → ◌≡◌ {A = Option Version} None (Some v) → ⊥
 no_version v q = cc
 
-pub some_version : (w v : Version) → ◌≡◌ {A = Option Version} (Some w) (Some v) → w ≡ v
-some_version w v q = cc
-
 -- what holds of the versions with these numbers
 abbrev pub On : Slots → (Version → Version → Type 0) → ℕ → ℕ → Type 0
 On slots R a b = (w v : Version) → version_at slots (number a) ≡ Some w → version_at slots (number b) ≡ Some v → R w v
 
 abbrev pub OnOne : Slots → (Version → Type 0) → ℕ → Type 0
 OnOne slots P a = (v : Version) → version_at slots (number a) ≡ Some v → P v
-
-abbrev pub versions : Slots → List ℕ → List Numbered
-versions slots ns = versions_by slots (map number ns)
 
 pub all_to : (slots : Slots) (P : Version → Type 0) (ns : List ℕ) → AllByRecursion (λ e. P e.1) (versions slots ns) → AllByRecursion (OnOne slots P) ns
 all_to slots P [] h = tt

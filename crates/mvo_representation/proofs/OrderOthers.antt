@@ -32,15 +32,15 @@ use Rattle.mvo_representation.specs.Order.HasSameWords.{Same}
 use Rattle.mvo_representation.specs.OrderLaws.{OpeningStandsInOrder, FinishStaysInOrder, FrontsKeepNumbers, NumbersAreAmong, HolesAreFresh}
 use Rattle.mvo_representation.proofs.Kept.{standing_effect-at}
 use Rattle.mvo_representation.proofs.Numbers.{without_same, without_other}
-use Rattle.mvo_representation.proofs.OrderLists.{On, OnOne, some_version, pairs_weaker}
+use Rattle.mvo_representation.proofs.OrderLists.{On, OnOne, pairs_weaker}
 use Rattle.mvo_representation.proofs.OrderSteps.{at_each, order_from, live, more_at, at_key, alike_stay_in_order}
-use Rattle.mvo_representation.proofs.OrderEnds.{own_stamp, one_name}
+use Rattle.mvo_representation.proofs.OrderEnds.{own_stamp}
 use Rattle.mvo_representation.proofs.OrderBases.{stands_here}
+use Rattle.mvo_representation.proofs.Slots.{some_version}
+use Rattle.mvo_representation.proofs.WordPlaces.{one_name}
+use Rattle.mvo_deps.proofs.Lists.{one}
 
 -- ---- numbers
-abbrev one : Bool → ℕ
-one b = cond b 1 0
-
 among_counts : (n : ℕ) (ns : List ℕ) → is_among n ns ≡ true → 1 ≤ how_many (λ m. m == n) ns
 among_counts n [] e = absurd (false≢true e)
 among_counts n (m ∷ ns) e = go (eqb n m) refl e (among_counts n ns)

@@ -20,6 +20,7 @@ use Rattle.mvo_txn.specs.declared.state.TxState.TheVariants as state
 use Rattle.mvo_visible.specs.Words.{States, names}
 use Rattle.mvo_visible.specs.Fronts.{with_new}
 use Rattle.mvo_visible.specs.Laws.{SlotsDifferAt}
+use Rattle.mvo_visible.proofs.Moves.{versions}
 use Rattle.mvo_representation.specs.Words.{Phases, with_effect, effect_by, net_effect}
 use Rattle.mvo_representation.specs.Words.NetEffect.{Untouched, Puts}
 use Rattle.mvo_representation.specs.Indexes.{all_versions, HasNumbers}
@@ -28,10 +29,10 @@ use Rattle.mvo_representation.specs.Table.{phase_as, phases_of}
 use Rattle.mvo_representation.specs.Order.{MayPrecede, StandInOrder, AllStandInOrder, EachPair}
 use Rattle.mvo_representation.specs.OrderLaws.{HaveNow, AlikeStayInOrder, RemovalKeepsOrder, UnheldStaysInOrder, SingleStandInOrder}
 use Rattle.mvo_representation.proofs.Effects.{net_effect-at}
-use Rattle.mvo_representation.proofs.Slots.{slot_emptied}
+use Rattle.mvo_representation.proofs.Slots.{slot_emptied, some_version}
 use Rattle.mvo_representation.proofs.Collect.{leaves_row, leaves_put}
 use Rattle.mvo_representation.proofs.ShownTo.{of_key}
-use Rattle.mvo_representation.proofs.OrderLists.{On, OnOne, versions, some_version, all_to, pairs_weaker, pairs_to, pairs_from, pairs_without}
+use Rattle.mvo_representation.proofs.OrderLists.{On, OnOne, all_to, pairs_weaker, pairs_to, pairs_from, pairs_without}
 use Rattle.mvo_representation.proofs.OrderPairs.{alike_pair, fresh_pair}
 
 -- ---- numbers of a key in order

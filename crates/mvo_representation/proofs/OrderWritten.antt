@@ -26,9 +26,10 @@ use Rattle.mvo_representation.specs.OrderLaws.{HaveNow}
 use Rattle.mvo_representation.specs.WrittenLaws.{NothingIsWritten, InsertIsWritten, DeleteIsWritten, UpdateIsWritten, OthersKeepWritten}
 use Rattle.mvo_representation.proofs.Collect.{leaves_row, leaves_put}
 use Rattle.mvo_representation.proofs.Own.{own_id}
-use Rattle.mvo_representation.proofs.OrderLists.{no_version, some_version, pairs_weaker}
+use Rattle.mvo_representation.proofs.OrderLists.{no_version, pairs_weaker}
 use Rattle.mvo_representation.proofs.OrderSteps.{stays_put, more_at, live, is_false}
 use Rattle.mvo_representation.proofs.OrderOperations.{own_words as says, unput, was_before, other_ended}
+use Rattle.mvo_representation.proofs.Slots.{some_version}
 
 pub nothing_is_written : NothingIsWritten
 nothing_is_written t slots h = record {

@@ -103,7 +103,7 @@ rows_at-map f e h (x ∷ xs) =
     ∙ ap (cond (x.end == e) x.footprint) (rows_at-map f e h xs)
 
 -- ---- a commit
-or_no : (a b : Bool) → (a || b) ≡ false → (a ≡ false) × (b ≡ false)
+pub or_no : (a b : Bool) → (a || b) ≡ false → (a ≡ false) × (b ≡ false)
 or_no true b h = absurd (true≢false h)
 or_no false b h = (refl, h)
 

@@ -15,6 +15,7 @@ use Rattle.mvo_theory.specs.Ranges.{shows}
 use Rattle.mvo_theory.specs.State.{State}
 use Rattle.mvo_theory.specs.Causes.{change_of}
 use Rattle.mvo_theory.proofs.Each.{each_always, each_both}
+use Rattle.mvo_theory.proofs.Footprints.{or_left}
 use Rattle.mvo_theory.specs.Sound.{IsSound, IsStarted, how_many}
 use Rattle.mvo_chain.specs.declared.version.Version.{Version}
 use Rattle.mvo_chain.specs.Slots.{Slots, version_at}
@@ -38,6 +39,7 @@ use Rattle.mvo_representation.proofs.Between.{range_checked}
 use Rattle.mvo_representation.proofs.Decided.{last_same, changes_at, greatest_change}
 use Rattle.mvo_representation.proofs.ShownTo.{of_key, there}
 use Rattle.mvo_representation.proofs.CheckedBy.{between_is, key_check_is}
+use Rattle.mvo_representation.proofs.Slots.{none_version, some_version}
 
 -- ---- lists and tests
 any_filter : {X : Type 0} (f p : X → Bool) (xs : List X) → list_any f (filter p xs) ≡ list_any (λ x. p x && f x) xs
@@ -75,21 +77,11 @@ or_true : (a : Bool) → (a || true) ≡ true
 or_true true = refl
 or_true false = refl
 
-or_left : (a b : Bool) → a ≡ true → (a || b) ≡ true
-or_left true b e = refl
-or_left false b e = absurd (false≢true e)
-
 or_right : (a b : Bool) → b ≡ true → (a || b) ≡ true
 or_right a true e = or_true a
 or_right a false e = absurd (false≢true e)
 
 -- ---- versions by number
-none_version : (v : Version) → ◌≡◌ {A = Option Version} None (Some v) → ⊥
-none_version v q = cc
-
-some_version : (w v : Version) → ◌≡◌ {A = Option Version} (Some w) (Some v) → w ≡ v
-some_version w v q = cc
-
 pub any_slot : (f : Version → Bool) (slots : Slots) (n : ℕ) (v : Version) → slice_index_or slots n None ≡ Some v → f v ≡ true → list_any f (all_versions slots) ≡ true
 any_slot f [] zero v e q = absurd (none_version v e)
 any_slot f [] (suc n) v e q = absurd (none_version v e)
@@ -104,7 +96,7 @@ record InSlot (slots : Slots) (f : Version → Bool) : Type 0 where
   pub at : slice_index_or slots number None ≡ Some version
   pub passes : f version ≡ true
 
-in_slot : (f : Version → Bool) (slots : Slots) → list_any f (all_versions slots) ≡ true → InSlot slots f
+pub in_slot : (f : Version → Bool) (slots : Slots) → list_any f (all_versions slots) ≡ true → InSlot slots f
 in_slot f [] e = absurd (false≢true e)
 in_slot f (None ∷ ss) e = let w = in_slot f ss e in record { number = suc w.number; version = w.version; at = w.at; passes = w.passes }
 in_slot f (Some v ∷ ss) e = go (f v) refl e (λ r. in_slot f ss r)
@@ -130,11 +122,11 @@ any_numbered f slots n v (m ∷ ns) e q le = go (m == n) refl le (λ l. any_numb
     go false i l again = more (slice_index_or slots m None) (again (omega (arith, l)))
 
 -- ---- the versions at the places of a range
-some_there : (o : Option ℕ) → is_some o ≡ true → (n : ℕ) × (o ≡ Some n)
+pub some_there : (o : Option ℕ) → is_some o ≡ true → (n : ℕ) × (o ≡ Some n)
 some_there None e = absurd (false≢true e)
 some_there (Some n) e = (n, refl)
 
-none_number : (n : ℕ) → ◌≡◌ {A = Option ℕ} None (Some n) → ⊥
+pub none_number : (n : ℕ) → ◌≡◌ {A = Option ℕ} None (Some n) → ⊥
 none_number n q = cc
 
 some_number : (m n : ℕ) → ◌≡◌ {A = Option ℕ} (Some m) (Some n) → m ≡ n

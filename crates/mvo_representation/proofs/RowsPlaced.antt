@@ -29,7 +29,7 @@ use Rattle.mvo_representation.proofs.MayEnd.{shown_as}
 use Rattle.mvo_representation.proofs.RangeCheckedBy.{any_slot, iff}
 use Rattle.mvo_representation.proofs.Scanned.{met_counts, counts_met}
 
-none_content : (h : ContentData) → ◌≡◌ {A = Option ContentData} None (Some h) → ⊥
+pub none_content : (h : ContentData) → ◌≡◌ {A = Option ContentData} None (Some h) → ⊥
 none_content h q = cc
 
 some_content : (g h : ContentData) → ◌≡◌ {A = Option ContentData} (Some g) (Some h) → g ≡ h

@@ -32,6 +32,7 @@ use Rattle.mvo_representation.proofs.Version.{clash_in, no_clash}
 use Rattle.mvo_representation.proofs.Own.{not_clash}
 use Rattle.mvo_representation.proofs.Indexed.{index_net_effect}
 use Rattle.mvo_representation.proofs.Decided.{is_put_by, first_put, number_of, version_first, AreOfKey, unnumbered, is_change, content_of_first, change_any, content_first, last_of_versions}
+use Rattle.mvo_deps.proofs.Lists.{one}
 
 -- ---- the versions of a key
 pub versions_in_by : (slots : Slots) (ns : List ℕ) → unnumbered (versions_by slots (map number ns)) ≡ versions_numbered slots ns
@@ -46,9 +47,6 @@ versions_in_by slots (n ∷ ns) = go (slice_index_or slots n None) ∙ ap (and_f
 abbrev IsListed : Slots → RowKey → List ℕ → Type 0
 IsListed slots k ns = AllByRecursion (λ n. is_of_key k (slice_index_or slots n None) ≡ true) ns
 
-abbrev one : Bool → ℕ
-one b = cond b 1 0
-
 listed : (slots : Slots) (k : RowKey) (ns : List ℕ) → ((m : ℕ) → 1 ≤ how_many (λ i. i == m) ns → is_of_key k (slice_index_or slots m None) ≡ true) → IsListed slots k ns
 listed slots k [] h = tt
 listed slots k (n ∷ ns) h = (
@@ -56,7 +54,7 @@ listed slots k (n ∷ ns) h = (
   listed slots k ns (λ m le. h m (omega (arith, le))),
 )
 
-one_is : (b : Bool) → 1 ≤ cond b 1 0 → b ≡ true
+pub one_is : (b : Bool) → 1 ≤ cond b 1 0 → b ≡ true
 one_is true l = refl
 one_is false l = absurd (omega (arith, l))
 

@@ -23,6 +23,7 @@ use Rattle.mvo_theory.proofs.Finds.{find_none}
 use Rattle.mvo_theory.proofs.Phases.{leads_after_operation}
 use Rattle.mvo_theory.proofs.Single.{active_found, preparing_found, active_alone, preparing_alone}
 use Rattle.mvo_theory.proofs.Who.{active_holds, id_of}
+use Rattle.mvo_theory.proofs.EndSteps.{or_none}
 use Rattle.mvo_txn.specs.Txns.{Txns, state_of}
 use Rattle.mvo_deps.specs.declared.node.Node.{Node}
 use Rattle.mvo_deps.specs.Data.{is_among}
@@ -42,17 +43,7 @@ use Rattle.mvo_representation.proofs.Reported.{IsNew, its_dependents, its_open, 
 use Rattle.mvo_representation.proofs.Tabled.{table_alike, phase_taken_over}
 use Rattle.mvo_representation.proofs.TableSteps.{nodes_beside, drawn_beside}
 use Rattle.mvo_representation.proofs.TableTells.{open_phase}
-use Rattle.mvo_representation.proofs.Unsettled.{alone}
-
-some_same : (x y : StampedTx) → ◌≡◌ {A = Option StampedTx} (Some x) (Some y) → x ≡ y
-some_same x y q = cc
-
-none_some : (x : StampedTx) → ◌≡◌ {A = Option StampedTx} None (Some x) → ⊥
-none_some x q = cc
-
-or_none : (b : Bool) → (b || false) ≡ b
-or_none true = refl
-or_none false = refl
+use Rattle.mvo_representation.proofs.Unsettled.{alone, none_some}
 
 or_turned : (a b : Bool) → (a || b) ≡ (b || a)
 or_turned true true = refl

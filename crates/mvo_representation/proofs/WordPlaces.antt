@@ -73,10 +73,6 @@ pub own_name : (t : ℕ) → names t (By (record { 0 = t })) ≡ true
 own_name t = eq-eqb t t refl
 
 -- ---- the places of a list that pass
-pub filter_same : {X : Type 0} (f g : X → Bool) (xs : List X) → AllByRecursion (λ x. f x ≡ g x) xs → filter f xs ≡ filter g xs
-filter_same f g [] h = refl
-filter_same f g (x ∷ xs) h = ap (λ (b : Bool). cond b (x ∷ filter f xs) (filter f xs)) h.0 ∙ ap (λ ys. cond (g x) (x ∷ ys) ys) (filter_same f g xs h.1)
-
 pub filter_always : {X : Type 0} (f g : X → Bool) (xs : List X) → ((x : X) → f x ≡ g x) → filter f xs ≡ filter g xs
 filter_always f g [] h = refl
 filter_always f g (x ∷ xs) h = ap (λ (b : Bool). cond b (x ∷ filter f xs) (filter f xs)) (h x) ∙ ap (λ ys. cond (g x) (x ∷ ys) ys) (filter_always f g xs h)

@@ -29,12 +29,13 @@ use Rattle.mvo_representation.specs.Order.{own_words}
 use Rattle.mvo_representation.specs.OrderLaws.{HaveNow}
 use Rattle.mvo_representation.specs.WordLists.{WordLists, HaveListNow, number_at, word_at, is_place, names_at, named, IsGone, IsOfClaim, IsWordOf, IsWordAt, StandAt, HasOwnWords}
 use Rattle.mvo_representation.proofs.Ending.{named_end}
-use Rattle.mvo_representation.proofs.OrderLists.{some_version, no_version}
+use Rattle.mvo_representation.proofs.OrderLists.{no_version}
 use Rattle.mvo_representation.proofs.OrderWritten.{others_keep_written}
 use Rattle.mvo_representation.proofs.WordPlaces.{AreOnce, IsNewOrOld, own_name, names_here, names_none, names_like, place_apart, place_cases, filter_always, filter_narrow, each_passes, not_counted, once_pushed}
 use Rattle.mvo_representation.proofs.WordPairs.{ends_in, IsLike, word_like, version_like_self, stand_weaker, stand_kept, stand_push, stand_named, stand_less}
 use Rattle.mvo_representation.proofs.WordsKept.{IsActiveListed, IsPreparingListed, IsEndedListed}
 use Rattle.mvo_representation.proofs.WordsSaid.{none_pass, not_the_one, not_preparing_one}
+use Rattle.mvo_representation.proofs.Slots.{some_version}
 
 -- ---- all around t, the words of which are these
 pub record IsListedAround (s s' : State) (slots : Slots) (lists : WordLists) (t : ℕ) (ws : List Word) (us : List EndedTx) : Type 0 where

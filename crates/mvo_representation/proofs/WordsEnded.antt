@@ -15,7 +15,7 @@ use Rattle.mvo_theory.specs.Steps.{after_abort_of}
 use Rattle.mvo_theory.specs.Phases.{phase_in}
 use Rattle.mvo_theory.specs.Calls.{IsKept}
 use Rattle.mvo_theory.proofs.Each.{each_weaker, each_append, each_map, each_filter}
-use Rattle.mvo_theory.proofs.Phases.{Leads, leads_after_prepare, leads_after_abort_of_active, leads_after_abort_of_preparing}
+use Rattle.mvo_theory.proofs.Phases.{Leads, leads_after_prepare, leads_after_abort_of_active, leads_after_abort_of_preparing, alone_in}
 use Rattle.mvo_theory.proofs.Who.{active_holds, id_of}
 use Rattle.mvo_word.specs.declared.held.Held.{Held}
 use Rattle.mvo_word.specs.declared.held.Held.TheVariants.{At, By, Infinity}
@@ -31,7 +31,7 @@ use Rattle.mvo_representation.specs.Indexes.{all_versions}
 use Rattle.mvo_representation.specs.Table.{phases_of}
 use Rattle.mvo_representation.specs.WordLists.{WordLists, number_at, word_at, named, IsGone, IsWordOf, IsWordAt, StandAt, HasOwnWords, HasWordLists}
 use Rattle.mvo_representation.specs.WordLaws.{PrecommitKeepsLists, AbortKeepsLists}
-use Rattle.mvo_representation.proofs.Ending.{own_word, named_end, alone_in}
+use Rattle.mvo_representation.proofs.Ending.{own_word, named_end}
 use Rattle.mvo_representation.proofs.Facts.{found_holds, preparing_is, phase_active, phase_preparing}
 use Rattle.mvo_representation.proofs.OrderSteps.{live}
 use Rattle.mvo_representation.proofs.Quiet.{with_end, ends_turn, ends_stay, stamp_other}
@@ -39,12 +39,7 @@ use Rattle.mvo_representation.proofs.WordPlaces.{one_name}
 use Rattle.mvo_representation.proofs.WordPairs.{ends_in, stand_weaker, stand_all, stand_self}
 use Rattle.mvo_representation.proofs.WordsKept.{IsActiveListed, IsPreparingListed, IsEndedListed, active_self, preparing_self, ended_self, absent_before, here_versions, words_preparing}
 use Rattle.mvo_representation.proofs.WordsSaid.{may_abort, unended}
-
-none_end : (e : ℕ) → ◌≡◌ {A = Option ℕ} None (Some e) → ⊥
-none_end e q = cc
-
-some_end : (a b : ℕ) → ◌≡◌ {A = Option ℕ} (Some a) (Some b) → a ≡ b
-some_end a b q = cc
+use Rattle.mvo_representation.proofs.Decided.{none_end, some_end}
 
 -- ---- a precommit
 module _ (opening : Map) (steps : List Step) (s : State) (slots : Slots) (r : ActiveTx) (k : IsKept opening steps s) (h : AreVersionsOf s (phase_in s) (all_versions slots)) (f : active_of r.id s.active ≡ Some r) where

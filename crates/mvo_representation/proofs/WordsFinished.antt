@@ -13,6 +13,8 @@ use Rattle.mvo_theory.specs.Phases.{phase_in}
 use Rattle.mvo_theory.specs.Sound.{IsSingle, how_many}
 use Rattle.mvo_theory.proofs.Each.{each_weaker, each_both, each_map}
 use Rattle.mvo_theory.proofs.Phases.{Leads, leads_after_termination}
+use Rattle.mvo_theory.proofs.Single.{each_without}
+use Rattle.mvo_theory.proofs.EndSteps.{filter_same}
 use Rattle.mvo_word.specs.declared.held.Held.TheVariants.{Infinity}
 use Rattle.mvo_chain.specs.declared.version.Version.{Version}
 use Rattle.mvo_chain.specs.declared.version.VersionNo.{VersionNo}
@@ -31,15 +33,15 @@ use Rattle.mvo_representation.specs.OrderLaws.{HaveNow}
 use Rattle.mvo_representation.specs.WordLists.{WordLists, HaveListNow, number_at, word_at, is_place, names_at, named, finished, IsWordOf, IsWordAt, StandAt, HasOwnWords, HasWordLists}
 use Rattle.mvo_representation.specs.WordLaws.{FinishKeepsLists, LastIsUnnamed, LastKeepsLists, LeavingKeepsLists}
 use Rattle.mvo_representation.proofs.Ending.{named_end}
-use Rattle.mvo_representation.proofs.OrderLists.{some_version}
 use Rattle.mvo_representation.proofs.OrderSteps.{live}
 use Rattle.mvo_representation.proofs.OrderWritten.{others_keep_written}
 use Rattle.mvo_representation.proofs.Quiet.{with_end, ends_turn, stamp_other}
 use Rattle.mvo_representation.proofs.Reworded.{phase_with_words}
-use Rattle.mvo_representation.proofs.WordPlaces.{not_other, names_here, names_like, place_same, place_apart, place_cases, filter_same, filter_always, each_passes, counted_none, counted_passes}
+use Rattle.mvo_representation.proofs.WordPlaces.{not_other, names_here, names_like, place_same, place_apart, place_cases, filter_always, each_passes, counted_none, counted_passes}
 use Rattle.mvo_representation.proofs.WordPairs.{ends_in, IsLike, IsLikeVersion, word_like, version_like_self, stand_weaker, stand_kept, stand_rest, stand_self}
 use Rattle.mvo_representation.proofs.WordsKept.{IsActiveListed, IsPreparingListed, IsEndedListed, own_self, unnamed_at}
 use Rattle.mvo_representation.proofs.WordsSaid.{not_the_one, ended_not_active, ended_not_preparing, ended_there, active_beside, preparing_beside, unnamed_where_none, none_is_unnamed, done_is_seen, none_pass}
+use Rattle.mvo_representation.proofs.Slots.{some_version}
 
 -- ---- a version with a finished word
 -- a word that names nobody
@@ -303,14 +305,6 @@ left_others t (x ∷ us) le = go (x.id == t) refl le (left_others t us)
     go true q l k = each_weaker (λ y. is_ended_as t y ≡ false) (λ y. y.id ≢ t) (λ y n. not_the_one y.id t n) us (none_pass (is_ended_as t) us (omega (arith, l)))
     go false q l k = (not_the_one x.id t q, k (omega (arith, l)))
 
-each_left : (P : EndedTx → Type 0) (t : ℕ) (us : List EndedTx) → AllByRecursion P us → AllByRecursion P (without_ended t us)
-each_left P t [] h = tt
-each_left P t (w ∷ ws) h = go (w.id == t) (each_left P t ws h.1)
-  where
-    go : (b : Bool) → AllByRecursion P (without_ended t ws) → AllByRecursion P (cond b ws (w ∷ without_ended t ws))
-    go true r = h.1
-    go false r = (h.0, r)
-
 found_ended : (t : ℕ) (us : List EndedTx) (u : EndedTx) → ended_of t us ≡ Some u → list_any (is_ended_as t) us ≡ true
 found_ended t [] u e = absurd (none u e)
   where
@@ -354,7 +348,7 @@ module _ (s : State) (slots : Slots) (lists lists' : WordLists) (u : EndedTx) (s
     once = λ t q n. once t q n (cases_eq t u.id);
     active = each_both (λ r. r.id ≢ u.id) (IsActiveListed s slots lists') (IsActiveListed (after_termination s u.id) slots lists') (λ r d o. own_left r.id d (words_of r.history r.claims) (lists' r.id) o) s.active (ended_not_active s u.id u single e) (active_beside s slots lists lists' u.id [] list (ended_not_active s u.id u single e) l.active);
     preparing = each_both (λ x. x.settled ≡ false → x.id ≢ u.id) (IsPreparingListed s slots lists') (IsPreparingListed (after_termination s u.id) slots lists') (λ x d o n. own_left x.id (d n) (words_of x.history x.claims) (lists' x.id) (o n)) s.stamped (ended_not_preparing s u.id u single e) (preparing_beside s slots lists lists' u.id [] list (ended_not_preparing s u.id u single e) l.preparing);
-    ended = each_both (λ x. x.id ≢ u.id) (λ x. x.id ≢ u.id → IsEndedListed s slots lists x) (IsEndedListed (after_termination s u.id) slots lists') (λ x d o. subst (λ qs. StandAt (after_termination s u.id) slots x.id x.words (named slots x.id qs)) (sym (list.others x.id d)) (stand_weaker s (after_termination s u.id) slots slots x.id (at_left x.id d) x.words (named slots x.id (lists x.id)) (o d))) (without_ended u.id s.ended) (left_others u.id s.ended (let o = single.once u.id in omega (arith, o))) (each_left (λ x. x.id ≢ u.id → IsEndedListed s slots lists x) u.id s.ended l.ended);
+    ended = each_both (λ x. x.id ≢ u.id) (λ x. x.id ≢ u.id → IsEndedListed s slots lists x) (IsEndedListed (after_termination s u.id) slots lists') (λ x d o. subst (λ qs. StandAt (after_termination s u.id) slots x.id x.words (named slots x.id qs)) (sym (list.others x.id d)) (stand_weaker s (after_termination s u.id) slots slots x.id (at_left x.id d) x.words (named slots x.id (lists x.id)) (o d))) (without_ended u.id s.ended) (left_others u.id s.ended (let o = single.once u.id in omega (arith, o))) (each_without (λ x. x.id ≢ u.id → IsEndedListed s slots lists x) u.id s.ended l.ended);
     absent = λ t q. gone t q (cases_eq t u.id);
   }
     where

@@ -37,9 +37,8 @@ use Rattle.mvo_representation.specs.WordLists.{number_at, word_at, names_at, fin
 use Rattle.mvo_representation.specs.WordLaws.{FinishedIsAlike, FinishedStands}
 use Rattle.mvo_representation.proofs.Indexed.{there-at}
 use Rattle.mvo_representation.proofs.Finish.{kept_word}
-use Rattle.mvo_representation.proofs.OrderLists.{some_version}
 use Rattle.mvo_representation.proofs.OrderSteps.{live}
-use Rattle.mvo_representation.proofs.Slots.{slot_changed}
+use Rattle.mvo_representation.proofs.Slots.{slot_changed, some_version}
 use Rattle.mvo_representation.proofs.WordPlaces.{names_here}
 use Rattle.mvo_representation.proofs.WordsSaid.{ended_not_active, active_there}
 use Rattle.mvo_representation.proofs.WordsFinished.{row_stays, begin_alike, end_alike, begin_names, end_names, end_stays}

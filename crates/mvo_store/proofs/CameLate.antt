@@ -24,12 +24,12 @@ use Rattle.mvo_merge.proofs.Late.{gives_numbers}
 use Rattle.mvo_recovery.specs.Parts.{Parts}
 use Rattle.mvo_recovery.specs.Settled.{IsSettled}
 use Rattle.mvo_recovery.specs.Merging.{MergeData, merged}
-use Rattle.mvo_recovery.proofs.Merged.{named_merged, manifest_merged}
+use Rattle.mvo_recovery.proofs.Merged.{named_merged, manifest_merged, rise_merged}
 use Rattle.mvo_recovery.proofs.Pairs.{few_records, delta_named}
 use Rattle.mvo_recovery.proofs.Gained.{counted_of}
 use Rattle.mvo_recovery.specs.beside.Seen.{SeenData, grown, WasSeen, pairs_now, NumbersNow}
 use Rattle.mvo_recovery.proofs.beside.Seen.{left_now, right_now, in_left, in_right}
-use Rattle.mvo_recovery.proofs.beside.Two.{rise_one, few_one, has_first, has_second}
+use Rattle.mvo_recovery.proofs.beside.Two.{few_one, has_first, has_second}
 use Rattle.mvo_recovery.proofs.beside.Ready.{are_left, are_right, few_late}
 use Rattle.mvo_store.specs.declared.step.Step.TheVariants.{Close}
 use Rattle.mvo_store.specs.declared.merge_stage.MergeStage.{MergeStage}
@@ -372,7 +372,7 @@ module _ (m : ManifestData) (is : IsManifest m) (s : Seen) (still : StandStill m
           pairs = omega (arith, length-append c.before (c.pair ∷ c.behind), length-append c.before (two_are.pair ∷ c.behind), rules.pairs);
           some = rules.some;
           segments = rules.segments;
-          rise = rise_one 0 m.checkpoint_mark c.before c.behind c.left c.right c.pair may.lo may.hi may.few (subst (λ (ps : List Pair). PairsRise 0 ps m.checkpoint_mark) pairs_are is.rules.rise);
+          rise = rise_merged 0 m.checkpoint_mark c.before c.behind c.left c.right c.pair may.lo may.hi may.few (subst (λ (ps : List Pair). PairsRise 0 ps m.checkpoint_mark) pairs_are is.rules.rise);
           files = subst (λ (ns : List ℕ). All IsFile ns) same_named rules.files;
           different = subst (λ (ns : List ℕ). AllPairs (λ x y. x ≢ y) ns) same_named rules.different;
         };

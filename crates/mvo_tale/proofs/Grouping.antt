@@ -1,10 +1,10 @@
 -- The next group, out of what a walk over the places gathered.
-use Rattle.std.proofs.Common.{◌≡◌, ℕ, suc, ◌+◌, ◌-◌, ◌^◌, ◌<◌, ◌≤◌, Bool, true, false, cond, eqb, List, [], ◌∷◌, ◌++◌, length, map, take, drop, get_or, refl, inl, inr, sym, ap, ◌∙◌, subst, arith, append-nil, length-append}
+use Rattle.std.proofs.Common.{◌≡◌, ℕ, suc, ◌+◌, ◌-◌, ◌^◌, ◌<◌, ◌≤◌, Bool, true, false, cond, List, [], ◌∷◌, ◌++◌, length, map, take, drop, get_or, refl, inl, inr, sym, ap, ◌∙◌, subst, arith, append-nil, length-append}
 use Rattle.std.specs.Prelude.{◌⊎◌, nat_lt, nat_le, ◌&&◌, filter, IsSome, Option, Some, slice_get, option_and_then, ⊤}
 use Rattle.std.specs.List.{AllByRecursion, sum_by}
 use Rattle.std.specs.List.Sorted.{IsStrictlyIncreasing, IsStrictlySortedBy}
 use Rattle.std.specs.Ordering.{nat_cmp}
-use Rattle.std.specs.declared.cmp.Ordering.TheVariants.{Less, Equal, Greater}
+use Rattle.std.specs.declared.cmp.Ordering.TheVariants.{Less}
 use Rattle.std.proofs.lemmas.Bool.{true≢false, lt-ltb, lt-leb, le-leb, ltb-true, leb-true, leb-false}
 use Rattle.std.proofs.lemmas.List.{take_more}
 use Rattle.std.proofs.lemmas.Option.{slice_get_read}
@@ -15,8 +15,10 @@ use Rattle.std.proofs.Math.Seq.{drop-append_seam, take-add}
 use Rattle.mvo_theory.specs.Marks.{Commit}
 use Rattle.mvo_theory.specs.Groups.{is_writing, is_due, IsFull, IsLongest, last_of, mark_by}
 use Rattle.mvo_theory.proofs.Each.{each_filter, each_always, each_front}
+use Rattle.mvo_theory.proofs.OriginSteps.{and_false}
 use Rattle.mvo_group.specs.Data.{RecordData, group_of}
 use Rattle.mvo_group.specs.Rules.{KeepsRules, record_len}
+use Rattle.mvo_group.proofs.Orders.{lt_cmp}
 use Rattle.mvo_tale.specs.declared.slot.Slot.{Slot}
 use Rattle.mvo_tale.specs.declared.slot.Slot.TheVariants.{Settled}
 use Rattle.mvo_tale.specs.declared.next_records.NextRecords.{NextRecords}
@@ -100,10 +102,6 @@ fits_is cs rs h e f =
     let size = f.size in
     ap (λ (b : Bool). b && nat_le (18 + sum_by commit_len cs) 4194304) (le-leb (length cs) 1024 (omega arith))
     ∙ le-leb (18 + sum_by commit_len cs) 4194304 (omega arith)
-
-and_false : (a b : Bool) → b ≡ false → (a && b) ≡ false
-and_false true b e = e
-and_false false b e = refl
 
 too_many : (cs : List Commit) → 1024 < length cs → fits cs ≡ false
 too_many cs lt = ap (λ (b : Bool). b && nat_le (18 + sum_by commit_len cs) 4194304) (lt-leb (length cs) 1024 lt)
@@ -197,9 +195,6 @@ ends_of [] [] h = refl
 ends_of [] (r ∷ rs) h = absurd h
 ends_of (c ∷ cs) [] h = absurd h
 ends_of (c ∷ cs) (r ∷ rs) h = ap (λ (e : ℕ). e ∷ map (λ q. q.end) rs) h.0.end' ∙ ap (λ es. c.0 ∷ es) (ends_of cs rs h.1)
-
-lt_cmp : (a b : ℕ) → a < b → nat_cmp a b ≡ Less
-lt_cmp a b h = ap (λ t. cond t Less (cond (eqb a b) Equal Greater)) (lt-ltb a b h)
 
 rising_ends : (cs : List Commit) → RisingCommits cs → IsStrictlySortedBy nat_cmp (map (λ c. c.0) cs)
 unfolding IsStrictlySortedBy

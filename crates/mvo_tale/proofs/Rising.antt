@@ -51,7 +51,7 @@ rising_opened xs x e is h k = subst AreRising (sym (ends-append xs (x ∷ []) �
 none_some : (e : ℕ) → ◌≡◌ {A = Option ℕ} None (Some e) → ⊥
 none_some e h = cc
 
-same_end : (d e : ℕ) → ◌≡◌ {A = Option ℕ} (Some d) (Some e) → d ≡ e
+pub same_end : (d e : ℕ) → ◌≡◌ {A = Option ℕ} (Some d) (Some e) → d ≡ e
 same_end d e h = cc
 
 pub ends_settled : (xs : List Slot) (n : ℕ) (x : StoredCommit) → open_end_at xs n ≡ Some x.end → ends (slice_set xs n (Settled x)) ≡ ends xs

@@ -25,14 +25,14 @@ prepares-push : (xs : List Step) (x : Step) → prepares (xs ++ x ∷ []) ≡ pr
 prepares-push [] x = append-nil (prepare_of x)
 prepares-push (y ∷ ys) x = ap (λ cs. prepare_of y ++ cs) (prepares-push ys x) ∙ sym (append_assoc (prepare_of y) (prepares ys) (prepare_of x))
 
-or_none : (b : Bool) → (b || false) ≡ b
+pub or_none : (b : Bool) → (b || false) ≡ b
 or_none true = refl
 or_none false = refl
 
 aborted-push : (t : ℕ) (xs : List Step) (x : Step) → is_aborted t (xs ++ x ∷ []) ≡ (is_aborted t xs || is_abort_of t x)
 aborted-push t xs x = list_any-append (is_abort_of t) xs (x ∷ []) ∙ ap (λ b. is_aborted t xs || b) (or_none (is_abort_of t x))
 
-filter_same : {X : Type 0} (p q : X → Bool) (xs : List X) → AllByRecursion (λ x. p x ≡ q x) xs → filter p xs ≡ filter q xs
+pub filter_same : {X : Type 0} (p q : X → Bool) (xs : List X) → AllByRecursion (λ x. p x ≡ q x) xs → filter p xs ≡ filter q xs
 filter_same p q [] h = refl
 filter_same p q (x ∷ xs) h = ap (λ (b : Bool). cond b (x ∷ filter p xs) (filter p xs)) h.0 ∙ ap (λ ys. cond (q x) (x ∷ ys) ys) (filter_same p q xs h.1)
 

@@ -62,7 +62,7 @@ unsettled_filter keep (x ∷ xs) h = go (keep x) refl x.settled refl (unsettled_
     go false e true f l = l
     go false e false f l = absurd (true≢false (sym (h.0 e) ∙ f))
 
-or_false : (b : Bool) → (b || false) ≡ b
+pub or_false : (b : Bool) → (b || false) ≡ b
 or_false true = refl
 or_false false = refl
 

@@ -133,7 +133,7 @@ alone_at before after x r = each_append (λ y. y.end ≡ x.end → y.id ≡ x.id
     (each_weaker (λ y. y.end < x.end) (λ y. y.end ≡ x.end → y.id ≡ x.id) (λ y lt e. absurd (omega arith)) before (rising_before before after x r))
     (λ _. refl, each_weaker (λ y. x.end < y.end) (λ y. y.end ≡ x.end → y.id ≡ x.id) (λ y lt e. absurd (omega arith)) after (rising_after before after x r))
 
-alone_in : (s : State) (t : ℕ) (x : StampedTx) → preparing_of t s.stamped ≡ Some x → IsSound s → AllByRecursion (λ y. y.end ≡ x.end → y.id ≡ t) s.stamped
+pub alone_in : (s : State) (t : ℕ) (x : StampedTx) → preparing_of t s.stamped ≡ Some x → IsSound s → AllByRecursion (λ y. y.end ≡ x.end → y.id ≡ t) s.stamped
 alone_in s t x f k =
     let p = split_at t s.stamped x f in
     subst (λ (n : ℕ). AllByRecursion (λ y. y.end ≡ x.end → y.id ≡ n) s.stamped) p.3

@@ -207,7 +207,7 @@ count_without t u (w ∷ ws) = go (w.id == t) (count_without t u ws)
     go true l = omega arith
     go false l = omega arith
 
-each_without : (P : EndedTx → Type 0) (t : ℕ) (us : List EndedTx) → AllByRecursion P us → AllByRecursion P (without_ended t us)
+pub each_without : (P : EndedTx → Type 0) (t : ℕ) (us : List EndedTx) → AllByRecursion P us → AllByRecursion P (without_ended t us)
 each_without P t [] h = tt
 each_without P t (w ∷ ws) h = go (w.id == t) (each_without P t ws h.1)
   where

@@ -7,14 +7,14 @@ use Rattle.mvo_types.specs.declared.row.RowKey.{RowKey}
 use Rattle.mvo_types.specs.Keys.{Map}
 use Rattle.mvo_types.specs.Write.{Effect}
 use Rattle.mvo_model.specs.History.{History, after_history, later, net_write}
-use Rattle.mvo_model.proofs.Serials.{net_write-append}
+use Rattle.mvo_model.proofs.Serials.{net_write-append, later-none}
 use Rattle.mvo_theory.proofs.Each.{each_weaker, each_append, each_map}
 use Rattle.mvo_types.specs.declared.entry.Entry.{Entry}
 use Rattle.mvo_theory.specs.Ranges.{Row, shows}
 use Rattle.mvo_theory.specs.State.{StampedTx, history_below}
 use Rattle.mvo_theory.specs.Dependencies.{is_writer, or_later, last_writer, has_end, with_end, depend_on}
 use Rattle.mvo_theory.specs.Sound.{IsWritten, IsDecided, IsUnchanged, IsClear, IsRising, IsLegal, changes}
-use Rattle.mvo_theory.proofs.Footprints.{none_unless}
+use Rattle.mvo_theory.proofs.Footprints.{none_unless, or_right}
 use Rattle.mvo_types.specs.declared.entry.Entry.TheVariants.{Key, Range}
 
 -- ---- who decides a key, after a look
@@ -22,7 +22,7 @@ abbrev IsHeld : Option StampedTx → List ℕ → Type 0
 IsHeld None ds = ⊤
 IsHeld (Some y) ds = y.settled ≡ false → has_end ds y.end ≡ true
 
-no_stamped : (z : StampedTx) → ◌≡◌ {A = Option StampedTx} None (Some z) → ⊥
+pub no_stamped : (z : StampedTx) → ◌≡◌ {A = Option StampedTx} None (Some z) → ⊥
 no_stamped z q = cc
 
 pub written_last : (k : RowKey) (b : ℕ) (stamped : List StampedTx) (y : StampedTx) → last_writer k b stamped ≡ Some y → IsWritten k b stamped
@@ -57,10 +57,6 @@ held_now ds (Some y) = λ o. subst (λ (c : Bool). has_end (cond c ds (with_end 
 -- the key that is looked at now is decided
 pub decided_now : (k : RowKey) (b : ℕ) (ds : List ℕ) (stamped : List StampedTx) → IsDecided k b (depend_on ds (last_writer k b stamped)) stamped
 decided_now k b ds stamped = decided_held k b (depend_on ds (last_writer k b stamped)) stamped (held_now ds (last_writer k b stamped))
-
-or_right : (a b : Bool) → b ≡ true → (a || b) ≡ true
-or_right true b e = refl
-or_right false b e = e
 
 pub has_more : (ds : List ℕ) (d x : ℕ) → has_end ds x ≡ true → has_end (with_end ds d) x ≡ true
 has_more ds d x e = go (has_end ds d)
@@ -212,10 +208,6 @@ written_seen k b (x ∷ xs) (inl w) =
 written_seen k b (x ∷ xs) (inr q) =
     ap is_some (net_write-append k (cond (nat_lt x.end b) x.history []) (history_below b xs))
     ∙ ap is_some (later_there (net_write k (history_below b xs)) (net_write k (cond (nat_lt x.end b) x.history [])) (written_seen k b xs q)) ∙ written_seen k b xs q
-
-later-none : (a : Option Effect) → later a None ≡ a
-later-none None = refl
-later-none (Some h) = refl
 
 -- what is taken out decides nothing
 unseen_one : (k : RowKey) (c : Bool) (us rest all : History) → net_write k rest ≡ net_write k all → ((c && is_some (net_write k us)) ≡ true → is_some (net_write k all) ≡ true) → net_write k rest ≡ net_write k (cond c us [] ++ all)

@@ -12,7 +12,7 @@ use Rattle.mvo_types.specs.Keys.{Map}
 use Rattle.mvo_types.specs.AnswerData.{AnswerData}
 use Rattle.mvo_types.specs.AnswerData.AnswerData.{Inserted, Updated, Deleted}
 use Rattle.mvo_model.specs.History.{History, net_write}
-use Rattle.mvo_model.specs.Trace.{Step, history_of, history_by}
+use Rattle.mvo_model.specs.Trace.{Step, history_of}
 use Rattle.mvo_model.specs.Trace.Step.{Aborts, Terminates}
 use Rattle.mvo_theory.specs.Entries.{entries}
 use Rattle.mvo_theory.specs.State.{State, ActiveTx, StampedTx, EndedTx, Claim, Word, Outcome, active_of, preparing_of, ended_of}
@@ -29,8 +29,9 @@ use Rattle.mvo_theory.specs.Calls.Result.{Accepted, Refused}
 use Rattle.mvo_theory.proofs.Each.{each_weaker, each_append, each_map}
 use Rattle.mvo_theory.proofs.Who.{active_holds}
 use Rattle.mvo_theory.proofs.LastWriter.{found_in}
-use Rattle.mvo_theory.proofs.Cases.{found_is}
+use Rattle.mvo_theory.proofs.Cases.{found_is, no_ended}
 use Rattle.mvo_theory.proofs.Runs.{kept_after_call}
+use Rattle.mvo_theory.proofs.Found.{history_of-append}
 
 -- ---- as many as its operations wrote
 words_by_count : (before : History) (claims : List Claim) (op : Op) (a : AnswerData) → length (words_by before claims op a) ≡ words_in op a
@@ -53,10 +54,6 @@ words_of_count ts claims = words_behind_count [] claims ts
 word_count-append : (xs ys : History) → word_count (xs ++ ys) ≡ word_count xs + word_count ys
 word_count-append [] ys = omega arith
 word_count-append (x ∷ xs) ys = let e = word_count-append xs ys in omega arith
-
-history_of-append : (u : ℕ) (xs ys : List Step) → history_of u (xs ++ ys) ≡ history_of u xs ++ history_of u ys
-history_of-append u [] ys = refl
-history_of-append u (x ∷ xs) ys = ap (λ ts. history_by x u ++ ts) (history_of-append u xs ys) ∙ sym (append_assoc (history_by x u) (history_of u xs) (history_of u ys))
 
 pub count_later : (u : ℕ) (xs ys : List Step) → word_count (history_of u xs) ≤ word_count (history_of u (xs ++ ys))
 count_later u xs ys = let e = ap word_count (history_of-append u xs ys) ∙ word_count-append (history_of u xs) (history_of u ys) in omega arith
@@ -189,9 +186,6 @@ words_after_run opening xs s (c ∷ cs) m k h =
     (words_after_run opening (xs ++ steps_of s c.0 c.1) (after_call s c.0 c.1) cs m.1 (kept_after_call opening xs s c.0 c.1 m.0 k) (words_after_call opening xs s c.0 c.1 k.after_trace h))
 
 -- ---- each call of finishing takes one word away, until Done
-no_ended : (u : EndedTx) → ◌≡◌ {A = Option EndedTx} None (Some u) → ⊥
-no_ended u q = cc
-
 same : (u v : EndedTx) → ◌≡◌ {A = Option EndedTx} (Some u) (Some v) → u ≡ v
 same u v q = cc
 

@@ -12,6 +12,7 @@ use Rattle.mvo_visible.specs.Versions.{Numbered}
 use Rattle.mvo_visible.specs.Changes.{changes_by, changes_of, greater, greatest, greatest_below}
 use Rattle.mvo_visible.proofs.Decides.{greatest_below-append}
 use Rattle.mvo_visible.proofs.Walks.{changes_one, changes-append, IsFallingAt}
+use Rattle.mvo_visible.proofs.Behind.{all_append}
 use Rattle.mvo_validate.specs.Between.{is_above, stamp_between, is_before}
 
 pub stamp_between-append : (b e : ℕ) (cs ds : List Change) → stamp_between b e (cs ++ ds) ≡ greatest (stamp_between b e cs) (stamp_between b e ds)
@@ -48,16 +49,12 @@ all_second : (P : Change → Type 0) (cs ds : List Change) → AllByRecursion P 
 all_second P [] ds h = h
 all_second P (c ∷ cs) ds h = all_second P cs ds h.1
 
-all_both : (P : Change → Type 0) (cs ds : List Change) → AllByRecursion P cs → AllByRecursion P ds → AllByRecursion P (cs ++ ds)
-all_both P [] ds h k = k
-all_both P (c ∷ cs) ds h k = (h.0, all_both P cs ds h.1 k)
-
 all_filtered : (P : Change → Type 0) (states : States) (p : Numbered → Bool) (vs : List Numbered) → AllByRecursion P (changes_of states vs) → AllByRecursion P (changes_of states (filter p vs))
 all_filtered P states p [] h = tt
 all_filtered P states p (v ∷ vs) h =
     let rest = all_filtered P states p vs (all_second P (changes_by states v) (changes_of states vs) h) in
     elim (p v) as (λ b. AllByRecursion P (changes_of states (cond b (v ∷ filter p vs) (filter p vs)))) [
-      | true ↦ all_both P (changes_by states v) (changes_of states (filter p vs)) (all_first P (changes_by states v) (changes_of states vs) h) rest
+      | true ↦ all_append P (changes_by states v) (changes_of states (filter p vs)) (all_first P (changes_by states v) (changes_of states vs) h) rest
       | false ↦ rest
     ]
 

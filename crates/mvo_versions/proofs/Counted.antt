@@ -1,10 +1,10 @@
 -- The runs at each place where a version is put, changes its words, comes to the front, or goes.
 use Rattle.std.proofs.Common.{◌≡◌, ℕ, ◌+◌, ◌-◌, ◌<◌, ◌≤◌, ◌^◌, Bool, true, false, cond, not, eqb, ◌||◌, List, [], ◌∷◌, length, Option, None, Some, IsSome, refl, sym, ap, ◌∙◌, subst, arith, inl, inr}
 use Rattle.std.specs.Prelude.{◌==◌, ◌&&◌, is_some, slice_index_or, slice_set}
-use Rattle.std.specs.List.{IsDistinct, AllByRecursion}
+use Rattle.std.specs.List.{IsDistinct}
 use Rattle.std.specs.Option.{option_map}
 use Rattle.std.specs.Ordering.{eq_by_cmp}
-use Rattle.std.proofs.lemmas.Bool.{eq-eqb, true≢false, or_parts, or_left}
+use Rattle.std.proofs.lemmas.Bool.{eq-eqb, true≢false, or_left}
 use Rattle.std.proofs.lemmas.List.{get_or-set_same, get_or-set_other}
 use Rattle.std.proofs.lemmas.Map.Steps.{length-le_from_distinct_below}
 use Rattle.std.proofs.lemmas.Map.Views.{tells_apart}
@@ -16,17 +16,18 @@ use Rattle.mvo_chain.specs.declared.version.Version.{Version}
 use Rattle.mvo_chain.specs.declared.version.VersionNo.{VersionNo}
 use Rattle.mvo_chain.specs.Slots.{Slots, version_at, with_room, with_slot, IsHole}
 use Rattle.mvo_hash.specs.Lists.{Lists, numbers_of, newest_of, without, is_among, newer_of, older_of, IsFresh}
+use Rattle.mvo_hash.proofs.Chains.{all_apart}
 use Rattle.mvo_range.specs.declared.place.Place.{Place}
 use Rattle.mvo_validate.specs.Entries.{key_at}
 use Rattle.mvo_visible.specs.Fronts.{with_new, with_front, with_less}
 use Rattle.mvo_representation.specs.Indexes.{is_of_key, HasNumbers, place_of}
-use Rattle.mvo_representation.proofs.Numbers.{without_same}
+use Rattle.mvo_representation.proofs.Numbers.{without_same, numbers_with}
 use Rattle.mvo_versions.specs.Data.{VersionsData, AreIndexed}
 use Rattle.mvo_versions.specs.Changes.{is_slot_at, is_number_at}
 use Rattle.mvo_versions.specs.Runs.{runs_behind, runs_at, passes, count_at, is_newest_at, place_at, AreCounted}
 use Rattle.mvo_versions.proofs.Counting.{one, runs_alike, in_front, passed_over, few_runs, any_runs, newer_among, newest_stays}
 use Rattle.mvo_versions.proofs.Entries.{same, same_is, count_is, stands, one_at_place, one_at_passes, fewer}
-use Rattle.mvo_versions.proofs.Indexing.{numbers_with, hole_inside, hole_empty, room_same, inside_of, none_of, empty_fresh, key_of_itself, at_key, found_at}
+use Rattle.mvo_versions.proofs.Indexing.{hole_inside, hole_empty, room_same, inside_of, none_of, empty_fresh, key_of_itself, at_key, found_at}
 
 -- what counts stands under its key and at its place
 pub indexed : (v : VersionsData) → AreCounted v → AreIndexed v
@@ -41,10 +42,6 @@ indexed v h = record {
 one_most : (b : Bool) → one b ≤ 1
 one_most true = omega arith
 one_most false = omega arith
-
-all_apart : (n : ℕ) (ns : List ℕ) → is_among n ns ≡ false → AllByRecursion (λ m. eqb n m ≡ false) ns
-all_apart n [] a = tt
-all_apart n (m ∷ ns) a = let h = or_parts (eqb n m) (is_among n ns) a in (h.0, all_apart n ns h.1)
 
 distinct : (ns : List ℕ) → ((i : ℕ) → how_many (λ m. m == i) ns ≤ 1) → IsDistinct eqb ns
 unfolding IsDistinct

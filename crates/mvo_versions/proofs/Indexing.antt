@@ -17,7 +17,7 @@ use Rattle.mvo_chain.specs.declared.version.Version.{Version}
 use Rattle.mvo_chain.specs.declared.version.VersionNo.{VersionNo}
 use Rattle.mvo_chain.specs.Slots.{Slots, version_at, with_room, with_slot, with_change, hole_count}
 use Rattle.std.specs.Option.{option_map}
-use Rattle.mvo_hash.specs.Lists.{Lists, or_empty, numbers_of, with_numbers, without, is_among, IsFresh}
+use Rattle.mvo_hash.specs.Lists.{Lists, numbers_of, without, is_among, IsFresh}
 use Rattle.mvo_range.specs.declared.place.Place.{Place}
 use Rattle.mvo_range.specs.Place.{Map as Places}
 use Rattle.mvo_range.proofs.Places.{exact_places}
@@ -26,25 +26,11 @@ use Rattle.mvo_visible.specs.Fronts.{with_front, with_less}
 use Rattle.mvo_representation.specs.Indexes.{all_versions, is_of_key, HasNumbers, place_of, is_at_place, HasPlaces}
 use Rattle.mvo_representation.specs.Steps.{IsOneChanged}
 use Rattle.mvo_representation.proofs.Slots.{room_made, slot_changed}
-use Rattle.mvo_representation.proofs.Numbers.{numbers_gone}
+use Rattle.mvo_representation.proofs.Numbers.{numbers_gone, numbers_with}
 use Rattle.mvo_representation.proofs.Indexed.{places_same}
 use Rattle.mvo_versions.specs.Data.{VersionsData, AreIndexed}
 use Rattle.mvo_versions.specs.Changes.{is_slot_at, is_number_at}
-
-abbrev one : Bool → ℕ
-one b = cond b 1 0
-
-pub numbers_with : (lists : Lists) (k : RowKey) (ns : List ℕ) (q : RowKey) → numbers_of (with_numbers lists k ns) q ≡ cond (eq_by_cmp key_cmp q k) ns (numbers_of lists q)
-numbers_with lists k [] q = ap or_empty (fin.get-remove keys_total lists k q) ∙ go (eq_by_cmp key_cmp q k)
-  where
-    go : (b : Bool) → or_empty (cond b None (fin.get lists q)) ≡ cond b [] (numbers_of lists q)
-    go true = refl
-    go false = refl
-numbers_with lists k (n ∷ ns) q = ap or_empty (fin.get-insert keys_total lists k (n ∷ ns) q) ∙ go (eq_by_cmp key_cmp q k)
-  where
-    go : (b : Bool) → or_empty (cond b (Some (n ∷ ns)) (fin.get lists q)) ≡ cond b (n ∷ ns) (numbers_of lists q)
-    go true = refl
-    go false = refl
+use Rattle.mvo_versions.proofs.Counting.{one}
 
 -- ---- slots
 pub set_itself : (slots : Slots) (n : ℕ) → slice_set slots n (slice_index_or slots n None) ≡ slots

@@ -17,12 +17,13 @@ use Rattle.mvo_hash.specs.Lists.{Lists, number, numbers_of, with_numbers, withou
 use Rattle.mvo_visible.specs.Fronts.{with_new, with_front, with_less}
 use Rattle.mvo_representation.specs.Indexes.{is_of_key, HasNumbers}
 use Rattle.mvo_representation.specs.Steps.{fresh}
+use Rattle.mvo_representation.proofs.Numbers.{numbers_with}
 use Rattle.mvo_versions.specs.declared.skips.Post.{Post}
 use Rattle.mvo_versions.specs.declared.skip.Skip.{Skip}
 use Rattle.mvo_versions.specs.Data.{VersionsData, AreIndexed}
 use Rattle.mvo_versions.specs.Changes.{IsPut, IsRoomed, IsReworded, IsInFront, IsTakenOut}
 use Rattle.mvo_versions.specs.Skips.{begin_of_ended, is_ended_from, from_on, leads, skip_at, HasNoMore, IsForgotten, IsNoted, IsSkip, AreSkips, HasSkips, IsUnlessEnded}
-use Rattle.mvo_versions.proofs.Indexing.{number_among, numbers_with, none_of, room_same}
+use Rattle.mvo_versions.proofs.Indexing.{number_among, none_of, room_same}
 use Rattle.mvo_versions.proofs.Going.{found}
 use Rattle.mvo_versions.proofs.Posts.{none_known}
 use Rattle.mvo_versions.proofs.Words.{not_ended}

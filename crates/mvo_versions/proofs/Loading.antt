@@ -1,16 +1,14 @@
 -- Versions that are loaded one after another.
 use Rattle.std.proofs.Common.{◌≡◌, ℕ, ◌<◌, ◌≤◌, ◌^◌, ◌||◌, T, suc, zero, List, [], ◌∷◌, ◌++◌, map, length, None, Some, refl, sym, ap, ◌∙◌, subst, arith}
-use Rattle.std.specs.Prelude.{◌&&◌, slice_get, slice_set, slice_index_or, fold, ◌==◌, cond, Bool, true, false}
+use Rattle.std.specs.Prelude.{slice_get, slice_set, slice_index_or, fold, ◌==◌, cond, Bool, true, false}
 use Rattle.std.specs.List.{list_any}
-use Rattle.std.specs.Ordering.{is_lt, is_eq}
-use Rattle.std.specs.declared.cmp.Ordering.{Ordering}
-use Rattle.std.specs.declared.cmp.Ordering.TheVariants.{Less, Equal, Greater}
 use Rattle.std.specs.FinMap as fin
 use Rattle.std.specs.FinMap.Entries.{below_all}
 use Rattle.std.proofs.lemmas.Bool.{true≢false}
 use Rattle.std.proofs.lemmas.List.{length-set}
 use Rattle.std.proofs.lemmas.Map.Views.{tells_apart}
 use Rattle.mvo_types.proofs.Maps.{exact_keys}
+use Rattle.mvo_types.proofs.Ranges.{first, lt_not_eq, second}
 use Rattle.mvo_types.specs.declared.row.RowKey.{RowKey}
 use Rattle.mvo_types.specs.RowData.{RowData, ContentData, row_with}
 use Rattle.mvo_types.specs.RowLists.{rows_by_key}
@@ -81,19 +79,6 @@ pub all_loaded : (mark : ℕ) (rows : Map) (slots : Slots) → slots ≡ map (as
 all_loaded mark rows slots e = ap all_versions e ∙ versions_of mark (fin.entries rows)
 
 -- ---- each key has one row at most
-first : (a b : Bool) → T (a && b) → T a
-first true b p = tt
-first false b p = p
-
-second : (a b : Bool) → T (a && b) → T b
-second true b p = p
-second false b p = absurd p
-
-lt_not_eq : (o : Ordering) → T (is_lt o) → is_eq o ≡ false
-lt_not_eq Less p = refl
-lt_not_eq Equal p = absurd p
-lt_not_eq Greater p = absurd p
-
 abbrev slots_of : Held → List (RowKey × ContentData) → Slots
 slots_of mark es = map (as_loaded mark) (map (λ e. row_with e.0 e.1) es)
 

@@ -1,5 +1,5 @@
 -- A walk over the versions of a key, past those in front that tell nothing below a begin.
-use Rattle.std.proofs.Common.{◌≡◌, ℕ, ◌≤◌, true, eqb, ◌||◌, List, [], ◌∷◌, ◌++◌, map, Option, None, Some, refl, sym, ap, ◌∙◌, subst, append_assoc, inl, inr}
+use Rattle.std.proofs.Common.{◌≡◌, ℕ, ◌≤◌, true, eqb, ◌||◌, List, [], ◌∷◌, ◌++◌, map, Option, None, Some, sym, ap, ◌∙◌, subst, append_assoc, inl, inr}
 use Rattle.std.specs.Option.{MatchOption}
 use Rattle.std.proofs.lemmas.Bool.{cases_Bool, and_parts, eqb-true, true≢false}
 use Rattle.mvo_types.specs.declared.row.RowKey.{RowKey}
@@ -7,7 +7,7 @@ use Rattle.mvo_chain.specs.declared.version.Version.{Version}
 use Rattle.mvo_chain.specs.declared.version.VersionNo.{VersionNo}
 use Rattle.mvo_chain.specs.Slots.{Slots, version_at}
 use Rattle.mvo_hash.specs.Lists.{Lists, number, numbers_of, is_among, foremost, LeadsTo}
-use Rattle.mvo_hash.proofs.Passing.{plain, plain_numbers}
+use Rattle.mvo_hash.proofs.Passing.{plain, plain_numbers, plain_split}
 use Rattle.mvo_visible.specs.declared.outcome.Shown.{Shown}
 use Rattle.mvo_visible.specs.Words.{States}
 use Rattle.mvo_visible.specs.Versions.{Numbered, and_version, versions_by, versions_at}
@@ -20,10 +20,6 @@ use Rattle.mvo_versions.specs.declared.skip.Skip.{Skip}
 use Rattle.mvo_versions.specs.Skips.{begin_of_ended, is_ended_from, is_later_one, leads, from_on, IsSkip, IsRest}
 use Rattle.mvo_versions.proofs.Words.{at_least_lower, ended_later}
 use Rattle.mvo_versions.proofs.Older.{among_split, from_split, once}
-
-plain_split : (front : List VersionNo) (n : VersionNo) (rest : List VersionNo) → plain (front ++ n ∷ rest) ≡ plain front ++ n.0 ∷ plain rest
-plain_split [] n rest = refl
-plain_split (m ∷ front) n rest = ap (λ ms. m.0 ∷ ms) (plain_split front n rest)
 
 -- ---- versions that tell nothing below b
 one_later : (b : ℕ) (n : VersionNo) (o : Option Version) (vs : List Numbered) → is_later_one b o ≡ true → AreLater b vs → AreLater b (and_version n o vs)

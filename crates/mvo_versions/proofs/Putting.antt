@@ -22,9 +22,7 @@ use Rattle.mvo_versions.proofs.Counting.{runs_alike, newest_is}
 use Rattle.mvo_versions.proofs.Entries.{entered_has, given_back}
 use Rattle.mvo_versions.proofs.Indexing.{hole_inside, hole_empty, room_same, room_numbers, emptied_again, empty_fresh, number_among, at_key}
 use Rattle.mvo_versions.proofs.Counted.{comes_runs}
-
-abbrev pub with_all : Slots → Lists → Places → VersionsData
-with_all slots lists places = record { slots = slots; lists = lists; places = places }
+use Rattle.mvo_versions.proofs.Going.{with_all}
 
 -- no key has the number yet
 pub fresh_number : (slots : Slots) (lists : Lists) (n : VersionNo) → IsHole (with_room slots) n → HasNumbers slots lists → IsFresh lists n.0

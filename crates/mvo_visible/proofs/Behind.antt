@@ -54,7 +54,7 @@ AreUnder states s e = IsUnder s (seen_of states e.1.begin) × IsUnder s (seen_of
 abbrev Fits : ℕ → List Change → Type 0
 Fits s cs = AllByRecursion (λ c. c.stamp.0 ≤ s) cs × (owner_with s cs ≡ None)
 
-all_append : (P : Change → Type 0) (cs ds : List Change) → AllByRecursion P cs → AllByRecursion P ds → AllByRecursion P (cs ++ ds)
+pub all_append : (P : Change → Type 0) (cs ds : List Change) → AllByRecursion P cs → AllByRecursion P ds → AllByRecursion P (cs ++ ds)
 all_append P [] ds a b = b
 all_append P (c ∷ cs) ds a b = (a.0, all_append P cs ds a.1 b)
 

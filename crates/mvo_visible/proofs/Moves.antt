@@ -21,7 +21,7 @@ use Rattle.mvo_visible.specs.Laws.{SlotsDifferAt, NewKeepsOrder, FrontKeepsOrder
 use Rattle.mvo_visible.proofs.Behind.{Behind, AreUnder, IsUnder, IsOthersBelow, from_falling, to_falling, from_front, to_front}
 
 -- the versions with these numbers
-abbrev versions : Slots → List ℕ → List Numbered
+abbrev pub versions : Slots → List ℕ → List Numbered
 versions slots ns = versions_by slots (map number ns)
 
 module _ (states : States) (slots : Slots) (Q : ℕ → Numbered → Type 0) where

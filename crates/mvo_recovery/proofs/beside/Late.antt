@@ -1,5 +1,5 @@
 -- The numbers that came to a pair's delta since it was seen.
-use Rattle.std.proofs.Common.{◌≡◌, ℕ, ◌+◌, ◌<◌, ◌≤◌, ◌^◌, List, ◌++◌, length, drop, sym, ap, subst, ◌∙◌, arith}
+use Rattle.std.proofs.Common.{◌≡◌, ℕ, ◌+◌, ◌<◌, ◌≤◌, ◌^◌, List, ◌++◌, length, drop, sym, ap, subst, ◌∙◌}
 use Rattle.mvo_types.specs.declared.limits.TheConstants.{MAX_PAIR_RECORDS}
 use Rattle.mvo_format.specs.declared.format.Format.{Format}
 use Rattle.mvo_pair.specs.declared.pair.Pair.{Pair}
@@ -10,12 +10,10 @@ use Rattle.mvo_merge.specs.Merged.{without}
 use Rattle.mvo_merge.specs.Laws.{AreLate}
 use Rattle.mvo_merge.proofs.Late.{gained_late}
 use Rattle.mvo_recovery.proofs.Counted.{HasLoaded, loaded, loads, live_of-more, numbers_once}
+use Rattle.mvo_recovery.proofs.Gained.{few_word}
 use Rattle.mvo_recovery.specs.beside.Seen.{grown, Loads, IsSmall}
 use Rattle.mvo_recovery.proofs.beside.Entries.{entries_once}
 use Rattle.mvo_recovery.proofs.beside.Numbers.{first_are, more_are, first_stay}
-
-pub few_word : (n : ℕ) → n ≤ MAX_PAIR_RECORDS → n ≤ 256 ^ 4
-few_word n few = omega (arith, few)
 
 module _ (f : Format) (content : Image) (p : Pair) (more : ℕ) (seen now : List Numbered) (few : p.records ≤ MAX_PAIR_RECORDS) (was : Loads f content p seen) (is : Loads f content (grown more p) now) where
   abbrev old : HasLoaded f p (content p.data_file) (content p.delta_file) seen

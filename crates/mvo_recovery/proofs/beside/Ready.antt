@@ -25,11 +25,11 @@ use Rattle.mvo_recovery.specs.Parts.{Parts, MakeUpSame, HasParts}
 use Rattle.mvo_recovery.specs.Settled.{IsSettled}
 use Rattle.mvo_recovery.specs.Installing.{IsReady}
 use Rattle.mvo_recovery.specs.Merging.{MergeData, merged, HasRecords}
-use Rattle.mvo_recovery.proofs.Merged.{named_merged, named_cases, manifest_merged}
+use Rattle.mvo_recovery.proofs.Merged.{named_merged, named_cases, manifest_merged, rise_merged}
 use Rattle.mvo_recovery.specs.beside.Seen.{SeenData, Loads, WasSeen, pairs_now, IsSmall, MayMergeNow, NumbersNow, HasLate, lives_now, parts_now}
 use Rattle.mvo_recovery.specs.beside.Laws.{FindsLate}
 use Rattle.mvo_recovery.proofs.beside.Late.{are_late, others_live, late_counted}
-use Rattle.mvo_recovery.proofs.beside.Two.{HaveTwo, have_one, lives_at, two_rules, rise_one, few_one}
+use Rattle.mvo_recovery.proofs.beside.Two.{HaveTwo, have_one, lives_at, two_rules, few_one}
 use Rattle.mvo_recovery.proofs.beside.Seen.{left_now, right_now, two_now}
 
 pub finds_late : (content : Image) → FindsLate content
@@ -147,7 +147,7 @@ module _ (f : Format) (content : Image) (m : ManifestData) (lives : List (List N
               pairs = omega (arith, length-append seen.before (pair ∷ seen.behind), length-append seen.before (none ∷ seen.behind), rules_none.pairs);
               some = rules_none.some;
               segments = rules_none.segments;
-              rise = rise_one 0 m.checkpoint_mark seen.before seen.behind p q pair may.lo may.hi may.few (subst (λ (ps : List Pair). PairsRise 0 ps m.checkpoint_mark) seen.pairs is.rules.rise);
+              rise = rise_merged 0 m.checkpoint_mark seen.before seen.behind p q pair may.lo may.hi may.few (subst (λ (ps : List Pair). PairsRise 0 ps m.checkpoint_mark) seen.pairs is.rules.rise);
               files = subst (λ (ns : List ℕ). All IsFile ns) same_named rules_none.files;
               different = subst (λ (ns : List ℕ). AllPairs (λ x y. x ≢ y) ns) same_named rules_none.different;
             };

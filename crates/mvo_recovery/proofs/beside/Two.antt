@@ -1,10 +1,9 @@
 -- Two neighbouring pairs among others, and their live records.
-use Rattle.std.proofs.Common.{◌≡◌, ℕ, zero, suc, ◌+◌, ◌<◌, ◌≤◌, ◌^◌, List, [], ◌∷◌, ◌++◌, length, take, drop, refl, sym, ap, subst, ◌∙◌, arith, append_assoc, length-append}
+use Rattle.std.proofs.Common.{◌≡◌, ℕ, zero, suc, ◌+◌, ◌<◌, ◌^◌, List, [], ◌∷◌, ◌++◌, length, take, drop, refl, sym, ap, ◌∙◌, arith, append_assoc, length-append}
 use Rattle.std.specs.Prelude.{All}
 use Rattle.std.specs.List.{Contains}
 use Rattle.std.proofs.lemmas.List.{take_at, drop_at}
 use Rattle.std.proofs.lemmas.List.Elements.{Contains-append_right}
-use Rattle.mvo_types.specs.declared.limits.TheConstants.{MAX_PAIR_RECORDS}
 use Rattle.mvo_format.specs.declared.format.Format.{Format}
 use Rattle.mvo_pair.specs.declared.pair.Pair.{Pair}
 use Rattle.mvo_pair.specs.Data.{Numbered}
@@ -12,6 +11,7 @@ use Rattle.mvo_manifest.specs.Rules.{IsPair, PairsRise}
 use Rattle.mvo_recovery.specs.image.Opens.{Image}
 use Rattle.mvo_recovery.specs.image.Gives.{HaveLive}
 use Rattle.mvo_recovery.specs.beside.Seen.{SeenData, Loads, lives_now}
+use Rattle.mvo_recovery.proofs.Merged.{rise_merged}
 
 -- these are the live records of the two, and of those before and behind them
 pub record HaveTwo (f : Format) (content : Image) (before : List Pair) (p q : Pair) (all : List (List Numbered)) : Type 0 where
@@ -64,13 +64,6 @@ lives_at s live all front back left right are at =
 pub two_rules : (lo mark : ℕ) (before behind : List Pair) (p q : Pair) → PairsRise lo (before ++ p ∷ q ∷ behind) mark → IsPair p.lo.0 p × IsPair p.hi.0 q
 two_rules lo mark [] behind p q rise = (record { begins = refl; above = rise.0.above; top = rise.0.top; records = rise.0.records }, rise.1.0)
 two_rules lo mark (b ∷ before) behind p q rise = two_rules b.hi.0 mark before behind p q rise.1
-
-pub rise_one : (lo mark : ℕ) (before behind : List Pair) (p q r : Pair) → r.lo.0 ≡ p.lo.0 → r.hi.0 ≡ q.hi.0 → r.records ≤ MAX_PAIR_RECORDS → PairsRise lo (before ++ p ∷ q ∷ behind) mark → PairsRise lo (before ++ r ∷ behind) mark
-rise_one lo mark [] behind p q r at upto few rise = (
-  record { begins = at ∙ rise.0.begins; above = omega (arith, at, upto, rise.0.above, rise.1.0.begins, rise.1.0.above); top = omega (arith, upto, rise.1.0.top); records = few },
-  subst (λ k. PairsRise k behind mark) (sym upto) rise.1.1,
-)
-rise_one lo mark (b ∷ before) behind p q r at upto few rise = (rise.0, rise_one b.hi.0 mark before behind p q r at upto few rise.1)
 
 pub few_one : (before behind : List Pair) (p q r : Pair) → r.entries < 2 ^ 32 → All (λ s. s.entries < 2 ^ 32) (before ++ p ∷ q ∷ behind) → All (λ s. s.entries < 2 ^ 32) (before ++ r ∷ behind)
 few_one [] behind p q r small few zero d lt = small

@@ -19,7 +19,6 @@ use Rattle.mvo_theory.specs.Words.{is_done, words_left}
 use Rattle.mvo_theory.specs.Changes.{new_active, after_begin, after_operation, with_answer, taken_over, with_words, after_prepare, to_stamped, with_check, after_check, with_settled, after_commit, aborted_dependency_after, with_flag, active_with_flag, not_at, after_abort_of_active, after_abort_of_preparing, after_termination, after_finish, is_to, after_trim, after_close}
 use Rattle.mvo_theory.specs.Causes.{why_not_precommit, why_not_validate, why_not_settle, awaited, end_of, is_failure}
 use Rattle.mvo_theory.specs.Steps.{after_precommit_of, after_precommit, after_validate_of, after_validate, after_commit_of, after_commit_now, after_settle_unless, after_settle, after_abort_of, after_abort, after_refusal, steps_of_refusal}
-use Rattle.mvo_theory.specs.Sound.{AreDistinct}
 use Rattle.mvo_theory.specs.Traced.{is_abort_of}
 use Rattle.mvo_theory.specs.Snapshots.{is_aborted}
 use Rattle.mvo_theory.specs.Calls.{Call, Result, why_not, takes_memory, IsRefusal, MayCome, answer_in, after_accepted, after_refused, after_call, steps_unless, steps_of_accepted, steps_of_refused, steps_of, IsKept}
@@ -34,6 +33,8 @@ use Rattle.mvo_theory.proofs.Depends.{depends_more}
 use Rattle.mvo_theory.proofs.LastWriter.{found_in}
 use Rattle.mvo_theory.proofs.Phases.{IsUnended}
 use Rattle.mvo_theory.proofs.Who.{active_holds, id_of, active_done, active_after_prepare, preparing_after_check, preparing_settled, unended_rolled_back, unended_done, unended_after_prepare, unended_after_check, unended_settled}
+use Rattle.mvo_theory.proofs.Kept.{only_one}
+use Rattle.mvo_theory.proofs.Traced.{still_open}
 use Rattle.mvo_theory.specs.rests.Course.{Course, start_behind, trims_after, with_steps, with_trim}
 use Rattle.mvo_theory.specs.rests.Resting.{DependsNow, RestsOn, RestsOnNoAborted}
 use Rattle.mvo_theory.specs.rests.Known.{IsFlag, KnowsOne, KnowsRests}
@@ -116,18 +117,6 @@ same_op t u op op' a a' e = cc
 
 same_owner : (t u : ℕ) (op op' : Op) (a a' : AnswerData) → Answers t op a ≡ Answers u op' a' → t ≡ u
 same_owner t u op op' a a' e = cc
-
-some_active : (q r : ActiveTx) → ◌≡◌ {A = Option ActiveTx} (Some q) (Some r) → q ≡ r
-some_active q r e = cc
-
--- the one that is found is the only one with its number
-only_one : (t : ℕ) (rs : List ActiveTx) (r : ActiveTx) → active_of t rs ≡ Some r → AreDistinct rs → AllByRecursion (λ (q : ActiveTx). q.id ≡ t → q ≡ r) rs
-only_one t [] r f d = tt
-only_one t (q ∷ qs) r f d = go (q.id == t) refl f (λ g. only_one t qs r g d.1)
-  where
-    go : (b : Bool) → (q.id == t) ≡ b → cond b (Some q) (active_of t qs) ≡ Some r → (active_of t qs ≡ Some r → AllByRecursion (λ (v : ActiveTx). v.id ≡ t → v ≡ r) qs) → (q.id ≡ t → q ≡ r) × AllByRecursion (λ (v : ActiveTx). v.id ≡ t → v ≡ r) qs
-    go true e g k = (λ _. some_active q r g, each_weaker (λ v. v.id ≢ q.id) (λ (v : ActiveTx). v.id ≡ t → v ≡ r) (λ v n i. absurd (n (i ∙ sym (eqb-true q.id t e)))) qs d.0)
-    go false e g k = (λ i. absurd (true≢false (sym (eq-eqb q.id t i) ∙ e)), k g)
 
 module _ (c : Course) (s : State) (t : ℕ) (op : Op) (a : AnswerData) (r : ActiveTx) (f : active_of t s.active ≡ Some r) (free : r.aborted_dependency ≡ None) (k : IsKept c.rows c.steps s) (h : KnowsRests c s) where
   abbrev after_it : Course
@@ -212,10 +201,6 @@ known_checked c s t w h =
     go x false =
         let v = nat_le (length (entries x.history)) (x.checked + 1) in
         known_idle c (Checks t) s (after_check s x.end v) refl refl h h.active (each_map (with_check x.end v) (OpenKnown c) (OpenKnown c) (λ y q. q) s.stamped h.preparing)
-
-still_open : (a b : Bool) → (a || b) ≡ false → a ≡ false
-still_open true b h = absurd (true≢false h)
-still_open false b h = refl
 
 known_settled : (c : Course) (s : State) (t : ℕ) → why_not_settle s t ≡ None → KnowsRests c s → KnowsRests (with_steps c (steps_unless t (end_of s t) (awaited s t))) (after_settle s t)
 known_settled c s t w h = go (awaited s t)

@@ -15,14 +15,11 @@ use Rattle.mvo_theory.proofs.Each.{each_back}
 use Rattle.mvo_theory.proofs.Footprints.{or_left, or_right, any_left, any_right}
 use Rattle.mvo_theory.proofs.Apart.{IsIn}
 use Rattle.mvo_theory.proofs.There.{IsThere, There}
-use Rattle.mvo_theory.proofs.LastWriter.{preparing_there, found_in}
+use Rattle.mvo_theory.proofs.LastWriter.{preparing_there, found_in, same_end}
 use Rattle.mvo_theory.proofs.AfterTrace.{rising_all}
 use Rattle.mvo_theory.proofs.Traced.{ends_differ}
 use Rattle.mvo_theory.specs.rests.Course.{Course}
 use Rattle.mvo_theory.specs.rests.Resting.{RestsOn}
-
-same_end : (m n : ℕ) → ◌≡◌ {A = Phase} (Preparing m) (Preparing n) → m ≡ n
-same_end m n e = cc
 
 module _ (x e : ℕ) where
   abbrev is_it : ℕ × ℕ → Bool

@@ -13,6 +13,7 @@ use Rattle.mvo_theory.specs.Dependencies.{has_end}
 use Rattle.mvo_theory.specs.Changes.{aborted_dependency_after}
 use Rattle.mvo_theory.specs.Traced.{is_abort_of}
 use Rattle.mvo_theory.specs.Snapshots.{is_aborted}
+use Rattle.mvo_theory.proofs.EndSteps.{or_none}
 use Rattle.mvo_theory.specs.rests.Course.{Course, start_behind, with_steps, with_trim}
 use Rattle.mvo_theory.specs.rests.Resting.{DependsNow, RestsOn, RestsOnNoAborted, IsFirstAborted}
 use Rattle.mvo_theory.specs.rests.Known.{IsFlag, KnowsOne}
@@ -59,10 +60,6 @@ rests_before c y t x e n h = elim (split_last c.steps h.before h.after y (Answer
   | inl q ↦ record { before = h.before; op = h.op; answer = h.answer; after = q.0; then' = q.1; depends = h.depends }
   | inr q ↦ absurd (n h.op h.answer q.1)
 ]
-
-or_none : (b : Bool) → (b || false) ≡ b
-or_none true = refl
-or_none false = refl
 
 pub aborted_push : (x : ℕ) (xs : List Step) (y : Step) → is_aborted x (xs ++ y ∷ []) ≡ (is_aborted x xs || is_abort_of x y)
 aborted_push x xs y = list_any-append (is_abort_of x) xs (y ∷ []) ∙ ap (λ (b : Bool). is_aborted x xs || b) (or_none (is_abort_of x y))

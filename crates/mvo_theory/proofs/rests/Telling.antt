@@ -29,6 +29,7 @@ use Rattle.mvo_theory.proofs.Commits.{split_at}
 use Rattle.mvo_theory.proofs.Firsts.{FirstOf, first_is, none_is, none_refusal, when_none, when_some, flagged_some, conflicts_some, differs_some, runs, prepares}
 use Rattle.mvo_theory.proofs.LastWriter.{preparing_phase, preparing_there, found_in}
 use Rattle.mvo_theory.proofs.Who.{active_holds, preparing_settled}
+use Rattle.mvo_theory.proofs.Depends.{same_stamped}
 use Rattle.mvo_theory.specs.rests.Course.{Course}
 use Rattle.mvo_theory.specs.rests.Resting.{RestsOn, RestsOnNoAborted}
 use Rattle.mvo_theory.specs.rests.Known.{IsFlag, KnowsOne, KnowsRests}
@@ -72,9 +73,6 @@ first_names (c ∷ cs) r n (inr q) = first_names cs r n.1 q.1
 
 none_stamped : (z : StampedTx) → ◌≡◌ {A = Option StampedTx} None (Some z) → ⊥
 none_stamped z q = cc
-
-same_stamped : (v z : StampedTx) → ◌≡◌ {A = Option StampedTx} (Some v) (Some z) → v ≡ z
-same_stamped v z q = cc
 
 -- what any other refusal tells
 other_tells : (c : Course) (t : ℕ) (r : Refusal) → names_aborted r ≡ false → RestsOnNoAborted c t → TellsAborted c t (Refused r)
