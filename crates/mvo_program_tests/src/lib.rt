@@ -1,5 +1,4 @@
-//! Tests of scripts, by their replies, of the jobs of an engine and the command line, and of what stops
-//! leave.
+//! Tests of scripts, of jobs of an engine, of what stops leave, and of the command line.
 #![tactic(auto)]
 
 #[cfg(test)]

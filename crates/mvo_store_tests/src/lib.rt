@@ -1,5 +1,5 @@
-//! Tests of a store over many files, of the disks and the files below it, and of what is found out of
-//! a disk.
+//! Tests of a store over many files, of the disks and files below it, and of what is found out of a
+//! disk.
 #![tactic(auto)]
 
 #[cfg(test)]
@@ -12,6 +12,8 @@ mod checkpoints;
 mod disks;
 #[cfg(test)]
 mod equal;
+#[cfg(test)]
+mod failing;
 #[cfg(test)]
 mod faults;
 #[cfg(test)]
