@@ -166,26 +166,26 @@ fn follow_all(
     Ok(())
 }
 
+/// The mark of what is durable and the disk after all these steps, from a new store.
+fn after(
+    rt: &(impl Abort + Threads + Sync),
+    alloc: Global,
+    tables: &[&[(Step, &str)]],
+) -> Result<(Stamp, MemDisk), Fail> {
+    let mut world = fresh(rt, alloc)?;
+    let followed = follow_all(rt, alloc, &mut world, tables);
+    let mark = mark(&world);
+    Ok((mark, left(world, followed)?))
+}
+
 /// The disk after all these steps, from a new store.
 fn disk_after(
     rt: &(impl Abort + Threads + Sync),
     alloc: Global,
     tables: &[&[(Step, &str)]],
 ) -> Result<MemDisk, Fail> {
-    let mut world = fresh(rt, alloc)?;
-    let followed = follow_all(rt, alloc, &mut world, tables);
-    left(world, followed)
-}
-
-/// Runs the steps. It answers the mark of what is durable.
-fn follow_to_mark(
-    rt: &impl Abort,
-    alloc: Global,
-    world: &mut World<MemDisk>,
-    tables: &[&[(Step, &str)]],
-) -> Result<Stamp, Fail> {
-    follow_all(rt, alloc, world, tables)?;
-    Ok(mark(world))
+    let (_, disk) = after(rt, alloc, tables)?;
+    Ok(disk)
 }
 
 /// The mark of what is durable after all these steps, from a new store.
@@ -194,10 +194,8 @@ fn mark_after(
     alloc: Global,
     tables: &[&[(Step, &str)]],
 ) -> Result<Stamp, Fail> {
-    let mut world = fresh(rt, alloc)?;
-    let mark = follow_to_mark(rt, alloc, &mut world, tables);
-    close(world);
-    mark
+    let (mark, _) = after(rt, alloc, tables)?;
+    Ok(mark)
 }
 
 #[test]
@@ -273,33 +271,32 @@ const FILES_OF_MERGED: [(u16, &[u8]); 5] = [
 // The files of the pairs that it replaced are empty then.
 const FILES_OF_RECLAIMED: [(u16, &[u8]); 4] = [(4, &[]), (5, &[]), (6, &[]), (7, &[])];
 
-/// Two pairs, their merge, and these steps.
-fn follow_merge(
-    rt: &impl Abort,
-    alloc: Global,
-    world: &mut World<MemDisk>,
-    tables: &[&[(Step, &str)]],
-) -> Result<(), Fail> {
-    follow_all(rt, alloc, world, &TWO_PAIRS)?;
-    follow(rt, alloc, world, &MERGE)?;
-    follow_all(rt, alloc, world, tables)
-}
+// The steps up to their merge, and up to where the files are empty.
+const ONE_PAIR: [&[(Step, &str)]; 7] = [
+    &ONE_PUT,
+    &READ_TOO_EARLY,
+    &ROTATION,
+    &CHECKPOINT,
+    &REPLACE,
+    &SECOND_PAIR,
+    &MERGE,
+];
 
-/// The disk after that, from a new store.
-fn disk_after_merge(
-    rt: &(impl Abort + Threads + Sync),
-    alloc: Global,
-    tables: &[&[(Step, &str)]],
-) -> Result<MemDisk, Fail> {
-    let mut world = fresh(rt, alloc)?;
-    let merged = follow_merge(rt, alloc, &mut world, tables);
-    left(world, merged)
-}
+const ONE_PAIR_ALONE: [&[(Step, &str)]; 8] = [
+    &ONE_PUT,
+    &READ_TOO_EARLY,
+    &ROTATION,
+    &CHECKPOINT,
+    &REPLACE,
+    &SECOND_PAIR,
+    &MERGE,
+    &RECLAIMS_OF_PAIRS,
+];
 
 #[test]
 fn a_merge_keeps_the_rows(rt: HostRuntime) -> Result<(), Fail> {
     let alloc = rt.alloc();
-    let disk = disk_after_merge(&rt, alloc, &[])?;
+    let disk = disk_after(&rt, alloc, &ONE_PAIR)?;
     hold(&rt, &disk, &FILES_OF_MERGED);
     // Two bytes of an older, longer manifest lie behind it.
     assert!(rt; bytes_of(&disk, 1).starts_with(&SLOT_OF_MERGED));
@@ -309,7 +306,7 @@ fn a_merge_keeps_the_rows(rt: HostRuntime) -> Result<(), Fail> {
 #[test]
 fn the_files_of_merged_pairs_are_reclaimed(rt: HostRuntime) -> Result<(), Fail> {
     let alloc = rt.alloc();
-    let disk = disk_after_merge(&rt, alloc, &[&RECLAIMS_OF_PAIRS])?;
+    let disk = disk_after(&rt, alloc, &ONE_PAIR_ALONE)?;
     hold(&rt, &disk, &FILES_OF_RECLAIMED);
     gives(&rt, alloc, disk, 4, Some(1))
 }
