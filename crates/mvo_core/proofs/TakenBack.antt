@@ -12,7 +12,7 @@ use Rattle.mvo_types.specs.RowData.{RowData}
 use Rattle.mvo_types.specs.Keys.{key_cmp}
 use Rattle.mvo_chain.specs.declared.version.VersionNo.{VersionNo}
 use Rattle.mvo_chain.specs.Slots.{version_at, with_room, with_slot}
-use Rattle.mvo_hash.specs.Lists.{Lists, numbers_of, without, IsFresh}
+use Rattle.mvo_hash.specs.Lists.{Lists, numbers_of, without_number, IsNewNumber}
 use Rattle.mvo_hash.proofs.Unlinks.{without_absent}
 use Rattle.mvo_visible.specs.Fronts.{with_new, with_less}
 use Rattle.mvo_representation.specs.Steps.{fresh}
@@ -23,22 +23,22 @@ use Rattle.mvo_versions.proofs.Indexing.{emptied_again, hole_inside}
 use Rattle.mvo_core.specs.Looking.{HasSameVersions}
 
 -- a new number that is taken out again
-numbers_back : (lists : Lists) (k : RowKey) (n : ℕ) → IsFresh lists n → (q : RowKey) → numbers_of (with_less (with_new lists k n) k n) q ≡ numbers_of lists q
+numbers_back : (lists : Lists) (k : RowKey) (n : ℕ) → IsNewNumber lists n → (q : RowKey) → numbers_of (with_less (with_new lists k n) k n) q ≡ numbers_of lists q
 numbers_back lists k n unused q =
-    numbers_with (with_new lists k n) k (without n (numbers_of (with_new lists k n) k)) q
+    numbers_with (with_new lists k n) k (without_number n (numbers_of (with_new lists k n) k)) q
     ∙ go (eq_by_cmp key_cmp q k) refl
   where
     here : numbers_of (with_new lists k n) k ≡ n ∷ numbers_of lists k
     here = numbers_with lists k (n ∷ numbers_of lists k) k
         ∙ ap (λ b. cond b (n ∷ numbers_of lists k) (numbers_of lists k)) ((eq_by_cmp_equiv keys_total).refl k)
 
-    less : without n (numbers_of (with_new lists k n) k) ≡ numbers_of lists k
-    less = ap (without n) here
-        ∙ ap (λ b. cond (not b) (n ∷ without n (numbers_of lists k)) (without n (numbers_of lists k))) (eq-eqb n n refl)
+    less : without_number n (numbers_of (with_new lists k n) k) ≡ numbers_of lists k
+    less = ap (without_number n) here
+        ∙ ap (λ b. cond (not b) (n ∷ without_number n (numbers_of lists k)) (without_number n (numbers_of lists k))) (eq-eqb n n refl)
         ∙ without_absent n (numbers_of lists k) (unused.at k)
 
     go : (b : Bool) → eq_by_cmp key_cmp q k ≡ b
-        → cond b (without n (numbers_of (with_new lists k n) k)) (numbers_of (with_new lists k n) q) ≡ numbers_of lists q
+        → cond b (without_number n (numbers_of (with_new lists k n) k)) (numbers_of (with_new lists k n) q) ≡ numbers_of lists q
     go true e = less ∙ ap (numbers_of lists) (sym (tells_apart exact_keys q k e))
     go false e = numbers_with lists k (n ∷ numbers_of lists k) q ∙ ap (λ b. cond b (n ∷ numbers_of lists k) (numbers_of lists q)) e
 

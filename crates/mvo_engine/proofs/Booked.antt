@@ -22,7 +22,7 @@ use Rattle.mvo_core.specs.declared.answers.Closed as closing
 use Rattle.mvo_core.specs.declared.answers.Settlement.{Settlement}
 use Rattle.mvo_core.specs.declared.answers.Settlement.TheVariants.{Committed, Waiting}
 use Rattle.mvo_core.specs.Data.{CoreData}
-use Rattle.mvo_core.specs.Standing.{OpensAs}
+use Rattle.mvo_core.specs.Standing.{HasOpenedOver}
 use Rattle.mvo_core.specs.Steps.{came, IsStep, IsSettlement, settled_as}
 use Rattle.mvo_core.specs.Collecting.{StandsAsBefore}
 use Rattle.mvo_core.specs.Holding.{HoldsJust}
@@ -67,7 +67,7 @@ end_is s t e q = ap (λ (m : Stamp). m.0) (same q)
     same p = cc
 
 -- nothing is stored of a run that begins
-pub booked_opened : (w : Watched) (rows : Map) (mark : ℕ) (c : CoreData) (total : ℕ) → OpensAs rows mark c → total ≡ 0 → IsBooked w c total
+pub booked_opened : (w : Watched) (rows : Map) (mark : ℕ) (c : CoreData) (total : ℕ) → HasOpenedOver rows mark c → total ≡ 0 → IsBooked w c total
 booked_opened w rows mark c total stands none = record { rows = rows; steps = []; state = opened rows mark; stands = stands; counted = λ low. none }
 
 module _ (w : Watched) {c : CoreData} {total : ℕ} (i : IsBooked w c total) where

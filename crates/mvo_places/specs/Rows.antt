@@ -10,16 +10,16 @@ use Rattle.mvo_group.specs.Data.{RecordData, GroupData}
 use Rattle.mvo_pair.specs.Data.{Numbered, key_of}
 
 -- a live record as the row at its key
-abbrev pub kept_of : Numbered → RowKey × ContentData
-kept_of l = (key_of l, content_of l.1.row)
+abbrev pub live_row_of : Numbered → RowKey × ContentData
+live_row_of l = (key_of l, content_of l.1.row)
 
 -- the live records of some pairs as rows at their keys
-abbrev pub kept_in : List (List Numbered) → List (RowKey × ContentData)
-kept_in lives = flat_map (λ live. map kept_of live) lives
+abbrev pub live_rows_in : List (List Numbered) → List (RowKey × ContentData)
+live_rows_in lives = flat_map (λ live. map live_row_of live) lives
 
 -- the rows of the live records
 abbrev pub rows_of : List (List Numbered) → Map
-rows_of lives = rows.from_entries (kept_in lives)
+rows_of lives = rows.from_entries (live_rows_in lives)
 
 -- the rows after a committed transaction
 abbrev pub after_record : Map → RecordData → Map

@@ -11,7 +11,7 @@ use Rattle.mvo_recovery.specs.image.Opens.{Image}
 use Rattle.mvo_recovery.specs.Parts.{Parts, IsLastFile}
 use Rattle.mvo_recovery.specs.Settled.{other_slot, IsSettled}
 use Rattle.mvo_recovery.specs.Installing.{IsStagedBeside}
-use Rattle.mvo_recovery.specs.Rotation.{rotated, IsFresh}
+use Rattle.mvo_recovery.specs.Rotation.{rotated, IsFreshSegment}
 use Rattle.mvo_recovery.proofs.Named.{last_named, slot_below}
 use Rattle.mvo_recovery.proofs.Framed.{files_stay_others}
 use Rattle.mvo_recovery.proofs.Rotated.{fresh_framed}
@@ -36,7 +36,7 @@ rotated_last m fresh = (m.segments, refl)
 
 module _ (f : Format) (old new : Image) (may_old may_new : ℕ → List ℕ → Type 0) (file : ℕ) (rest : OthersStay file old new may_old may_new) where
   -- a fresh segment in another file
-  pub fresh_beside : (fresh : ℕ) → fresh ≢ file → IsFresh f old may_old fresh → IsFresh f new may_new fresh
+  pub fresh_beside : (fresh : ℕ) → fresh ≢ file → IsFreshSegment f old may_old fresh → IsFreshSegment f new may_new fresh
   fresh_beside fresh ne = fresh_framed f old new may_old may_new fresh (files_stay_others old new may_old may_new (λ n. n ≡ fresh) file (λ e. ne (sym e)) rest)
 
   module _ (m : ManifestData) (apart : other_slot m ≢ file) where

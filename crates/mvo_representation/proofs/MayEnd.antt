@@ -24,7 +24,7 @@ use Rattle.mvo_chain.specs.Slots.{Slots, version_at}
 use Rattle.mvo_hash.specs.Lists.{Lists}
 use Rattle.mvo_visible.specs.Words.{States, names}
 use Rattle.mvo_visible.specs.Causes as rule
-use Rattle.mvo_visible.specs.Versions.{Numbered, versions_at, is_own, own_newest}
+use Rattle.mvo_visible.specs.Versions.{NumberedVersion, versions_at, is_own, own_newest}
 use Rattle.mvo_visible.specs.Changes.{changes_of, greatest_below, done_with, deciding}
 use Rattle.mvo_visible.specs.Shown.{shown_by, own_or, shown_to}
 use Rattle.mvo_representation.specs.Words.{ends_of, stamp_in, has_stamp, net_effect, as_net_effect, change_below, IsShownAt}
@@ -58,7 +58,7 @@ none_number n q = cc
 some_number : (m n : VersionNo) → ◌≡◌ {A = Option VersionNo} (Some m) (Some n) → m ≡ n
 some_number m n q = cc
 
-is_first : (slots : Slots) (k : RowKey) (n : Held → Bool) (number : VersionNo) (vs : List Numbered) → AreOfKey k vs → AreThere slots vs → number_of (first_put n vs) ≡ Some number → IsFirst slots k n number
+is_first : (slots : Slots) (k : RowKey) (n : Held → Bool) (number : VersionNo) (vs : List NumberedVersion) → AreOfKey k vs → AreThere slots vs → number_of (first_put n vs) ≡ Some number → IsFirst slots k n number
 is_first slots k n number [] of th e = absurd (none_number number e)
 is_first slots k n number (v ∷ vs) of th e = go (is_put_by n v) refl e (λ r. is_first slots k n number vs of.1 th.1 r)
   where

@@ -25,12 +25,12 @@ use Rattle.mvo_txn.specs.declared.state.TxState.{TxState}
 use Rattle.mvo_txn.specs.declared.state.TxState.TheVariants as state
 use Rattle.mvo_visible.specs.declared.seen.Seen.TheVariants.{Nothing, Settled, Speculative}
 use Rattle.mvo_visible.specs.Words.{States, seen_in, seen_of}
-use Rattle.mvo_visible.specs.Versions.{Numbered}
+use Rattle.mvo_visible.specs.Versions.{NumberedVersion}
 use Rattle.mvo_visible.proofs.Behind.{Behind, IsUnder, to_falling, to_front}
 use Rattle.mvo_visible.proofs.Moves.{versions}
 use Rattle.mvo_representation.specs.Words.{Phases, end_in, ends_of, stamp_in, is_stamp, is_up_to, has_stamp, net_effect}
 use Rattle.mvo_representation.specs.Words.NetEffect.{Untouched}
-use Rattle.mvo_representation.specs.Versions.{IsClaimed, IsKnown, IsKnownStamp, HasItsClaims, AreVersionsOf}
+use Rattle.mvo_representation.specs.Versions.{EndIsClaimed, IsKnown, IsKnownStamp, HasItsClaims, AreVersionsOf}
 use Rattle.mvo_representation.specs.Indexes.{all_versions}
 use Rattle.mvo_representation.specs.Table.{phase_as, phases_of}
 use Rattle.mvo_representation.specs.Order.{EachPair, IsUpTo, is_written_by, MayPrecede}
@@ -70,7 +70,7 @@ module _ (opening : Map) (steps : List Step) (s : State) (table : Phases) (vs : 
     claimed : (y : StampedTx) → IsIn y s.stamped → y.end ≡ x → has_claim y.claims k a ≡ true
     claimed y m e =
         let its : HasItsClaims s (ends_of table) v = (each_back (HasItsClaims s (ends_of table)) vb (v ∷ va) (subst (AllByRecursion (HasItsClaims s (ends_of table))) (sym v_in) versions'.claims)).0 in
-        let same = m (λ u. IsClaimed v.row.key a (has_stamp (ends_of table) u.end) u.claims v.end) (its a begun stays).stamped in
+        let same = m (λ u. EndIsClaimed v.row.key a (has_stamp (ends_of table) u.end) u.claims v.end) (its a begun stays).stamped in
         sym (ap (λ (j : RowKey). has_claim y.claims j a) kv) ∙ sym same ∙ has_the_stamp y.end (stamp_in (ends_of table) v.end) (removed ∙ ap (λ (n : ℕ). Some n) (sym e))
 
     at_start : a ≤ s.start → StandsAtStart s table vs k a
@@ -194,7 +194,7 @@ under s states vs r (By t) h k f = go (states t.0) refl (λ x e. f x e)
 abbrev IsSettledBehindPut : States → Version → Version → Type 0
 IsSettledBehindPut states w v = (r : Stamp) → seen_of states w.begin ≡ Settled r → IsUnder r.0 (seen_of states v.begin) × IsUnder r.0 (seen_of states v.end)
 
-behind_by : (states : States) (Q : ℕ → Version → Type 0) (vs : List Numbered) → EachPair (λ (w v : Numbered). (r : Stamp) → seen_of states w.1.begin ≡ Settled r → Q r.0 v.1) vs → Behind states (λ r e. Q r e.1) vs
+behind_by : (states : States) (Q : ℕ → Version → Type 0) (vs : List NumberedVersion) → EachPair (λ (w v : NumberedVersion). (r : Stamp) → seen_of states w.1.begin ≡ Settled r → Q r.0 v.1) vs → Behind states (λ r e. Q r e.1) vs
 behind_by states Q [] h = tt
 behind_by states Q (e ∷ es) h = ((λ r is. each_weaker (λ v. (r : Stamp) → seen_of states e.1.begin ≡ Settled r → Q r.0 v.1) (λ v. Q r.0 v.1) (λ v f. f r is) es h.0), behind_by states Q es h.1)
 

@@ -22,15 +22,15 @@ use Rattle.mvo_theory.specs.Sound.{IsNumbered}
 use Rattle.mvo_theory.specs.Calls.{IsKept}
 use Rattle.mvo_word.specs.declared.held.Held.{Held}
 use Rattle.mvo_chain.specs.declared.version.Version.{Version}
-use Rattle.mvo_range.specs.declared.place.Place.{Place}
-use Rattle.mvo_range.specs.Place.{Map as Places}
+use Rattle.mvo_range.specs.declared.sort_place.SortPlace.{SortPlace}
+use Rattle.mvo_range.specs.Place.{PlaceNumbers as Places}
 use Rattle.mvo_range.proofs.Places.{places_total}
 use Rattle.mvo_representation.specs.Steps.{IsOwnNewest}
 use Rattle.mvo_representation.specs.Words.{Phases, Ends, ends_of, stamp_in, has_stamp, NetEffect, with_effect, effect_by, effect_of, net_effect, as_net_effect, change_below, standing, IsShownAt, is_below, is_up_to, meets, is_met, content_put}
 use Rattle.mvo_visible.specs.Words.{names}
 use Rattle.mvo_representation.specs.Words.NetEffect.{Untouched, Removed, Puts, Clash}
 use Rattle.mvo_representation.specs.Versions.{AreVersionsOf}
-use Rattle.mvo_representation.specs.Indexes.{place_of, is_at_place, HasPlaces}
+use Rattle.mvo_representation.specs.Indexes.{version_place, is_at_place, HasPlaces}
 use Rattle.mvo_representation.proofs.Shown.{active_begins, behind_is, stands_below}
 use Rattle.mvo_representation.proofs.Version.{last_change_is_one, no_change}
 use Rattle.mvo_representation.proofs.Scanned.{OneOf, one_of, any_at, none_held, some_held}
@@ -139,7 +139,7 @@ shown_found opening steps s table vs t mine k h kept r f e = go (change_below (e
 
 -- ---- a scan meets each such version at its place in the ordered index
 pub record IsPlacedIn (places : Places) (tab lo hi : ℕ) (q : RowKey) : Type 0 where
-  pub place : Place
+  pub place : SortPlace
   pub there : is_some (fin.get places place) ≡ true
   pub table : place.table ≡ tab
   pub from : nat_le lo place.sort ≡ true
@@ -156,8 +156,8 @@ met_placed ends start b tab lo hi q vs places h e = go (one_of (meets ends start
         let x = and_parts (w.version.row.key.table == tab) (nat_le lo w.version.row.sort && nat_le w.version.row.sort hi) z.1 in
         let u = and_parts (nat_le lo w.version.row.sort) (nat_le w.version.row.sort hi) x.1 in
         record {
-          place = place_of w.version;
-          there = h.at (place_of w.version) ∙ ap (list_any (is_at_place (place_of w.version))) w.is ∙ any_at (is_at_place (place_of w.version)) w.before w.version w.after ((eq_by_cmp_equiv places_total).refl (place_of w.version));
+          place = version_place w.version;
+          there = h.at (version_place w.version) ∙ ap (list_any (is_at_place (version_place w.version))) w.is ∙ any_at (is_at_place (version_place w.version)) w.before w.version w.after ((eq_by_cmp_equiv places_total).refl (version_place w.version));
           table = eqb-true w.version.row.key.table tab x.0;
           from = u.0;
           to = u.1;

@@ -34,7 +34,7 @@ use Rattle.mvo_chain.specs.declared.version.Version.{Version}
 use Rattle.mvo_representation.specs.Words.{Phases, Ends, end_in, ends_of, stamp_in, is_stamp, has_stamp, cause_of_phase, cause_at_end, NetEffect, with_effect, effect_by, effect_of, net_effect, as_net_effect, standing, IsShownAt, is_clash}
 use Rattle.mvo_visible.specs.Words.{names}
 use Rattle.mvo_representation.specs.Words.NetEffect.{Untouched, Removed, Puts, Clash}
-use Rattle.mvo_representation.specs.Versions.{Say, IsKnown, IsClaimed, HasClaims, IsInside, AreVersionsOf}
+use Rattle.mvo_representation.specs.Versions.{Say, IsKnown, EndIsClaimed, EndHasClaims, IsInside, AreVersionsOf}
 use Rattle.mvo_representation.proofs.Effects.{net_effect-at}
 use Rattle.mvo_representation.proofs.Facts.{phase_active, stamp_drawn}
 use Rattle.mvo_representation.proofs.Shown.{active_begins, behind_is, stands_below}
@@ -259,11 +259,11 @@ ends_other s table t op a mine xs v ys o sd st num h f x e = record {
       claims = λ b put _.
           let at : o ≡ b = some_end o b (sym x.shown.put ∙ put) in
           let g = was.claims o x.shown.put x.shown.stays in
-          subst (λ (m : ℕ). HasClaims (after_operation s t op a) (ends_of table) (ended_by t v) m) at (record {
+          subst (λ (m : ℕ). EndHasClaims (after_operation s t op a) (ends_of table) (ended_by t v) m) at (record {
             active = claims_answered s t op a mine (claim_of s mine v ∷ []) v.row.key o (By (record { 0 = t })) more
                 (own_id t ∙ sym (list_any-append (λ d. eq_by_cmp key_cmp v.row.key d.key && (d.origin == o)) mine.claims (claim_of s mine v ∷ []) ∙ last_true (has_claim mine.claims v.row.key o) (eq_by_cmp key_cmp v.row.key v.row.key) (eqb (origin s mine.id v.row.key) o) ((eq_by_cmp_equiv keys_total).refl v.row.key) (eq-eqb (origin s mine.id v.row.key) o is_origin)))
-                (each_both (λ q. names q.id v.end ≡ false) (λ q. IsClaimed v.row.key o (names q.id) q.claims v.end) (λ q. (q.id ≡ t → ⊥) → IsClaimed v.row.key o (names q.id) q.claims (By (record { 0 = t }))) (λ q n i d. ne_eqb t q.id (λ p. d (sym p)) ∙ sym n ∙ i) s.active free.unnamed g.active);
-            stamped = each_weaker (λ y. IsClaimed v.row.key o (has_stamp (ends_of table) y.end) y.claims v.end) (λ y. IsClaimed v.row.key o (has_stamp (ends_of table) y.end) y.claims (By (record { 0 = t }))) (λ y i. ap (is_stamp y.end) (ap end_in me.active ∙ sym free.unseen) ∙ i) s.stamped g.stamped;
+                (each_both (λ q. names q.id v.end ≡ false) (λ q. EndIsClaimed v.row.key o (names q.id) q.claims v.end) (λ q. (q.id ≡ t → ⊥) → EndIsClaimed v.row.key o (names q.id) q.claims (By (record { 0 = t }))) (λ q n i d. ne_eqb t q.id (λ p. d (sym p)) ∙ sym n ∙ i) s.active free.unnamed g.active);
+            stamped = each_weaker (λ y. EndIsClaimed v.row.key o (has_stamp (ends_of table) y.end) y.claims v.end) (λ y. EndIsClaimed v.row.key o (has_stamp (ends_of table) y.end) y.claims (By (record { 0 = t }))) (λ y i. ap (is_stamp y.end) (ap end_in me.active ∙ sym free.unseen) ∙ i) s.stamped g.stamped;
           });
       forward = λ b m _ is. absurd (none_end m (sym (ap end_in me.active) ∙ is));
       inside = inside_answered s t op a (ended_by t v) (each_weaker (λ q. names q.id v.begin ≡ false) (IsInside (ended_by t v)) (λ q n is. absurd (true≢false (sym is ∙ n))) s.active (stamped_unnamed s table (xs ++ v ∷ ys) v.begin o h x.shown.put));

@@ -2,7 +2,7 @@
 
 mod laws;
 mod line;
-mod unread;
+pub mod line_rest;
 mod words;
 
 pub use laws::laws_of_lines;

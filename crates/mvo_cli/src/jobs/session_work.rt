@@ -2,7 +2,7 @@ use crate::jobs::lines::Lines;
 use crate::jobs::replies::replies_to;
 use mvo_disk::Disk;
 use mvo_engine::{Engine, Gate, Place, Run};
-use mvo_front::{Job, Outcome, Work};
+use mvo_front::{Job, JobWork, Outcome};
 use std::alloc::{AllocError, Global};
 use std::sync::Wait;
 use std::sync::atomic::{AtomicU64, Ordering};
@@ -61,7 +61,7 @@ impl<'e, L: Run, D: Disk, G: Gate + Drop, J: Gate> SessionWork<'e, L, D, G, J> {
     }
 }
 
-impl<'e, L: Run, D: Disk, G: Gate + Drop, J: Gate> Work for SessionWork<'e, L, D, G, J> {
+impl<'e, L: Run, D: Disk, G: Gate + Drop, J: Gate> JobWork for SessionWork<'e, L, D, G, J> {
     fn run<R: Wait>(&self, rt: &R, job: Job) -> Outcome {
         let Job { number, script } = job;
         self.gate.pass(Place::JobStart(number));

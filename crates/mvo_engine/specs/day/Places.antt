@@ -5,6 +5,6 @@ use Rattle.mvo_core.specs.Receipts.{Receipt}
 use Rattle.mvo_core.specs.Trimming.{and_above}
 
 -- the stored commit, if there is one and it ends above the start
-abbrev pub if_above : ℕ → Option StoredCommit → List Receipt
-if_above start None = []
-if_above start (Some c) = and_above start c []
+abbrev pub receipt_if_above : ℕ → Option StoredCommit → List Receipt
+receipt_if_above start None = []
+receipt_if_above start (Some c) = and_above start c []

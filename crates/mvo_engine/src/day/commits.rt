@@ -3,7 +3,7 @@ ghost use Rattle.std.specs.Prelude.{◌≡◌, ◌++◌, ◌∷◌, [], IfOk, On
 ghost use Rattle.std.specs.Option.{option_copied};
 ghost use Rattle.mvo_core.specs.Receipts.{receipt};
 ghost use Rattle.mvo_core.specs.Trimming.{stored_above};
-ghost use Rattle.mvo_engine.specs.day.Places.{if_above};
+ghost use Rattle.mvo_engine.specs.day.Places.{receipt_if_above};
 
 use crate::day::copies::copies_of;
 use crate::run::Receipt;
@@ -32,7 +32,7 @@ fn push_above(
     start: Stamp,
 ) -> Result<(), AllocError>
     ensures { OnOk result (commits.new.items ≡
-        commits.old.items ++ if_above start.0 (option_copied entry.entry)) }
+        commits.old.items ++ receipt_if_above start.0 (option_copied entry.entry)) }
 {
     let Some(entry) = entry else {
         return Ok(());

@@ -7,13 +7,13 @@ use Rattle.std.proofs.lemmas.List.Elements.{recursion_from_All}
 use Rattle.mvo_bytes.proofs.Fields.{some_is}
 use Rattle.mvo_format.specs.declared.format.Format.{Format}
 use Rattle.mvo_pair.specs.Data.{EntryData}
-use Rattle.mvo_pair.specs.Files.{entry_bytes, header, data_magic, IsEntry, HasWords, HasEntries}
+use Rattle.mvo_pair.specs.Files.{entry_bytes, file_header, data_magic, IsEntry, HasRowWords, HasEntries}
 use Rattle.mvo_pair.specs.Reading.{entry_at}
 use Rattle.mvo_pair.proofs.Spelled.{HasFields, entry_again}
 use Rattle.mvo_recovery.specs.beside.Seen.{IsSmall}
 
 module _ (f : Format) (lo hi : ℕ) (small : IsSmall f) (top : hi < 2 ^ 64) where
-  fields_of : (e : EntryData) → IsEntry f lo hi e → HasWords e → HasFields e
+  fields_of : (e : EntryData) → IsEntry f lo hi e → HasRowWords e → HasFields e
   fields_of e is words = record {
     begin = omega (arith, is.upto, top);
     table = omega (arith, is.table, small.table);
@@ -22,7 +22,7 @@ module _ (f : Format) (lo hi : ℕ) (small : IsSmall f) (top : hi < 2 ^ 64) wher
     size = omega (arith, is.size, small.size);
   }
 
-  all_fields : (es : List EntryData) → AllByRecursion (IsEntry f lo hi) es → AllByRecursion HasWords es → AllByRecursion HasFields es
+  all_fields : (es : List EntryData) → AllByRecursion (IsEntry f lo hi) es → AllByRecursion HasRowWords es → AllByRecursion HasFields es
   all_fields [] is words = tt
   all_fields (e ∷ es) is words = (fields_of e is.0 words.0, all_fields es is.1 words.1)
 
@@ -42,10 +42,10 @@ entries_same (a ∷ xs) (b ∷ ys) r s fa fb len e =
 -- the records of a data file are these and no others
 pub entries_once : (f : Format) (lo hi count : ℕ) (xs ys : List EntryData) (bytes : List ℕ) → IsSmall f → hi < 2 ^ 64 → HasEntries f lo hi count xs bytes → HasEntries f lo hi count ys bytes → xs ≡ ys
 entries_once f lo hi count xs ys bytes small top a b =
-    let h = header data_magic f.version in
+    let h = file_header data_magic f.version in
     let whole : h ++ (flat_map entry_bytes xs ++ a.rest) ≡ h ++ (flat_map entry_bytes ys ++ b.rest) = sym (append_assoc h (flat_map entry_bytes xs) a.rest) ∙ sym a.whole ∙ b.whole ∙ append_assoc h (flat_map entry_bytes ys) b.rest in
     entries_same xs ys a.rest b.rest
-    (all_fields f lo hi small top xs (recursion_from_All (IsEntry f lo hi) xs a.are.each) (recursion_from_All HasWords xs a.words))
-    (all_fields f lo hi small top ys (recursion_from_All (IsEntry f lo hi) ys b.are.each) (recursion_from_All HasWords ys b.words))
+    (all_fields f lo hi small top xs (recursion_from_All (IsEntry f lo hi) xs a.are.each) (recursion_from_All HasRowWords xs a.words))
+    (all_fields f lo hi small top ys (recursion_from_All (IsEntry f lo hi) ys b.are.each) (recursion_from_All HasRowWords ys b.words))
     (a.counted ∙ sym b.counted)
     (append_cancel_left h (flat_map entry_bytes xs ++ a.rest) (flat_map entry_bytes ys ++ b.rest) whole)

@@ -4,7 +4,7 @@ use Rattle.mvo_types.specs.declared.limits.TheConstants.{MAX_PAIR_RECORDS}
 use Rattle.mvo_format.specs.declared.format.Format.{Format}
 use Rattle.mvo_pair.specs.declared.pair.Pair.{Pair}
 use Rattle.mvo_pair.specs.Data.{EntryData, Numbered, live_of}
-use Rattle.mvo_pair.specs.Files.{AreNumbers, HasEntries, HasNumbers}
+use Rattle.mvo_pair.specs.Files.{AreNumbers, HasEntries, HasDeadNumbers}
 use Rattle.mvo_recovery.specs.image.Opens.{Image}
 use Rattle.mvo_merge.specs.Merged.{without}
 use Rattle.mvo_merge.specs.Laws.{AreLate}
@@ -22,7 +22,7 @@ module _ (f : Format) (content : Image) (p : Pair) (more : ℕ) (seen now : List
   abbrev new : HasLoaded f (grown more p) (content p.data_file) (content p.delta_file) now
   new = loaded f (grown more p) (content p.data_file) (content p.delta_file) now is
 
-  module _ (small : IsSmall f) (top : p.hi.0 < 2 ^ 64) (ns : List ℕ) (has : HasNumbers f.version p.records (p.entries + more) ns (content p.delta_file)) where
+  module _ (small : IsSmall f) (top : p.hi.0 < 2 ^ 64) (ns : List ℕ) (has : HasDeadNumbers f.version p.records (p.entries + more) ns (content p.delta_file)) where
     abbrev late : List ℕ
     late = drop p.entries ns
 
@@ -52,7 +52,7 @@ module _ (f : Format) (content : Image) (p : Pair) (more : ℕ) (seen now : List
 
   -- where the counted numbers and the data file stay, what was seen loads again
   pub seen_again : (later : Image) → later p.data_file ≡ content p.data_file
-      → ((ns : List ℕ) → HasNumbers f.version p.records (p.entries + more) ns (content p.delta_file) → HasNumbers f.version p.records (p.entries + more) ns (later p.delta_file))
+      → ((ns : List ℕ) → HasDeadNumbers f.version p.records (p.entries + more) ns (content p.delta_file) → HasDeadNumbers f.version p.records (p.entries + more) ns (later p.delta_file))
       → Loads f later p seen
   seen_again later same stays = loads f p (later p.data_file) (later p.delta_file) seen (record {
     es = old.es;

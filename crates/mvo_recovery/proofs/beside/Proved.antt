@@ -2,7 +2,7 @@
 use Rattle.std.proofs.Common.{ℕ, List, refl}
 use Rattle.mvo_recovery.specs.image.Opens.{Image}
 use Rattle.mvo_recovery.specs.Settled.{other_slot}
-use Rattle.mvo_recovery.specs.Merging.{merged}
+use Rattle.mvo_recovery.specs.Merging.{merged_manifest}
 use Rattle.mvo_recovery.proofs.Installed.{within_install}
 use Rattle.mvo_recovery.specs.beside.Laws.{MergeBesideIsReady, InstallBesideKeeps, PlacesBeside}
 use Rattle.mvo_recovery.proofs.beside.Ready.{manifest_now, ready_now, same_now, places_now}
@@ -19,4 +19,4 @@ pub places_beside : PlacesBeside
 places_beside f content m x s pair seen now at small is have differ are = places_now f content m x.lives s small is have seen now pair at differ are
 
 pub install_beside : (content : Image) (may : ℕ → List ℕ → Type 0) → InstallBesideKeeps content may
-install_beside content may f m x y c settled is image t = within_install f content may m x settled (other_slot m) refl (merged m c) y is.next is.ready is.same image t
+install_beside content may f m x y c settled is image t = within_install f content may m x settled (other_slot m) refl (merged_manifest m c) y is.next is.ready is.same image t

@@ -24,7 +24,7 @@ use Rattle.mvo_merge.proofs.Placed.{places_merged}
 use Rattle.mvo_recovery.specs.Parts.{Parts, MakeUpSame, HasParts}
 use Rattle.mvo_recovery.specs.Settled.{IsSettled}
 use Rattle.mvo_recovery.specs.Installing.{IsReady}
-use Rattle.mvo_recovery.specs.Merging.{MergeData, merged, HasRecords}
+use Rattle.mvo_recovery.specs.Merging.{MergeData, merged_manifest, HasRecords}
 use Rattle.mvo_recovery.proofs.Merged.{named_merged, named_cases, manifest_merged, rise_merged}
 use Rattle.mvo_recovery.specs.beside.Seen.{SeenData, Loads, WasSeen, pairs_now, IsSmall, MayMergeNow, NumbersNow, HasLate, lives_now, parts_now}
 use Rattle.mvo_recovery.specs.beside.Laws.{FindsLate}
@@ -108,12 +108,12 @@ module _ (f : Format) (content : Image) (m : ManifestData) (lives : List (List N
     c = pairs_now seen pair
 
     -- THE PLACES ARE MOVED.
-    pub places_now : (at : PlaceMap) → Rattle.std.specs.List.IsDistinct Rattle.std.specs.Prelude.nat_eq (map Rattle.mvo_places.specs.Places.file_of (merged m c).pairs) → ArePlaces m.pairs lives at
-        → ArePlaces (merged m c).pairs (lives_now s live lives) (moved s.left.data_file s.right.data_file pair.data_file (records_of s.live_left s.live_right) at)
+    pub places_now : (at : PlaceMap) → Rattle.std.specs.List.IsDistinct Rattle.std.specs.Prelude.nat_eq (map Rattle.mvo_places.specs.Places.file_of (merged_manifest m c).pairs) → ArePlaces m.pairs lives at
+        → ArePlaces (merged_manifest m c).pairs (lives_now s live lives) (moved s.left.data_file s.right.data_file pair.data_file (records_of s.live_left s.live_right) at)
     places_now at differ are =
         let were : ArePlaces (seen.before ++ p ∷ q ∷ seen.behind) old_lives at =
         subst (λ (ls : List (List Numbered)). ArePlaces (seen.before ++ p ∷ q ∷ seen.behind) ls at) lives_are (subst (λ (ps : List Pair). ArePlaces ps lives at) seen.pairs are) in
-        subst (λ (ls : List (List Numbered)). ArePlaces (merged m c).pairs ls (moved s.left.data_file s.right.data_file pair.data_file (records_of s.live_left s.live_right) at)) (sym new_lives)
+        subst (λ (ls : List (List Numbered)). ArePlaces (merged_manifest m c).pairs ls (moved s.left.data_file s.right.data_file pair.data_file (records_of s.live_left s.live_right) at)) (sym new_lives)
         (places_merged seen.before seen.behind p q pair two.front two.back s.live_left s.live_right late_left late_right at two.each are_left are_right seen.apart differ were)
 
     -- THE NEXT MANIFEST KEEPS THE RULES.
@@ -121,7 +121,7 @@ module _ (f : Format) (content : Image) (m : ManifestData) (lives : List (List N
       abbrev none : Pair
       none = record pair { entries = 0 }
 
-      without_numbers : IsManifest (merged m (pairs_now seen none))
+      without_numbers : IsManifest (merged_manifest m (pairs_now seen none))
       without_numbers = manifest_merged m (pairs_now seen none) seen.pairs (records_of s.live_left s.live_right) (record {
         generation = may.generation;
         lo = may.lo;
@@ -136,10 +136,10 @@ module _ (f : Format) (content : Image) (m : ManifestData) (lives : List (List N
         two_files = may.two_files;
       }) is
 
-      same_named : named (merged m (pairs_now seen none)) ≡ named (merged m c)
+      same_named : named (merged_manifest m (pairs_now seen none)) ≡ named (merged_manifest m c)
       same_named = named_merged m (pairs_now seen none) seen.pairs ∙ sym (named_merged m c seen.pairs)
 
-      pub manifest_now : IsManifest (merged m c)
+      pub manifest_now : IsManifest (merged_manifest m c)
       manifest_now =
           let rules_none = without_numbers.rules in
           record {
@@ -188,7 +188,7 @@ module _ (f : Format) (content : Image) (may : ℕ → List ℕ → Type 0) (m :
         (have_one f content seen.before seen.behind (left_now f content m s seen) (right_now f content m s seen) pair twice.front twice.back twice.left twice.right joined twice.each
         (subst (λ (ls : List (List Numbered)). HaveLive f content (seen.before ++ left_now f content m s seen ∷ right_now f content m s seen ∷ seen.behind) ls) twice.are (subst (λ (ps : List Pair). HaveLive f content ps x.lives) seen.pairs parts.live)) pair_loads)
 
-    pub ready_now : IsReady f content may (merged m (pairs_now seen pair)) y
+    pub ready_now : IsReady f content may (merged_manifest m (pairs_now seen pair)) y
     ready_now = record {
       parts = record {
         sealed_files = parts.sealed_files;

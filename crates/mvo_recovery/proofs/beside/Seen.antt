@@ -7,7 +7,7 @@ use Rattle.std.proofs.lemmas.List.{map-append, length-map}
 use Rattle.mvo_format.specs.declared.format.Format.{Format}
 use Rattle.mvo_pair.specs.declared.pair.Pair.{Pair}
 use Rattle.mvo_pair.specs.Data.{Numbered}
-use Rattle.mvo_pair.specs.Files.{HasNumbers}
+use Rattle.mvo_pair.specs.Files.{HasDeadNumbers}
 use Rattle.mvo_pair.specs.Loading.{LoadsAs}
 use Rattle.mvo_manifest.specs.Data.{ManifestData, named}
 use Rattle.mvo_manifest.specs.Rules.{IsManifest}
@@ -86,7 +86,7 @@ seen_stays old new f m s same seen =
 -- ---- numbers behind the counted ones
 
 module _ (f : Format) (old new : Image) (m : ManifestData) (is : IsManifest m) (r : Pair) (has : Contains m.pairs r) (others : (n : ℕ) → Contains (named m) n → n ≢ r.delta_file → new n ≡ old n)
-    (stays : (ns : List ℕ) → HasNumbers f.version r.records r.entries ns (old r.delta_file) → HasNumbers f.version r.records r.entries ns (new r.delta_file)) where
+    (stays : (ns : List ℕ) → HasDeadNumbers f.version r.records r.entries ns (old r.delta_file) → HasDeadNumbers f.version r.records r.entries ns (new r.delta_file)) where
   one_stays : (p : Pair) (more : ℕ) (live now : List Numbered) → Contains m.pairs (grown more p) → Loads f old p live → Loads f old (grown more p) now → Loads f new p live
   one_stays p more live now c was load =
       let q = grown more p in
@@ -95,7 +95,7 @@ module _ (f : Format) (old new : Image) (m : ManifestData) (is : IsManifest m) (
         | inl e ↦ (
             let it : r ≡ q = sym (same_data m.pairs (pairs_apart m is) r q has c e) in
             seen_again f old p more live now (few_records m is q c) was load new data_is
-            (subst (λ (k : Pair). (ns : List ℕ) → HasNumbers f.version k.records k.entries ns (old k.delta_file) → HasNumbers f.version k.records k.entries ns (new k.delta_file)) it stays))
+            (subst (λ (k : Pair). (ns : List ℕ) → HasDeadNumbers f.version k.records k.entries ns (old k.delta_file) → HasDeadNumbers f.version k.records k.entries ns (new k.delta_file)) it stays))
         | inr ne ↦ (
             let apart : p.delta_file ≢ r.delta_file = λ e. ne (ap (λ (k : Pair). k.data_file) (same_delta m.pairs (pairs_apart m is) r q has c e)) in
             loads_framed f old new p live data_is (others p.delta_file (delta_named m is q c) apart) was)

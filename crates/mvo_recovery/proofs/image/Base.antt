@@ -14,22 +14,22 @@ use Rattle.mvo_types.specs.RowData.{ContentData}
 use Rattle.mvo_types.specs.Keys.{key_cmp}
 use Rattle.mvo_types.proofs.Maps.{keys_total, exact_keys, get_held}
 use Rattle.mvo_pair.specs.Data.{Numbered, key_of, keys_of}
-use Rattle.mvo_places.specs.Rows.{kept_of, kept_in}
+use Rattle.mvo_places.specs.Rows.{live_row_of, live_rows_in}
 use Rattle.mvo_recovery.specs.image.Laws.{RowsAreLive}
 
 abbrev first_of : RowKey × ContentData → RowKey
 first_of e = e.0
 
-keys-map : (live : List Numbered) → map first_of (map kept_of live) ≡ map key_of live
+keys-map : (live : List Numbered) → map first_of (map live_row_of live) ≡ map key_of live
 keys-map [] = refl
 keys-map (l ∷ live) = ap (λ (ks : List RowKey). key_of l ∷ ks) (keys-map live)
 
-keys-kept : (lives : List (List Numbered)) → map first_of (kept_in lives) ≡ keys_of lives
+keys-kept : (lives : List (List Numbered)) → map first_of (live_rows_in lives) ≡ keys_of lives
 keys-kept [] = refl
 keys-kept (live ∷ lives) =
-    ap (λ (es : List (RowKey × ContentData)). map first_of es) (flat_map-cons (λ l. map kept_of l) live lives)
-    ∙ map-append first_of (map kept_of live) (kept_in lives)
-    ∙ ap (λ (ks : List RowKey). ks ++ map first_of (kept_in lives)) (keys-map live)
+    ap (λ (es : List (RowKey × ContentData)). map first_of es) (flat_map-cons (λ l. map live_row_of l) live lives)
+    ∙ map-append first_of (map live_row_of live) (live_rows_in lives)
+    ∙ ap (λ (ks : List RowKey). ks ++ map first_of (live_rows_in lives)) (keys-map live)
     ∙ ap (λ (ks : List RowKey). map key_of live ++ ks) (keys-kept lives)
     ∙ sym (flat_map-cons (λ l. map key_of l) live lives)
 
@@ -43,7 +43,7 @@ same_key x y e = exact_keys x y (equal_of (key_cmp x y) e)
 
 pub rows_are_live : RowsAreLive
 rows_are_live lives apart k h =
-    let distinct : IsDistinct (eq_by_cmp key_cmp) (map first_of (kept_in lives)) = subst (λ ks. IsDistinct (eq_by_cmp key_cmp) ks) (sym (keys-kept lives)) apart in (
-      λ e. Contains-from_lookup same_key k h (kept_in lives) (sym (get_held (kept_in lives) k) ∙ e),
-      λ c. get_held (kept_in lives) k ∙ lookup-from_Contains (eq_by_cmp_equiv keys_total) k h (kept_in lives) distinct c,
+    let distinct : IsDistinct (eq_by_cmp key_cmp) (map first_of (live_rows_in lives)) = subst (λ ks. IsDistinct (eq_by_cmp key_cmp) ks) (sym (keys-kept lives)) apart in (
+      λ e. Contains-from_lookup same_key k h (live_rows_in lives) (sym (get_held (live_rows_in lives) k) ∙ e),
+      λ c. get_held (live_rows_in lives) k ∙ lookup-from_Contains (eq_by_cmp_equiv keys_total) k h (live_rows_in lives) distinct c,
     )

@@ -14,19 +14,19 @@ use Rattle.mvo_manifest.specs.Data.{ManifestData}
 use Rattle.mvo_manifest.specs.Slots.{newest}
 use Rattle.mvo_frame.specs.Frames.{mark_after}
 use Rattle.mvo_places.specs.Rows.{rows_of, after_groups}
-use Rattle.mvo_recovery.specs.image.Opens.{Image, Outcome, SlotReading, SegmentReading, Goes, After, Beside, Pairs, is_empty, Segments, OpensWith, Opens}
-use Rattle.mvo_recovery.specs.image.Gives.{IsInstalled, HaveLive, HaveGroups, Gives}
+use Rattle.mvo_recovery.specs.image.Opens.{Image, OpeningOutcome, SlotReading, SegmentReading, OpeningGoes, OpeningAfter, Beside, Pairs, is_empty_list, Segments, OpensWith, Opens}
+use Rattle.mvo_recovery.specs.image.Gives.{IsInstalledIn, HaveLive, HaveGroups, ImageGives}
 use Rattle.mvo_recovery.proofs.image.Apart.{apart_front}
 
 -- where the whole is answered, each part is
-after_ok : {X : Type 0} (says : Result X Refusal → Type 0) (next : X → Outcome → Type 0) (r : Map × ℕ) → After says next (Ok r) → (x : X) × says (Ok x) × next x (Ok r)
+after_ok : {X : Type 0} (says : Result X Refusal → Type 0) (next : X → OpeningOutcome → Type 0) (r : Map × ℕ) → OpeningAfter says next (Ok r) → (x : X) × says (Ok x) × next x (Ok r)
 after_ok {X} says next r h = go h.0 h.1 h.2
   where
-    go : (found : Result X Refusal) → says found → Goes next found (Ok r) → (x : X) × says (Ok x) × next x (Ok r)
+    go : (found : Result X Refusal) → says found → OpeningGoes next found (Ok r) → (x : X) × says (Ok x) × next x (Ok r)
     go (Ok x) s n = (x, s, n)
     go (Err e) s n = absurd cc
 
-module _ (f : Format) (image : Image) (next : List (List Numbered) → Outcome → Type 0) (r : Map × ℕ) where
+module _ (f : Format) (image : Image) (next : List (List Numbered) → OpeningOutcome → Type 0) (r : Map × ℕ) where
   pub pairs_open : (ps : List Pair) (ls before : List (List Numbered)) → HaveLive f image ps ls → AreApart (before ++ ls) → next (before ++ ls) (Ok r) → Pairs f image next ps before (Ok r)
   pairs_open [] [] before have apart n = subst (λ lives. next lives (Ok r)) (append-nil before) n
   pairs_open [] (l ∷ ls) before have apart n = absurd have
@@ -46,7 +46,7 @@ module _ (f : Format) (image : Image) (next : List (List Numbered) → Outcome �
       let same : (before ++ l ∷ []) ++ more.0 ≡ before ++ l ∷ more.0 = append_assoc before (l ∷ []) more.0 in
       (l ∷ more.0, (a.1, more.1), subst AreApart same more.2, subst (λ lives. next lives (Ok r)) same more.3)
 
-abbrev answer : Map → ℕ → Outcome
+abbrev answer : Map → ℕ → OpeningOutcome
 answer rows mark = Ok (rows, mark)
 
 answer_is : (a b : Map) (m n : ℕ) → a ≡ b → m ≡ n → answer a m ≡ answer b n
@@ -66,7 +66,7 @@ module _ (reads : SegmentReading) (image : Image) (rows : Map) where
       let e : r ≡ (after_groups rows before, mark) = cc in
       ([], (refl, ap (λ (p : Map × ℕ). p.1) e), ap (λ (p : Map × ℕ). p.0) e ∙ ap (after_groups rows) (sym (append-nil before)))
   open_groups (n ∷ ns) mark before r h =
-      let a = after_ok (reads n mark (is_empty ns) (image n)) (λ gs. Segments reads image rows ns (mark_after mark gs) (before ++ gs)) r h in
+      let a = after_ok (reads n mark (is_empty_list ns) (image n)) (λ gs. Segments reads image rows ns (mark_after mark gs) (before ++ gs)) r h in
       let more = open_groups ns (mark_after mark a.0) (before ++ a.0) r a.2 in
       (a.0 ++ more.0, (a.0, more.0, refl, a.1, more.1), more.2 ∙ ap (after_groups rows) (append_assoc before a.0 more.0))
 
@@ -81,25 +81,25 @@ module _ (slots : SlotReading) (reads : SegmentReading) (f : Format) (image : Im
       let same : answer (after_groups (rows_of lives) gs) mark ≡ answer rows mark = ap (λ x. answer x mark) (sym are) in
       pairs_open f image (λ ls. Segments reads image (rows_of ls) m.segments m.checkpoint_mark []) (rows, mark) m.pairs lives [] live apart (subst (λ out. Segments reads image (rows_of lives) m.segments m.checkpoint_mark [] out) same segments)
 
-  pub gives_opens : Gives slots reads f image rows mark → Opens slots reads f image (Ok (rows, mark))
+  pub gives_opens : ImageGives slots reads f image rows mark → Opens slots reads f image (Ok (rows, mark))
   gives_opens g =
       let m = g.manifest in
       let i = g.installed in
       let open_with = with_rows m g.lives g.groups g.live g.distinct g.have g.rows_are in
       (Ok i.first, i.first_has, (Ok i.second, i.second_has, subst (λ o. OpensWith reads f image o (Ok (rows, mark))) (sym i.is) open_with))
 
-  rows_with : (m : ManifestData) → IsInstalled slots image m → OpensWith reads f image (Some m) (Ok (rows, mark)) → Gives slots reads f image rows mark
+  rows_with : (m : ManifestData) → IsInstalledIn slots image m → OpensWith reads f image (Some m) (Ok (rows, mark)) → ImageGives slots reads f image rows mark
   rows_with m installed h =
       let p = open_pairs f image (λ ls. Segments reads image (rows_of ls) m.segments m.checkpoint_mark []) (rows, mark) m.pairs [] none h in
       let g = open_groups reads image (rows_of p.0) m.segments m.checkpoint_mark [] (rows, mark) p.3 in
       record { manifest = m; installed = installed; lives = p.0; live = p.1; distinct = p.2; groups = g.0; have = g.1; rows_are = g.2 }
 
-  pub opens_gives : Opens slots reads f image (Ok (rows, mark)) → Gives slots reads f image rows mark
+  pub opens_gives : Opens slots reads f image (Ok (rows, mark)) → ImageGives slots reads f image rows mark
   opens_gives h =
-      let a = after_ok (slots 0 (image 0)) (λ a. After (slots 1 (image 1)) (λ b. OpensWith reads f image (newest a b))) (rows, mark) h in
+      let a = after_ok (slots 0 (image 0)) (λ a. OpeningAfter (slots 1 (image 1)) (λ b. OpensWith reads f image (newest a b))) (rows, mark) h in
       let b = after_ok (slots 1 (image 1)) (λ b. OpensWith reads f image (newest a.0 b)) (rows, mark) a.2 in
       go a.0 b.0 a.1 b.1 (newest a.0 b.0) refl b.2
     where
-      go : (a b : Option ManifestData) → slots 0 (image 0) (Ok a) → slots 1 (image 1) (Ok b) → (o : Option ManifestData) → newest a b ≡ o → OpensWith reads f image o (Ok (rows, mark)) → Gives slots reads f image rows mark
+      go : (a b : Option ManifestData) → slots 0 (image 0) (Ok a) → slots 1 (image 1) (Ok b) → (o : Option ManifestData) → newest a b ≡ o → OpensWith reads f image o (Ok (rows, mark)) → ImageGives slots reads f image rows mark
       go a b sa sb None is n = absurd cc
       go a b sa sb (Some m) is n = rows_with m (record { first = a; second = b; first_has = sa; second_has = sb; is = is }) n

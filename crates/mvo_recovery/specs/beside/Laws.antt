@@ -5,7 +5,7 @@ use Rattle.mvo_types.specs.declared.limits.TheConstants.{MAX_PAIR_RECORDS}
 use Rattle.mvo_format.specs.declared.format.Format.{Format}
 use Rattle.mvo_pair.specs.declared.pair.Pair.{Pair}
 use Rattle.mvo_pair.specs.Data.{Numbered}
-use Rattle.mvo_pair.specs.Files.{AreNumbers, HasNumbers}
+use Rattle.mvo_pair.specs.Files.{AreNumbers, HasDeadNumbers}
 use Rattle.mvo_pair.specs.Writing.{GainsNumbers}
 use Rattle.mvo_manifest.specs.Data.{ManifestData, named, pair_files}
 use Rattle.mvo_disk.specs.Disk.{Touched}
@@ -22,7 +22,7 @@ use Rattle.mvo_recovery.specs.Parts.{Parts, MakeUpSame}
 use Rattle.mvo_recovery.specs.Settled.{other_slot, IsSettled, GivesParts}
 use Rattle.mvo_recovery.specs.Installing.{IsNext, IsReady}
 use Rattle.mvo_recovery.specs.Checkpoint.{NewNumbers, raise, CheckpointData, checkpointed}
-use Rattle.mvo_recovery.specs.Merging.{MergeData, merged, HasRecords}
+use Rattle.mvo_recovery.specs.Merging.{MergeData, merged_manifest, HasRecords}
 use Rattle.mvo_recovery.specs.beside.Seen.{SeenData, grown, Loads, WasSeen, CountsStay, pairs_now, IsSmall, MayMergeNow, NumbersNow, HasLate, lives_now, parts_now}
 
 -- ---- what it saw stays
@@ -53,7 +53,7 @@ SeenBesideNumbers old new = (f : Format) (m : ManifestData) (s : SeenData) (r : 
     Contains m.pairs r →
     ((n : ℕ) → Contains (named m) n → n ≢ r.delta_file → new n ≡ old n) →
     GainsNumbers (old r.delta_file) (new r.delta_file) r.entries more →
-    ((ns : List ℕ) → HasNumbers f.version r.records r.entries ns (old r.delta_file) →
+    ((ns : List ℕ) → HasDeadNumbers f.version r.records r.entries ns (old r.delta_file) →
     AreNumbers r.records (ns ++ more)) →
     WasSeen f old m s → WasSeen f new m s
 
@@ -83,7 +83,7 @@ abbrev pub FindsLate : Image → Type 0
 FindsLate content = (f : Format) (p : Pair) (more : ℕ) (was now : List Numbered) (ns : List ℕ) →
     IsSmall f → p.hi.0 < 2 ^ 64 → p.records ≤ MAX_PAIR_RECORDS → Loads f content p was →
     Loads f content (grown more p) now →
-    HasNumbers f.version p.records (p.entries + more) ns (content p.delta_file) →
+    HasDeadNumbers f.version p.records (p.entries + more) ns (content p.delta_file) →
     AreLate was (drop p.entries ns) × (now ≡ without (drop p.entries ns) was)
     × (length (drop p.entries ns) ≡ more)
 
@@ -92,9 +92,9 @@ FindsLate content = (f : Format) (p : Pair) (more : ℕ) (was now : List Numbere
 -- the manifest of a merge may be installed, and changes neither rows nor mark
 pub record IsMergedNow (f : Format) (content : Image) (may : ℕ → List ℕ → Type 0)
     (m : ManifestData) (x : Parts) (c : MergeData) (y : Parts) : Type 0 where
-  pub is : IsManifest (merged m c)
-  pub next : IsNext m (merged m c)
-  pub ready : IsReady f content may (merged m c) y
+  pub is : IsManifest (merged_manifest m c)
+  pub next : IsNext m (merged_manifest m c)
+  pub ready : IsReady f content may (merged_manifest m c) y
   pub same : MakeUpSame x y
 
 -- Where the files of a pair hold the records that were seen, and the numbers that came late,
@@ -117,7 +117,7 @@ MergeBesideIsReady content may = (f : Format) (m : ManifestData) (x : Parts) (s 
 abbrev pub InstallBesideKeeps : Image → (ℕ → List ℕ → Type 0) → Type 0
 InstallBesideKeeps content may = (f : Format) (m : ManifestData) (x y : Parts) (c : MergeData) →
     IsSettled f content may m x → IsMergedNow f content may m x c y → (image : Image) →
-    Touched (other_slot m) may (IsShutOrOpen f.version (other_slot m) (merged m c)) image →
+    Touched (other_slot m) may (IsShutOrOpen f.version (other_slot m) (merged_manifest m c)) image →
     GivesParts f x image
 
 -- ---- places
@@ -128,9 +128,9 @@ abbrev pub PlacesBeside : Type 0
 PlacesBeside = (f : Format) (content : Image) (m : ManifestData) (x : Parts) (s : SeenData)
     (pair : Pair) (seen : WasSeen f content m s) (now : NumbersNow f content m s seen)
     (at : PlaceMap) → IsSmall f → IsManifest m → HaveLive f content m.pairs x.lives →
-    IsDistinct nat_eq (map file_of (merged m (pairs_now seen pair)).pairs) →
+    IsDistinct nat_eq (map file_of (merged_manifest m (pairs_now seen pair)).pairs) →
     ArePlaces m.pairs x.lives at →
-    ArePlaces (merged m (pairs_now seen pair)).pairs
+    ArePlaces (merged_manifest m (pairs_now seen pair)).pairs
     (lives_now s (live_after s.live_left s.live_right (drop s.left.entries now.left)
     (drop s.right.entries now.right)) x.lives)
     (moved s.left.data_file s.right.data_file pair.data_file

@@ -5,7 +5,7 @@ use Rattle.std.specs.List.{Contains}
 use Rattle.mvo_disk.specs.Disk.{Image, Only, OthersStay, Touched, LeavesOnly, Moment}
 use Rattle.mvo_format.specs.declared.format.Format.{Format}
 use Rattle.mvo_pair.specs.declared.pair.Pair.{Pair}
-use Rattle.mvo_pair.specs.Files.{AreNumbers, HasNumbers}
+use Rattle.mvo_pair.specs.Files.{AreNumbers, HasDeadNumbers}
 use Rattle.mvo_pair.specs.Writing.{KeepsNumbers, GainsNumbers}
 use Rattle.mvo_manifest.specs.Data.{ManifestData}
 use Rattle.mvo_recovery.specs.Parts.{Parts, MakeUpSame}
@@ -32,7 +32,7 @@ module _ {D : Type 0} (moment : D → Moment) (left_since : D → Moment → Ima
     pub gains :
         GainsNumbers (content a pair.delta_file) (content b pair.delta_file) pair.entries more
     pub follow : (ns : List ℕ) →
-        HasNumbers f.version pair.records pair.entries ns (content a pair.delta_file) →
+        HasDeadNumbers f.version pair.records pair.entries ns (content a pair.delta_file) →
         AreNumbers pair.records (ns ++ more)
     pub keeps :
         KeepsNumbers moment left_since content may a b pair.delta_file pair.entries

@@ -6,7 +6,7 @@ use Rattle.mvo_disk.specs.Disk.{Only}
 use Rattle.mvo_format.specs.declared.format.Format.{Format}
 use Rattle.mvo_pair.specs.declared.pair.Pair.{Pair}
 use Rattle.mvo_pair.specs.Data.{EntryData, Numbered}
-use Rattle.mvo_pair.specs.Files.{HasNumbers}
+use Rattle.mvo_pair.specs.Files.{HasDeadNumbers}
 use Rattle.mvo_pair.specs.Loading.{LoadsAs}
 use Rattle.mvo_manifest.specs.Data.{ManifestData, named}
 use Rattle.mvo_manifest.specs.Rules.{IsFile}
@@ -63,8 +63,8 @@ pairs_now {f} {content} {m} {s} seen pair = record {
 abbrev pub CountsStay : Format → Image → Image → List Pair → Type 0
 CountsStay f old new ps = (p : Pair) → Contains ps p →
     (new p.data_file ≡ old p.data_file) × ((ns : List ℕ) →
-    HasNumbers f.version p.records p.entries ns (old p.delta_file) →
-    HasNumbers f.version p.records p.entries ns (new p.delta_file))
+    HasDeadNumbers f.version p.records p.entries ns (old p.delta_file) →
+    HasDeadNumbers f.version p.records p.entries ns (new p.delta_file))
 
 -- ---- what is written
 
@@ -94,15 +94,15 @@ pub record NumbersNow (f : Format) (content : Image) (m : ManifestData) (s : See
     (seen : WasSeen f content m s) : Type 0 where
   pub left : List ℕ
   pub right : List ℕ
-  pub left_has : HasNumbers f.version s.left.records (s.left.entries + seen.more_left) left
+  pub left_has : HasDeadNumbers f.version s.left.records (s.left.entries + seen.more_left) left
       (content s.left.delta_file)
-  pub right_has : HasNumbers f.version s.right.records (s.right.entries + seen.more_right) right
+  pub right_has : HasDeadNumbers f.version s.right.records (s.right.entries + seen.more_right) right
       (content s.right.delta_file)
 
 -- the delta file of the pair holds these numbers, durably
 pub record HasLate (f : Format) (content : Image) (may : ℕ → List ℕ → Type 0) (p : Pair)
     (ns : List ℕ) : Type 0 where
-  pub has : HasNumbers f.version p.records p.entries ns (content p.delta_file)
+  pub has : HasDeadNumbers f.version p.records p.entries ns (content p.delta_file)
   pub durable : Only (content p.delta_file) (may p.delta_file)
 
 -- ---- what is installed

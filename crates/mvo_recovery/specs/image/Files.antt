@@ -9,8 +9,8 @@ use Rattle.mvo_frame.specs.declared.magic.TheConstants.{MAGIC}
 use Rattle.mvo_frame.specs.Frames.{IsSegment}
 use Rattle.mvo_manifest.specs.Slots.{SlotSays}
 use Rattle.mvo_format.specs.declared.format.Format.{Format}
-use Rattle.mvo_recovery.specs.image.Opens.{Image, Outcome, SegmentReading, Opens}
-use Rattle.mvo_recovery.specs.image.Gives.{Gives}
+use Rattle.mvo_recovery.specs.image.Opens.{Image, OpeningOutcome, SegmentReading, Opens}
+use Rattle.mvo_recovery.specs.image.Gives.{ImageGives}
 
 abbrev pub kind_of : Bool → Kind
 kind_of true = Last
@@ -25,9 +25,9 @@ abbrev pub SegmentSays : Format → SegmentReading
 SegmentSays f n mark last = SegmentIs f n mark (kind_of last)
 
 -- what opening an image answers
-abbrev pub OpensAs : Format → Image → Outcome → Type 0
+abbrev pub OpensAs : Format → Image → OpeningOutcome → Type 0
 OpensAs f = Opens (SlotSays f.version) (SegmentSays f) f
 
 -- The image is well formed, and gives these rows and this mark.
 abbrev pub GivesRows : Format → Image → Map → ℕ → Type 0
-GivesRows f = Gives (SlotSays f.version) (SegmentSays f) f
+GivesRows f = ImageGives (SlotSays f.version) (SegmentSays f) f

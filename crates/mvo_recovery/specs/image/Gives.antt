@@ -10,10 +10,10 @@ use Rattle.mvo_frame.specs.Frames.{mark_after}
 use Rattle.mvo_places.specs.Rows.{rows_of, after_groups}
 use Rattle.mvo_manifest.specs.Data.{ManifestData}
 use Rattle.mvo_manifest.specs.Slots.{newest}
-use Rattle.mvo_recovery.specs.image.Opens.{Image, SlotReading, SegmentReading, is_empty}
+use Rattle.mvo_recovery.specs.image.Opens.{Image, SlotReading, SegmentReading, is_empty_list}
 
 -- of the open slots, the manifest of the greater generation
-pub record IsInstalled (slots : SlotReading) (image : Image) (m : ManifestData) : Type 0 where
+pub record IsInstalledIn (slots : SlotReading) (image : Image) (m : ManifestData) : Type 0 where
   pub first : Option ManifestData
   pub second : Option ManifestData
   pub first_has : slots 0 (image 0) (Ok first)
@@ -33,14 +33,14 @@ abbrev pub HaveGroups : SegmentReading → Image → List ℕ → ℕ → List G
 HaveGroups reads image [] mark gs upto = (gs ≡ []) × (upto ≡ mark)
 HaveGroups reads image (n ∷ ns) mark gs upto =
     (here : List GroupData) × (later : List GroupData) × (gs ≡ here ++ later)
-    × reads n mark (is_empty ns) (image n) (Ok here)
+    × reads n mark (is_empty_list ns) (image n) (Ok here)
     × HaveGroups reads image ns (mark_after mark here) later upto
 
 -- The image is well formed, and gives these rows and this mark.
-pub record Gives (slots : SlotReading) (reads : SegmentReading) (f : Format) (image : Image)
+pub record ImageGives (slots : SlotReading) (reads : SegmentReading) (f : Format) (image : Image)
     (rows : Map) (mark : ℕ) : Type 0 where
   pub manifest : ManifestData
-  pub installed : IsInstalled slots image manifest
+  pub installed : IsInstalledIn slots image manifest
   pub lives : List (List Numbered)
   pub live : HaveLive f image manifest.pairs lives
   pub distinct : AreApart lives

@@ -12,9 +12,9 @@ use Rattle.mvo_frame.specs.declared.kind.Kind.{Kind}
 use Rattle.mvo_frame.specs.Reading.{segment_found}
 use Rattle.mvo_manifest.specs.Slots.{SlotSays, PickSays}
 use Rattle.mvo_manifest.specs.Finding.{slot_found, pick_found}
-use Rattle.mvo_recovery.specs.image.Opens.{Image, Outcome}
+use Rattle.mvo_recovery.specs.image.Opens.{Image, OpeningOutcome}
 use Rattle.mvo_recovery.specs.image.Files.{SegmentIs, OpensAs, GivesRows}
-use Rattle.mvo_places.specs.Rows.{kept_in, rows_of}
+use Rattle.mvo_places.specs.Rows.{live_rows_in, rows_of}
 
 abbrev pub AreBytes : List ℕ → Type 0
 AreBytes bytes = (i : ℕ) → slice_index bytes i < 256
@@ -46,7 +46,7 @@ SegmentIsExact = (f : Format) (file mark : ℕ) (kind : Kind) (bytes : List ℕ)
 -- Opening has one answer.
 abbrev pub HasOneAnswer : Type 0
 HasOneAnswer = (f : Format) (image : Image) → AreFiles f image →
-    (out : Outcome) × IsOnly (OpensAs f image) out
+    (out : OpeningOutcome) × IsOnly (OpensAs f image) out
 
 -- It is rows and a mark exactly where the image is well formed and gives them.
 abbrev pub IsExact : Type 0
@@ -56,4 +56,4 @@ IsExact = (f : Format) (image : Image) (rows : Map) (mark : ℕ) →
 -- Where no two live records have one key, the rows of some pairs are those of their live records.
 abbrev pub RowsAreLive : Type 0
 RowsAreLive = (lives : List (List Numbered)) → AreApart lives → (k : RowKey) (h : ContentData) →
-    (get (rows_of lives) k ≡ Some h) ↔ Contains (kept_in lives) (k, h)
+    (get (rows_of lives) k ≡ Some h) ↔ Contains (live_rows_in lives) (k, h)

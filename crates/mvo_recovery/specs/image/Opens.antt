@@ -21,8 +21,8 @@ abbrev pub Image : Type 0
 Image = ℕ → List ℕ
 
 -- rows and mark, or a refusal
-abbrev pub Outcome : Type 0
-Outcome = Result (Map × ℕ) Refusal
+abbrev pub OpeningOutcome : Type 0
+OpeningOutcome = Result (Map × ℕ) Refusal
 
 -- what a file of this number says of its bytes: a manifest, or none behind a closed gate
 abbrev pub SlotReading : Type 1
@@ -33,48 +33,52 @@ abbrev pub SegmentReading : Type 1
 SegmentReading = ℕ → ℕ → Bool → List ℕ → Result (List GroupData) Refusal → Type 0
 
 -- where something is found, the rest goes on with that; else it is refused
-abbrev pub Goes : {X : Type 0} → (X → Outcome → Type 0) → Result X Refusal → Outcome → Type 0
-Goes next (Ok x) out = next x out
-Goes next (Err e) out = out ≡ Err e
+abbrev pub OpeningGoes : {X : Type 0} → (X → OpeningOutcome → Type 0) → Result X Refusal
+    → OpeningOutcome → Type 0
+OpeningGoes next (Ok x) out = next x out
+OpeningGoes next (Err e) out = out ≡ Err e
 
 -- what is found decides, and then what comes next
-abbrev pub After : {X : Type 0} → (Result X Refusal → Type 0) → (X → Outcome → Type 0) → Outcome
-    → Type 0
-After {X} says next out = (found : Result X Refusal) × says found × Goes next found out
+abbrev pub OpeningAfter : {X : Type 0} → (Result X Refusal → Type 0)
+    → (X → OpeningOutcome → Type 0) → OpeningOutcome → Type 0
+OpeningAfter {X} says next out =
+    (found : Result X Refusal) × says found × OpeningGoes next found out
 
 -- no two live records have one key, and the rest goes on; else the file has the second of two
-abbrev pub Beside : ℕ → List (List Numbered) → (List (List Numbered) → Outcome → Type 0) → Outcome
-    → Type 0
+abbrev pub Beside : ℕ → List (List Numbered) → (List (List Numbered) → OpeningOutcome → Type 0)
+    → OpeningOutcome → Type 0
 Beside file lives next out =
     (AreApart lives × next lives out) ⊎ ((AreApart lives → ⊥) × (out ≡ Err (Corrupt file)))
 
 -- the pairs in order, behind the live records before
-abbrev pub Pairs : Format → Image → (List (List Numbered) → Outcome → Type 0) → List Pair
-    → List (List Numbered) → Outcome → Type 0
+abbrev pub Pairs : Format → Image → (List (List Numbered) → OpeningOutcome → Type 0) → List Pair
+    → List (List Numbered) → OpeningOutcome → Type 0
 Pairs f image next [] lives out = next lives out
 Pairs f image next (p ∷ ps) lives out =
-    After (LoadsAs f p (image p.data_file) (image p.delta_file)) (λ live.
+    OpeningAfter (LoadsAs f p (image p.data_file) (image p.delta_file)) (λ live.
     Beside p.data_file (lives ++ live ∷ []) (Pairs f image next ps)) out
 
-abbrev pub is_empty : List ℕ → Bool
-is_empty [] = true
-is_empty (n ∷ ns) = false
+abbrev pub is_empty_list : List ℕ → Bool
+is_empty_list [] = true
+is_empty_list (n ∷ ns) = false
 
 -- the segments in order, behind the groups before and their mark
-abbrev pub Segments : SegmentReading → Image → Map → List ℕ → ℕ → List GroupData → Outcome → Type 0
+abbrev pub Segments : SegmentReading → Image → Map → List ℕ → ℕ → List GroupData → OpeningOutcome
+    → Type 0
 Segments reads image rows [] mark before out = out ≡ Ok (after_groups rows before, mark)
 Segments reads image rows (n ∷ ns) mark before out =
-    After (reads n mark (is_empty ns) (image n)) (λ gs.
+    OpeningAfter (reads n mark (is_empty_list ns) (image n)) (λ gs.
     Segments reads image rows ns (mark_after mark gs) (before ++ gs)) out
 
-abbrev pub OpensWith : SegmentReading → Format → Image → Option ManifestData → Outcome → Type 0
+abbrev pub OpensWith : SegmentReading → Format → Image → Option ManifestData → OpeningOutcome
+    → Type 0
 OpensWith reads f image None out = out ≡ Err NotFormatted
 OpensWith reads f image (Some m) out =
     Pairs f image (λ lives. Segments reads image (rows_of lives) m.segments m.checkpoint_mark [])
     m.pairs [] out
 
 -- both slots are looked at before one is chosen
-abbrev pub Opens : SlotReading → SegmentReading → Format → Image → Outcome → Type 0
+abbrev pub Opens : SlotReading → SegmentReading → Format → Image → OpeningOutcome → Type 0
 Opens slots reads f image out =
-    After (slots 0 (image 0)) (λ a. After (slots 1 (image 1)) (λ b.
+    OpeningAfter (slots 0 (image 0)) (λ a. OpeningAfter (slots 1 (image 1)) (λ b.
     OpensWith reads f image (newest a b))) out

@@ -5,7 +5,7 @@ ghost use Rattle.mvo_script.specs.line.Readable.{BeginNoKey, BeginNoLine, BeginN
 ghost use Rattle.mvo_script.specs.line.Readable.{IsOfTransaction, IsNoLine, IsOfTrimOrMerge};
 ghost use Rattle.mvo_script.specs.line.Written.{key_words, range_words, row_words, text_of, line_words};
 
-use crate::line::unread::Unread;
+use crate::line::line_rest::LineRest;
 use crate::line::words::{digits_of, name_of, number_of, place_of, table_of};
 use mvo_types::{RowKey, Stamp};
 use std::str;
@@ -119,7 +119,7 @@ impl<'a> Line<'a> {
         let Ok(text) = str::from_utf8(bytes) else {
             return None;
         };
-        let mut words = Unread::of(text);
+        let mut words = LineRest::of(text);
         let line = line_of(words.next()?, &mut words)?;
         match words.next() {
             Some(_) => None,
@@ -129,7 +129,7 @@ impl<'a> Line<'a> {
 }
 
 /// The line with this first word, from the words after it.
-fn line_of<'a>(first: &str, rest: &mut Unread<'a>) -> Option<Line<'a>>
+fn line_of<'a>(first: &str, rest: &mut LineRest<'a>) -> Option<Line<'a>>
     ensures form { IfSome result HasForm }
     ensures range { IfSome result IsInRange }
     ensures text { IfSome result (λ line. line_words line ++ rest.new ≡ first.now ∷ rest.old) }
@@ -157,7 +157,7 @@ fn line_of<'a>(first: &str, rest: &mut Unread<'a>) -> Option<Line<'a>>
 }
 
 /// The line of a trim, a merge or a transaction with this first word, from the words after it.
-fn numbered_line_of<'a>(first: &str, rest: &mut Unread<'a>) -> Option<Line<'a>>
+fn numbered_line_of<'a>(first: &str, rest: &mut LineRest<'a>) -> Option<Line<'a>>
     ensures form { IfSome result HasForm }
     ensures range { IfSome result IsInRange }
     ensures text { IfSome result (λ line. line_words line ++ rest.new ≡ first.now ∷ rest.old) }
@@ -175,7 +175,7 @@ fn numbered_line_of<'a>(first: &str, rest: &mut Unread<'a>) -> Option<Line<'a>>
 }
 
 /// The line of a transaction with this first word, from the words after it.
-fn named_line_of<'a>(first: &str, rest: &mut Unread<'a>) -> Option<Line<'a>>
+fn named_line_of<'a>(first: &str, rest: &mut LineRest<'a>) -> Option<Line<'a>>
     ensures form { IfSome result HasForm }
     ensures range { IfSome result IsInRange }
     ensures text { IfSome result (λ line. line_words line ++ rest.new ≡ first.now ∷ rest.old) }
@@ -201,7 +201,7 @@ fn named_line_of<'a>(first: &str, rest: &mut Unread<'a>) -> Option<Line<'a>>
 }
 
 /// The words TABLE KEY.
-fn key_of(words: &mut Unread<'_>) -> Option<RowKey>
+fn key_of(words: &mut LineRest<'_>) -> Option<RowKey>
     ensures range { IfSome result IsKeyInRange }
     ensures text { IfSome result (λ key. key_words key ++ words.new ≡ words.old) }
     ensures none { IfNone result (BeginNoKey words.old) }
@@ -212,7 +212,7 @@ fn key_of(words: &mut Unread<'_>) -> Option<RowKey>
 }
 
 /// The words TABLE LO HI.
-fn range_of(words: &mut Unread<'_>) -> Option<SortRange>
+fn range_of(words: &mut LineRest<'_>) -> Option<SortRange>
     ensures range { IfSome result IsSpanInRange }
     ensures text { IfSome result (λ range. range_words range ++ words.new ≡ words.old) }
     ensures none { IfNone result (BeginNoRange words.old) }
@@ -224,7 +224,7 @@ fn range_of(words: &mut Unread<'_>) -> Option<SortRange>
 }
 
 /// The words TABLE KEY SORT DATA.
-fn row_of<'a>(words: &mut Unread<'a>) -> Option<RowText<'a>>
+fn row_of<'a>(words: &mut LineRest<'a>) -> Option<RowText<'a>>
     ensures data { IfSome result (λ row. IsData row.digits.now) }
     ensures range { IfSome result IsRowInRange }
     ensures text { IfSome result (λ row. row_words row ++ words.new ≡ words.old) }

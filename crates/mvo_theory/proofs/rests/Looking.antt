@@ -19,7 +19,7 @@ use Rattle.mvo_theory.specs.State.{State, StampedTx, ActiveTx, after_settled, ac
 use Rattle.mvo_theory.specs.Dependencies.{is_writer, or_later, last_writer, is_put_below, counts_for}
 use Rattle.mvo_theory.specs.Sound.{IsPast, IsRising}
 use Rattle.mvo_theory.specs.AfterTrace.{pairs}
-use Rattle.mvo_theory.specs.Snapshots.{ends}
+use Rattle.mvo_theory.specs.Snapshots.{ends_with_ids}
 use Rattle.mvo_theory.specs.Traced.{IsLastWriter}
 use Rattle.mvo_theory.specs.Calls.{IsKept}
 use Rattle.mvo_theory.proofs.Each.{each_both, each_back}
@@ -70,17 +70,17 @@ module _ (p : Row → Bool) (q : RowKey) (m b : ℕ) (steps : List Step) where
   abbrev is_put : ℕ × ℕ → Bool
   is_put c = (nat_lt m c.0 && nat_lt c.0 b) && list_any (is_row_of p q) (puts (history_of c.1 steps))
 
-  put_past : (xs ys : List StampedTx) → AllByRecursion (IsPast m) xs → list_any is_put (ends (xs ++ ys)) ≡ list_any is_put (ends ys)
+  put_past : (xs ys : List StampedTx) → AllByRecursion (IsPast m) xs → list_any is_put (ends_with_ids (xs ++ ys)) ≡ list_any is_put (ends_with_ids ys)
   put_past [] ys h = refl
   put_past (x ∷ xs) ys h =
-      ap (λ (c : Bool). ((c && nat_lt x.end b) && list_any (is_row_of p q) (puts (history_of x.id steps))) || list_any is_put (ends (xs ++ ys))) (le-ltb m x.end h.0.until)
+      ap (λ (c : Bool). ((c && nat_lt x.end b) && list_any (is_row_of p q) (puts (history_of x.id steps))) || list_any is_put (ends_with_ids (xs ++ ys))) (le-ltb m x.end h.0.until)
       ∙ put_past xs ys h.1
 
-  put_since : (xs : List StampedTx) → AllByRecursion (λ x. m < x.end) xs → AllByRecursion (λ x. history_of x.id steps ≡ x.history) xs → list_any is_put (ends xs) ≡ is_put_below p q b xs
+  put_since : (xs : List StampedTx) → AllByRecursion (λ x. m < x.end) xs → AllByRecursion (λ x. history_of x.id steps ≡ x.history) xs → list_any is_put (ends_with_ids xs) ≡ is_put_below p q b xs
   put_since [] l h = refl
   put_since (x ∷ xs) l h =
-      ap (λ (c : Bool). ((c && nat_lt x.end b) && list_any (is_row_of p q) (puts (history_of x.id steps))) || list_any is_put (ends xs)) (lt-ltb m x.end l.0)
-      ∙ ap (λ ts. (nat_lt x.end b && list_any (is_row_of p q) (puts ts)) || list_any is_put (ends xs)) h.0
+      ap (λ (c : Bool). ((c && nat_lt x.end b) && list_any (is_row_of p q) (puts (history_of x.id steps))) || list_any is_put (ends_with_ids xs)) (lt-ltb m x.end l.0)
+      ∙ ap (λ ts. (nat_lt x.end b && list_any (is_row_of p q) (puts ts)) || list_any is_put (ends_with_ids xs)) h.0
       ∙ ap (λ (c : Bool). (nat_lt x.end b && list_any (is_row_of p q) (puts x.history)) || c) (put_since xs l.1 h.1)
 
 put_is : (p : Row → Bool) (q : RowKey) (b : ℕ) (rows : Map) (steps : List Step) (s : State) → IsKept rows steps s → is_put_between p q s.start b steps ≡ is_put_below p q b s.stamped
@@ -162,7 +162,7 @@ depends_out rows steps s t op r x d f k h =
     let y = there.0 in
     let found = found_in x s.stamped y there.1 in
     let place = split_at x s.stamped y there.1 in
-    let ends = there.2 in
+    let ends_with_ids = there.2 in
     let below = w.below in
     let is = id_of t s.active r f in
     let history = (active_holds (λ q. history_of q.id steps ≡ q.history) t s.active r f k.after_trace.active).0 in
@@ -171,10 +171,10 @@ depends_out rows steps s t op r x d f k h =
     let rising : IsRising (place.0 ++ y ∷ place.1) = subst IsRising place.2 k.sound.rising in
     let none : AllByRecursion (λ z. is_writer h.key r.id z ≡ false) place.1 =
     each_both (λ z. y.end < z.end) (λ z. d < z.end → z.end < t → net_write h.key z.history ≡ None) (λ z. is_writer h.key r.id z ≡ false)
-    (λ z lo g. no_writer h.key r.id z (λ hi. g (omega (arith, lo, ends)) (omega (arith, hi, is)))) place.1 (rising_after place.0 place.1 y rising) after in
+    (λ z lo g. no_writer h.key r.id z (λ hi. g (omega (arith, lo, ends_with_ids)) (omega (arith, hi, is)))) place.1 (rising_after place.0 place.1 y rising) after in
     let writes : is_some (net_write h.key y.history) ≡ true =
     ap (λ ts. is_some (net_write h.key ts)) (sym (found.0 (λ v. history_of v.id steps ≡ v.history) k.after_trace.stamped)) ∙ subst (λ (i : ℕ). is_some (net_write h.key (history_of i steps)) ≡ true) (sym found.1) w.writes in
-    let mine : is_writer h.key r.id y ≡ true = and_from (nat_lt y.end r.id) (is_some (net_write h.key y.history)) (lt-ltb y.end r.id (omega (arith, ends, below, is))) writes in
+    let mine : is_writer h.key r.id y ≡ true = and_from (nat_lt y.end r.id) (is_some (net_write h.key y.history)) (lt-ltb y.end r.id (omega (arith, ends_with_ids, below, is))) writes in
     record {
       key = h.key;
       counts = looks_out rows steps s (entry_of op) h.key r.id k (subst (λ (b : ℕ). LooksAt rows steps s.start b (entry_of op) h.key) (sym is) h.looked);
@@ -182,5 +182,5 @@ depends_out rows steps s t op r x d f k h =
       writer = y;
       last = subst (λ (l : List StampedTx). last_writer h.key r.id l ≡ Some y) (sym place.2) (last_among h.key r.id place.0 place.1 y mine none);
       open' = place.4;
-      ends = ends;
+      ends = ends_with_ids;
     }

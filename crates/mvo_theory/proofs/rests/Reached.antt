@@ -9,7 +9,7 @@ use Rattle.mvo_model.specs.Trace.Phase.{Absent, Active, Preparing, Committed, Ab
 use Rattle.mvo_types.specs.Keys.{Map}
 use Rattle.mvo_theory.specs.State.{State, StampedTx, timeline, active_of, preparing_of, ended_of}
 use Rattle.mvo_theory.specs.Phases.{is_preparing}
-use Rattle.mvo_theory.specs.Snapshots.{prepare_of, prepares, is_aborted, ends}
+use Rattle.mvo_theory.specs.Snapshots.{prepare_of, prepares, is_aborted, ends_with_ids}
 use Rattle.mvo_theory.specs.Calls.{IsKept}
 use Rattle.mvo_theory.proofs.Each.{each_back}
 use Rattle.mvo_theory.proofs.Footprints.{or_left, or_right, any_left, any_right}
@@ -56,11 +56,11 @@ module _ (x e : ℕ) where
   further : (y : StampedTx) (ys : List StampedTx) → IsThere ys x e → IsThere (y ∷ ys) x e
   further y ys (There z m i d) = There z (λ P h. m P h.1) i d
 
-  in_ends : (xs : List StampedTx) → list_any is_it (ends xs) ≡ true → IsThere xs x e
+  in_ends : (xs : List StampedTx) → list_any is_it (ends_with_ids xs) ≡ true → IsThere xs x e
   in_ends [] h = absurd (false≢true h)
   in_ends (y ∷ ys) h = go (is_it (y.end, y.id)) refl h (λ q. in_ends ys q)
     where
-      go : (b : Bool) → is_it (y.end, y.id) ≡ b → (b || list_any is_it (ends ys)) ≡ true → (list_any is_it (ends ys) ≡ true → IsThere ys x e) → IsThere (y ∷ ys) x e
+      go : (b : Bool) → is_it (y.end, y.id) ≡ b → (b || list_any is_it (ends_with_ids ys)) ≡ true → (list_any is_it (ends_with_ids ys) ≡ true → IsThere ys x e) → IsThere (y ∷ ys) x e
       go true f g k = let p = and_parts (y.end == e) (y.id == x) f in There y (λ P q. q.0) (eqb-true y.id x p.1) (eqb-true y.end e p.0)
       go false f g k = further y ys (k g)
 
