@@ -1,5 +1,5 @@
-"""Whether a program that scripts/tests/image-test runs beside the one of ./mvo is built: the gate proves and
-builds it, as `rt run` does in its crate."""
+"""Whether a program that scripts/tests/image-test runs beside the one of ./mvo is built: the gate
+proves and builds it, as `rt run` does in its crate."""
 import os
 
 from running import TOP

@@ -1,6 +1,6 @@
 """What a store's files come to, worked out by the rules of docs/FORMATS.md alone: nothing of the
-program is used. scripts/tests/byte-test, scripts/tests/image-test and scripts/tests/random-folder-test compare what
-opening answers with it.
+program is used. scripts/tests/byte-test, scripts/tests/image-test and
+scripts/tests/random-folder-test compare what opening answers with it.
 """
 import struct
 

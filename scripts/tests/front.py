@@ -1,5 +1,5 @@
-"""What scripts/tests/memory-test and scripts/tests/random-folder-test share: running the program with the
-library of front.c in front of the system's."""
+"""What scripts/tests/memory-test and scripts/tests/random-folder-test share: running the program
+with the library of front.c in front of the system's."""
 import concurrent.futures
 import mmap
 import multiprocessing
