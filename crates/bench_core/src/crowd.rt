@@ -24,7 +24,7 @@ fn run_beside(rt: &HostRuntime, config: &Config, session: &mut Session) -> Resul
 }
 
 /// So many readers, each of which has read a row of its own.
-fn begin_all(session: &mut Session, count: u64, open: &mut Vec<TxId>) -> Result<(), Stopped> {
+fn begin_all(session: &mut Session, count: u64, open: &mut Vec<TxId>) -> Result<()> {
     for key in 0..count {
         let tx = session.begin()?;
         session.read(tx, key)?;
