@@ -3,7 +3,7 @@
 
 mod cause_laws;
 mod laws;
-mod rests;
+pub mod rests;
 
 pub use cause_laws::laws_of_causes;
 pub use laws::laws_of_finishing;

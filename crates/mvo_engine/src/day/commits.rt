@@ -13,7 +13,7 @@ use std::alloc::{AllocError, Global};
 
 /// Copies of the stored commits that end above the start, by end timestamp. Their rows share the
 /// bytes.
-#[tactic(auto, using(crate::day::proofs::Places::one_more))]
+#[tactic(auto, using(crate::proofs::day::Places::one_more))]
 pub fn commits_above(alloc: Global, tale: &Tale, start: Stamp) -> Result<Vec<Receipt>, AllocError>
     ensures { IfOk result (λ commits. commits.items ≡ stored_above start.0 tale.now) }
 {
