@@ -66,9 +66,16 @@ pub struct Config {
 impl Drop for Config {
     fn drop(self) {
         let Config {
+            rows: _,
+            data: _,
+            transactions: _,
+            fewer: _,
+            hot: _,
+            open: _,
+            steady: _,
+            upkeep: _,
             works: _,
             parts: _,
-            ..
         } = self;
     }
 }
