@@ -21,11 +21,27 @@ pub enum Work {
     Worn,
 }
 
+/// The names by which workloads are asked for.
+const NAMES: [(&str, Work); 13] = [
+    ("load", Work::Load),
+    ("reads", Work::Reads),
+    ("reads_uniform", Work::UniformReads),
+    ("reads_zipf", Work::ZipfReads),
+    ("updates", Work::Updates),
+    ("scans", Work::Scans),
+    ("mixed", Work::Mixed),
+    ("hot", Work::Hot),
+    ("open", Work::Crowd),
+    ("stalls", Work::Stalls),
+    ("threads", Work::Threads),
+    ("steady", Work::Steady),
+    ("worn", Work::Worn),
+];
+
 /// Those that load rows of their own.
 const APART: [Work; 4] = [Work::Stalls, Work::Threads, Work::Steady, Work::Worn];
 
 /// What is run, and how much of it.
-#[derive(Drop)]
 pub struct Config {
     /// How many rows are loaded.
     pub rows: u64,
@@ -47,6 +63,16 @@ pub struct Config {
     parts: Vec<Part>,
 }
 
+impl Drop for Config {
+    fn drop(self) {
+        let Config {
+            works: _,
+            parts: _,
+            ..
+        } = self;
+    }
+}
+
 impl Config {
     fn new(alloc: Global) -> Config {
         Config {
@@ -66,16 +92,21 @@ impl Config {
     /// What the arguments say.
     pub fn given(rt: &HostRuntime) -> Result<Config> {
         let mut config = Config::new(rt.alloc());
+        config.take_all(rt)?;
+        Ok(config)
+    }
+
+    fn take_all(&mut self, rt: &HostRuntime) -> Result<()> {
         for word in env::args(rt)?.skip(1) {
-            config.take(word.as_str())?;
+            self.take(word.as_str())?;
         }
-        if config.rows % 2 != 0 || config.rows <= config.open.max(8) {
+        if self.rows % 2 != 0 || self.rows <= self.open.max(8) {
             bail!("rows has to be even, and more than 8 and than open");
         }
-        if config.data > 1_024 {
+        if self.data > 1_024 {
             bail!("data has to be at most 1024");
         }
-        Ok(config)
+        Ok(())
     }
 
     /// Whether rows are to be loaded: for all workloads but those that load their own.
@@ -130,21 +161,11 @@ impl Config {
 
 impl Work {
     fn named(word: &str) -> Option<Work> {
-        Some(match word {
-            "load" => Work::Load,
-            "reads" => Work::Reads,
-            "reads_uniform" => Work::UniformReads,
-            "reads_zipf" => Work::ZipfReads,
-            "updates" => Work::Updates,
-            "scans" => Work::Scans,
-            "mixed" => Work::Mixed,
-            "hot" => Work::Hot,
-            "open" => Work::Crowd,
-            "stalls" => Work::Stalls,
-            "threads" => Work::Threads,
-            "steady" => Work::Steady,
-            "worn" => Work::Worn,
-            _ => return None,
-        })
+        for (name, work) in NAMES {
+            if name == word {
+                return Some(work);
+            }
+        }
+        None
     }
 }

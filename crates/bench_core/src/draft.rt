@@ -4,9 +4,14 @@ use std::alloc::{AllocError, Global};
 
 /// Where the bytes of a row are put together. The memory stays for the next row, so that what is
 /// timed takes memory for the row alone, as the peers do.
-#[derive(Drop)]
 pub struct Draft {
     bytes: Vec<u8>,
+}
+
+impl Drop for Draft {
+    fn drop(self) {
+        let Draft { bytes: _ } = self;
+    }
 }
 
 impl Draft {

@@ -15,9 +15,14 @@ pub fn mixed(index: u64) -> u64 {
 
 /// Keys in the order in which a workload takes them. They are drawn ahead, so that drawing takes
 /// no time of the workload.
-#[derive(Drop)]
 pub struct Keys {
     keys: Vec<u64>,
+}
+
+impl Drop for Keys {
+    fn drop(self) {
+        let Keys { keys: _ } = self;
+    }
 }
 
 impl Keys {

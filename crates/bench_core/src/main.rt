@@ -43,13 +43,21 @@ use std::thread::Threads;
 
 fn main(rt: HostRuntime) -> Result<()> {
     let config = Config::given(&rt)?;
+    run(&rt, &rt, &config)
+}
+
+fn run<R: Runtime + Threads + Wait + Sync>(
+    rt: &HostRuntime,
+    threads: &R,
+    config: &Config,
+) -> Result<()> {
     if config.loads() {
-        run_on(&rt, &rt, &config)?;
+        run_on(rt, threads, config)?;
     }
-    run_apart(&rt, &rt, &config)?;
+    run_apart(rt, threads, config)?;
     for part in PARTS {
         if config.has_part(part) {
-            parts::run(&rt, &rt, &config, part)?;
+            parts::run(rt, threads, config, part)?;
         }
     }
     Ok(())
@@ -58,9 +66,13 @@ fn main(rt: HostRuntime) -> Result<()> {
 /// What runs on one core, which is loaded first.
 fn run_on(rt: &HostRuntime, threads: &(impl Threads + Sync), config: &Config) -> Result<()> {
     let mut session = Session::new(threads, rt.alloc(), config.upkeep)?;
-    load::run(rt, config, &mut session)?;
-    run_plain(rt, config, &mut session)?;
-    run_beside_old(rt, config, &mut session)
+    run_with(rt, config, &mut session)
+}
+
+fn run_with(rt: &HostRuntime, config: &Config, session: &mut Session) -> Result<()> {
+    load::run(rt, config, session)?;
+    run_plain(rt, config, session)?;
+    run_beside_old(rt, config, session)
 }
 
 /// What loads rows of its own.

@@ -15,16 +15,25 @@ const SHARE: u64 = 5;
 pub fn run(rt: &HostRuntime, config: &Config, session: &mut Session) -> Result<()> {
     let count = config.transactions.max(config.fewer.saturating_mul(10));
     let keys = Keys::zipf(session.alloc(), config.rows, SEED, count)?;
+    run_with(rt, config, session, &keys)
+}
+
+fn run_with(rt: &HostRuntime, config: &Config, session: &mut Session, keys: &Keys) -> Result<()> {
     let figure = Figure::start(rt, config, "mixed_zipf")?;
+    let sum = run_all(session, keys, config.transactions)?;
+    figure.tell(rt, config.transactions, sum)
+}
+
+fn run_all(session: &mut Session, keys: &Keys, count: u64) -> Result<Checksum, Stopped> {
     let mut sum = Checksum(0);
-    for at in 0..config.transactions {
+    for at in 0..count {
         if mixed(at) % SHARE == 0 {
             update_one(session, keys.at(at), &mut sum)?;
         } else {
             read_one(session, keys.at(at), &mut sum)?;
         }
     }
-    figure.tell(rt, config.transactions, sum)
+    Ok(sum)
 }
 
 /// Reads a row in a transaction.

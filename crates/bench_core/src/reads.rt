@@ -14,38 +14,34 @@ pub fn run(rt: &HostRuntime, config: &Config, session: &mut Session) -> Result<(
     let count = config.transactions.max(config.fewer.saturating_mul(10));
     let both = config.has(Work::Reads);
     if both || config.has(Work::UniformReads) {
-        let uniform = Keys::uniform(alloc, config.rows, SEED, count)?;
-        run_one(rt, config, session, "read1_uniform", &uniform)?;
-        run_ten(rt, config, session, "read10_uniform", &uniform)?;
+        let keys = Keys::uniform(alloc, config.rows, SEED, count)?;
+        run_with(
+            rt,
+            config,
+            session,
+            &keys,
+            ("read1_uniform", "read10_uniform"),
+        )?;
     }
     if both || config.has(Work::ZipfReads) {
-        let zipf = Keys::zipf(alloc, config.rows, SEED, count)?;
-        run_one(rt, config, session, "read1_zipf", &zipf)?;
-        run_ten(rt, config, session, "read10_zipf", &zipf)?;
+        let keys = Keys::zipf(alloc, config.rows, SEED, count)?;
+        run_with(rt, config, session, &keys, ("read1_zipf", "read10_zipf"))?;
     }
     Ok(())
 }
 
-fn run_one(
+/// One row and ten with these keys, for the figures with these names.
+fn run_with(
     rt: &HostRuntime,
     config: &Config,
     session: &mut Session,
-    name: &str,
     keys: &Keys,
+    (one, ten): (&str, &str),
 ) -> Result<()> {
-    let figure = Figure::start(rt, config, name)?;
+    let figure = Figure::start(rt, config, one)?;
     let sum = read_all(session, keys, config.transactions, 1)?;
-    figure.tell(rt, config.transactions, sum)
-}
-
-fn run_ten(
-    rt: &HostRuntime,
-    config: &Config,
-    session: &mut Session,
-    name: &str,
-    keys: &Keys,
-) -> Result<()> {
-    let figure = Figure::start(rt, config, name)?;
+    figure.tell(rt, config.transactions, sum)?;
+    let figure = Figure::start(rt, config, ten)?;
     let sum = read_all(session, keys, config.fewer, 10)?;
     figure.tell(rt, config.fewer, sum)
 }

@@ -15,6 +15,10 @@ const PLACES: u64 = 100;
 /// Reads the rows of a range, by their sorts.
 pub fn run(rt: &HostRuntime, config: &Config, session: &mut Session) -> Result<()> {
     let keys = Keys::uniform(session.alloc(), config.rows, SEED, config.fewer)?;
+    run_with(rt, config, session, &keys)
+}
+
+fn run_with(rt: &HostRuntime, config: &Config, session: &mut Session, keys: &Keys) -> Result<()> {
     let width = (1_u64 << 62).checked_div(config.rows).unwrap_or(0);
     let width = width.saturating_mul(PLACES);
     let figure = Figure::start(rt, config, "scan100")?;

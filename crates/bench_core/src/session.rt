@@ -12,13 +12,23 @@ pub const MOST: u64 = 10_000;
 
 /// A core, whose transactions are all to be committed: what is refused ends the run. Between two of
 /// them it does what is due of the upkeep.
-#[derive(Drop)]
 pub struct Session {
     alloc: Global,
     core: Core,
     upkeep: Upkeep,
     /// Where its rows are made.
     pub draft: Draft,
+}
+
+impl Drop for Session {
+    fn drop(self) {
+        let Session {
+            alloc: _,
+            core: _,
+            upkeep: _,
+            draft: _,
+        } = self;
+    }
 }
 
 impl Session {

@@ -19,12 +19,31 @@ const EACH: u64 = 100;
 /// the upkeep among them.
 pub fn run(rt: &HostRuntime, threads: &(impl Threads + Sync), config: &Config) -> Result<()> {
     let mut times = Times::new(rt.alloc());
+    run_rounds(rt, threads, config, &mut times)
+}
+
+fn run_rounds(
+    rt: &HostRuntime,
+    threads: &(impl Threads + Sync),
+    config: &Config,
+    times: &mut Times,
+) -> Result<()> {
     for _ in 0..ROUNDS {
         times.restart();
-        let mut session = Session::new(threads, rt.alloc(), config.upkeep)?;
-        insert_all(rt, config, &mut session, &mut times)?;
+        run_round(rt, threads, config, times)?;
     }
     Figure::start(rt, config, "longest_call")?.tell_nanos(rt, times.calls(), times.longest())
+}
+
+/// Inserts the rows into a core of its own.
+fn run_round(
+    rt: &HostRuntime,
+    threads: &(impl Threads + Sync),
+    config: &Config,
+    times: &mut Times,
+) -> Result<()> {
+    let mut session = Session::new(threads, rt.alloc(), config.upkeep)?;
+    insert_all(rt, config, &mut session, times)
 }
 
 fn insert_all(

@@ -19,14 +19,18 @@ const PARTS: u64 = 10;
 /// stay what it was after the first.
 pub fn run(rt: &HostRuntime, threads: &(impl Threads + Sync), config: &Config) -> Result<()> {
     let mut session = Session::new(threads, rt.alloc(), config.upkeep)?;
-    let mut sum = insert_all(&mut session, KEYS, config.data)?;
+    run_with(rt, config, &mut session)
+}
+
+fn run_with(rt: &HostRuntime, config: &Config, session: &mut Session) -> Result<()> {
+    let mut sum = insert_all(session, KEYS, config.data)?;
     let figure = Figure::start(rt, config, "steady_update")?;
     let each = config.steady / PARTS;
     let mut first = 0;
     for part in 0..PARTS {
         let from = part.wrapping_mul(each);
         for at in from..from.saturating_add(each) {
-            update_one(&mut session, mixed(at) % KEYS, &mut sum)?;
+            update_one(session, mixed(at) % KEYS, &mut sum)?;
         }
         let bytes = anonymous(rt);
         first = if part == 0 { bytes } else { first };

@@ -67,25 +67,40 @@ pub fn run<R: Runtime + Threads + Wait + Sync>(
     alloc: Global,
     config: &Config,
 ) -> Result<()> {
-    let (rows, count) = (config.rows, config.transactions);
-    let keys = Keys::uniform(alloc, rows, SEED, count.saturating_mul(2))?;
+    let count = config.transactions.saturating_mul(2);
+    let keys = Keys::uniform(alloc, config.rows, SEED, count)?;
+    run_all(rt, alloc, config, &keys)
+}
+
+fn run_all<R: Runtime + Threads + Wait + Sync>(
+    rt: &R,
+    alloc: Global,
+    config: &Config,
+    keys: &Keys,
+) -> Result<()> {
     for (threads, name, end) in RUNS {
         let task = Task {
-            rows,
+            rows: config.rows,
             data: config.data,
-            keys: &keys,
-            count,
+            keys,
+            count: config.transactions,
             threads,
             upkeep: config.upkeep,
         };
         let done = on_disk(rt, alloc, formatted(alloc)?, task)?;
-        let each = |nanos: u128| nanos.checked_div(u128::from(count)).unwrap_or(0);
-        let figure = Figure::start(rt, config, name)?;
-        figure.tell_sum(rt, done.sum)?;
-        figure.tell_nanos(rt, count, each(done.nanos))?;
-        Figure::start(rt, config, end)?.tell_nanos(rt, count, each(done.end))?;
+        tell(rt, config, (name, end), done)?;
     }
     Ok(())
+}
+
+/// Prints what came of it, for the figures with these names.
+fn tell(rt: &impl Runtime, config: &Config, (name, end): (&str, &str), done: Done) -> Result<()> {
+    let count = config.transactions;
+    let each = |nanos: u128| nanos.checked_div(u128::from(count)).unwrap_or(0);
+    let figure = Figure::start(rt, config, name)?;
+    figure.tell_sum(rt, done.sum)?;
+    figure.tell_nanos(rt, count, each(done.nanos))?;
+    Figure::start(rt, config, end)?.tell_nanos(rt, count, each(done.end))
 }
 
 /// A disk in memory with a store that has no rows.
@@ -227,11 +242,22 @@ fn load<L: Run, D: Disk, G: Gate + Drop, R: Wait>(
     task: Task<'_>,
 ) -> Result<(), Refusal> {
     let mut session = engine.session(rt)?;
+    load_by(rt, alloc, engine, &mut session, task)
+}
+
+/// Through this session.
+fn load_by<L: Run, D: Disk, G: Gate + Drop, R: Wait>(
+    rt: &R,
+    alloc: Global,
+    engine: &Engine<L, D, G>,
+    session: &mut Session<'_, L, D, G>,
+    task: Task<'_>,
+) -> Result<(), Refusal> {
     let mut keeping = Keeping::new(task.upkeep);
     for batch in 0..task.rows.saturating_add(EACH - 1) / EACH {
         let from = batch.saturating_mul(EACH);
         let to = from.saturating_add(EACH).min(task.rows);
-        put(rt, alloc, &mut session, (from, to), task.data)?;
+        put(rt, alloc, session, (from, to), task.data)?;
         keeping.count(rt, engine, EACH)?;
     }
     Ok(())
@@ -261,11 +287,20 @@ fn total<L: Run, D: Disk, G: Gate + Drop, R: Wait>(
     rows: u64,
 ) -> Result<Checksum, Refusal> {
     let mut session = engine.session(rt)?;
+    total_by(rt, &mut session, rows)
+}
+
+/// Through this session.
+fn total_by<L: Run, D: Disk, G: Gate + Drop, R: Wait>(
+    rt: &R,
+    session: &mut Session<'_, L, D, G>,
+    rows: u64,
+) -> Result<Checksum, Refusal> {
     let mut sum = 0u8;
     for batch in 0..rows.saturating_add(EACH - 1) / EACH {
         let from = batch.saturating_mul(EACH);
         let to = from.saturating_add(EACH).min(rows);
-        sum = sum.wrapping_add(total_of(rt, &mut session, from, to)?);
+        sum = sum.wrapping_add(total_of(rt, session, from, to)?);
     }
     Ok(Checksum(u64::from(sum)))
 }

@@ -4,10 +4,15 @@ use std::time::Duration;
 
 /// The times of the calls of a round in their order, in nanoseconds: of several rounds of the same
 /// calls the least of each.
-#[derive(Drop)]
 pub struct Times {
     nanos: Vec<u128>,
     at: usize,
+}
+
+impl Drop for Times {
+    fn drop(self) {
+        let Times { nanos: _, at: _ } = self;
+    }
 }
 
 impl Times {

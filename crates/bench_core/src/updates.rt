@@ -13,13 +13,24 @@ const SEED: u64 = 2;
 pub fn run(rt: &HostRuntime, config: &Config, session: &mut Session) -> Result<()> {
     let count = config.transactions.saturating_mul(2);
     let keys = Keys::uniform(session.alloc(), config.rows, SEED, count)?;
-    let figure = Figure::start(rt, config, "read2_update2")?;
-    let sum = update_all(session, &keys, config.transactions)?;
+    run_named(rt, config, session, "read2_update2", &keys)
+}
+
+/// Does so with these keys, for the figure with this name.
+pub fn run_named(
+    rt: &HostRuntime,
+    config: &Config,
+    session: &mut Session,
+    name: &str,
+    keys: &Keys,
+) -> Result<()> {
+    let figure = Figure::start(rt, config, name)?;
+    let sum = update_all(session, keys, config.transactions)?;
     figure.tell(rt, config.transactions, sum)
 }
 
 /// So many transactions.
-pub fn update_all(session: &mut Session, keys: &Keys, count: u64) -> Result<Checksum, Stopped> {
+fn update_all(session: &mut Session, keys: &Keys, count: u64) -> Result<Checksum, Stopped> {
     let mut sum = Checksum(0);
     for round in 0..count {
         let at = round.wrapping_mul(2);

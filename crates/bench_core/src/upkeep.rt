@@ -12,7 +12,6 @@ pub const MOST: u64 = 128;
 /// What an engine does between transactions, so that the memory of what is over is used again:
 /// commits go into groups, which the log would take, the tale is trimmed up to the oldest
 /// transaction that is open, and versions that nobody is shown any more are collected.
-#[derive(Drop)]
 pub struct Upkeep {
     producer: Producer<Group>,
     consumer: Consumer<Group>,
@@ -24,6 +23,19 @@ pub struct Upkeep {
     done: u64,
     /// Whether versions are collected.
     collects: bool,
+}
+
+impl Drop for Upkeep {
+    fn drop(self) {
+        let Upkeep {
+            producer: _,
+            consumer: _,
+            open: _,
+            every: _,
+            done: _,
+            collects: _,
+        } = self;
+    }
 }
 
 impl Upkeep {

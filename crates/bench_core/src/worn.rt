@@ -18,12 +18,16 @@ const ROUNDS: u64 = 5;
 /// tenth and all of so many of its versions were written and collected.
 pub fn run(rt: &HostRuntime, threads: &(impl Threads + Sync), config: &Config) -> Result<()> {
     let mut session = Session::new(threads, rt.alloc(), config.upkeep)?;
-    insert_all(&mut session, KEYS, config.data)?;
+    run_with(rt, config, &mut session)
+}
+
+fn run_with(rt: &HostRuntime, config: &Config, session: &mut Session) -> Result<()> {
+    insert_all(session, KEYS, config.data)?;
     let mut written = 0;
     for upto in [0, config.steady / 10, config.steady] {
-        update_all(&mut session, upto.saturating_sub(written))?;
+        update_all(session, upto.saturating_sub(written))?;
         written = upto;
-        measure(rt, config, &mut session, upto)?;
+        measure(rt, config, session, upto)?;
     }
     Ok(())
 }
@@ -48,15 +52,22 @@ fn measure(rt: &HostRuntime, config: &Config, session: &mut Session, upto: u64) 
     for _ in 0..ROUNDS {
         run_round(rt, config, session, &mut least)?;
     }
-    let alloc = session.alloc();
-    let name = format!(in alloc; "worn_update_after_{upto}")?;
-    Figure::start(rt, config, name.as_str())?.tell_nanos(rt, config.hot, least.update)?;
-    let name = format!(in alloc; "worn_collection_after_{upto}")?;
-    Figure::start(rt, config, name.as_str())?.tell_nanos(rt, config.hot, least.collection)?;
-    let name = format!(in alloc; "worn_read_after_{upto}")?;
-    let figure = Figure::start(rt, config, name.as_str())?;
-    figure.tell_sum(rt, least.sum)?;
-    figure.tell_nanos(rt, config.hot, least.read)
+    tell(rt, config, "update", upto, least.update)?;
+    tell(rt, config, "collection", upto, least.collection)?;
+    tell_sum(rt, config, upto, least.sum)?;
+    tell(rt, config, "read", upto, least.read)
+}
+
+/// Prints the nanoseconds of what has this name.
+fn tell(rt: &HostRuntime, config: &Config, what: &str, upto: u64, nanos: u128) -> Result<()> {
+    let name = format!(in rt.alloc(); "worn_{what}_after_{upto}")?;
+    Figure::start(rt, config, name.as_str())?.tell_nanos(rt, config.hot, nanos)
+}
+
+/// Prints the checksum of what was read.
+fn tell_sum(rt: &HostRuntime, config: &Config, upto: u64, sum: Checksum) -> Result<()> {
+    let name = format!(in rt.alloc(); "worn_read_after_{upto}")?;
+    Figure::start(rt, config, name.as_str())?.tell_sum(rt, sum)
 }
 
 /// Updates the key, reads it, and has as many of its versions come together as it then collects.

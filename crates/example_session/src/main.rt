@@ -1,6 +1,8 @@
 //! Moves money between two accounts, durably.
 #![tactic(auto)]
 
+mod over_world;
+
 ghost use Rattle.mvo_engine.specs.Opened.{IsNamedBy};
 
 use anyhow::bail;
@@ -96,5 +98,5 @@ fn main(rt: HostRuntime) -> Result<(), anyhow::Error> {
         Ok(money) => println!(rt; "the other account has {money}")?,
         Err(refusal) => bail!("refused: {refusal}"),
     }
-    Ok(())
+    over_world::run(&rt, rt.alloc())
 }

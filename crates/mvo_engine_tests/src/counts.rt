@@ -1,7 +1,7 @@
 ghost use Rattle.std.specs.Prelude.{◌≡◌, ℕ, ◌<◌};
 
 use crate::equal::holds;
-use mvo_counts::add_known;
+use mvo_engine::add_known;
 use std::marker::Brand;
 use std::sync::ledger::{Blank, Book, Ledger, Share};
 use std::test::*;

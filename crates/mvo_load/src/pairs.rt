@@ -2,10 +2,10 @@
 ghost use Rattle.std.specs.Prelude.{◌≡◌, ◌<◌, ◌+◌, ◌^◌, List, [], Some, IfOk};
 ghost use Rattle.mvo_pair.specs.Data.{Numbered};
 ghost use Rattle.mvo_pair.specs.Data.{AreApart};
-ghost use Rattle.mvo_image.specs.Rows.{rows_of};
-ghost use Rattle.mvo_image.specs.Opens.{Segments, OpensWith};
-ghost use Rattle.mvo_image.specs.Files.{SegmentSays};
-ghost use Rattle.mvo_load.specs.Leading.{LeadsOn};
+ghost use Rattle.mvo_places.specs.Rows.{rows_of};
+ghost use Rattle.mvo_recovery.specs.image.Opens.{Segments, OpensWith};
+ghost use Rattle.mvo_recovery.specs.image.Files.{SegmentSays};
+ghost use Rattle.mvo_load.specs.Leading.{FoundLeadsOn};
 ghost use Rattle.mvo_load.specs.Parts.{Joins, HaveRows, HavePlaces};
 ghost use Rattle.mvo_disk.specs.Disk.{IsHonest};
 ghost use Rattle.mvo_load.specs.Read.{HasRead};
@@ -16,7 +16,7 @@ use crate::single::pair_on;
 use mvo_disk::Disk;
 use mvo_format::Format;
 use mvo_manifest::Manifest;
-use mvo_pair::{Entry, Live};
+use mvo_pair::{DataRecord, Live};
 use mvo_places::Places;
 use mvo_types::{Refusal, Rows};
 use std::alloc::{AllocError, Global};
@@ -34,7 +34,7 @@ pub fn join(rows: &mut Rows, live: Vec<Live>) -> Result<bool, AllocError>
     let before = rows.len();
     for one in live {
         let Live { entry, .. } = one;
-        let Entry { row, .. } = entry;
+        let DataRecord { row, .. } = entry;
         rows.put(row)?;
     }
     // A key that stood there already makes no new place.
@@ -54,7 +54,7 @@ fn load_in_turn<D: Disk>(
         (D.content disk.old) manifest.now.pairs found.0) }
     ensures places { IsHonest (D.moment disk.new) → IfOk result (λ found. HavePlaces format
         (D.content disk.old) manifest.now.pairs found.1.at) }
-    ensures leads { IsHonest (D.moment disk.new) → LeadsOn
+    ensures leads { IsHonest (D.moment disk.new) → FoundLeadsOn
         (λ found. Segments (SegmentSays format) (D.content disk.old) found.0 manifest.now.segments
         manifest.now.checkpoint_mark [])
         (OpensWith (SegmentSays format) format (D.content disk.old) (Some manifest.now)) result }
@@ -93,7 +93,7 @@ fn load_beside<D: Disk>(
         (D.content disk.old) manifest.now.pairs found.0) }
     ensures places { IsHonest (D.moment disk.new) → IfOk result (λ found. HavePlaces format
         (D.content disk.old) manifest.now.pairs found.1.at) }
-    ensures leads { IsHonest (D.moment disk.new) → LeadsOn
+    ensures leads { IsHonest (D.moment disk.new) → FoundLeadsOn
         (λ found. Segments (SegmentSays format) (D.content disk.old) found.0 manifest.now.segments
         manifest.now.checkpoint_mark [])
         (OpensWith (SegmentSays format) format (D.content disk.old) (Some manifest.now)) result }
@@ -138,7 +138,7 @@ pub fn load_pairs<D: Disk>(
         (D.content disk.old) manifest.now.pairs found.0) }
     ensures places { IsHonest (D.moment disk.new) → IfOk result (λ found. HavePlaces format
         (D.content disk.old) manifest.now.pairs found.1.at) }
-    ensures leads { IsHonest (D.moment disk.new) → LeadsOn
+    ensures leads { IsHonest (D.moment disk.new) → FoundLeadsOn
         (λ found. Segments (SegmentSays format) (D.content disk.old) found.0 manifest.now.segments
         manifest.now.checkpoint_mark [])
         (OpensWith (SegmentSays format) format (D.content disk.old) (Some manifest.now)) result }

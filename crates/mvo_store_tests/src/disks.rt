@@ -1,6 +1,6 @@
 //! Disks, and what their files hold.
 use crate::equal::{holds, holds_at, same_at};
-use mvo_disk::{Disk, FileImage, MemDisk, Work};
+use mvo_disk::{DeviceWork, Disk, FileImage, MemDisk};
 use mvo_store::format;
 use std::alloc::Global;
 use std::process::Abort;
@@ -65,7 +65,7 @@ fn half_written(alloc: Global, disk: &MemDisk) -> Result<Option<FileImage>, Fail
     let Some(call) = disk.calls().last() else {
         return Ok(None);
     };
-    let Work::Write { at, len, .. } = &call.work else {
+    let DeviceWork::Write { at, len, .. } = &call.work else {
         return Ok(None);
     };
     if call.file > 15 {

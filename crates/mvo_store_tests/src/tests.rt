@@ -10,7 +10,7 @@ use crate::stores::{
     after_stop, follow, following, gives, has_row, names, new_store, rows_on, store_on, store_with,
 };
 use crate::vectors::{FIRST, FRESH, ROTATED, SEGMENT};
-use mvo_disk::{Disk, MemDisk, Work};
+use mvo_disk::{DeviceWork, Disk, MemDisk};
 use mvo_store::{Generation, Reclaimed, Store, format};
 use mvo_types::{Refusal, Stamp};
 use std::alloc::Global;
@@ -246,8 +246,10 @@ fn changes(disk: &MemDisk) -> (usize, usize) {
     let calls = disk.calls();
     let cuts = calls
         .iter()
-        .filter(|call| matches!(&call.work, Work::Cut { .. }));
-    let syncs = calls.iter().filter(|call| matches!(&call.work, Work::Sync));
+        .filter(|call| matches!(&call.work, DeviceWork::Cut { .. }));
+    let syncs = calls
+        .iter()
+        .filter(|call| matches!(&call.work, DeviceWork::Sync));
     (cuts.count(), syncs.count())
 }
 

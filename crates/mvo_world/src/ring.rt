@@ -61,13 +61,4 @@ impl Ring {
         }
         Some(self.consumer.pop_known())
     }
-
-    /// The two ends.
-    pub fn into_ends(self) -> (Producer<Group>, Consumer<Group>)
-        ensures ends { AreEnds result.0 result.1 }
-        ensures groups { in_ring result.0 result.1 ≡ self }
-    {
-        let Ring { producer, consumer } = self;
-        (producer, consumer)
-    }
 }

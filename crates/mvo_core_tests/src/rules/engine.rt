@@ -7,7 +7,7 @@ use crate::rules::counts::{Counts, count};
 use crate::rules::open::{Open, Written};
 use mvo_chain::{Chains, VersionNo};
 use mvo_hash::HashIndex;
-use mvo_range::{Place, RangeIndex};
+use mvo_range::{RangeIndex, SortPlace};
 use mvo_txn::{Located, TxState, TxnTable};
 use mvo_types::{Entry, MAX_STAMP, Refusal, Row, RowKey, Stamp, TxId};
 use mvo_validate::{Check, check_entry};
@@ -162,7 +162,7 @@ impl Engine {
         let row = Row::new(key, sort, Vec::new(self.alloc))?;
         let begin = Word::id(TxId(tx.id.0.min(MAX_STAMP)));
         let number = self.chains.add(row, begin)?;
-        self.ranges.add(Place::new(key, sort), number.0)?;
+        self.ranges.add(SortPlace::new(key, sort), number.0)?;
         self.to_front(key, number)?;
         tx.words.push(Written::Begin(number))?;
         tx.writes.push((key, Some(number)))?;

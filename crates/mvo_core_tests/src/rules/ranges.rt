@@ -1,29 +1,29 @@
 use crate::equal::{holds, same};
 use crate::numbers::Numbers;
-use mvo_range::{Place, RangeIndex, Walk};
+use mvo_range::{RangeIndex, SortPlace, Walk};
 use mvo_types::RowKey;
 use std::alloc::{AllocError, Global};
 use std::process::Abort;
 use std::test::Fail;
 
 impl Numbers {
-    fn place(&mut self) -> Place {
+    fn place(&mut self) -> SortPlace {
         let table = if self.below(2) == 0 { 0 } else { 1 };
         let sort = self.below(6);
         let key = self.below(6);
-        Place::new(RowKey { table, key }, sort)
+        SortPlace::new(RowKey { table, key }, sort)
     }
 }
 
 // The entries that a plain list has of a table, with a sort in the range, in order.
 fn listed(
     alloc: Global,
-    list: &[(Place, u32)],
-    first: Place,
+    list: &[(SortPlace, u32)],
+    first: SortPlace,
     is_behind: bool,
     hi: u64,
-) -> Result<Vec<(Place, u32)>, AllocError> {
-    let mut found: Vec<(Place, u32)> = Vec::new(alloc);
+) -> Result<Vec<(SortPlace, u32)>, AllocError> {
+    let mut found: Vec<(SortPlace, u32)> = Vec::new(alloc);
     for entry in list {
         let from = if is_behind {
             first < entry.0
@@ -38,7 +38,7 @@ fn listed(
     Ok(found)
 }
 
-fn taken(list: &mut Vec<(Place, u32)>, place: Place) -> Option<u32> {
+fn taken(list: &mut Vec<(SortPlace, u32)>, place: SortPlace) -> Option<u32> {
     match list.iter().position(|entry| entry.0 == place) {
         Some(at) if at < list.len() => Some(list.remove(at).1),
         _ => None,
@@ -49,8 +49,8 @@ fn taken(list: &mut Vec<(Place, u32)>, place: Place) -> Option<u32> {
 fn change_both(
     rt: &impl Abort,
     index: &mut RangeIndex,
-    list: &mut Vec<(Place, u32)>,
-    place: Place,
+    list: &mut Vec<(SortPlace, u32)>,
+    place: SortPlace,
     number: Option<u32>,
 ) -> Result<(), Fail> {
     let want = taken(list, place);
@@ -69,14 +69,14 @@ fn change_both(
 // Both have the same entries from the place on, or behind it.
 fn compare_walk(
     rt: &impl Abort,
-    list: &Vec<(Place, u32)>,
+    list: &Vec<(SortPlace, u32)>,
     walk: Walk,
-    first: Place,
+    first: SortPlace,
     is_behind: bool,
     hi: u64,
 ) -> Result<(), Fail> {
     let alloc = *list.allocator();
-    let walked: Vec<(Place, u32)> = walk.collect(alloc)?;
+    let walked: Vec<(SortPlace, u32)> = walk.collect(alloc)?;
     let want = listed(alloc, list.as_slice(), first, is_behind, hi)?;
     same(rt, &walked.as_slice(), &want.as_slice());
     Ok(())
@@ -86,8 +86,8 @@ fn compare_walk(
 fn compare(
     rt: &impl Abort,
     index: &RangeIndex,
-    list: &Vec<(Place, u32)>,
-    first: Place,
+    list: &Vec<(SortPlace, u32)>,
+    first: SortPlace,
     hi: u64,
 ) -> Result<(), Fail> {
     let walk = index.between(first.table, first.sort, hi);
@@ -100,7 +100,7 @@ fn step_on_both(
     rt: &impl Abort,
     numbers: &mut Numbers,
     index: &mut RangeIndex,
-    list: &mut Vec<(Place, u32)>,
+    list: &mut Vec<(SortPlace, u32)>,
     step: u32,
 ) -> Result<(), Fail> {
     let place = numbers.place();
@@ -118,7 +118,7 @@ fn step_on_both(
 fn agree(
     rt: &impl Abort,
     index: &mut RangeIndex,
-    list: &mut Vec<(Place, u32)>,
+    list: &mut Vec<(SortPlace, u32)>,
 ) -> Result<(), Fail> {
     let mut numbers = Numbers::new();
     for step in 0u32..4000 {
@@ -134,7 +134,7 @@ fn agrees_with_a_plain_list(rt: HostRuntime) -> Result<(), Fail> {
 }
 
 // The entries are added one after another, and kept.
-fn add_all(added: &mut RangeIndex, entries: &mut Vec<(Place, u32)>) -> Result<(), AllocError> {
+fn add_all(added: &mut RangeIndex, entries: &mut Vec<(SortPlace, u32)>) -> Result<(), AllocError> {
     let mut numbers = Numbers::of(2463534242);
     for number in 0u32..500 {
         let place = numbers.place();
@@ -152,8 +152,8 @@ fn compare_table(
     added: &RangeIndex,
     table: u8,
 ) -> Result<(), Fail> {
-    let left: Vec<(Place, u32)> = built.between(table, 0, u64::MAX).collect(alloc)?;
-    let right: Vec<(Place, u32)> = added.between(table, 0, u64::MAX).collect(alloc)?;
+    let left: Vec<(SortPlace, u32)> = built.between(table, 0, u64::MAX).collect(alloc)?;
+    let right: Vec<(SortPlace, u32)> = added.between(table, 0, u64::MAX).collect(alloc)?;
     same(rt, &left.as_slice(), &right.as_slice());
     Ok(())
 }
@@ -173,7 +173,7 @@ fn compare_tables(
 
 // What is built of the entries in one go is what they were added to.
 fn builds(rt: &impl Abort, alloc: Global, added: &mut RangeIndex) -> Result<(), Fail> {
-    let mut entries: Vec<(Place, u32)> = Vec::new(alloc);
+    let mut entries: Vec<(SortPlace, u32)> = Vec::new(alloc);
     add_all(added, &mut entries)?;
     let built = RangeIndex::from_entries(alloc, entries)?;
     compare_tables(rt, alloc, &built, added)
@@ -186,7 +186,7 @@ fn builds_in_one_go(rt: HostRuntime) -> Result<(), Fail> {
 }
 
 // The first entry is this one.
-fn begins_with(rt: &impl Abort, walk: Walk, wanted: Option<(Place, u32)>) {
+fn begins_with(rt: &impl Abort, walk: Walk, wanted: Option<(SortPlace, u32)>) {
     let mut walk = walk;
     same(rt, &walk.next(), &wanted);
 }
@@ -196,7 +196,7 @@ fn takes_last(rt: &impl Abort, index: &mut RangeIndex) -> Result<(), Fail> {
         table: 255,
         key: u64::MAX,
     };
-    let last = Place::new(key, u64::MAX);
+    let last = SortPlace::new(key, u64::MAX);
     same(rt, &index.add(last, u32::MAX)?, &None);
     same(rt, &index.get(last), &Some(u32::MAX));
     same(rt, &last.row_key().key, &u64::MAX);

@@ -3,7 +3,7 @@
 use crate::equal::{holds, same_at};
 use crate::numbers::Numbers;
 use mvo_chain::VersionNo;
-use mvo_range::Place;
+use mvo_range::SortPlace;
 use mvo_types::{Row, RowKey, Rows, Stamp, TxId};
 use mvo_versions::Versions;
 use std::alloc::{AllocError, Global};
@@ -16,7 +16,7 @@ const STEPS: u64 = 6000;
 /// Versions, and a plain list of their numbers and places.
 struct Both {
     versions: Versions,
-    list: Vec<(VersionNo, Place)>,
+    list: Vec<(VersionNo, SortPlace)>,
 }
 
 impl Drop for Both {
@@ -39,7 +39,7 @@ fn begin(rt: &(impl Threads + Sync), alloc: Global) -> Result<Both, AllocError> 
     let mut list = Vec::new(alloc);
     list.push((
         VersionNo(0),
-        Place {
+        SortPlace {
             table: 2,
             sort: 1,
             key: 0,
@@ -55,7 +55,7 @@ fn begin(rt: &(impl Threads + Sync), alloc: Global) -> Result<Both, AllocError> 
 /// another key or have another sort.
 fn put(alloc: Global, both: &mut Both, key: u64, sort: u64) -> Result<(), AllocError> {
     let row = row(alloc, key, sort)?;
-    let place = Place::new(row.row_key(), sort);
+    let place = SortPlace::new(row.row_key(), sort);
     let like = both.list.last().map(|entry| entry.0);
     let number = both.versions.put(row, TxId(3), like)?;
     both.list.push((number, place))?;
@@ -80,8 +80,8 @@ fn bring_to_front(both: &mut Both, at: usize) {
 }
 
 /// The places of the list in order, each once.
-fn places_of(alloc: Global, list: &[(VersionNo, Place)]) -> Result<Vec<Place>, AllocError> {
-    let mut places: Vec<Place> = Vec::new(alloc);
+fn places_of(alloc: Global, list: &[(VersionNo, SortPlace)]) -> Result<Vec<SortPlace>, AllocError> {
+    let mut places: Vec<SortPlace> = Vec::new(alloc);
     for entry in list {
         places.push(entry.1)?;
     }
@@ -90,7 +90,7 @@ fn places_of(alloc: Global, list: &[(VersionNo, Place)]) -> Result<Vec<Place>, A
     Ok(places)
 }
 
-fn walked(alloc: Global, versions: &Versions) -> Result<Vec<Place>, AllocError> {
+fn walked(alloc: Global, versions: &Versions) -> Result<Vec<SortPlace>, AllocError> {
     let mut places = Vec::new(alloc);
     for (place, _) in versions.between(2, 0, u64::MAX) {
         places.push(place)?;

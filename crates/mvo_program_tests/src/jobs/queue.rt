@@ -1,7 +1,7 @@
 ghost use Rattle.mvo_front.specs.Named.{IsQueueNamedBy};
 
 use crate::equal::same;
-use mvo_front::{Front, Job, NewQueue, Outcome, Queue, Work, run};
+use mvo_front::{Front, Job, JobQueue, JobWork, NewQueue, Outcome, run};
 use std::alloc::{AllocError, Global};
 use std::marker::Brand;
 use std::sync::Wait;
@@ -17,7 +17,7 @@ struct Meeting {
     met: AtomicU64,
 }
 
-impl Work for Meeting {
+impl JobWork for Meeting {
     fn run<R: Wait>(&self, _rt: &R, job: Job) -> Outcome {
         let number = job.number;
         if number == 2 {
@@ -55,7 +55,7 @@ struct Echo {
     runs: AtomicU64,
 }
 
-impl Work for Echo {
+impl JobWork for Echo {
     fn run<R: Wait>(&self, _rt: &R, job: Job) -> Outcome {
         self.runs.fetch_add(1, Ordering::SeqCst);
         let number = job.number;
@@ -146,7 +146,7 @@ struct Told {
 }
 
 /// Pushes jobs 1 and 2, closes the queue, pushes job 3, and takes three times.
-fn push_and_take<L: Queue, R: Wait>(
+fn push_and_take<L: JobQueue, R: Wait>(
     rt: &R,
     alloc: Global,
     opened: NewQueue,

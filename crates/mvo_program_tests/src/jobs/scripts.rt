@@ -1,8 +1,8 @@
 use crate::equal::{holds, same};
+use mvo_cli::work_over;
 use mvo_disk::{Disk, MemDisk};
 use mvo_engine::{Fresh, Gate, OpenGate, Place};
 use mvo_front::Job;
-use mvo_jobs::work_over;
 use mvo_store::format;
 use std::alloc::{AllocError, Global};
 use std::process::Abort;

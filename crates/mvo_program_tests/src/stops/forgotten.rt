@@ -3,7 +3,7 @@
 use crate::equal::same;
 use crate::stops::longer::{CHECKPOINTS, MERGE, ROTATION};
 use crate::stops::looked_at::{FLUSHED, recorded};
-use mvo_disk::Work;
+use mvo_disk::DeviceWork;
 use mvo_stops::{Quiet, Recorded, Report, check_stops, line_of};
 use std::alloc::{AllocError, Global};
 use std::process::Abort;
@@ -34,7 +34,7 @@ fn syncs_of(
 ) -> Result<Vec<SyncAt>, Fail> {
     let mut syncs: Vec<SyncAt> = Vec::new(alloc);
     for (at, call) in recorded.calls().iter().enumerate() {
-        if !matches!(&call.work, Work::Sync) {
+        if !matches!(&call.work, DeviceWork::Sync) {
             continue;
         }
         let number = at.saturating_add(1);

@@ -1,6 +1,6 @@
 //! What is found of a script.
 use crate::equal::{holds, same};
-use mvo_stops::{Failed, Quiet, Recorded, Report, Start, Wrong, check_stops, lines_of};
+use mvo_stops::{Failed, Quiet, Recorded, Report, ScriptStart, Wrong, check_stops, lines_of};
 use mvo_types::{Refusal, Stamp};
 use std::alloc::Global;
 use std::process::Abort;
@@ -17,7 +17,7 @@ pub fn recorded(
     script: &[u8],
 ) -> Result<Recorded, Fail> {
     let lines = lines_of(alloc, script)?;
-    Ok(Recorded::of(rt, alloc, 7, Start::formatted(alloc)?, lines)?)
+    Ok(Recorded::of(rt, alloc, 7, ScriptStart::formatted(alloc)?, lines)?)
 }
 
 /// Whether a script makes so many calls, and stops and faults leave what was promised.

@@ -3,7 +3,7 @@ use crate::equal::holds;
 use crate::load::image::{
     Case, DATA, DELTA, FRESH, INSERTED, LATER_DATA, NAMED, disk_of, find_all, finds, place_all,
 };
-use mvo_disk::{Call, Work};
+use mvo_disk::{Call, DeviceWork};
 use std::process::Abort;
 use std::test::Fail;
 
@@ -148,7 +148,7 @@ fn bytes_that_do_not_count_are_not_looked_at(rt: HostRuntime) -> Result<(), Fail
 fn only_read(rt: &impl Abort, calls: &[Call], before: usize) {
     holds(rt, calls.len() > before);
     for call in &calls[before..] {
-        let reads = matches!(call.work, Work::Length | Work::Read { .. });
+        let reads = matches!(call.work, DeviceWork::Length | DeviceWork::Read { .. });
         holds(rt, reads);
     }
 }

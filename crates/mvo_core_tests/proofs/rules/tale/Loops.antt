@@ -12,10 +12,10 @@ use Rattle.mvo_types.specs.AnswerData.{AnswerData, answer_data}
 use Rattle.mvo_model.specs.History.{History, write_of}
 use Rattle.mvo_theory.specs.Entries.{noted_key, written_from, written_keys}
 use Rattle.mvo_theory.proofs.Each.{each_append}
-use Rattle.mvo_tale.specs.declared.slot.Slot.{Slot}
+use Rattle.mvo_tale.specs.declared.tale_place.TalePlace.{TalePlace}
 use Rattle.mvo_theory.specs.Told.{history_told}
 use Rattle.mvo_theory.specs.Limits.{IsInLimits}
-use Rattle.mvo_tale.specs.declared.slot.Slot.TheVariants.{Open, Settled, Empty}
+use Rattle.mvo_tale.specs.declared.tale_place.TalePlace.TheVariants.{Open, Settled, Empty}
 use Rattle.mvo_tale.specs.Slots.{ends, open_ends, stored_at, is_empty}
 use Rattle.mvo_tale.specs.Next.{IsBehindStored}
 use Rattle.mvo_tale.proofs.Moving.{stored_behind}
@@ -25,26 +25,26 @@ taken_more : {X : Type 0} (xs : List X) (i : ℕ) (x : X) → i < length xs → 
 taken_more xs i x lt is = take_more xs i x lt ∙ ap (λ y. take i xs ++ y ∷ []) (sym is)
 
 -- ---- places
-pub ends_more : (P : ℕ → Type 0) (xs : List Slot) (i : ℕ) (x : Slot) → i < length xs → x ≡ get_or xs i x → AllByRecursion P (ends (take i xs)) → AllByRecursion P (ends (x ∷ [])) → AllByRecursion P (ends (take (i + 1) xs))
+pub ends_more : (P : ℕ → Type 0) (xs : List TalePlace) (i : ℕ) (x : TalePlace) → i < length xs → x ≡ get_or xs i x → AllByRecursion P (ends (take i xs)) → AllByRecursion P (ends (x ∷ [])) → AllByRecursion P (ends (take (i + 1) xs))
 ends_more P xs i x lt is h k = subst (AllByRecursion P) (sym (ap ends (taken_more xs i x lt is) ∙ ends-append (take i xs) (x ∷ []))) (each_append P (ends (take i xs)) (ends (x ∷ [])) h k)
 
-pub open_ends_more : (P : ℕ → Type 0) (xs : List Slot) (i : ℕ) (x : Slot) → i < length xs → x ≡ get_or xs i x → AllByRecursion P (open_ends (take i xs)) → AllByRecursion P (open_ends (x ∷ [])) → AllByRecursion P (open_ends (take (i + 1) xs))
+pub open_ends_more : (P : ℕ → Type 0) (xs : List TalePlace) (i : ℕ) (x : TalePlace) → i < length xs → x ≡ get_or xs i x → AllByRecursion P (open_ends (take i xs)) → AllByRecursion P (open_ends (x ∷ [])) → AllByRecursion P (open_ends (take (i + 1) xs))
 open_ends_more P xs i x lt is h k = subst (AllByRecursion P) (sym (ap open_ends (taken_more xs i x lt is) ∙ open_ends-append (take i xs) (x ∷ []))) (each_append P (open_ends (take i xs)) (open_ends (x ∷ [])) h k)
 
-pub empty_more : (P : Slot → Type 0) (xs : List Slot) (i : ℕ) (x : Slot) → i < length xs → x ≡ get_or xs i x → AllByRecursion P (take i xs) → P x → AllByRecursion P (take (i + 1) xs)
+pub empty_more : (P : TalePlace → Type 0) (xs : List TalePlace) (i : ℕ) (x : TalePlace) → i < length xs → x ≡ get_or xs i x → AllByRecursion P (take i xs) → P x → AllByRecursion P (take (i + 1) xs)
 empty_more P xs i x lt is h k = subst (AllByRecursion P) (sym (taken_more xs i x lt is)) (each_append P (take i xs) (x ∷ []) h (k, tt))
 
-behind_rest : (x : Slot) (xs : List Slot) (n : ℕ) → is_empty x ≡ true → IsBehindStored xs n → IsBehindStored (x ∷ xs) (suc n)
+behind_rest : (x : TalePlace) (xs : List TalePlace) (n : ℕ) → is_empty x ≡ true → IsBehindStored xs n → IsBehindStored (x ∷ xs) (suc n)
 behind_rest (Open e) xs n i h = absurd (false≢true i)
 behind_rest (Settled c) xs n i h = absurd (false≢true i)
 behind_rest Empty xs n i h = h
 
-pub behind_empty : (xs : List Slot) (place : ℕ) → place ≤ length xs → AllByRecursion (λ x. is_empty x ≡ true) (take place xs) → IsBehindStored xs place
+pub behind_empty : (xs : List TalePlace) (place : ℕ) → place ≤ length xs → AllByRecursion (λ x. is_empty x ≡ true) (take place xs) → IsBehindStored xs place
 behind_empty xs zero le h = tt
 behind_empty [] (suc n) le h = absurd (omega arith)
 behind_empty (x ∷ xs) (suc n) le h = behind_rest x xs n h.0 (behind_empty xs n (omega arith) h.1)
 
-pub behind_commit : (xs : List Slot) (place : ℕ) → 0 < place → IsSome (stored_at xs (place - 1)) → IsBehindStored xs place
+pub behind_commit : (xs : List TalePlace) (place : ℕ) → 0 < place → IsSome (stored_at xs (place - 1)) → IsBehindStored xs place
 behind_commit xs place lt h = let n : suc (place - 1) ≡ place = omega arith in subst (IsBehindStored xs) n (stored_behind xs (place - 1) h)
 
 -- ---- operations

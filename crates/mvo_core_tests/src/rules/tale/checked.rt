@@ -4,22 +4,22 @@ ghost use Rattle.std.specs.Prelude.{◌≡◌, ◌<◌, ◌≤◌, [], ◌∷◌
 ghost use Rattle.std.specs.List.{AllByRecursion};
 ghost use Rattle.std.specs.Option.{option_copied};
 ghost use Rattle.mvo_theory.specs.Groups.{is_due as due};
-ghost use Rattle.mvo_tale.specs.Stored.{commit_of};
-ghost use Rattle.mvo_tale.specs.Slots.{ends, open_ends, commits, open_end_at, is_empty};
+ghost use Rattle.mvo_tale.specs.Stored.{stored_commit_of};
+ghost use Rattle.mvo_tale.specs.Slots.{ends, open_ends, tale_commits, open_end_at, is_empty};
 ghost use Rattle.mvo_tale.specs.Forgetting.{slot_or_empty};
 ghost use Rattle.mvo_tale.specs.Next.{NoneIsDue, IsBehindStored, AreGroupedTo};
 
-use mvo_tale::{NextRecords, Slot, Tale, TaleEntry};
+use mvo_tale::{NextRecords, Tale, TaleEntry, TalePlace};
 use mvo_types::{MAX_STAMP, Stamp};
 use std::alloc::{AllocError, Global};
 
-fn is_end_below(slot: Option<&Slot>, bound: Stamp) -> bool
+fn is_end_below(slot: Option<&TalePlace>, bound: Stamp) -> bool
     ensures { let x = slot_or_empty (option_copied slot.entry) in
         IsTrue result → AllByRecursion (λ end. end < bound.0) (ends (x ∷ [])) }
 {
     match slot {
-        Some(Slot::Open(end)) => end.0 < bound.0,
-        Some(Slot::Settled(entry)) => entry.end.0 < bound.0,
+        Some(TalePlace::Open(end)) => end.0 < bound.0,
+        Some(TalePlace::Settled(entry)) => entry.end.0 < bound.0,
         _ => true,
     }
 }
@@ -50,7 +50,7 @@ fn is_open_at(tale: &Tale, place: usize, end: Stamp) -> bool
         return false;
     }
     match tale.slot(place) {
-        Some(Slot::Open(at)) => at.0 == end.0,
+        Some(TalePlace::Open(at)) => at.0 == end.0,
         _ => false,
     }
 }
@@ -73,12 +73,12 @@ pub fn leave_at(tale: &mut Tale, place: usize, end: Stamp) -> bool {
     true
 }
 
-fn is_open_above(slot: Option<&Slot>, mark: Stamp) -> bool
+fn is_open_above(slot: Option<&TalePlace>, mark: Stamp) -> bool
     ensures { let x = slot_or_empty (option_copied slot.entry) in
         IsTrue result → AllByRecursion (λ end. mark.0 < end) (open_ends (x ∷ [])) }
 {
     match slot {
-        Some(Slot::Open(end)) => mark.0 < end.0,
+        Some(TalePlace::Open(end)) => mark.0 < end.0,
         _ => true,
     }
 }
@@ -94,21 +94,21 @@ fn are_open_above(tale: &Tale, mark: Stamp) -> bool
     true
 }
 
-fn is_grouped(slot: Option<&Slot>, mark: Stamp) -> bool
+fn is_grouped(slot: Option<&TalePlace>, mark: Stamp) -> bool
     ensures opens { let x = slot_or_empty (option_copied slot.entry) in
         IsTrue result → open_ends (x ∷ []) ≡ [] }
     ensures due { let x = slot_or_empty (option_copied slot.entry) in
-        IsTrue result → NoneIsDue mark.0 (commits (x ∷ [])) }
+        IsTrue result → NoneIsDue mark.0 (tale_commits (x ∷ [])) }
 {
     match slot {
-        Some(Slot::Open(_)) => false,
-        Some(Slot::Settled(entry)) => !is_due(entry, mark),
+        Some(TalePlace::Open(_)) => false,
+        Some(TalePlace::Settled(entry)) => !is_due(entry, mark),
         _ => true,
     }
 }
 
 fn is_due(entry: &TaleEntry, mark: Stamp) -> bool
-    ensures { result ≡ due mark.0 (commit_of entry.now) }
+    ensures { result ≡ due mark.0 (stored_commit_of entry.now) }
 {
     mark.0 < entry.end.0 && entry.has_written()
 }
@@ -116,7 +116,7 @@ fn is_due(entry: &TaleEntry, mark: Stamp) -> bool
 fn are_grouped(tale: &Tale, before: usize, mark: Stamp) -> bool
     requires { before ≤ length tale.now }
     ensures opens { IsTrue result → open_ends (take before tale.now) ≡ [] }
-    ensures due { IsTrue result → NoneIsDue mark.0 (commits (take before tale.now)) }
+    ensures due { IsTrue result → NoneIsDue mark.0 (tale_commits (take before tale.now)) }
 {
     for place in 0..before {
         if !is_grouped(tale.slot(place), mark) {
@@ -138,12 +138,12 @@ fn are_empty(tale: &Tale, before: usize) -> bool
     true
 }
 
-fn is_empty_there(slot: Option<&Slot>) -> bool
+fn is_empty_there(slot: Option<&TalePlace>) -> bool
     ensures { IsTrue result → is_empty (slot_or_empty (option_copied slot.entry)) ≡ true }
 {
     match slot {
-        Some(Slot::Open(_)) => false,
-        Some(Slot::Settled(_)) => false,
+        Some(TalePlace::Open(_)) => false,
+        Some(TalePlace::Settled(_)) => false,
         _ => true,
     }
 }

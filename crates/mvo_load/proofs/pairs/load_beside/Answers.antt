@@ -1,8 +1,8 @@
 use Rattle.std.proofs.Common.{◌⊎◌, List, [], Some, Err, subst}
 use Rattle.mvo_pair.specs.Answers.{IsOnly}
 use Rattle.mvo_pair.specs.Writing.{IsStop}
-use Rattle.mvo_image.specs.Opens.{Image, Segments, OpensWith}
-use Rattle.mvo_image.specs.Files.{SegmentSays}
+use Rattle.mvo_recovery.specs.image.Opens.{Image, Segments, OpensWith}
+use Rattle.mvo_recovery.specs.image.Files.{SegmentSays}
 use Rattle.mvo_load.specs.Gathered.{Filed, AreGathered, AreMade, filed_in}
 use Rattle.mvo_load.specs.Leading.{Leads}
 use Rattle.mvo_load.specs.Parts.{HavePlaces}

@@ -5,7 +5,7 @@ use Rattle.std.specs.List.{AllByRecursion}
 use Rattle.std.proofs.lemmas.List.Elements.{All-weaker}
 use Rattle.mvo_pair.specs.Data.{Numbered, AreApart}
 use Rattle.mvo_pair.specs.declared.pair.Pair.{Pair}
-use Rattle.mvo_image.specs.Rows.{rows_of}
+use Rattle.mvo_places.specs.Rows.{rows_of}
 use Rattle.mvo_places.specs.Places.{PlaceMap, PlaceTable, with_live}
 use Rattle.mvo_load.specs.Parts.{Joins}
 use Rattle.mvo_load.proofs.Slices.{first_and_rest, no_more}

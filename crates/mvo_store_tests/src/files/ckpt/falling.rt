@@ -1,14 +1,14 @@
 //! Places of keys that were there at an opening.
 use crate::equal::{holds, holds_at, same, same_at};
 use crate::files::ckpt::making::row;
-use mvo_pair::Entry;
-use mvo_places::{Falling, Place, Places};
+use mvo_pair::DataRecord;
+use mvo_places::{Falling, Places, RecordPlace};
 use mvo_types::{RowKey, Stamp};
 use std::alloc::{AllocError, Global};
 use std::process::Abort;
 use std::test::Fail;
 
-const LAST: Place = Place {
+const LAST: RecordPlace = RecordPlace {
     data_file: 1_023,
     number: 4_194_303,
 };
@@ -40,7 +40,7 @@ fn opening(rt: &impl Abort, alloc: Global) -> Result<Places, Fail> {
     for (table, key, data_file, number) in OPENING {
         holds(rt, data_file <= 1_023);
         holds(rt, number < 4_194_304);
-        let pushed = falling.push(RowKey { table, key }, Place { data_file, number })?;
+        let pushed = falling.push(RowKey { table, key }, RecordPlace { data_file, number })?;
         holds(rt, pushed);
     }
     Ok(Places::of_falling(alloc, 3, falling))
@@ -65,7 +65,7 @@ fn have_theirs(rt: &impl Abort, places: &Places, keys: &[(u8, u64, u16, u32)]) {
             table: one.0,
             key: one.1,
         };
-        let place = Place {
+        let place = RecordPlace {
             data_file: one.2,
             number: one.3,
         };
@@ -93,7 +93,7 @@ fn change(rt: &impl Abort, places: &mut Places, key: RowKey) -> Result<(), Fail>
     same(rt, &places.get(key), &None);
     places.remove(key);
     same(rt, &places.get(key), &None);
-    let place = Place {
+    let place = RecordPlace {
         data_file: 6,
         number: 1,
     };
@@ -124,10 +124,10 @@ fn keys_come_beside_those_of_an_opening(rt: HostRuntime) -> Result<(), Fail> {
 }
 
 /// Records of the keys 0 and 9 of table 0.
-fn two_records(alloc: Global) -> Result<Vec<Entry>, AllocError> {
+fn two_records(alloc: Global) -> Result<Vec<DataRecord>, AllocError> {
     let mut records = Vec::new(alloc);
     for key in [0, 9] {
-        records.push(Entry {
+        records.push(DataRecord {
             begin: Stamp(4),
             row: row(alloc, key, 0, 0)?,
         })?;
@@ -135,13 +135,13 @@ fn two_records(alloc: Global) -> Result<Vec<Entry>, AllocError> {
     Ok(records)
 }
 
-fn takes_over(rt: &impl Abort, places: &mut Places, records: &[Entry]) -> Result<(), Fail> {
+fn takes_over(rt: &impl Abort, places: &mut Places, records: &[DataRecord]) -> Result<(), Fail> {
     let gone = [RowKey { table: 2, key: 9 }, RowKey { table: 2, key: 10 }];
     holds(rt, records.len() < 3);
     places.reserve(records.len())?;
     places.take_over(6, records, &gone);
     let at = |number| {
-        Some(Place {
+        Some(RecordPlace {
             data_file: 6,
             number,
         })
@@ -183,7 +183,7 @@ fn only_keys_that_fall_are_taken(rt: HostRuntime) -> Result<(), Fail> {
             table: one.0,
             key: one.1,
         };
-        let place = Place {
+        let place = RecordPlace {
             data_file: 1,
             number: 2,
         };

@@ -1,7 +1,7 @@
 //! Makes rows, groups, pairs and places.
 use mvo_group::{Group, Record, Write};
 use mvo_pair::Pair;
-use mvo_places::{Place, Places};
+use mvo_places::{Places, RecordPlace};
 use mvo_types::{Row, RowKey, Stamp};
 use std::alloc::{AllocError, Global};
 use std::test::Fail;
@@ -44,10 +44,10 @@ pub fn pair(data_file: u16) -> Pair {
 }
 
 /// The same places in a table.
-pub fn table_of(alloc: Global, list: &[(RowKey, Place)]) -> Result<Places, AllocError> {
+pub fn table_of(alloc: Global, list: &[(RowKey, RecordPlace)]) -> Result<Places, AllocError> {
     let mut places = Places::new(alloc, 7);
     for entry in list {
-        let place = Place {
+        let place = RecordPlace {
             data_file: entry.1.data_file % 1_024,
             number: entry.1.number % 4_194_304,
         };

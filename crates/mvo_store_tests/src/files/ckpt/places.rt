@@ -1,14 +1,14 @@
 //! Places by key.
 use crate::equal::{holds, same};
 use crate::files::ckpt::making::row;
-use mvo_pair::{Entry, Live};
-use mvo_places::{Place, Places};
+use mvo_pair::{DataRecord, Live};
+use mvo_places::{Places, RecordPlace};
 use mvo_types::{RowKey, Stamp};
 use std::alloc::{AllocError, Global};
 use std::process::Abort;
 use std::test::Fail;
 
-const LAST: Place = Place {
+const LAST: RecordPlace = RecordPlace {
     data_file: 1_023,
     number: 4_194_303,
 };
@@ -19,7 +19,7 @@ fn puts_and_removes(rt: &impl Abort, places: &mut Places) -> Result<(), Fail> {
         key: u64::MAX,
     };
     let other = RowKey { table: 0, key: 0 };
-    let first = Place {
+    let first = RecordPlace {
         data_file: 2,
         number: 0,
     };
@@ -47,10 +47,10 @@ fn places_are_put_and_removed(rt: HostRuntime) -> Result<(), Fail> {
 }
 
 /// A record of this begin, and of a row with this key.
-fn entry(alloc: Global, begin: u64, key: u64) -> Result<Entry, AllocError> {
+fn entry(alloc: Global, begin: u64, key: u64) -> Result<DataRecord, AllocError> {
     let row = row(alloc, key, 0, 0)?;
     let begin = Stamp(begin);
-    Ok(Entry { begin, row })
+    Ok(DataRecord { begin, row })
 }
 
 /// Live records of the keys from 100 on, under each third number.
@@ -78,7 +78,7 @@ fn gains_forty(rt: &impl Abort, places: &mut Places, live: &[Live]) -> Result<()
         same(
             rt,
             &places.get(key),
-            &Some(Place {
+            &Some(RecordPlace {
                 data_file: 6,
                 number: number * 3,
             }),
@@ -99,7 +99,7 @@ fn live_records_have_their_places(rt: HostRuntime) -> Result<(), Fail> {
 /// The keys 0, 1 and 2 get their places in file 2.
 fn put_three(places: &mut Places) -> Result<(), AllocError> {
     for number in 0u32..3 {
-        let place = Place {
+        let place = RecordPlace {
             data_file: 2,
             number,
         };
@@ -109,7 +109,7 @@ fn put_three(places: &mut Places) -> Result<(), AllocError> {
 }
 
 /// Records of the keys 1 and 9.
-fn two_records(alloc: Global) -> Result<Vec<Entry>, AllocError> {
+fn two_records(alloc: Global) -> Result<Vec<DataRecord>, AllocError> {
     let mut records = Vec::new(alloc);
     for key in [1, 9] {
         records.push(entry(alloc, 4, key)?)?;
@@ -117,12 +117,12 @@ fn two_records(alloc: Global) -> Result<Vec<Entry>, AllocError> {
     Ok(records)
 }
 
-fn takes_over(rt: &impl Abort, places: &mut Places, records: &[Entry]) -> Result<(), Fail> {
+fn takes_over(rt: &impl Abort, places: &mut Places, records: &[DataRecord]) -> Result<(), Fail> {
     put_three(places)?;
     holds(rt, records.len() < 3);
     places.reserve(records.len())?;
     places.take_over(6, records, &[key_of(0), key_of(7)]);
-    let at = |data_file, number| Some(Place { data_file, number });
+    let at = |data_file, number| Some(RecordPlace { data_file, number });
     same(rt, &places.get(key_of(0)), &None);
     same(rt, &places.get(key_of(1)), &at(6, 0));
     same(rt, &places.get(key_of(2)), &at(2, 2));

@@ -4,7 +4,7 @@ use crate::files::ckpt::making::{group, pair, row, table_of};
 use crate::numbers::Numbers;
 use mvo_ckpt::{Checkpoint, build};
 use mvo_group::{Group, Record, Write};
-use mvo_places::Place;
+use mvo_places::RecordPlace;
 use mvo_types::{RowKey, Stamp};
 use std::alloc::{AllocError, Global};
 use std::process::Abort;
@@ -73,7 +73,10 @@ fn groups_of(alloc: Global, lines: &[Line]) -> Result<Vec<Group>, Fail> {
 }
 
 /// Places for some keys, in three files.
-fn some_places(alloc: Global, numbers: &mut Numbers) -> Result<Vec<(RowKey, Place)>, AllocError> {
+fn some_places(
+    alloc: Global,
+    numbers: &mut Numbers,
+) -> Result<Vec<(RowKey, RecordPlace)>, AllocError> {
     let mut list = Vec::new(alloc);
     for key in 0u64..40 {
         let data_file = match numbers.below(4) {
@@ -84,7 +87,7 @@ fn some_places(alloc: Global, numbers: &mut Numbers) -> Result<Vec<(RowKey, Plac
         };
         if data_file > 0 {
             let number = (key as u32) ^ 13;
-            list.push((RowKey { table: 0, key }, Place { data_file, number }))?;
+            list.push((RowKey { table: 0, key }, RecordPlace { data_file, number }))?;
         }
     }
     Ok(list)
@@ -130,12 +133,12 @@ fn has_last(made: &Checkpoint, lines: &[Line]) -> bool {
 fn numbers_in(
     alloc: Global,
     lines: &[Line],
-    places: &[(RowKey, Place)],
+    places: &[(RowKey, RecordPlace)],
     data_file: u16,
 ) -> Result<Vec<u32>, AllocError> {
     let mut numbers = Vec::new(alloc);
     for number in 0u32..64 {
-        let place = Place { data_file, number };
+        let place = RecordPlace { data_file, number };
         let named = places
             .iter()
             .any(|p| p.1 == place && lines.iter().any(|l| l.1 == p.0.key));
@@ -150,7 +153,7 @@ fn numbers_in(
 fn checkpoint_of(
     alloc: Global,
     lines: &[Line],
-    list: &[(RowKey, Place)],
+    list: &[(RowKey, RecordPlace)],
 ) -> Result<Checkpoint, Fail> {
     let table = table_of(alloc, list)?;
     let pairs = [pair(6), pair(2), pair(4)];
@@ -164,7 +167,7 @@ fn has_numbers(
     round: usize,
     made: &Checkpoint,
     lines: &[Line],
-    list: &[(RowKey, Place)],
+    list: &[(RowKey, RecordPlace)],
 ) -> Result<usize, Fail> {
     let mut gained = 0usize;
     let mut deltas = made.deltas.iter();
@@ -188,7 +191,7 @@ fn agrees(
     alloc: Global,
     round: usize,
     lines: &[Line],
-    list: &[(RowKey, Place)],
+    list: &[(RowKey, RecordPlace)],
 ) -> Result<usize, Fail> {
     let made = checkpoint_of(alloc, lines, list)?;
     holds_at(rt, round, has_last(&made, lines));

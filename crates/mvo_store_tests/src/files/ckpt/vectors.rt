@@ -4,7 +4,7 @@ use crate::files::ckpt::making::{group_of_one, pair, row, table_of};
 use mvo_ckpt::{Checkpoint, build};
 use mvo_group::{Group, Write};
 use mvo_pair::Pair;
-use mvo_places::Place;
+use mvo_places::RecordPlace;
 use mvo_types::RowKey;
 use std::alloc::Global;
 use std::process::Abort;
@@ -38,7 +38,7 @@ fn checkpoint(
     pairs: &[Pair],
     groups: Vec<Group>,
 ) -> Result<Checkpoint, Fail> {
-    let place = Place {
+    let place = RecordPlace {
         data_file: 4,
         number,
     };

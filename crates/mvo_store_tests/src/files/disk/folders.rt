@@ -1,7 +1,9 @@
 //! A disk in a folder of the operating system.
 use crate::equal::{holds, same};
 use crate::files::disk::guarded::{cut, len, put, read, read_two, sync, write};
-use mvo_disk::{DirDisk, Disk, DiskFault, FolderRefusal, Progress, Silent, Unknown, make_folder};
+use mvo_disk::{
+    DirDisk, Disk, DiskFault, FolderRefusal, ReadProgress, Silent, Unknown, make_folder,
+};
 use std::alloc::Global;
 use std::fs::{self, File};
 use std::process::Abort;
@@ -37,7 +39,7 @@ struct Told<'a> {
     all: &'a AtomicU64,
 }
 
-impl Progress for Told<'_> {
+impl ReadProgress for Told<'_> {
     fn tell(&mut self, read: u64, all: u64) {
         self.read.store(read, Ordering::SeqCst);
         self.all.store(all, Ordering::SeqCst);

@@ -1,10 +1,10 @@
 use crate::equal::{holds, same};
-use mvo_disk::{Call, Disk, MemDisk, Work, read_up_to, rewrite_synced, write_synced};
+use mvo_disk::{Call, DeviceWork, Disk, MemDisk, read_up_to, rewrite_synced, write_synced};
 use std::alloc::{AllocError, Global};
 use std::process::Abort;
 use std::test::Fail;
 
-fn call(file: u16, work: Work) -> Call {
+fn call(file: u16, work: DeviceWork) -> Call {
     Call {
         file,
         work,
@@ -28,25 +28,25 @@ fn calls_with(first: Vec<u8>, second: Vec<u8>) -> [Call; 7] {
     [
         call(
             2,
-            Work::Write {
+            DeviceWork::Write {
                 at: 0,
                 len: 3,
                 bytes: first,
             },
         ),
-        call(2, Work::Sync),
-        call(7, Work::Cut { len: 0, new_len: 0 }),
+        call(2, DeviceWork::Sync),
+        call(7, DeviceWork::Cut { len: 0, new_len: 0 }),
         call(
             7,
-            Work::Write {
+            DeviceWork::Write {
                 at: 0,
                 len: 2,
                 bytes: second,
             },
         ),
-        call(7, Work::Sync),
-        call(2, Work::Length),
-        call(2, Work::Read { at: 0, len: 3 }),
+        call(7, DeviceWork::Sync),
+        call(2, DeviceWork::Length),
+        call(2, DeviceWork::Read { at: 0, len: 3 }),
     ]
 }
 

@@ -1,8 +1,8 @@
 //! The calls that are tested, each where it may be made.
 use crate::files::merge::making::{have_own_keys, key_of, rises};
 use mvo_merge::{Merged, build, move_places};
-use mvo_pair::{Entry, Live};
-use mvo_places::{Place, Places};
+use mvo_pair::{DataRecord, Live};
+use mvo_places::{Places, RecordPlace};
 use std::alloc::Global;
 use std::test::Fail;
 
@@ -29,7 +29,7 @@ pub fn put(places: &mut Places, key: u64, data_file: u16, number: u32) -> Result
     if data_file > 15 || number > 99 {
         return Err(Fail::from("a place"));
     }
-    Ok(places.put(key_of(key), Place { data_file, number })?)
+    Ok(places.put(key_of(key), RecordPlace { data_file, number })?)
 }
 
 /// Where the key has its place.
@@ -39,7 +39,7 @@ pub fn place_of(places: &Places, key: u64) -> Option<(u16, usize)> {
 }
 
 /// The records of a merge of the pairs with data files 2 and 4 lie in this file.
-pub fn moved(places: &mut Places, data_file: u16, records: &[Entry]) -> Result<(), Fail> {
+pub fn moved(places: &mut Places, data_file: u16, records: &[DataRecord]) -> Result<(), Fail> {
     if data_file > 15 || records.len() > 199 || !have_own_keys(records) {
         return Err(Fail::from("a few records with keys of their own"));
     }

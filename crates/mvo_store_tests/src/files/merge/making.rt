@@ -7,7 +7,7 @@ ghost use Rattle.mvo_types.specs.Keys.{key_cmp};
 ghost use Rattle.mvo_places.specs.Places.{Rise};
 ghost use Rattle.mvo_merge.specs.Moved.{HaveOwnKeys};
 
-use mvo_pair::{Entry, Live};
+use mvo_pair::{DataRecord, Live};
 use mvo_types::{Row, RowKey, Stamp};
 use std::alloc::{AllocError, Global};
 
@@ -22,7 +22,7 @@ pub fn live(alloc: Global, number: u32, begin: u64, key: u64) -> Result<Live, Al
     let begin = Stamp(begin);
     Ok(Live {
         number,
-        entry: Entry { begin, row },
+        entry: DataRecord { begin, row },
     })
 }
 
@@ -46,7 +46,7 @@ pub fn rises(live: &[Live]) -> bool
 }
 
 /// Whether no record has the key.
-fn is_new(key: RowKey, records: &[Entry]) -> bool
+fn is_new(key: RowKey, records: &[DataRecord]) -> bool
     ensures { OnTrue result (AllByRecursion (λ k. eq_by_cmp key_cmp key k ≡ false)
         (map (λ e. e.row.key) records.now)) }
 {
@@ -57,7 +57,7 @@ fn is_new(key: RowKey, records: &[Entry]) -> bool
 }
 
 /// Whether no two records have one key.
-pub fn have_own_keys(records: &[Entry]) -> bool
+pub fn have_own_keys(records: &[DataRecord]) -> bool
     ensures { OnTrue result (HaveOwnKeys records.now) }
 {
     match records {

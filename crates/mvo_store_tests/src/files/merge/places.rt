@@ -2,7 +2,7 @@
 use crate::equal::same_at;
 use crate::files::merge::calls::{moved, place_of, put};
 use crate::files::merge::vectors::two_and_two;
-use mvo_pair::Entry;
+use mvo_pair::DataRecord;
 use mvo_places::Places;
 use std::alloc::Global;
 use std::process::Abort;
@@ -34,7 +34,7 @@ fn have(rt: &impl Abort, places: &Places, wanted: &[(u64, Option<(u16, usize)>)]
 }
 
 // The places go over to these records, and are those of AFTER then.
-fn moves(rt: &impl Abort, places: &mut Places, records: &[Entry]) -> Result<(), Fail> {
+fn moves(rt: &impl Abort, places: &mut Places, records: &[DataRecord]) -> Result<(), Fail> {
     moved(places, 10, records)?;
     have(rt, places, &AFTER);
     Ok(())

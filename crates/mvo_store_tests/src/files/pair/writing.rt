@@ -2,15 +2,17 @@
 use crate::equal::same;
 use crate::files::pair::vectors::{DATA, DELTA, NAMED, count, pair};
 use mvo_disk::{Disk, MemDisk};
-use mvo_pair::{Entry, FIRST_FORMAT, Pair, append_delta, are_entries, write_data, write_delta};
+use mvo_pair::{
+    DataRecord, FIRST_FORMAT, Pair, append_delta, are_entries, write_data, write_delta,
+};
 use mvo_types::{Refusal, Row, RowKey, Stamp};
 use std::alloc::{AllocError, Global};
 use std::process::Abort;
 use std::test::Fail;
 
 /// The record of the vectors with this begin and this byte of data.
-fn entry(alloc: Global, begin: u64, byte: u8) -> Result<Entry, AllocError> {
-    Ok(Entry {
+fn entry(alloc: Global, begin: u64, byte: u8) -> Result<DataRecord, AllocError> {
+    Ok(DataRecord {
         begin: Stamp(begin),
         row: Row::new(RowKey { table: 0, key: 5 }, 50, [byte].to_vec(alloc)?)?,
     })
@@ -21,7 +23,7 @@ fn write_pair(
     alloc: Global,
     disk: &mut MemDisk,
     pair: Pair,
-    entries: &[Entry],
+    entries: &[DataRecord],
 ) -> Result<(), Fail> {
     if pair.data_file >= 1024 || pair.delta_file >= 1024 || disk.faults() != 0 {
         return Err(Fail::from("files"));

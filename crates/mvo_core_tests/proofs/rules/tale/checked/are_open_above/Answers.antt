@@ -2,7 +2,7 @@ use Rattle.std.proofs.Common.{ℕ, ◌<◌, ◌≤◌, List, length, refl, arith
 use Rattle.std.specs.List.{AllByRecursion}
 use Rattle.std.specs.Option.{option_copied}
 use Rattle.std.proofs.lemmas.List.{take_all}
-use Rattle.mvo_tale.specs.declared.slot.Slot.{Slot}
+use Rattle.mvo_tale.specs.declared.tale_place.TalePlace.{TalePlace}
 use Rattle.mvo_tale.specs.Slots.{open_ends}
 use Rattle.mvo_tale.specs.Forgetting.{slot_or_empty}
 use Rattle.mvo_tale.proofs.Gone.{slot_is}
@@ -18,4 +18,4 @@ pub returns : goal.returns
 returns c =
     let count = c.len-place-end.ensures.count in
     let le : length c.args.tale.now ≤ c.loop-place.place = omega arith in
-    λ _. subst (λ (xs : List Slot). AllByRecursion (λ (end : ℕ). c.args.mark.0 < end) (open_ends xs)) (take_all c.loop-place.place c.args.tale.now le) c.loop-place.invariant
+    λ _. subst (λ (xs : List TalePlace). AllByRecursion (λ (end : ℕ). c.args.mark.0 < end) (open_ends xs)) (take_all c.loop-place.place c.args.tale.now le) c.loop-place.invariant
