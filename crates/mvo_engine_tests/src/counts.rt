@@ -1,5 +1,6 @@
 ghost use Rattle.std.specs.Prelude.{◌≡◌, ℕ, ◌<◌};
 
+use crate::equal::holds;
 use mvo_engine::add_known;
 use std::marker::Brand;
 use std::sync::ledger::{Blank, Book, Ledger, Share};
@@ -32,6 +33,6 @@ fn count_three<L: Ledger>(blank: Blank)
 #[test]
 fn a_number_is_counted_in_both(rt: HostRuntime) -> Result<(), Fail> {
     count_three::<Brand>(Blank::new(2));
-    assert!(rt; size_of::<Share<Brand>>() == 0);
+    holds(&rt, size_of::<Share<Brand>>() == 0);
     Ok(())
 }

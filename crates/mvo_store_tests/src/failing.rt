@@ -1,5 +1,6 @@
 //! Jobs over three rounds, each call of which fails once, or which stop within a write.
 use crate::disks::{stopped, stops_halfway};
+use crate::equal::{holds, same};
 use crate::reply::Reply::{self, Installed, Refused};
 use crate::step::Step;
 use crate::stores::{after_stop, follow, following, store_on};
@@ -61,7 +62,7 @@ impl Job {
         if reply == Installed(self.generation) {
             return Ok(false);
         }
-        assert_eq!(rt; reply, Refused(Refusal::DiskFault));
+        same(rt, &reply, &Refused(Refusal::DiskFault));
         follow(rt, alloc, store, &[(self.first, Refused(Refusal::Down))])?;
         Ok(true)
     }
@@ -74,7 +75,7 @@ impl Job {
         store: &mut Store<MemDisk>,
     ) -> Result<(), Fail> {
         let reply = self.next.of(store, alloc)?;
-        assert!(rt; matches!(&reply, Installed(_)), "{reply:?}");
+        holds(rt, matches!(&reply, Installed(_)));
         Ok(())
     }
 
@@ -117,10 +118,10 @@ impl Job {
         for calls in 0..100u64 {
             if more {
                 more = self.fails_at(rt, alloc, first.saturating_add(calls))?;
-                assert!(rt; more || calls > 10);
+                holds(rt, more || calls > 10);
             }
         }
-        assert!(rt; !more);
+        holds(rt, !more);
         Ok(())
     }
 
@@ -156,7 +157,7 @@ impl Job {
                 halves = halves.saturating_add(1);
             }
         }
-        assert!(rt; halves >= 2);
+        holds(rt, halves >= 2);
         Ok(())
     }
 }

@@ -1,4 +1,5 @@
 //! What a script is answered.
+use crate::equal::same;
 use mvo_script::run_script;
 use std::alloc::Global;
 use std::io::Write;
@@ -15,7 +16,7 @@ pub fn assert_replies(
 ) -> Result<(), Fail> {
     let mut replies = Vec::new(alloc);
     run_script(rt, alloc, 0, script, &mut replies)?;
-    assert_eq!(rt; replies.as_slice(), expected);
+    same(rt, &replies.as_slice(), &expected);
     Ok(())
 }
 

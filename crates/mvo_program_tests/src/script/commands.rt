@@ -1,3 +1,4 @@
+use crate::equal::{holds, same};
 use clap::error::ErrorKind;
 use mvo_cli::{Fault, Task, command};
 use std::test::Fail;
@@ -5,21 +6,32 @@ use std::test::Fail;
 #[test]
 fn the_words_ask_for_a_task(rt: HostRuntime) -> Result<(), Fail> {
     let alloc = rt.alloc();
-    assert!(rt; matches!(command(alloc, &["mvo", "run"]), Ok(Task::Run)));
-    assert!(rt; matches!(command(alloc, &["mvo", "run", "d"]), Ok(Task::RunIn("d"))));
-    assert!(rt;
+    holds(
+        &rt,
+        matches!(command(alloc, &["mvo", "run"]), Ok(Task::Run)),
+    );
+    holds(
+        &rt,
+        matches!(command(alloc, &["mvo", "run", "d"]), Ok(Task::RunIn("d"))),
+    );
+    holds(
+        &rt,
         matches!(
             command(alloc, &["mvo", "format", "d/e"]),
             Ok(Task::Format("d/e"))
-        )
+        ),
     );
-    assert!(rt;
+    holds(
+        &rt,
         matches!(
             command(alloc, &["mvo", "rows", "d", "15"]),
             Ok(Task::Rows("d", 15))
-        )
+        ),
     );
-    assert!(rt; matches!(command(alloc, &["mvo", "check", "d"]), Ok(Task::Check("d"))));
+    holds(
+        &rt,
+        matches!(command(alloc, &["mvo", "check", "d"]), Ok(Task::Check("d"))),
+    );
     Ok(())
 }
 
@@ -45,7 +57,7 @@ fn other_words_are_refused(rt: HostRuntime) -> Result<(), Fail> {
     ] {
         let words: Vec<&str> = line.split(' ').collect(alloc)?;
         let error = command(alloc, &words).err().ok_or("an error")?;
-        assert!(rt; error.kind() != ErrorKind::OutOfMemory);
+        holds(&rt, error.kind() != ErrorKind::OutOfMemory);
         assert_eq!(rt; Fault::CommandLine(error).status(), 2, "at {line}");
     }
     Ok(())
@@ -57,14 +69,14 @@ fn help_is_no_mistake(rt: HostRuntime) -> Result<(), Fail> {
     for words in [["mvo", "--help"], ["mvo", "-h"], ["mvo", "help"]] {
         let error = command(alloc, &words).err().ok_or("an error")?;
         let fault = Fault::CommandLine(error);
-        assert!(rt; fault.is_help(), "at {words:?}");
-        assert_eq!(rt; fault.status(), 0);
+        holds(&rt, fault.is_help());
+        same(&rt, &fault.status(), &0);
         let text = fault.to_string(alloc)?;
-        assert!(rt; text.as_str().contains("run"));
+        holds(&rt, text.as_str().contains("run"));
     }
     let error = command(alloc, &["mvo", "run", "--help"])
         .err()
         .ok_or("an error")?;
-    assert!(rt; Fault::CommandLine(error).is_help());
+    holds(&rt, Fault::CommandLine(error).is_help());
     Ok(())
 }

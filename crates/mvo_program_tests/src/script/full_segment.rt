@@ -1,5 +1,6 @@
 //! A flush whose group doesn't fit into the last segment of the log, beside a checkpoint and behind
 //! it.
+use crate::equal::same;
 use crate::script::logs::nearly_full;
 use mvo_script::run_over;
 use mvo_world::World;
@@ -61,6 +62,6 @@ fn a_flush_rotates_where_the_segment_is_full(rt: HostRuntime) -> Result<(), Fail
     expected.extend_from_slice(ANSWERS)?;
     let mut replies = Vec::new(alloc);
     run_over(alloc, world, script.as_slice(), &mut replies)?;
-    assert_eq!(rt; replies.as_slice(), expected.as_slice());
+    same(&rt, &replies.as_slice(), &expected.as_slice());
     Ok(())
 }

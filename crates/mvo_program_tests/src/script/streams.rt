@@ -1,4 +1,5 @@
 //! Readers and writers that fail.
+use crate::equal::{holds, same};
 use mvo_script::{ScriptError, run_script};
 use std::io::{self, Read, Write};
 use std::test::Fail;
@@ -26,8 +27,8 @@ fn a_reader_that_fails_ends_the_run(rt: HostRuntime) -> Result<(), Fail> {
     };
     let mut replies = Vec::new(alloc);
     let ran = run_script(&rt, alloc, 0, reader, &mut replies);
-    assert!(rt; matches!(ran, Err(ScriptError::Read(_))));
-    assert_eq!(rt; replies.as_slice(), b"began 1\n".as_slice());
+    holds(&rt, matches!(ran, Err(ScriptError::Read(_))));
+    same(&rt, &replies.as_slice(), &b"began 1\n".as_slice());
     Ok(())
 }
 
@@ -49,11 +50,11 @@ impl Write for Full {
 fn a_writer_that_fails_ends_the_run(rt: HostRuntime) -> Result<(), Fail> {
     let alloc = rt.alloc();
     let ran = run_script(&rt, alloc, 0, b"begin t1\n".as_slice(), Full);
-    assert!(rt; matches!(ran, Err(ScriptError::Write(_))));
+    holds(&rt, matches!(ran, Err(ScriptError::Write(_))));
     let ran = run_script(&rt, alloc, 0, b"".as_slice(), Full);
-    assert!(rt; ran.is_ok());
+    holds(&rt, ran.is_ok());
     let lines = vec![in alloc; b'\n'; 10_000]?;
     let ran = run_script(&rt, alloc, 0, lines.as_slice(), Full);
-    assert!(rt; matches!(ran, Err(ScriptError::Write(_))));
+    holds(&rt, matches!(ran, Err(ScriptError::Write(_))));
     Ok(())
 }

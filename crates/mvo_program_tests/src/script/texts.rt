@@ -1,4 +1,5 @@
 //! The text of each reply and of each refusal.
+use crate::equal::same;
 use mvo_core::{Closed, Collection, Finishing, Settlement, Validation};
 use mvo_script::LineReply;
 use mvo_store::{Generation, Progress, Reclaimed};
@@ -54,7 +55,7 @@ const REFUSALS: [(Refusal, &str); 31] = [
 fn refusals_have_their_texts(rt: HostRuntime) -> Result<(), Fail> {
     for (refusal, text) in REFUSALS {
         let line = refusal.to_string(rt.alloc())?;
-        assert_eq!(rt; line.as_str(), text);
+        same(&rt, &line.as_str(), &text);
     }
     Ok(())
 }
@@ -62,7 +63,7 @@ fn refusals_have_their_texts(rt: HostRuntime) -> Result<(), Fail> {
 /// The reply is printed so.
 fn says(rt: &impl Abort, alloc: Global, reply: Reply, text: &str) -> Result<(), Fail> {
     let line = LineReply::Answered(reply).to_string(alloc)?;
-    assert_eq!(rt; line.as_str(), text);
+    same(rt, &line.as_str(), &text);
     Ok(())
 }
 
@@ -121,7 +122,7 @@ fn other_replies_have_their_texts(rt: HostRuntime) -> Result<(), Fail> {
         says(&rt, rt.alloc(), reply, text)?;
     }
     let bad = LineReply::BadLine.to_string(rt.alloc())?;
-    assert_eq!(rt; bad.as_str(), "bad line");
+    same(&rt, &bad.as_str(), &"bad line");
     Ok(())
 }
 

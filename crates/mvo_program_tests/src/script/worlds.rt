@@ -1,4 +1,5 @@
 //! A script over a world that was opened.
+use crate::equal::same;
 use mvo_disk::MemDisk;
 use mvo_script::run_over;
 use mvo_store::format;
@@ -14,6 +15,6 @@ fn a_script_goes_on_over_a_world(rt: HostRuntime) -> Result<(), Fail> {
     let script = b"begin t1\ninsert t1 0 5 50 61\ncommit t1\nflush\nread t1 0 5\n";
     run_over(alloc, world, script.as_slice(), &mut replies)?;
     let expected = b"began 1\ninserted\ncommitted 2\ndurable 2\nrefused 10\n";
-    assert_eq!(rt; replies.as_slice(), expected.as_slice());
+    same(&rt, &replies.as_slice(), &expected.as_slice());
     Ok(())
 }

@@ -1,4 +1,5 @@
 //! What is said of a call.
+use crate::equal::same;
 use crate::stops::looked_at::{FLUSHED, recorded};
 use mvo_stops::{StopsError, explain_call, line_of};
 use std::test::Fail;
@@ -22,12 +23,12 @@ failed, written full: mark 2 rows 1
 fn a_call_is_explained(rt: HostRuntime) -> Result<(), Fail> {
     let recorded = recorded(&rt, rt.alloc(), FLUSHED)?;
     let text = explain_call(&rt, &recorded, 3)?;
-    assert_eq!(rt; text.as_str(), OPENS_THE_GATE);
+    same(&rt, &text.as_str(), &OPENS_THE_GATE);
     for number in [0, 5] {
         let refused = explain_call(&rt, &recorded, number).err();
-        assert_eq!(rt; refused, Some(StopsError::NoSuchCall(4)));
+        same(&rt, &refused, &Some(StopsError::NoSuchCall(4)));
     }
-    assert_eq!(rt; line_of(&rt, &recorded, 1)?, Some((4, Some("body"))));
-    assert_eq!(rt; line_of(&rt, &recorded, 5)?, None);
+    same(&rt, &line_of(&rt, &recorded, 1)?, &Some((4, Some("body"))));
+    same(&rt, &line_of(&rt, &recorded, 5)?, &None);
     Ok(())
 }

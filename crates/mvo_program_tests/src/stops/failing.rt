@@ -1,4 +1,5 @@
 //! A failing sync of a gate, as it stands.
+use crate::equal::{holds, same};
 use mvo_disk::MemDisk;
 use mvo_script::Driver;
 use mvo_store::{Store, format};
@@ -68,9 +69,9 @@ fn a_failing_sync_loses_nothing_acknowledged(rt: HostRuntime) -> Result<(), Fail
     assert_lines(&rt, alloc, &mut driver)?;
     let disk = driver.into_world().into_disk();
     let (_, rows, mark) = Store::open(&rt, alloc, 7, disk).map_err(|refused| refused.0)?;
-    assert_eq!(rt; mark.0, 4);
+    same(&rt, &mark.0, &4);
     for key in [5, 6] {
-        assert!(rt; rows.contains(RowKey { table: 0, key }));
+        holds(&rt, rows.contains(RowKey { table: 0, key }));
     }
     Ok(())
 }

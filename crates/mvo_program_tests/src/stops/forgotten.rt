@@ -1,5 +1,6 @@
 //! What is found where a store forgets a sync: of some steps each of their syncs, in all places
 //! where a script makes that step, and those of its openings.
+use crate::equal::same;
 use crate::stops::longer::{CHECKPOINTS, MERGE, ROTATION};
 use crate::stops::looked_at::{FLUSHED, recorded};
 use mvo_disk::DeviceWork;
@@ -115,7 +116,7 @@ fn assert_found(
     let syncs = syncs_of(rt, alloc, &recorded)?;
     let mut found = String::new(alloc);
     write_each(rt, &mut recorded, &syncs, steps, &mut found)?;
-    assert_eq!(rt; found.as_str(), expected);
+    same(rt, &found.as_str(), &expected);
     Ok(())
 }
 

@@ -1,4 +1,5 @@
 //! What is found of a script.
+use crate::equal::{holds, same};
 use mvo_stops::{Failed, Quiet, Recorded, Report, ScriptStart, Wrong, check_stops, lines_of};
 use mvo_types::{Refusal, Stamp};
 use std::alloc::Global;
@@ -26,8 +27,8 @@ pub fn is_ok(
     calls: u64,
 ) -> Result<Report, Fail> {
     let report = check_stops(rt, recorded, &mut Quiet)?;
-    assert_eq!(rt; report.failed, None);
-    assert_eq!(rt; report.counts.calls, calls);
+    same(rt, &report.failed, &None);
+    same(rt, &report.counts.calls, &calls);
     Ok(report)
 }
 
@@ -41,7 +42,7 @@ fn a_script_without_calls_is_ok(rt: HostRuntime) -> Result<(), Fail> {
         b"flush\ncheckpoint\n",
     ] {
         let report = is_ok(&rt, &recorded(&rt, alloc, script)?, 0)?;
-        assert_eq!(rt; report.counts.images, 0);
+        same(&rt, &report.counts.images, &0);
     }
     Ok(())
 }
@@ -59,8 +60,8 @@ fn a_script_without_calls_is_ok(rt: HostRuntime) -> Result<(), Fail> {
 #[test]
 fn a_flush_is_ok(rt: HostRuntime) -> Result<(), Fail> {
     let report = is_ok(&rt, &recorded(&rt, rt.alloc(), FLUSHED)?, 4)?;
-    assert_eq!(rt; report.counts.images, 41 + 85 * 9);
-    assert!(rt; report.counts.openings > report.counts.images);
+    same(&rt, &report.counts.images, &(41 + 85 * 9));
+    holds(&rt, report.counts.openings > report.counts.images);
     Ok(())
 }
 
@@ -71,7 +72,7 @@ fn without(
     number: usize,
 ) -> Result<Option<Failed>, Fail> {
     recorded.forget_none();
-    assert!(rt; recorded.forget_sync(number)?);
+    holds(rt, recorded.forget_sync(number)?);
     Ok(check_stops(rt, recorded, &mut Quiet)?.failed)
 }
 
@@ -89,7 +90,7 @@ fn an_opening_that_forgets_its_syncs_is_found(rt: HostRuntime) -> Result<(), Fai
         },
     };
     let found = check_stops(&rt, &recorded, &mut Quiet)?.failed;
-    assert_eq!(rt; found, Some(trusted));
+    same(&rt, &found, &Some(trusted));
     recorded.forget_none();
     is_ok(&rt, &recorded, 4)?;
     Ok(())
@@ -100,14 +101,14 @@ fn an_opening_that_forgets_its_syncs_is_found(rt: HostRuntime) -> Result<(), Fai
 #[test]
 fn a_forgotten_sync_is_found(rt: HostRuntime) -> Result<(), Fail> {
     let mut recorded = recorded(&rt, rt.alloc(), FLUSHED)?;
-    assert!(rt;
-        !recorded.forget_sync(0)? && !recorded.forget_sync(1)? && !recorded.forget_sync(9)?
-    );
+    for number in [0, 1, 9] {
+        holds(&rt, !recorded.forget_sync(number)?);
+    }
     let body = Failed {
         call: 3,
         wrong: Wrong::NotOpened(Refusal::Corrupt(2)),
     };
-    assert_eq!(rt; without(&rt, &mut recorded, 2)?, Some(body));
+    same(&rt, &without(&rt, &mut recorded, 2)?, &Some(body));
     let gate = Failed {
         call: 4,
         wrong: Wrong::MarkTooLow {
@@ -115,6 +116,6 @@ fn a_forgotten_sync_is_found(rt: HostRuntime) -> Result<(), Fail> {
             acknowledged: Stamp(2),
         },
     };
-    assert_eq!(rt; without(&rt, &mut recorded, 4)?, Some(gate));
+    same(&rt, &without(&rt, &mut recorded, 4)?, &Some(gate));
     Ok(())
 }
