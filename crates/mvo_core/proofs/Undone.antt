@@ -196,7 +196,7 @@ module _ (opening : Map) (steps : List Step) (s : State) (c : CoreData) (h : Sta
         (abort_in_table opening steps s c.table untold table t h.versions.kept h.dependencies unended is told graph)
         (abort_in_order opening steps s (state_of c.table) (state_of table) c.versions.slots c.versions.lists c.versions.places t.0 numbers h.versions open'
         (others_stand (deps.after_dependency_abort t) c.table untold table t Aborted is told) here
-        (subst (λ (ws : ℕ → List Rattle.mvo_work.specs.declared.word_place.WordPlace.WordPlace). Rattle.mvo_representation.specs.Order.IsWritten t.0 c.versions.slots (numbers_in (ws t.0))) same_words
+        (subst (λ (ws : ℕ → List Rattle.mvo_work.specs.declared.word_place.WordPlace.WordPlace). Rattle.mvo_representation.specs.Order.AreWrittenBy t.0 c.versions.slots (numbers_in (ws t.0))) same_words
         (lists_are_written opening steps s (state_of c.table) c.versions.slots c.versions.lists c.versions.places (words_in c.table) t.0 h.versions open' h.words))
         h.order)
         (subst (HasWordLists (after_abort s t.0) c.versions.slots) same_words

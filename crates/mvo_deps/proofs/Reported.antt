@@ -138,7 +138,7 @@ module _ {P : Type 0} where
     on_there : is_some (get t.seats on.0) ≡ true
     on_there = some_there (get t.seats on.0) was.0 was.1
       where
-        some_there : (o : Option (Rattle.mvo_txn.specs.declared.table_seat.TableSeat.Seat (Node P))) (s : TxState) → option_map (λ x. x.state) o ≡ Some s → is_some o ≡ true
+        some_there : (o : Option (Rattle.mvo_txn.specs.declared.table_seat.TableSeat.TableSeat (Node P))) (s : TxState) → option_map (λ x. x.state) o ≡ Some s → is_some o ≡ true
         some_there None s e = absurd (none-some s e)
         some_there (Some x) s e = refl
 

@@ -7,7 +7,7 @@ ghost use Rattle.mvo_disk.specs.Failing.{counted_down};
 use crate::file::File;
 use crate::files::{copied, cut_in, empty_files, file_at, sync_in, synced_files, write_in};
 use crate::stop::{allows_all, images_after};
-use crate::{Call, Disk, DiskFault, FILE_COUNT, FileImage, StopRefusal, Work};
+use crate::{Call, DeviceWork, Disk, DiskFault, FILE_COUNT, FileImage, StopRefusal};
 use std::alloc::{AllocError, Global};
 
 /// A disk in memory that can stop at any moment. It keeps a record of its calls.
