@@ -17,6 +17,7 @@ mod steps;
 mod told;
 mod vectors;
 
+use crate::equal::{holds, same};
 use calls::{close, formatted, left, mark, run, run_over, step, stop, try_open};
 use images::bytes_of;
 use mvo_disk::{Disk, FileImage, MemDisk};
@@ -107,7 +108,7 @@ fn gives(
     mark: u64,
     len: Option<usize>,
 ) -> Result<(), Fail> {
-    assert_eq!(rt; found(rt, alloc, disk)?, (mark, len));
+    same(rt, &found(rt, alloc, disk)?, &(mark, len));
     Ok(())
 }
 
@@ -120,7 +121,7 @@ fn events_of(alloc: Global, steps: &[(Step, &str)]) -> Result<Vec<Event>, Fail> 
 }
 
 fn assert_reply(rt: &impl Abort, alloc: Global, reply: &Reply, text: &str) -> Result<(), Fail> {
-    assert_eq!(rt; format!(in alloc; "{reply:?}")?.as_str(), text);
+    same(rt, &format!(in alloc; "{reply:?}")?.as_str(), &text);
     Ok(())
 }
 
@@ -132,7 +133,7 @@ fn follow(
     steps: &[(Step, &str)],
 ) -> Result<(), Fail> {
     let replies = run(world, &events_of(alloc, steps)?)?;
-    assert_eq!(rt; replies.len(), steps.len());
+    same(rt, &replies.len(), &steps.len());
     for (reply, (_, text)) in replies.iter().zip(steps) {
         assert_reply(rt, alloc, reply, text)?;
     }
@@ -147,7 +148,7 @@ fn follow_over(
     steps: &[(Step, &str)],
 ) -> Result<MemDisk, Fail> {
     let (replies, disk) = run_over(rt, alloc, SEED, disk, &events_of(alloc, steps)?)?;
-    assert_eq!(rt; replies.len(), steps.len());
+    same(rt, &replies.len(), &steps.len());
     for (reply, (_, text)) in replies.iter().zip(steps) {
         assert_reply(rt, alloc, reply, text)?;
     }
@@ -210,9 +211,9 @@ fn one_put_is_durable(rt: HostRuntime) -> Result<(), Fail> {
 fn the_mark_rises_with_the_gate(rt: HostRuntime) -> Result<(), Fail> {
     let alloc = rt.alloc();
     let written = mark_after(&rt, alloc, &[&ONE_PUT])?;
-    assert_eq!(rt; written, Stamp(0));
+    same(&rt, &written, &Stamp(0));
     let durable = mark_after(&rt, alloc, &[&ONE_PUT, &OPENING_OF_THE_GATE])?;
-    assert_eq!(rt; durable, Stamp(2));
+    same(&rt, &durable, &Stamp(2));
     Ok(())
 }
 
@@ -299,7 +300,7 @@ fn a_merge_keeps_the_rows(rt: HostRuntime) -> Result<(), Fail> {
     let disk = disk_after(&rt, alloc, &ONE_PAIR)?;
     hold(&rt, &disk, &FILES_OF_MERGED);
     // Two bytes of an older, longer manifest lie behind it.
-    assert!(rt; bytes_of(&disk, 1).starts_with(&SLOT_OF_MERGED));
+    holds(&rt, bytes_of(&disk, 1).starts_with(&SLOT_OF_MERGED));
     gives(&rt, alloc, disk, 4, Some(1))
 }
 
@@ -410,7 +411,7 @@ fn as_many_groups_wait_as_the_ring_has_room_for(rt: HostRuntime) -> Result<(), F
 fn stops_after_the_body(rt: HostRuntime) -> Result<(), Fail> {
     let alloc = rt.alloc();
     let disk = stop(disk_after(&rt, alloc, &[&ONE_PUT])?, &[])?;
-    assert_eq!(rt; bytes_of(&disk, 2).len(), 63);
+    same(&rt, &bytes_of(&disk, 2).len(), &63);
     gives(&rt, alloc, disk, 0, None)
 }
 

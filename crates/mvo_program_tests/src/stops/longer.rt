@@ -92,7 +92,7 @@ reclaim
 ";
 
 /// Each with so many calls as it makes.
-const CALLS: [(&str, u64); 3] = [(LOW_WATER, 8), (THREE_SEGMENTS, 59), (MERGE, 1121)];
+const CALLS: [(&str, u64); 3] = [(LOW_WATER, 8), (THREE_SEGMENTS, 59), (MERGE, 1123)];
 
 #[test]
 fn longer_scripts_are_ok(rt: HostRuntime) -> Result<(), Fail> {

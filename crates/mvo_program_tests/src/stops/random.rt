@@ -234,6 +234,6 @@ impl Lines {
 #[test]
 fn a_merge_beside_checkpoints_is_ok(rt: HostRuntime) -> Result<(), Fail> {
     let text = script(rt.alloc(), ONE_ROUND)?;
-    is_ok(&rt, &recorded(&rt, rt.alloc(), text.as_bytes())?, 0)?;
+    is_ok(&rt, &recorded(&rt, rt.alloc(), text.as_bytes())?, 2204)?;
     Ok(())
 }
