@@ -22,7 +22,7 @@ use Rattle.mvo_word.specs.declared.held.Held.TheVariants.{At, By, Infinity}
 use Rattle.mvo_txn.specs.declared.state.TxState.{TxState}
 use Rattle.mvo_txn.specs.declared.state.TxState.TheVariants.{Active, Preparing, Committed, Aborted}
 use Rattle.mvo_chain.specs.declared.version.Version.{Version}
-use Rattle.mvo_chain.specs.Slots.{Slots, version_at}
+use Rattle.mvo_chain.specs.Slots.{version_at}
 use Rattle.mvo_hash.specs.Lists.{number, numbers_of}
 use Rattle.mvo_range.specs.declared.sort_place.SortPlace.{SortPlace}
 use Rattle.mvo_range.specs.Place.{place_cmp, is_between}
@@ -97,13 +97,6 @@ any_number f n (m ∷ ns) q le = go (m == n) refl le (λ l. any_number f n ns q 
     go : (b : Bool) → (m == n) ≡ b → 1 ≤ cond b 1 0 + how_many (λ i. i == n) ns → (1 ≤ how_many (λ i. i == n) ns → list_any f ns ≡ true) → (f m || list_any f ns) ≡ true
     go true i l again = or_left (f m) (list_any f ns) (ap f (eqb-true m n i) ∙ q)
     go false i l again = or_right (f m) (list_any f ns) (again (omega (arith, l)))
-
--- ---- versions by number
-record InSlot (slots : Slots) (f : Version → Bool) : Type 0 where
-  pub number : ℕ
-  pub version : Version
-  pub at : slice_index_or slots number None ≡ Some version
-  pub passes : f version ≡ true
 
 -- ---- places of the range
 -- what is so at each place of the range is so at one that is there

@@ -90,7 +90,7 @@ any_slot f (Some w ∷ ss) zero v e q = or_left (f w) (list_any f (all_versions 
 any_slot f (None ∷ ss) (suc n) v e q = any_slot f ss n v e q
 any_slot f (Some w ∷ ss) (suc n) v e q = or_right (f w) (list_any f (all_versions ss)) (any_slot f ss n v e q)
 
-record InSlot (slots : Slots) (f : Version → Bool) : Type 0 where
+pub record InSlot (slots : Slots) (f : Version → Bool) : Type 0 where
   pub number : ℕ
   pub version : Version
   pub at : slice_index_or slots number None ≡ Some version

@@ -28,7 +28,6 @@ impl Model for Ring {
 }
 
 impl Ring {
-    ghost use Rattle.mvo_world.specs.Ends.{in_ring, AreEnds};
     ghost use Rattle.mvo_world.specs.Ring.{IsClosingInto, IsOldestTaken};
 
     /// A ring with no group.

@@ -68,9 +68,16 @@ fn finds(rt: &impl Abort, alloc: Global, bytes: &[u8], line: &str) -> Result<(),
     Ok(())
 }
 
+// The manifest that counts, of the bytes of both slots.
+fn chosen_of(alloc: Global, first: &[u8], second: &[u8]) -> Result<Manifest, Refusal> {
+    let first = read_slot(alloc, VERSION, 0, first)?;
+    let second = read_slot(alloc, VERSION, 1, second)?;
+    pick(first, second)
+}
+
 // What is found of both slots, as such a line.
 fn chosen(alloc: Global, first: &[u8], second: &[u8]) -> Result<String, Fail> {
-    let found = match pick(alloc, VERSION, first, second) {
+    let found = match chosen_of(alloc, first, second) {
         Ok(manifest) => Ok(Some(manifest.generation())),
         Err(refusal) => Err(refusal),
     };
